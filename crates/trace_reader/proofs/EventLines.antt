@@ -1,12 +1,12 @@
 -- The four words of an event, in a row of a trace
 use Rattle.std.proofs.Common.{◌≡◌, ◌∙◌, ◌==◌, ℕ, List, Bool, true, false, Option, Some, None, Result, Ok, Err, refl, ap, cond, length}
-use Rattle.trace_reader.proofs.Words.{option_map, option_map_or, Block, LineError, Fault, Memory, LineFault, Number, Read, Answers, said_by, form_as, AnswersBy, valued_by, event_form, event_line, said_of, Said, SaysRow, event_of}
+use Rattle.trace_reader.proofs.Words.{option_map, option_map_or, Block, LineError, Fault, Memory, LineFault, Number, Plain, Read, Answers, said_by, form_as, AnswersBy, valued_by, event_form, event_line, said_of, Said, SaysRow, event_of}
 
 as_said : Result Block LineFault → Result Said LineFault
-as_said (Ok event) = Ok (SaysRow (Read event))
+as_said (Ok event) = Ok (SaysRow (Plain (Read event)))
 as_said (Err fault) = Err fault
 
-numbers_said : (event : Option Block) → option_map_or Ok (option_map (λ e. SaysRow (Read e)) event) (Err Number) ≡ as_said (option_map_or Ok event (Err Number))
+numbers_said : (event : Option Block) → option_map_or Ok (option_map (λ e. SaysRow (Plain (Read e))) event) (Err Number) ≡ as_said (option_map_or Ok event (Err Number))
 unfolding as_said
 numbers_said (Some event) = refl
 numbers_said None = refl
@@ -19,7 +19,7 @@ by_length words false = refl
 event_said : (words : List (List ℕ)) → said_by (form_as event_line words) ≡ as_said (valued_by event_of (event_form words))
 event_said words = by_length words (length words == 4)
 
-pub event_there : (words : List (List ℕ)) (event : Block) → valued_by event_of (event_form words) ≡ Ok event → said_by (form_as event_line words) ≡ Ok (SaysRow (Read event))
+pub event_there : (words : List (List ℕ)) (event : Block) → valued_by event_of (event_form words) ≡ Ok event → said_by (form_as event_line words) ≡ Ok (SaysRow (Plain (Read event)))
 unfolding as_said
 event_there words event is = event_said words ∙ ap as_said is
 

@@ -1,5 +1,5 @@
 -- Texts that are read and printed, on literals
-use Rattle.std.specs.Prelude.{◌≡◌, ℕ, ⊤, List, [], ◌∷◌, ◌++◌, Result, Ok, Err, codes, refl}
+use Rattle.std.specs.Prelude.{◌≡◌, ℕ, ⊤, List, [], ◌∷◌, ◌++◌, map, Result, Ok, Err, codes, refl}
 use Rattle.hex.proofs.OnLiterals.{hex_on_literals}
 use Rattle.contexts.specs.declared.size.ContextSize.TheVariants.{Bytes32}
 use Rattle.trb.specs.declared.ring_kind.RingKind.TheVariants.{Xfer}
@@ -10,18 +10,20 @@ use Rattle.trace_reader.specs.declared.fault.LineFault.{LineFault}
 use Rattle.trace_reader.specs.declared.fault.LineFault.TheVariants.{Header as BadHeader, Row as BadRow, Number, Shape}
 use Rattle.traces.specs.declared.register.Register.TheVariants.{Usbcmd, Crcr}
 use Rattle.traces.specs.declared.ring.Ring.{Ring}
-use Rattle.traces.specs.declared.version.Version.TheVariants.{One}
+use Rattle.traces.specs.declared.version.Version.TheVariants.{One, Two}
 use Rattle.traces.specs.declared.row.Row.{Row}
+use Rattle.traces.specs.declared.trace_row.TraceRow.{TraceRow}
+use Rattle.traces.specs.declared.trace_row.TraceRow.TheVariants.{Plain, Comes, Goes, Withdraws}
 use Rattle.traces.specs.declared.row.Row.TheVariants.{Sub, Write, Reg, Bell, Read}
 use Rattle.trace_reader.specs.Forms.{kind_named, register_named}
 use Rattle.trace_reader.specs.TraceLines.{form_of}
 use Rattle.trace_reader.specs.TraceLines.{said_of}
 use Rattle.trace_reader.specs.Values.{block_of, blocks_of, register_value_of, segment_of, segments_of, word_address_of}
 use Rattle.trace_reader.specs.Reading.{TraceText, after, form_in, is_bad_number, is_bad_row, is_bad_shape, is_past_limit, is_too_long, line_fault, read_line, read_lines, row_fault, said_in, size_of, trace_of, version_of}
-use Rattle.trace_reader.specs.Spelling.{printed_line, printed_trace, ring_fields, row_fields, trace_lines}
+use Rattle.trace_reader.specs.Spelling.{printed_line, printed_trace, ring_fields, row_fields, trace_lines, trace_row_fields}
 
 unfoldable texts_on_literals : ⊤
-unfolding trace_of read_lines read_line line_fault row_fault after lines_of fields_of number_of hex_on_literals form_of kind_named register_named block_of blocks_of register_value_of said_of segment_of segments_of word_address_of form_in is_bad_number is_bad_row is_bad_shape is_past_limit is_too_long version_of said_in size_of printed_trace trace_lines printed_line row_fields ring_fields digits_of
+unfolding trace_of read_lines read_line line_fault row_fault after lines_of fields_of number_of hex_on_literals form_of kind_named register_named block_of blocks_of register_value_of said_of segment_of segments_of word_address_of form_in is_bad_number is_bad_row is_bad_shape is_past_limit is_too_long version_of said_in size_of printed_trace trace_lines printed_line row_fields ring_fields trace_row_fields digits_of
 texts_on_literals = tt
 
 -- what is read behind the header of one transfer ring
@@ -33,7 +35,17 @@ ring_2 = record { id = 2; shape = record { kind = Xfer; segments = record { base
 
 -- a trace of that header with these rows
 abbrev with_rows : List Row → TraceText
-with_rows rows = record { header = record { version = One; context_size = Bytes32; rings = ring_2 ∷ [] }; first = 4; rows = rows }
+with_rows rows = record { header = record { version = One; context_size = Bytes32; rings = ring_2 ∷ [] }; first = 4; rows = map Plain rows }
+
+-- the same in version 2, also with rows of rings
+abbrev behind_header_2 : List ℕ → Result TraceText (ℕ × LineFault)
+behind_header_2 text = trace_of (codes "xtrace 2\nctx 20\nring 02 xfer 0000000000030000:0004\n" ++ text)
+
+abbrev with_trace_rows : List TraceRow → TraceText
+with_trace_rows rows = record { header = record { version = Two; context_size = Bytes32; rings = ring_2 ∷ [] }; first = 4; rows = rows }
+
+abbrev ring_3 : Ring
+ring_3 = record { id = 3; shape = record { kind = Xfer; segments = record { base = 0x30000; count = 4 } ∷ [] } }
 
 pub no_rows : behind_header [] ≡ Ok (with_rows [])
 unfolding texts_on_literals
@@ -118,3 +130,45 @@ the_first_bad_line = refl
 pub printed : printed_trace (with_rows (Write 0x3000c 0xabcd ∷ Bell 1 31 ∷ [])) ≡ codes "xtrace 1\nctx 20\nring 02 xfer 0000000000030000:0004\nw 000000000003000c 0000abcd\ndb 01 1f\n"
 unfolding texts_on_literals
 printed = refl
+
+-- ---- rings that come and go
+
+pub a_ring_goes_and_one_comes : behind_header_2 (codes "free 02\nring 03 xfer 0000000000030000:0004\n") ≡ Ok (with_trace_rows (Goes 2 ∷ Comes ring_3 ∷ []))
+unfolding texts_on_literals
+a_ring_goes_and_one_comes = refl
+
+pub a_withdrawal : behind_header_2 (codes "nop 02 0000000000000001\n") ≡ Ok (with_trace_rows (Withdraws 2 1 ∷ []))
+unfolding texts_on_literals
+a_withdrawal = refl
+
+pub a_used_id : behind_header_2 (codes "free 02\nring 02 xfer 0000000000030000:0004\n") ≡ Err (5, Shape)
+unfolding texts_on_literals
+a_used_id = refl
+
+pub an_id_used_twice : behind_header_2 (codes "free 02\nring 03 xfer 0000000000030000:0004\nring 03 xfer 0000000000040000:0004\n") ≡ Err (6, Shape)
+unfolding texts_on_literals
+an_id_used_twice = refl
+
+pub a_later_ring_of_one_place : behind_header_2 (codes "free 02\nring 03 xfer 0000000000030000:0002\n") ≡ Err (5, Shape)
+unfolding texts_on_literals
+a_later_ring_of_one_place = refl
+
+pub a_later_command_ring : behind_header_2 (codes "free 02\nring 03 cmd 0000000000030000:000\n") ≡ Err (5, BadRow)
+unfolding texts_on_literals
+a_later_command_ring = refl
+
+pub a_short_position : behind_header_2 (codes "nop 02 1\n") ≡ Err (4, Number)
+unfolding texts_on_literals
+a_short_position = refl
+
+pub no_row_of_a_ring : behind_header (codes "free 02\n") ≡ Err (4, BadRow)
+unfolding texts_on_literals
+no_row_of_a_ring = refl
+
+pub no_withdrawal : behind_header (codes "nop 02 1\n") ≡ Err (4, BadRow)
+unfolding texts_on_literals
+no_withdrawal = refl
+
+pub printed_rows_of_rings : printed_trace (with_trace_rows (Goes 2 ∷ Comes ring_3 ∷ Withdraws 3 0x1f ∷ [])) ≡ codes "xtrace 2\nctx 20\nring 02 xfer 0000000000030000:0004\nfree 02\nring 03 xfer 0000000000030000:0004\nnop 03 000000000000001f\n"
+unfolding texts_on_literals
+printed_rows_of_rings = refl

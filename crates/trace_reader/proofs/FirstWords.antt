@@ -1,73 +1,73 @@
 -- The form of a line by its first word
 use Rattle.std.proofs.Common.{◌≡◌, ◌∷◌, ◌∙◌, ℕ, List, [], Bool, true, false, Option, Some, None, refl, ap, sym, cond, codes, Err}
-use Rattle.trace_reader.proofs.Words.{option_and_then, option_map_or, BadRow, bytes_eq, FirstWord, SubWord, W, RegWord, Db, Ev, RingWord, form_behind, said_by, said_by_fields, unless_begun, word_named, Line, are_fields, form_as, Form, form_of, is_ring_form, sub_line, write_line, reg_line, bell_line, event_line, ring_line, Said}
+use Rattle.trace_reader.proofs.Words.{option_and_then, BadRow, bytes_eq, FirstWord, SubWord, W, RegWord, Db, Ev, RingWord, FreeWord, NopWord, form_behind, said_by, said_by_fields, word_named, Line, form_as, form_of, line_named, ring_lines, sub_line, write_line, reg_line, bell_line, event_line, ring_line, comes_line, goes_line, withdraws_line, Said, Version, has_ring_rows}
 
-by_tests : (sub w reg db ev ring : Bool) (fields : List (List ℕ)) →
-    option_and_then (λ l. form_as l fields) (cond sub (Some sub_line) (cond w (Some write_line) (cond reg (Some reg_line) (cond db (Some bell_line) (cond ev (Some event_line) (cond ring (Some ring_line) None))))))
-    ≡ form_behind (cond sub (Some SubWord) (cond w (Some W) (cond reg (Some RegWord) (cond db (Some Db) (cond ev (Some Ev) (cond ring (Some RingWord) None)))))) fields
-by_tests true w reg db ev ring fields = refl
-by_tests false true reg db ev ring fields = refl
-by_tests false false true db ev ring fields = refl
-by_tests false false false true ev ring fields = refl
-by_tests false false false false true ring fields = refl
-by_tests false false false false false true fields = refl
-by_tests false false false false false false fields = refl
+abbrev Named : Bool → Bool → List (List ℕ) → Option (Line Said) → Option FirstWord → Type 0
+Named ring_rows begun fields line word = option_and_then (λ l. form_as l fields) line ≡ form_behind ring_rows begun word fields
 
-pub by_word : (word : List ℕ) (fields : List (List ℕ)) → form_of (word ∷ fields) ≡ form_behind (word_named word) fields
-unfolding form_of word_named
-by_word word fields =
-    by_tests (bytes_eq word (codes "sub")) (bytes_eq word (codes "w")) (bytes_eq word (codes "reg")) (bytes_eq word (codes "db")) (bytes_eq word (codes "ev")) (bytes_eq word (codes "ring")) fields
+by_tests : (ring_rows begun : Bool) (fields : List (List ℕ)) (line : Option (Line Said)) (word : Option FirstWord) → Named ring_rows begun fields line word → (sub w reg db ev : Bool) →
+    Named ring_rows begun fields (cond sub (Some sub_line) (cond w (Some write_line) (cond reg (Some reg_line) (cond db (Some bell_line) (cond ev (Some event_line) line)))))
+    (cond sub (Some SubWord) (cond w (Some W) (cond reg (Some RegWord) (cond db (Some Db) (cond ev (Some Ev) word)))))
+by_tests ring_rows begun fields line word is true w reg db ev = refl
+by_tests ring_rows begun fields line word is false true reg db ev = refl
+by_tests ring_rows begun fields line word is false false true db ev = refl
+by_tests ring_rows begun fields line word is false false false true ev = refl
+by_tests ring_rows begun fields line word is false false false false true = refl
+by_tests ring_rows begun fields line word is false false false false false = is
 
--- a line that may stand behind a row
-abbrev pub IsRowWord : FirstWord → Type 0
-IsRowWord RingWord = ⊥
-IsRowWord SubWord = Unit {0}
-IsRowWord W = Unit {0}
-IsRowWord RegWord = Unit {0}
-IsRowWord Db = Unit {0}
-IsRowWord Ev = Unit {0}
+-- ---- the words of rings
 
-not_ring : (begun : Bool) (form : Option Form) → option_map_or is_ring_form form false ≡ false → unless_begun begun form ≡ form
-not_ring begun None row = refl
-not_ring true (Some form) row = rw row refl
-not_ring false (Some form) row = refl
+abbrev ring_words : Bool → Bool → Bool → Option FirstWord
+ring_words ring free nop = cond ring (Some RingWord) (cond free (Some FreeWord) (cond nop (Some NopWord) None))
 
-as_row : (l : Line Said) (b : Bool) (fields : List (List ℕ)) → bytes_eq l.word (codes "ring") ≡ false → option_map_or is_ring_form (cond b (Some (l, fields)) None) false ≡ false
-as_row l true fields other = other
-as_row l false fields other = refl
+header_alone : (ring free nop : Bool) (fields : List (List ℕ)) → Named false false fields (cond ring (Some ring_line) None) (ring_words ring free nop)
+header_alone true free nop fields = refl
+header_alone false true nop fields = refl
+header_alone false false true fields = refl
+header_alone false false false fields = refl
 
-pub is_row : (word : FirstWord) (fields : List (List ℕ)) → IsRowWord word → option_map_or is_ring_form (form_behind (Some word) fields) false ≡ false
-is_row SubWord fields row = as_row sub_line (are_fields sub_line.kinds sub_line.tail fields) fields refl
-is_row W fields row = as_row write_line (are_fields write_line.kinds write_line.tail fields) fields refl
-is_row RegWord fields row = as_row reg_line (are_fields reg_line.kinds reg_line.tail fields) fields refl
-is_row Db fields row = as_row bell_line (are_fields bell_line.kinds bell_line.tail fields) fields refl
-is_row Ev fields row = as_row event_line (are_fields event_line.kinds event_line.tail fields) fields refl
-is_row RingWord fields row = absurd row
+none_behind : (ring free nop : Bool) (fields : List (List ℕ)) → Named false true fields None (ring_words ring free nop)
+none_behind true free nop fields = refl
+none_behind false true nop fields = refl
+none_behind false false true fields = refl
+none_behind false false false fields = refl
 
--- a line that begins with this word
-pub said_behind : (begun : Bool) (all fields : List (List ℕ)) (word : List ℕ) (kind : FirstWord) → all ≡ word ∷ fields → Some kind ≡ word_named word → IsRowWord kind →
-    said_by_fields begun all ≡ said_by (form_behind (Some kind) fields)
-unfolding said_by_fields
-said_behind begun all fields word kind is named row =
-    ap (λ xs. said_by (unless_begun begun (form_of xs))) is ∙ ap (λ form. said_by (unless_begun begun form)) (by_word word fields)
-    ∙ ap (λ k. said_by (unless_begun begun (form_behind k fields))) (sym named) ∙ ap said_by (not_ring begun (form_behind (Some kind) fields) (is_row kind fields row))
+header_and_rows : (ring free nop : Bool) (fields : List (List ℕ)) →
+    Named true false fields (cond ring (Some ring_line) (cond free (Some goes_line) (cond nop (Some withdraws_line) None))) (ring_words ring free nop)
+header_and_rows true free nop fields = refl
+header_and_rows false true nop fields = refl
+header_and_rows false false true fields = refl
+header_and_rows false false false fields = refl
 
--- a ring
-pub ring_behind : (begun : Bool) (all fields : List (List ℕ)) (word : List ℕ) → all ≡ word ∷ fields → Some RingWord ≡ word_named word →
-    said_by_fields begun all ≡ said_by (unless_begun begun (form_as ring_line fields))
-unfolding said_by_fields
-ring_behind begun all fields word is named =
-    ap (λ xs. said_by (unless_begun begun (form_of xs))) is ∙ ap (λ form. said_by (unless_begun begun form)) (by_word word fields)
-    ∙ ap (λ k. said_by (unless_begun begun (form_behind k fields))) (sym named)
+rows_alone : (ring free nop : Bool) (fields : List (List ℕ)) →
+    Named true true fields (cond ring (Some comes_line) (cond free (Some goes_line) (cond nop (Some withdraws_line) None))) (ring_words ring free nop)
+rows_alone true free nop fields = refl
+rows_alone false true nop fields = refl
+rows_alone false false true fields = refl
+rows_alone false false false fields = refl
 
--- an unknown word
-pub unknown_word : (begun : Bool) (all fields : List (List ℕ)) (word : List ℕ) → all ≡ word ∷ fields → None ≡ word_named word → said_by_fields begun all ≡ Err BadRow
-unfolding said_by_fields
-unknown_word begun all fields word is named =
-    ap (λ xs. said_by (unless_begun begun (form_of xs))) is ∙ ap (λ form. said_by (unless_begun begun form)) (by_word word fields)
-    ∙ ap (λ k. said_by (unless_begun begun (form_behind k fields))) (sym named)
+by_rings : (ring_rows begun : Bool) (word : List ℕ) (fields : List (List ℕ)) →
+    Named ring_rows begun fields (line_named (ring_lines ring_rows begun) word) (ring_words (bytes_eq word (codes "ring")) (bytes_eq word (codes "free")) (bytes_eq word (codes "nop")))
+by_rings false false word fields = header_alone (bytes_eq word (codes "ring")) (bytes_eq word (codes "free")) (bytes_eq word (codes "nop")) fields
+by_rings false true word fields = none_behind (bytes_eq word (codes "ring")) (bytes_eq word (codes "free")) (bytes_eq word (codes "nop")) fields
+by_rings true false word fields = header_and_rows (bytes_eq word (codes "ring")) (bytes_eq word (codes "free")) (bytes_eq word (codes "nop")) fields
+by_rings true true word fields = rows_alone (bytes_eq word (codes "ring")) (bytes_eq word (codes "free")) (bytes_eq word (codes "nop")) fields
 
--- no field at all
-pub no_word : (begun : Bool) (all : List (List ℕ)) → all ≡ [] → said_by_fields begun all ≡ Err BadRow
-unfolding said_by_fields form_of
-no_word begun all is = ap (λ xs. said_by (unless_begun begun (form_of xs))) is
+module _ (version : Version) (begun : Bool) where
+  by_word : (word : List ℕ) (fields : List (List ℕ)) → form_of version begun (word ∷ fields) ≡ form_behind (has_ring_rows version) begun (word_named word) fields
+  unfolding form_of word_named
+  by_word word fields =
+      by_tests (has_ring_rows version) begun fields (line_named (ring_lines (has_ring_rows version) begun) word) (ring_words (bytes_eq word (codes "ring")) (bytes_eq word (codes "free")) (bytes_eq word (codes "nop")))
+      (by_rings (has_ring_rows version) begun word fields) (bytes_eq word (codes "sub")) (bytes_eq word (codes "w")) (bytes_eq word (codes "reg")) (bytes_eq word (codes "db")) (bytes_eq word (codes "ev"))
+
+  -- a line that begins with this word
+  pub said_behind : (all fields : List (List ℕ)) (word : List ℕ) (kind : Option FirstWord) → all ≡ word ∷ fields → kind ≡ word_named word →
+      said_by_fields version begun all ≡ said_by (form_behind (has_ring_rows version) begun kind fields)
+  unfolding said_by_fields
+  said_behind all fields word kind is named =
+      ap (λ xs. said_by (form_of version begun xs)) is ∙ ap said_by (by_word word fields) ∙ ap (λ k. said_by (form_behind (has_ring_rows version) begun k fields)) (sym named)
+
+  -- no field at all
+  pub no_word : (all : List (List ℕ)) → all ≡ [] → said_by_fields version begun all ≡ Err BadRow
+  unfolding said_by_fields form_of
+  no_word all is = ap (λ xs. said_by (form_of version begun xs)) is

@@ -4,7 +4,7 @@ use Rattle.line_text.proofs.Digits.{digits_without_space}
 use Rattle.std.proofs.lemmas.List.{take-append-drop}
 use Rattle.std.proofs.lemmas.List.Splits.{slice_split_at, slice_split_none}
 use Rattle.trace_reader.specs.Entries.{SaysAlone, said_alone}
-use Rattle.trace_reader.proofs.Words.{HasBytes, Width, byte_len, bytes_of_8, bytes_of_32, bytes_of_64, length-digits_of, number_of, said, fields_of, has_empty_field, is_empty, is_space, All-cons, All-nil, All-head, All-tail, nat_tests, common_steps, slice_split, str_to_ascii_lowercase, to_ascii_lowercase, TextLine, content_fault, said_by_fields, most_bytes, form_of, said_of, block_of, word_address_of, Block, blocks_of, register_named, register_value_of, Row, Sub, Write, Bell, Read, Reg, Erdp, SaysRow}
+use Rattle.trace_reader.proofs.Words.{HasBytes, Width, byte_len, bytes_of_8, bytes_of_32, bytes_of_64, length-digits_of, number_of, said, fields_of, has_empty_field, is_empty, is_space, All-cons, All-nil, All-head, All-tail, nat_tests, common_steps, slice_split, str_to_ascii_lowercase, to_ascii_lowercase, TextLine, content_fault, said_by_fields, most_bytes, form_of, said_of, block_of, word_address_of, Block, blocks_of, register_named, register_value_of, Row, Sub, Write, Bell, Read, Reg, Erdp, SaysRow, Plain, Version}
 use Rattle.trace_reader.proofs.SpelledFields.{then_there}
 use Rattle.trace_reader.proofs.SpelledValues.{words_there}
 
@@ -87,37 +87,32 @@ first_bytes (x ∷ y ∷ rest) c d some is next = λ k. is k ∷ next k ∷ []
 
 -- a line with these fields
 by_its_fields : (content : List ℕ) (fields : List (List ℕ)) (row : Row) → nat_lt most_bytes (length content) ≡ false → fields_of content ≡ fields → has_empty_field fields ≡ false →
-    ((begun : Bool) → said_by_fields begun fields ≡ Ok (SaysRow row)) → SaysAlone row content
+    ((version : Version) (begun : Bool) → said_by_fields version begun fields ≡ Ok (SaysRow (Plain row))) → SaysAlone row content
 unfolding content_fault
-by_its_fields content fields row short are full says = λ begun. rw (short, are, full) (says begun)
+by_its_fields content fields row short are full says = λ version begun. rw (short, are, full) (says version begun)
 
 -- ---- forms
 
-write_said : (begun : Bool) (a b : List ℕ) (at word : ℕ) → word_address_of a ≡ Some at → number_of w32 b ≡ Some word → said_by_fields begun (codes "w" ∷ a ∷ b ∷ []) ≡ Ok (SaysRow (Write at word))
+write_said : (version : Version) (begun : Bool) (a b : List ℕ) (at word : ℕ) → word_address_of a ≡ Some at → number_of w32 b ≡ Some word → said_by_fields version begun (codes "w" ∷ a ∷ b ∷ []) ≡ Ok (SaysRow (Plain (Write at word)))
 unfolding said_by_fields form_of said_of
-write_said true a b at word ha hb = rw (ha, hb) refl
-write_said false a b at word ha hb = rw (ha, hb) refl
+write_said version begun a b at word ha hb = rw (ha, hb) refl
 
-bell_said : (begun : Bool) (a b : List ℕ) (slot target : ℕ) → number_of w8 a ≡ Some slot → number_of w8 b ≡ Some target → said_by_fields begun (codes "db" ∷ a ∷ b ∷ []) ≡ Ok (SaysRow (Bell slot target))
+bell_said : (version : Version) (begun : Bool) (a b : List ℕ) (slot target : ℕ) → number_of w8 a ≡ Some slot → number_of w8 b ≡ Some target → said_by_fields version begun (codes "db" ∷ a ∷ b ∷ []) ≡ Ok (SaysRow (Plain (Bell slot target)))
 unfolding said_by_fields form_of said_of
-bell_said true a b slot target ha hb = rw (ha, hb) refl
-bell_said false a b slot target ha hb = rw (ha, hb) refl
+bell_said version begun a b slot target ha hb = rw (ha, hb) refl
 
-event_said : (begun : Bool) (a b c d : List ℕ) (event : Block) → block_of a b c d ≡ Some event → said_by_fields begun (codes "ev" ∷ a ∷ b ∷ c ∷ d ∷ []) ≡ Ok (SaysRow (Read event))
+event_said : (version : Version) (begun : Bool) (a b c d : List ℕ) (event : Block) → block_of a b c d ≡ Some event → said_by_fields version begun (codes "ev" ∷ a ∷ b ∷ c ∷ d ∷ []) ≡ Ok (SaysRow (Plain (Read event)))
 unfolding said_by_fields form_of said_of
-event_said true a b c d event is = rw is refl
-event_said false a b c d event is = rw is refl
+event_said version begun a b c d event is = rw is refl
 
-sub_said : (begun : Bool) (id a b c d : List ℕ) (ring : ℕ) (block : Block) → number_of w8 id ≡ Some ring → block_of a b c d ≡ Some block →
-    said_by_fields begun (codes "sub" ∷ id ∷ a ∷ b ∷ c ∷ d ∷ []) ≡ Ok (SaysRow (Sub ring (block ∷ [])))
+sub_said : (version : Version) (begun : Bool) (id a b c d : List ℕ) (ring : ℕ) (block : Block) → number_of w8 id ≡ Some ring → block_of a b c d ≡ Some block →
+    said_by_fields version begun (codes "sub" ∷ id ∷ a ∷ b ∷ c ∷ d ∷ []) ≡ Ok (SaysRow (Plain (Sub ring (block ∷ []))))
 unfolding said_by_fields form_of said_of blocks_of
-sub_said true id a b c d ring block hi is = rw (hi, is) refl
-sub_said false id a b c d ring block hi is = rw (hi, is) refl
+sub_said version begun id a b c d ring block hi is = rw (hi, is) refl
 
-erdp_said : (begun : Bool) (a : List ℕ) (value : ℕ) → number_of w64 a ≡ Some value → said_by_fields begun (codes "reg" ∷ codes "erdp" ∷ a ∷ []) ≡ Ok (SaysRow (Reg Erdp value))
+erdp_said : (version : Version) (begun : Bool) (a : List ℕ) (value : ℕ) → number_of w64 a ≡ Some value → said_by_fields version begun (codes "reg" ∷ codes "erdp" ∷ a ∷ []) ≡ Ok (SaysRow (Plain (Reg Erdp value)))
 unfolding said_by_fields form_of said_of register_named register_value_of
-erdp_said true a value ha = rw ha refl
-erdp_said false a value ha = rw ha refl
+erdp_said version begun a value ha = rw ha refl
 
 erdp_fields : (a : List ℕ) → All (λ c. is_space c ≡ false) a → fields_of (codes "reg erdp " ++ a) ≡ codes "reg" ∷ codes "erdp" ∷ a ∷ []
 unfolding fields_of
@@ -128,7 +123,7 @@ erdp_says content value long named ha =
     let a = drop 9 content in
     let pa = number_field w64 bytes_of_64 (omega arith) a value ha in
     let are = ap fields_of (sym (take-append-drop 9 content) ∙ ap (λ word. word ++ a) named) ∙ erdp_fields a pa.spaceless in
-    by_its_fields content (codes "reg" ∷ codes "erdp" ∷ a ∷ []) (Reg Erdp value) (rw long refl) are (rw pa.some refl) (λ begun. erdp_said begun a value ha)
+    by_its_fields content (codes "reg" ∷ codes "erdp" ∷ a ∷ []) (Reg Erdp value) (rw long refl) are (rw pa.some refl) (λ version begun. erdp_said version begun a value ha)
 
 pub write_says : (content : List ℕ) (at word : ℕ) → length content ≡ 27 → slice_index content 0 ≡ 119 → slice_index content 1 ≡ 32 → slice_index content 18 ≡ 32 →
     word_address_of (take 16 (drop 2 content)) ≡ Some at → number_of w32 (take 8 (drop 19 content)) ≡ Some word → SaysAlone (Write at word) content
@@ -144,7 +139,7 @@ write_says content at word long first s1 s18 ha hb =
     field_from content 0 1 1 refl (omega (arith, long)) s1 plain
     ∙ ap (λ fields. take 1 content ∷ fields) (field_from content 2 16 18 refl (omega (arith, long)) s18 pa.spaceless ∙ ap (λ fields. a ∷ fields) (last_from content 19 8 (sym long) pb.spaceless))
     ∙ ap (λ word. word ∷ a ∷ b ∷ []) w in
-    by_its_fields content (codes "w" ∷ a ∷ b ∷ []) (Write at word) (rw long refl) are (rw (pa.some, pb.some) refl) (λ begun. write_said begun a b at word ha hb)
+    by_its_fields content (codes "w" ∷ a ∷ b ∷ []) (Write at word) (rw long refl) are (rw (pa.some, pb.some) refl) (λ version begun. write_said version begun a b at word ha hb)
 
 two_plain : (c d : ℕ) → is_space c ≡ false → is_space d ≡ false → (content : List ℕ) → take 2 content ≡ c ∷ d ∷ [] → All (λ c. is_space c ≡ false) (take 2 content)
 two_plain c d hc hd content are =
@@ -163,7 +158,7 @@ bell_says content slot target long first second s2 s5 ha hb =
     field_from content 0 2 2 refl (omega (arith, long)) s2 (two_plain 100 98 refl refl content db)
     ∙ ap (λ fields. take 2 content ∷ fields) (field_from content 3 2 5 refl (omega (arith, long)) s5 pa.spaceless ∙ ap (λ fields. a ∷ fields) (last_from content 6 2 (sym long) pb.spaceless))
     ∙ ap (λ word. word ∷ a ∷ b ∷ []) db in
-    by_its_fields content (codes "db" ∷ a ∷ b ∷ []) (Bell slot target) (rw long refl) are (rw (pa.some, pb.some) refl) (λ begun. bell_said begun a b slot target ha hb)
+    by_its_fields content (codes "db" ∷ a ∷ b ∷ []) (Bell slot target) (rw long refl) are (rw (pa.some, pb.some) refl) (λ version begun. bell_said version begun a b slot target ha hb)
 
 -- the four words of a block that begins at this place, to the end, and the spaces between them
 words_from : (content : List ℕ) (m p q r : ℕ) (event : Block) → p ≡ m + 8 → q ≡ suc p + 8 → r ≡ suc q + 8 → suc r + 8 ≡ length content →
@@ -199,7 +194,7 @@ event_says content event long first second s2 s11 s20 s29 says =
     let are : fields_of content ≡ codes "ev" ∷ words =
     field_from content 0 2 2 refl (omega (arith, long)) s2 (two_plain 101 118 refl refl content ev) ∙ ap (λ fields. take 2 content ∷ fields) p.0 ∙ ap (λ word. word ∷ words) ev in
     by_its_fields content (codes "ev" ∷ words) (Read event) (rw long refl) are p.1
-    (λ begun. event_said begun (take 8 (drop 3 content)) (take 8 (drop 12 content)) (take 8 (drop 21 content)) (take 8 (drop 30 content)) event says)
+    (λ version begun. event_said version begun (take 8 (drop 3 content)) (take 8 (drop 12 content)) (take 8 (drop 21 content)) (take 8 (drop 30 content)) event says)
 
 three_bytes : (content : List ℕ) (c d e : ℕ) → 2 < length content → slice_index content 0 ≡ c → slice_index content 1 ≡ d → slice_index content 2 ≡ e → take 3 content ≡ c ∷ d ∷ e ∷ []
 three_bytes [] c d e some first second third = absurd (omega arith)
@@ -223,10 +218,10 @@ sub_says content ring block long first second third s3 s6 s15 s24 s33 hi says =
     ∙ ap (λ fields. take 3 content ∷ fields) (field_from content 4 2 6 refl (omega (arith, long)) s6 pi.spaceless ∙ ap (λ fields. id ∷ fields) p.0)
     ∙ ap (λ word. word ∷ id ∷ words) sub in
     by_its_fields content (codes "sub" ∷ id ∷ words) (Sub ring (block ∷ [])) (rw long refl) are (rw pi.some p.1)
-    (λ begun. sub_said begun id (take 8 (drop 7 content)) (take 8 (drop 16 content)) (take 8 (drop 25 content)) (take 8 (drop 34 content)) ring block hi says)
+    (λ version begun. sub_said version begun id (take 8 (drop 7 content)) (take 8 (drop 16 content)) (take 8 (drop 25 content)) (take 8 (drop 34 content)) ring block hi says)
 
 -- a line that a line feed ends
-pub ended_says : (line : TextLine) (content : List ℕ) (row : Row) → line.is_ended ≡ true → content ≡ line.content → SaysAlone row content → (begun : Bool) → said_alone begun line ≡ Ok (SaysRow row)
-ended_says line content row ended is says begun =
+pub ended_says : (line : TextLine) (content : List ℕ) (row : Row) → line.is_ended ≡ true → content ≡ line.content → SaysAlone row content → (version : Version) (begun : Bool) → said_alone version begun line ≡ Ok (SaysRow (Plain row))
+ended_says line content row ended is says version begun =
     let same : record { content = content; is_ended = true } ≡ line = λ k. record { content = is k; is_ended = sym ended k } in
-    ap (λ l. said_alone begun l) (sym same) ∙ says begun
+    ap (λ l. said_alone version begun l) (sym same) ∙ says version begun

@@ -1,6 +1,6 @@
 -- The one law of lines that are data: what is read of a line is spelled by it, and what is spelled is read
-use Rattle.std.proofs.Common.{◌≡◌, ◌≢◌, ◌<◌, ◌^◌, ◌∷◌, ◌∙◌, ℕ, inl, inr, true, List, [], length, map, Some, All, refl, sym, ap, subst, arith, eq-eqb, w8, w32, w64, is_some}
-use Rattle.trace_reader.proofs.Words.{flat_map, option_map, option_and_then, bytes_eq, and_parts, and_from, cases_Bool, digits_of, bytes_of_8, bytes_of_32, bytes_of_64, IsBlock, ring_name, is_wide, register_name, IsWordAddress, register_named, Kind, Byte, Long, WordAddress, KindOfRing, Tail, Nothing, Event, RegisterValue, Blocks, Segments, Told, Behind, Values, is_known, are_behind, are_fields, told, behind, values, Line, FormOf, form_as, line_named, value_in, Field, Word, Digits, may_be_written, are_written, block_fields, segment_field, register_value_of}
+use Rattle.std.proofs.Common.{◌≡◌, ◌≢◌, ◌<◌, ◌^◌, ◌∷◌, ◌∙◌, ℕ, inl, inr, true, List, [], length, map, Some, All, codes, refl, sym, ap, subst, arith, eq-eqb, w8, w32, w64, is_some}
+use Rattle.trace_reader.proofs.Words.{flat_map, option_map, option_and_then, bytes_eq, and_parts, and_from, cases_Bool, digits_of, bytes_of_8, bytes_of_32, bytes_of_64, IsBlock, ring_name, is_wide, register_name, IsWordAddress, register_named, Kind, Byte, Long, WordAddress, KindOfRing, TransferKind, Tail, Nothing, Event, RegisterValue, Blocks, Segments, Told, Behind, Values, is_known, are_behind, are_fields, told, behind, values, Line, FormOf, form_as, line_named, value_in, Field, Word, Digits, may_be_written, are_written, block_fields, segment_field, register_value_of, RingKind, Xfer}
 use Rattle.trace_reader.specs.Grammar.{Number, form_in}
 use Rattle.trace_reader.proofs.SpelledFields.{both_there, both_of, mapped_there, then_there, cond_there, same_bytes, are_same_bytes, number_written, number_read}
 use Rattle.trace_reader.proofs.SpelledWords.{address_there, address_of_number, two_of, two_written, kind_word, word_kind, register_word, word_register, value_there, value_of_number, some_blocks, four_for_each}
@@ -15,6 +15,7 @@ Fits Number n = n < 2 ^ 32
 Fits Long n = n < 2 ^ 64
 Fits WordAddress n = IsWordAddress n
 Fits KindOfRing kind = Unit {0}
+Fits TransferKind kind = kind ≡ Xfer
 
 abbrev pub kind_field : (k : Kind) → Told k → Field
 kind_field Byte n = Digits (digits_of w8 n)
@@ -22,6 +23,7 @@ kind_field Number n = Digits (digits_of w32 n)
 kind_field Long n = Digits (digits_of w64 n)
 kind_field WordAddress n = Digits (digits_of w64 n)
 kind_field KindOfRing kind = Word (ring_name kind)
+kind_field TransferKind kind = Word (ring_name kind)
 
 told_written : (k : Kind) (field : List ℕ) (v : Told k) → told k field ≡ Some v → (may_be_written (kind_field k v) field ≡ true) × Fits k v
 told_written Byte field v is = number_written w8 bytes_of_8 field v is
@@ -32,6 +34,9 @@ told_written WordAddress field v is =
     let n = number_written w64 bytes_of_64 field v at.0 in
     (n.0, (at.1, n.1))
 told_written KindOfRing field v is = (kind_word field v is, tt)
+told_written TransferKind field v is =
+    let p = cond_there (bytes_eq field (codes "xfer")) Xfer v is in
+    (subst (λ (k : RingKind). bytes_eq field (ring_name k) ≡ true) p.1 p.0, sym p.1)
 
 told_read : (k : Kind) (field : List ℕ) (v : Told k) → Fits k v → may_be_written (kind_field k v) field ≡ true → (told k field ≡ Some v) × (is_known k field ≡ true)
 told_read Byte field v fits is = (number_read w8 bytes_of_8 field v fits is, refl)
@@ -39,6 +44,9 @@ told_read Number field v fits is = (number_read w32 bytes_of_32 field v fits is,
 told_read Long field v fits is = (number_read w64 bytes_of_64 field v fits is, refl)
 told_read WordAddress field v fits is = (address_of_number field v (number_read w64 bytes_of_64 field v fits.1 is) fits.0, refl)
 told_read KindOfRing field v fits is = let kind = word_kind field v is in (kind, ap is_some kind)
+told_read TransferKind field v fits is =
+    let named : bytes_eq field (codes "xfer") ≡ true = subst (λ (k : RingKind). bytes_eq field (ring_name k) ≡ true) fits is in
+    (rw named (ap (λ (k : RingKind). Some k) (sym fits)), named)
 
 -- ---- the fields that come last
 
@@ -177,9 +185,9 @@ module _ {T : Type 0} (fields_said : T → List Field) (FitsValue : T → Type 0
         (ap (λ (fs : List Field). are_written fs (word ∷ fields)) spelled.0 ∙ written, spelled.1 w.1) in
         (both.0, both.1, sort)
 
-    pub table_read : ((t : T) → IsSaid lines t) → (fields : List (List ℕ)) (t : T) → FitsValue t → are_written (fields_said t) fields ≡ true →
+    pub said_read : (t : T) → IsSaid lines t → (fields : List (List ℕ)) → FitsValue t → are_written (fields_said t) fields ≡ true →
         (form : FormOf T) × (form_in lines fields ≡ Some form) × (value_in form ≡ Some t)
-    table_read said fields t fits written = by_said (said t) fields fits (sym (ap (λ (fs : List Field). are_written fs fields) (said t).spelled) ∙ written)
+    said_read t said fields fits written = by_said said fields fits (sym (ap (λ (fs : List Field). are_written fs fields) said.spelled) ∙ written)
       where
         by_said : (s : IsSaid lines t) (fields : List (List ℕ)) → FitsValue t → are_written (Word s.line.word ∷ all_fields s.line.kinds s.line.tail s.says) fields ≡ true →
             (form : FormOf T) × (form_in lines fields ≡ Some form) × (value_in form ≡ Some t)
@@ -190,3 +198,7 @@ module _ {T : Type 0} (fields_said : T → List Field) (FitsValue : T → Type 0
             let named : line_named lines word ≡ Some s.line = ap (λ (w : List ℕ). line_named lines w) (same_bytes word s.line.word p.0) ∙ s.named in
             let whole : form_as s.line fields ≡ Some (s.line, fields) = rw r.1 refl in
             ((s.line, fields), ap (λ o. option_and_then (λ l. form_as l fields) o) named ∙ whole, ap (λ o. option_map s.line.make o) r.0 ∙ ap (λ (x : T). Some x) s.makes)
+
+    pub table_read : ((t : T) → IsSaid lines t) → (fields : List (List ℕ)) (t : T) → FitsValue t → are_written (fields_said t) fields ≡ true →
+        (form : FormOf T) × (form_in lines fields ≡ Some form) × (value_in form ≡ Some t)
+    table_read said fields t fits written = said_read t (said t) fields fits written

@@ -1,6 +1,6 @@
 -- A text that spells a trace is, in lower case, what is printed of the trace
 use Rattle.std.proofs.Common.{◌≡◌, ◌∷◌, ◌++◌, ◌∙◌, ℕ, List, [], Bool, true, false, IsTrue, refl, sym, ap, cond, map, arith, w32}
-use Rattle.trace_reader.proofs.Words.{Version, One, Two, Three, to_ascii_lowercase, flat_map, join_with_byte, slice_split, str_to_ascii_lowercase, and_parts, common_steps, map-append, join_with_byte-slice_split, ContextSize, Bytes32, Bytes64, fields_of, TextLine, is_line_feed, last_line, lines_between, lines_of, digits_of, join-fields_of, Segment, Block, ring_name, RingKind, Cmd, Evt, Xfer, Register, Usbcmd, Usbsts, Dnctrl, Crcr, Dcbaap, Config, Iman, Imod, Erstsz, Erstba, Erdp, Ring, Row, Sub, Write, Reg, Bell, Read, register_name, TraceText, Field, Word, Digits, are_written, block_fields, is_written, lines_written, may_be_written, printed, printed_line, printed_trace, ring_fields, row_fields, segment_field, size_fields, spells, trace_lines, version_fields}
+use Rattle.trace_reader.proofs.Words.{Version, One, Two, Three, to_ascii_lowercase, flat_map, join_with_byte, slice_split, str_to_ascii_lowercase, and_parts, common_steps, map-append, join_with_byte-slice_split, ContextSize, Bytes32, Bytes64, fields_of, TextLine, is_line_feed, last_line, lines_between, lines_of, digits_of, join-fields_of, Segment, Block, ring_name, RingKind, Cmd, Evt, Xfer, Register, Usbcmd, Usbsts, Dnctrl, Crcr, Dcbaap, Config, Iman, Imod, Erstsz, Erstba, Erdp, Ring, Row, Sub, Write, Reg, Bell, Read, TraceRow, Plain, Comes, Goes, Withdraws, trace_row_fields, register_name, TraceText, Field, Word, Digits, are_written, block_fields, is_written, lines_written, may_be_written, printed, printed_line, printed_trace, ring_fields, row_fields, segment_field, size_fields, spells, trace_lines, version_fields}
 use Rattle.trace_reader.proofs.SpelledFields.{same_bytes}
 
 -- ---- a text by its lines
@@ -136,11 +136,18 @@ low_size : (size : ContextSize) → AreLow (size_fields size)
 low_size Bytes32 = (refl, (refl, tt))
 low_size Bytes64 = (refl, (refl, tt))
 
-low_rows : (rows : List Row) → AreLowLines (map row_fields rows)
-low_rows [] = tt
-low_rows (row ∷ rows) = (low_row row, low_rows rows)
+low_trace_row : (row : TraceRow) → AreLow (trace_row_fields row)
+unfolding trace_row_fields
+low_trace_row (Plain row) = low_row row
+low_trace_row (Comes ring) = low_ring ring
+low_trace_row (Goes ring) = (refl, (tt, tt))
+low_trace_row (Withdraws ring position) = (refl, (tt, (tt, tt)))
 
-low_lines : (rings : List Ring) (rows : List Row) → AreLowLines (map ring_fields rings ++ map row_fields rows)
+low_rows : (rows : List TraceRow) → AreLowLines (map trace_row_fields rows)
+low_rows [] = tt
+low_rows (row ∷ rows) = (low_trace_row row, low_rows rows)
+
+low_lines : (rings : List Ring) (rows : List TraceRow) → AreLowLines (map ring_fields rings ++ map trace_row_fields rows)
 low_lines [] rows = low_rows rows
 low_lines (ring ∷ rings) rows = (low_ring ring, low_lines rings rows)
 

@@ -1,8 +1,8 @@
 -- What is printed of a trace spells the trace
 use Rattle.std.proofs.Common.{◌≡◌, ◌<◌, ◌∷◌, ◌++◌, ◌∙◌, ℕ, true, false, List, [], length, map, Ok, All, IsTrue, refl, ap, arith, append_assoc, codes, ne_eqb}
-use Rattle.trace_reader.proofs.Words.{Version, One, Two, Three, flat_map, join_with_byte, and_from, All-weaker, ContextSize, Bytes32, Bytes64, fields_of, is_space, is_line_feed, lines_of, All-join, AreFields, fields_of-join, lines_of-ended, lines_of-nothing, Ring, Row, Sub, Write, Reg, Bell, Read, TraceText, trace_of, Field, are_written, lines_written, printed, printed_line, printed_trace, ring_fields, row_fields, size_fields, spells, trace_lines, version_fields, IsTrace}
+use Rattle.trace_reader.proofs.Words.{Version, One, Two, Three, flat_map, join_with_byte, and_from, All-weaker, ContextSize, Bytes32, Bytes64, fields_of, is_space, is_line_feed, lines_of, All-join, AreFields, fields_of-join, lines_of-ended, lines_of-nothing, Ring, Row, Sub, Write, Reg, Bell, Read, TraceRow, Plain, Comes, Goes, Withdraws, trace_row_fields, TraceText, trace_of, Field, are_written, lines_written, printed, printed_line, printed_trace, ring_fields, row_fields, size_fields, spells, trace_lines, version_fields, IsTrace}
 use Rattle.trace_reader.proofs.SpelledFields.{AllSound, plain_fields, written_as_printed}
-use Rattle.trace_reader.proofs.SpelledSizes.{ring_sound, row_sound, sound_named}
+use Rattle.trace_reader.proofs.SpelledSizes.{ring_sound, sound_named, trace_row_sound}
 use Rattle.trace_reader.proofs.Spelled.{read_if_spelled}
 
 -- ---- one line
@@ -74,8 +74,15 @@ some_fields (Reg register value) = omega arith
 some_fields (Bell slot target) = omega arith
 some_fields (Read event) = omega arith
 
-row_line : (row : Row) → IsSoundLine (row_fields row)
-row_line row = record { some = some_fields row; sound = row_sound row }
+some_row_fields : (row : TraceRow) → 0 < length (trace_row_fields row)
+unfolding trace_row_fields ring_fields
+some_row_fields (Plain row) = some_fields row
+some_row_fields (Comes ring) = omega arith
+some_row_fields (Goes ring) = omega arith
+some_row_fields (Withdraws ring position) = omega arith
+
+row_line : (row : TraceRow) → IsSoundLine (trace_row_fields row)
+row_line row = record { some = some_row_fields row; sound = trace_row_sound row }
 
 ring_line : (ring : Ring) → IsSoundLine (ring_fields ring)
 unfolding ring_fields
@@ -96,8 +103,8 @@ trace_sound trace = (
   version_line trace.header.version,
   (
     size_line trace.header.context_size,
-    sound_lines_append (map ring_fields trace.header.rings) (map row_fields trace.rows) (sound_lines_map ring_fields ring_line trace.header.rings)
-        (sound_lines_map row_fields row_line trace.rows),
+    sound_lines_append (map ring_fields trace.header.rings) (map trace_row_fields trace.rows) (sound_lines_map ring_fields ring_line trace.header.rings)
+        (sound_lines_map trace_row_fields row_line trace.rows),
   ),
 )
 

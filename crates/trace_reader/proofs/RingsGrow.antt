@@ -11,7 +11,7 @@ use Rattle.trace_reader.proofs.SpelledHeaders.{together_with}
 use Rattle.trace_reader.proofs.SpelledTraces.{is_line_ring}
 
 -- a ring that isn't misplaced may stand behind the others
-pub one_ring_more : (h : Header) (rings : List Ring) (ring : Ring) → ring.id < 256 → is_misplaced h.rings (SaysRing ring) ≡ false → IsHeader h → rings ≡ h.rings ++ ring ∷ [] →
+pub one_ring_more : (h : Header) (rings : List Ring) (ring : Ring) → ring.id < 256 → is_misplaced h.rings [] (SaysRing ring) ≡ false → IsHeader h → rings ≡ h.rings ++ ring ∷ [] →
     IsHeader (record h { rings = rings })
 one_ring_more h rings ring small placed headed is =
     let parts = or_parts (not (is_shape ring.shape)) (list_any (clash ring) h.rings) placed in
@@ -25,7 +25,7 @@ one_ring_more h rings ring small placed headed is =
 
 -- ---- what is asked of a ring before it is added
 
-pub placed_well : (rings : List Ring) (ring : Ring) → is_shape ring.shape ≡ true → list_any (clash ring) rings ≡ false → is_misplaced rings (SaysRing ring) ≡ false
+pub placed_well : (rings : List Ring) (ring : Ring) → is_shape ring.shape ≡ true → list_any (clash ring) rings ≡ false → is_misplaced rings [] (SaysRing ring) ≡ false
 placed_well rings ring is none = rw (is, none) refl
 
 all_some : (kind : RingKind) (ss : List Segment) → list_all (is_segment kind) ss ≡ true → list_all (λ s. nat_lt 0 s.count) ss ≡ true

@@ -1,6 +1,6 @@
 -- The row of a text's first line, found by the places of its fields
 use Rattle.std.proofs.Common.{◌≡◌, ◌≤◌, ◌<◌, ◌+◌, ◌∷◌, ◌++◌, ◌∙◌, ℕ, zero, suc, List, [], true, false, Option, None, Some, IfSome, Ok, All, length, take, slice_index, refl, sym, ap, subst, arith, ne_eqb}
-use Rattle.trace_reader.proofs.Words.{nat_tests, and_parts, All-join, All-cons, All-head, All-nil, All-tail, All-weaker, join-fields_of, str_to_ascii_lowercase, to_ascii_lowercase, is_line_feed, fields_of, TextLine, Field, Word, Digits, printed, may_be_written, are_written, Row, SaysRow, most_lines, is_too_much, next_number, read_line, State, start, said_by_line}
+use Rattle.trace_reader.proofs.Words.{nat_tests, and_parts, All-join, All-cons, All-head, All-nil, All-tail, All-weaker, join-fields_of, str_to_ascii_lowercase, to_ascii_lowercase, is_line_feed, fields_of, TextLine, Field, Word, Digits, may_be_written, are_written, Row, Plain, SaysRow, most_lines, is_too_much, next_number, read_line, State, start, said_by_line}
 use Rattle.trace_reader.specs.Entries.{SaysAlone}
 use Rattle.trace_reader.specs.RowsAhead.{BeginsWithRow}
 use Rattle.trace_reader.proofs.LineFields.{alone, not_limited}
@@ -37,10 +37,10 @@ not_line_feed : (c : ℕ) → 32 < c → is_line_feed c ≡ false
 not_line_feed c above = ne_eqb c 10 (λ same. omega (arith, same))
 
 -- a line that is read has no line feed
-without_line_feed : (st : State) (line : TextLine) (row : Row) → 2 ≤ st.lines → read_line st line ≡ Ok (record st { lines = next_number st; begun = true }, Some row) →
+without_line_feed : (st : State) (line : TextLine) (row : Row) → 2 ≤ st.lines → read_line st line ≡ Ok (record st { lines = next_number st; begun = true }, Some (Plain row)) →
     All (λ byte. is_line_feed byte ≡ false) line.content
 without_line_feed st line row behind is =
-    let step = step_from_read st line (record st { lines = next_number st; begun = true }, Some row) behind is in
+    let step = step_from_read st line (record st { lines = next_number st; begun = true }, Some (Plain row)) behind is in
     let above = all_above (fields_said step.0) (fields_of line.content) (said_sound step.0) step.1.spelled.written in
     let plain = All-weaker (λ text. All (λ c. 32 < c) text) (λ text. All (λ c. is_line_feed c ≡ false) text)
     (λ text high. All-weaker (λ c. 32 < c) (λ c. is_line_feed c ≡ false) not_line_feed text high) (fields_of line.content) above in
@@ -48,17 +48,17 @@ without_line_feed st line row behind is =
 
 -- ---- the first line
 
-says_behind : (st : State) (content : List ℕ) (row : Row) → SaysAlone row content → is_too_much (SaysRow row) ≡ false → 2 ≤ st.lines → next_number st ≤ most_lines →
-    read_line st (record { content = content; is_ended = true }) ≡ Ok (record st { lines = next_number st; begun = true }, Some row)
+says_behind : (st : State) (content : List ℕ) (row : Row) → SaysAlone row content → is_too_much (SaysRow (Plain row)) ≡ false → 2 ≤ st.lines → next_number st ≤ most_lines →
+    read_line st (record { content = content; is_ended = true }) ≡ Ok (record st { lines = next_number st; begun = true }, Some (Plain row))
 says_behind st content row says few behind within =
     let line : TextLine = record { content = content; is_ended = true } in
-    let said : said_by_line st line ≡ Ok (SaysRow row) = alone st line st.begun refl ∙ not_limited (next_number st) (SaysRow row) _ (says st.begun) within few in
-    line_entry st line (SaysRow row) behind said
+    let said : said_by_line st line ≡ Ok (SaysRow (Plain row)) = alone st line st.version st.begun refl refl ∙ not_limited (next_number st) (SaysRow (Plain row)) _ (says st.version st.begun) within few in
+    line_entry st line (SaysRow (Plain row)) behind said
 
 abbrev somewhere : State
 somewhere = record start { lines = 2 }
 
-pub begins_with : (text content : List ℕ) (count : ℕ) (row : Row) → SaysAlone row content → is_too_much (SaysRow row) ≡ false → length content + 1 ≡ count → ((rest : List ℕ) × (text ≡ content ++ 10 ∷ rest)) →
+pub begins_with : (text content : List ℕ) (count : ℕ) (row : Row) → SaysAlone row content → is_too_much (SaysRow (Plain row)) ≡ false → length content + 1 ≡ count → ((rest : List ℕ) × (text ≡ content ++ 10 ∷ rest)) →
     BeginsWithRow row count text
 begins_with text content count row says few long whole =
     let read = λ (st : State). says_behind st content row says few in

@@ -1,10 +1,10 @@
 -- What is read of a text is the valid trace that the text spells
-use Rattle.std.proofs.Common.{◌≡◌, ◌-◌, ◌≤◌, ◌&&◌, ◌↔◌, ◌∷◌, ◌++◌, ◌∙◌, ℕ, Bool, true, false, inl, inr, cond, List, [], length, nat_lt, Option, Some, None, Result, Ok, Err, IsTrue, is_none, refl, sym, ap, subst, arith, codes, ltb-false, le-ltb}
-use Rattle.trace_reader.proofs.Words.{Version, One, Two, Three, join_with_byte, list_all, bytes_eq, and_parts, and_from, cases_Bool, ContextSize, Bytes32, Bytes64, fields_of, TextLine, lines_of, join-fields_of, LineFault, BadHeader, Ring, Row, may_stand_together, most_lines, State, TraceText, after, line_fault, next_number, read_line, read_lines, size_of, start, trace_of, version_of, whole, with_size, with_version, Field, Word, are_written, is_written, lines_written, size_fields, size_word, spells, trace_lines, version_fields, version_word, IsTrace}
+use Rattle.std.proofs.Common.{◌≡◌, ◌-◌, ◌≤◌, ◌&&◌, ◌↔◌, ◌∷◌, ◌++◌, ◌∙◌, ℕ, Bool, true, false, inl, inr, cond, List, [], length, nat_lt, Option, Some, None, Result, Ok, Err, IsTrue, All, is_none, refl, sym, ap, subst, arith, codes, ltb-false, le-ltb}
+use Rattle.trace_reader.proofs.Words.{Version, One, Two, Three, join_with_byte, list_all, bytes_eq, and_parts, and_from, cases_Bool, ContextSize, Bytes32, Bytes64, fields_of, TextLine, lines_of, join-fields_of, LineFault, BadHeader, Ring, TraceRow, have_new_ids, may_stand_together, most_lines, State, TextOf, TraceText, after, line_fault, next_number, read_line, read_lines, size_of, start, trace_of, version_of, whole, with_size, with_version, Field, Word, are_written, is_written, lines_written, size_fields, size_word, spells, trace_lines, version_fields, version_word, IsTrace}
 use Rattle.trace_reader.proofs.SpelledFields.{same_bytes, then_are}
 use Rattle.trace_reader.proofs.SpelledWords.{word_first}
 use Rattle.trace_reader.proofs.SpelledLines.{ok_there, there}
-use Rattle.trace_reader.proofs.SpelledTraces.{is_line_ring, lines_for, lines_go_on, lines_read, read_on, spells_from_read, with_front}
+use Rattle.trace_reader.proofs.SpelledTraces.{is_line_ring, IsLineRow, lines_for, lines_go_on, lines_read, read_on, spells_from_read, with_front}
 use Rattle.trace_reader.proofs.SpelledValues.{only}
 
 -- ---- the first two lines
@@ -104,7 +104,7 @@ if_some : (t : Bool) (fault : LineFault) → cond t (Some fault) None ≡ None �
 if_some true fault is = cc is
 if_some false fault is = refl
 
-first_from_read : (line : TextLine) (next : State × Option Row) → read_line start line ≡ Ok next →
+first_from_read : (line : TextLine) (next : State × Option TraceRow) → read_line start line ≡ Ok next →
     (version : Version) × (version_of line ≡ Some version) × ((behind_version version, None) ≡ next)
 unfolding read_line line_fault after
 first_from_read line next is =
@@ -112,7 +112,7 @@ first_from_read line next is =
     let version = there (version_of line) (if_some (is_none (version_of line)) BadHeader p.0) in
     (version.0, version.1, ap (λ (o : Option Version). (with_version start o, None)) (sym version.1) ∙ p.1)
 
-second_from_read : (version : Version) (line : TextLine) (next : State × Option Row) → read_line (behind_version version) line ≡ Ok next →
+second_from_read : (version : Version) (line : TextLine) (next : State × Option TraceRow) → read_line (behind_version version) line ≡ Ok next →
     (size : ContextSize) × (size_of line ≡ Some size) × ((behind_size version size, None) ≡ next)
 unfolding read_line line_fault after
 second_from_read version line next is =
@@ -130,8 +130,8 @@ second_read version line size is = rw is refl
 
 -- ---- from a text that is read
 
-whole_there : (x : Result (State × List Row) (ℕ × LineFault)) (trace : TraceText) → whole x ≡ Ok trace →
-    (r : State × List Row) × (x ≡ Ok r) × (2 ≤ r.0.lines)
+pub whole_there : {R : Type 0} (x : Result (State × List R) (ℕ × LineFault)) (trace : TextOf R) → whole x ≡ Ok trace →
+    (r : State × List R) × (x ≡ Ok r) × (2 ≤ r.0.lines)
     × (record { header = record { version = r.0.version; context_size = r.0.size; rings = r.0.rings }; first = next_number r.0 - length r.1; rows = r.1 } ≡ trace)
 whole_there (Ok (st, rows)) trace is =
     elim (cases_Bool (nat_lt st.lines 2)) [
@@ -140,54 +140,54 @@ whole_there (Ok (st, rows)) trace is =
     ]
 whole_there (Err fault) trace is = cc is
 
-read_end : (st : State) (r : State × List Row) → read_lines st [] ≡ Ok r → st ≡ r.0
+read_end : (st : State) (r : State × List TraceRow) → read_lines st [] ≡ Ok r → st ≡ r.0
 unfolding read_lines
-read_end st r is = let same : (st, []) ≡ r = cc is in ap (λ (x : State × List Row). x.0) same
+read_end st r is = let same : (st, []) ≡ r = cc is in ap (λ (x : State × List TraceRow). x.0) same
 
-record Begins (first second : TextLine) (lines : List TextLine) (r : State × List Row) : Type 0 where
+record Begins (first second : TextLine) (lines : List TextLine) (r : State × List TraceRow) : Type 0 where
   version : Version
   size : ContextSize
   named : is_written (version_fields version) first ≡ true
   sized : is_written (size_fields size) second ≡ true
   rest : read_lines (behind_size version size) lines ≡ Ok r
 
-second_state : (first : TextLine) (lines : List TextLine) (r : State × List Row) → read_lines start (first ∷ lines) ≡ Ok r →
+second_state : (first : TextLine) (lines : List TextLine) (r : State × List TraceRow) → read_lines start (first ∷ lines) ≡ Ok r →
     (version : Version) × (is_written (version_fields version) first ≡ true)
-    × ((q : State × List Row) × (read_lines (behind_version version) lines ≡ Ok q) × (q.0 ≡ r.0) × (q.1 ≡ r.1))
+    × ((q : State × List TraceRow) × (read_lines (behind_version version) lines ≡ Ok q) × (q.0 ≡ r.0) × (q.1 ≡ r.1))
 second_state first lines r is =
     let g = lines_go_on start first lines r is in
     let p = first_from_read first g.next g.step_is in
-    let state_is : behind_version p.0 ≡ g.next.0 = ap (λ (x : State × Option Row). x.0) p.2 in
-    let row_is : None ≡ g.next.1 = ap (λ (x : State × Option Row). x.1) p.2 in (
+    let state_is : behind_version p.0 ≡ g.next.0 = ap (λ (x : State × Option TraceRow). x.0) p.2 in
+    let row_is : None ≡ g.next.1 = ap (λ (x : State × Option TraceRow). x.1) p.2 in (
       p.0,
       version_written first p.0 p.1,
-      (g.others, ap (λ (x : State). read_lines x lines) state_is ∙ g.rest_is, g.end_is, ap (λ (o : Option Row). with_front o g.others.1) row_is ∙ g.rows_are),
+      (g.others, ap (λ (x : State). read_lines x lines) state_is ∙ g.rest_is, g.end_is, ap (λ (o : Option TraceRow). with_front o g.others.1) row_is ∙ g.rows_are),
     )
 
-third_state : (version : Version) (second : TextLine) (lines : List TextLine) (r : State × List Row) → read_lines (behind_version version) (second ∷ lines) ≡ Ok r →
-    (size : ContextSize) × (is_written (size_fields size) second ≡ true) × ((q : State × List Row) × (read_lines (behind_size version size) lines ≡ Ok q) × (q.0 ≡ r.0) × (q.1 ≡ r.1))
+third_state : (version : Version) (second : TextLine) (lines : List TextLine) (r : State × List TraceRow) → read_lines (behind_version version) (second ∷ lines) ≡ Ok r →
+    (size : ContextSize) × (is_written (size_fields size) second ≡ true) × ((q : State × List TraceRow) × (read_lines (behind_size version size) lines ≡ Ok q) × (q.0 ≡ r.0) × (q.1 ≡ r.1))
 third_state version second lines r is =
     let g = lines_go_on (behind_version version) second lines r is in
     let p = second_from_read version second g.next g.step_is in
-    let state_is : behind_size version p.0 ≡ g.next.0 = ap (λ (x : State × Option Row). x.0) p.2 in
-    let row_is : None ≡ g.next.1 = ap (λ (x : State × Option Row). x.1) p.2 in (
+    let state_is : behind_size version p.0 ≡ g.next.0 = ap (λ (x : State × Option TraceRow). x.0) p.2 in
+    let row_is : None ≡ g.next.1 = ap (λ (x : State × Option TraceRow). x.1) p.2 in (
       p.0,
       size_written second p.0 p.1,
-      (g.others, ap (λ (x : State). read_lines x lines) state_is ∙ g.rest_is, g.end_is, ap (λ (o : Option Row). with_front o g.others.1) row_is ∙ g.rows_are),
+      (g.others, ap (λ (x : State). read_lines x lines) state_is ∙ g.rest_is, g.end_is, ap (λ (o : Option TraceRow). with_front o g.others.1) row_is ∙ g.rows_are),
     )
 
-begins : (first second : TextLine) (lines : List TextLine) (r : State × List Row) → read_lines start (first ∷ second ∷ lines) ≡ Ok r → Begins first second lines r
+begins : (first second : TextLine) (lines : List TextLine) (r : State × List TraceRow) → read_lines start (first ∷ second ∷ lines) ≡ Ok r → Begins first second lines r
 begins first second lines r is =
     let p = second_state first (second ∷ lines) r is in
     let q = third_state p.0 second lines p.2.0 p.2.1 in
     let same : q.2.0 ≡ r = λ k. ((q.2.2 ∙ p.2.2) k, (q.2.3 ∙ p.2.3) k) in
-    record { version = p.0; size = q.0; named = p.1; sized = q.1; rest = q.2.1 ∙ ap (λ (x : State × List Row). Ok x) same }
+    record { version = p.0; size = q.0; named = p.1; sized = q.1; rest = q.2.1 ∙ ap (λ (x : State × List TraceRow). Ok x) same }
 
 -- the trace of a state and the rows that were read
-abbrev text_of : State × List Row → TraceText
+abbrev text_of : State × List TraceRow → TraceText
 text_of r = record { header = record { version = r.0.version; context_size = r.0.size; rings = r.0.rings }; first = next_number r.0 - length r.1; rows = r.1 }
 
-lines_spell : (first second : TextLine) (lines : List TextLine) (r : State × List Row) → Begins first second lines r →
+lines_spell : (first second : TextLine) (lines : List TextLine) (r : State × List TraceRow) → Begins first second lines r →
     (lines_written (trace_lines (text_of r)) (first ∷ second ∷ lines) ≡ true) × IsTrace (text_of r)
 unfolding trace_lines
 lines_spell first second lines r b =
@@ -206,7 +206,9 @@ lines_spell first second lines r b =
       and_from (is_written (version_fields r.0.version) first) _ named (and_from (is_written (size_fields r.0.size) second) (lines_written (lines_for r.0.rings r.1) lines) sized rings),
       record {
         headed = and_from (list_all is_line_ring r.0.rings) (may_stand_together r.0.rings) shapes together;
-        rows = s.are.fit;
+        rows = subst (λ (version : Version). All (IsLineRow version) r.1) (sym version_is) s.are.fit;
+        begins = s.are.begins refl;
+        new_ids = ap (λ (rs : List Ring). have_new_ids rs [] r.1) rings_are ∙ s.are.new_ids;
         first = omega (arith, count, many);
         within = omega (arith, count, many, within);
       },
@@ -237,7 +239,7 @@ spelled_if_read text trace is = read_spells (lines_of text) trace is
 
 -- ---- from a text that spells a trace
 
-whole_of : (end : State) (rows : List Row) (trace : TraceText) → 2 ≤ end.lines → end.version ≡ trace.header.version → end.size ≡ trace.header.context_size → end.rings ≡ trace.header.rings →
+whole_of : (end : State) (rows : List TraceRow) (trace : TraceText) → 2 ≤ end.lines → end.version ≡ trace.header.version → end.size ≡ trace.header.context_size → end.rings ≡ trace.header.rings →
     next_number end - length rows ≡ trace.first → rows ≡ trace.rows → whole (Ok (end, rows)) ≡ Ok trace
 whole_of end rows trace some version_is size_is rings_are first_is rows_are =
     let same : record { header = record { version = end.version; context_size = end.size; rings = end.rings }; first = next_number end - length rows; rows = rows } ≡ trace =
@@ -258,12 +260,12 @@ written_reads (first ∷ second ∷ lines) trace written is =
     let h = and_parts (list_all is_line_ring trace.header.rings) (may_stand_together trace.header.rings) is.headed in
     let first_is = is.first in
     let within = is.within in
-    let read = lines_read trace.header.rings trace.rows lines (behind_size version size) (omega arith) refl h.0 h.1 is.rows q.1 (omega (arith, first_is, within)) in
+    let read = lines_read trace.header.rings trace.rows lines (behind_size version size) (omega arith) refl h.0 h.1 is.rows is.begins is.new_ids q.1 (omega (arith, first_is, within)) in
     let third = read_on (behind_version version) (behind_size version size) second lines None read.end trace.rows (second_read version second size (size_read second size q.0)) read.is in
     let all : read_lines start (first ∷ second ∷ lines) ≡ Ok (read.end, trace.rows) =
     read_on start (behind_version version) first (second ∷ lines) None read.end trace.rows (first_read first version (version_read first version p.0)) third in
     let count = read.count in
-    ap (λ (x : Result (State × List Row) (ℕ × LineFault)). whole x) all
+    ap (λ (x : Result (State × List TraceRow) (ℕ × LineFault)). whole x) all
     ∙ whole_of read.end trace.rows trace (omega (arith, count)) read.version_is read.size_is read.rings_are (omega (arith, count, first_is)) refl
 
 -- a valid trace that the text spells is what is read

@@ -1,19 +1,19 @@
 -- A line without a fault: what it says, and that it spells it
-use Rattle.std.proofs.Common.{◌≡◌, ◌≤◌, ◌&&◌, ◌||◌, ◌∙◌, ℕ, Bool, true, false, not, cond, List, length, map, nat_lt, Option, Some, None, Ok, Err, is_none, refl, sym, ap, arith, le-ltb, ltb-false, ne_eqb}
-use Rattle.trace_reader.proofs.Words.{list_any, option_and_then, option_map_or, not-false, or_parts, fields_of, has_empty_field, TextLine, length-fields_of, spaced_length, is_shape, LineFault, BadRow, Number, Limit, Shape, Ring, Row, Sub, Write, Reg, Bell, Read, Form, is_ring_form, clash, most_lines, most_bytes, most_declared, State, next_number, form_in, said_in, is_bad_row, is_bad_number, is_too_much, is_past_limit, is_too_long, is_misplaced, is_bad_shape, row_fault, line_fault, with_said, after, read_line, printed, said_of, Said, SaysRow, SaysRing}
+use Rattle.std.proofs.Common.{◌≡◌, ◌≤◌, ◌||◌, ◌∙◌, ℕ, Bool, true, false, not, cond, List, length, map, nat_lt, Option, Some, None, Ok, Err, is_none, refl, sym, ap, arith, le-ltb, ltb-false, ne_eqb}
+use Rattle.trace_reader.proofs.Words.{list_any, option_and_then, option_map_or, not-false, or_parts, fields_of, has_empty_field, TextLine, length-fields_of, spaced_length, is_shape, LineFault, BadRow, Number, Limit, Shape, Ring, Sub, Write, Reg, Bell, Read, TraceRow, Plain, Comes, Goes, Withdraws, has_used_id, has_ring_rows, trace_row_fields, Form, clash, most_lines, most_bytes, most_declared, State, next_number, form_in, said_in, is_bad_row, is_bad_number, is_too_much, is_past_limit, is_too_long, is_misplaced, is_bad_shape, row_fault, line_fault, with_said, after, read_line, printed, said_of, Said, SaysRow, SaysRing}
 use Rattle.trace_reader.proofs.SpelledFields.{AllSound, all_filled, then_there, written_lengths}
-use Rattle.trace_reader.proofs.SpelledSaid.{FitsSaid, IsRead, IsSpelled, fields_said, read_from_spelled, says_ring, spelled_from_read}
+use Rattle.trace_reader.proofs.SpelledSaid.{FitsSaid, IsRead, IsSpelled, fields_said, read_from_spelled, spelled_from_read, stands}
 use Rattle.trace_reader.proofs.SpelledHeaders.{shape_says}
-use Rattle.trace_reader.proofs.SpelledSizes.{row_sound, ring_sound, sub_length, write_length, reg_length, bell_length, read_length, ring_length}
+use Rattle.trace_reader.proofs.SpelledSizes.{trace_row_sound, ring_sound, sub_length, write_length, reg_length, bell_length, read_length, ring_length, goes_length, withdraws_length}
 
 -- the line spells it, and it may stand there
 pub record IsGood (st : State) (line : TextLine) (s : Said) : Type 0 where
   pub ended : line.is_ended ≡ true
   pub spelled : IsSpelled s (fields_of line.content)
-  pub ordered : st.begun ≡ true → says_ring s ≡ false
+  pub ordered : stands (has_ring_rows st.version) st.begun s ≡ true
   pub within : next_number st ≤ most_lines
   pub few : is_too_much s ≡ false
-  pub placed : is_misplaced st.rings s ≡ false
+  pub placed : is_misplaced st.rings st.later s ≡ false
 
 -- ---- from no fault
 
@@ -24,7 +24,7 @@ no_fault false fault rest is = (refl, is)
 record NoFaults (st : State) (line : TextLine) : Type 0 where
   short : is_too_long line ≡ false
   row : is_bad_row st line ≡ false
-  number : is_bad_number line ≡ false
+  number : is_bad_number st line ≡ false
   limit : is_past_limit st line ≡ false
   shape : is_bad_shape st line ≡ false
 
@@ -33,7 +33,7 @@ unfolding row_fault
 no_faults st line none =
     let a = no_fault (is_too_long line) Limit _ none in
     let b = no_fault (is_bad_row st line) BadRow _ a.1 in
-    let c = no_fault (is_bad_number line) Number _ b.1 in
+    let c = no_fault (is_bad_number st line) Number _ b.1 in
     let d = no_fault (is_past_limit st line) Limit _ c.1 in
     let e = no_fault (is_bad_shape st line) Shape None d.1 in
     record { short = a.0; row = b.0; number = c.0; limit = d.0; shape = e.0 }
@@ -49,61 +49,52 @@ there None is = cc is
 record RowTests (st : State) (line : TextLine) : Type 0 where
   ended : line.is_ended ≡ true
   filled : has_empty_field (fields_of line.content) ≡ false
-  formed : is_none (form_in line) ≡ false
-  ordered : (st.begun && option_map_or is_ring_form (form_in line) false) ≡ false
+  formed : is_none (form_in st line) ≡ false
 
 row_tests : (st : State) (line : TextLine) → is_bad_row st line ≡ false → RowTests st line
 unfolding is_bad_row
 row_tests st line good =
-    let a = or_parts (not line.is_ended || has_empty_field (fields_of line.content) || is_none (form_in line)) (st.begun && option_map_or is_ring_form (form_in line) false) good in
-    let b = or_parts (not line.is_ended || has_empty_field (fields_of line.content)) (is_none (form_in line)) a.0 in
+    let b = or_parts (not line.is_ended || has_empty_field (fields_of line.content)) (is_none (form_in st line)) good in
     let c = or_parts (not line.is_ended) (has_empty_field (fields_of line.content)) b.0 in
-    record { ended = not-false line.is_ended c.0; filled = c.1; formed = b.1; ordered = a.1 }
+    record { ended = not-false line.is_ended c.0; filled = c.1; formed = b.1 }
 
 no_bad_row : (st : State) (line : TextLine) → RowTests st line → is_bad_row st line ≡ false
 unfolding is_bad_row
-no_bad_row st line is = rw (is.ordered, is.formed, is.filled, is.ended) refl
+no_bad_row st line is = rw (is.formed, is.filled, is.ended) refl
 
--- a line that says something has its form
-record SaidBy (line : TextLine) (s : Said) : Type 0 where
+-- a line that says something has its form, and may stand there
+record SaidBy (st : State) (line : TextLine) (s : Said) : Type 0 where
   form : Form
-  formed : form_in line ≡ Some form
+  formed : form_in st line ≡ Some form
   says : said_of form ≡ Some s
   spelled : IsSpelled s (fields_of line.content)
-  sort : is_ring_form form ≡ says_ring s
+  ordered : stands (has_ring_rows st.version) st.begun s ≡ true
 
-said_by : (line : TextLine) (s : Said) → said_in line ≡ Some s → SaidBy line s
+said_by : (st : State) (line : TextLine) (s : Said) → said_in st line ≡ Some s → SaidBy st line s
 unfolding said_in form_in
-said_by line s says =
-    let p = then_there said_of (form_in line) s says in
-    let q = spelled_from_read (fields_of line.content) p.0 s p.1 p.2 in
-    record { form = p.0; formed = p.1; says = p.2; spelled = q.0; sort = q.1 }
+said_by st line s says =
+    let p = then_there said_of (form_in st line) s says in
+    let q = spelled_from_read st.version st.begun (fields_of line.content) p.0 s p.1 p.2 in
+    record { form = p.0; formed = p.1; says = p.2; spelled = q.0; ordered = q.1 }
 
-ring_behind : (begun : Bool) (o : Option Form) (form : Form) (s : Said) → begun ≡ true → o ≡ Some form → is_ring_form form ≡ says_ring s →
-    (begun && option_map_or is_ring_form o false) ≡ false → says_ring s ≡ false
-ring_behind begun o form s is formed sort none = sym sort ∙ (rw (is, formed) at none)
+-- behind a row no line says a ring of the header
+pub no_ring_behind : (st : State) (line : TextLine) (ring : Ring) → st.begun ≡ true → said_in st line ≡ Some (SaysRing ring) → ⊥
+no_ring_behind st line ring begun says = let both : not true ≡ true = ap not (sym begun) ∙ (said_by st line (SaysRing ring) says).ordered in cc both
 
--- behind a row no line says a ring
-pub no_ring_behind : (st : State) (line : TextLine) (s : Said) → st.begun ≡ true → is_bad_row st line ≡ false → said_in line ≡ Some s → says_ring s ≡ false
-no_ring_behind st line s begun good says =
-    let by = said_by line s says in
-    let tests = row_tests st line good in
-    ring_behind st.begun (form_in line) by.form s begun by.formed by.sort tests.ordered
-
-pub good_from_none : (st : State) (line : TextLine) → row_fault st line ≡ None → (s : Said) × (said_in line ≡ Some s) × IsGood st line s
+pub good_from_none : (st : State) (line : TextLine) → row_fault st line ≡ None → (s : Said) × (said_in st line ≡ Some s) × IsGood st line s
 unfolding is_bad_number is_past_limit is_bad_shape
 good_from_none st line none =
     let n = no_faults st line none in
     let tests = row_tests st line n.row in
-    let is = there (said_in line) n.number in
-    let by = said_by line is.0 is.1 in
-    let limits = or_parts (nat_lt most_lines (next_number st)) (option_map_or is_too_much (said_in line) false) n.limit in (
+    let is = there (said_in st line) n.number in
+    let by = said_by st line is.0 is.1 in
+    let limits = or_parts (nat_lt most_lines (next_number st)) (option_map_or is_too_much (said_in st line) false) n.limit in (
       is.0,
       is.1,
       record {
         ended = tests.ended;
         spelled = by.spelled;
-        ordered = λ begun. ring_behind st.begun (form_in line) by.form is.0 begun by.formed by.sort tests.ordered;
+        ordered = by.ordered;
         within = ltb-false most_lines (next_number st) limits.0;
         few = rw is.1 at limits.1;
         placed = rw is.1 at n.shape;
@@ -113,52 +104,51 @@ good_from_none st line none =
 -- ---- to no fault
 
 pub said_sound : (s : Said) → AllSound (fields_said s)
-said_sound (SaysRow row) = row_sound row
+said_sound (SaysRow row) = trace_row_sound row
 said_sound (SaysRing ring) = ring_sound ring
 
 pub few_blocks : (n : ℕ) → nat_lt most_declared n ≡ false → n ≤ most_declared
 few_blocks n few = ltb-false most_declared n few
 
-allowed : (rings : List Ring) (ring : Ring) → is_misplaced rings (SaysRing ring) ≡ false → is_shape ring.shape ≡ true
-allowed rings ring placed = not-false (is_shape ring.shape) ((or_parts (not (is_shape ring.shape)) (list_any (clash ring) rings) placed).0)
+allowed : (ring : Ring) (other : Bool) → (not (is_shape ring.shape) || other) ≡ false → is_shape ring.shape ≡ true
+allowed ring other placed = not-false (is_shape ring.shape) ((or_parts (not (is_shape ring.shape)) other placed).0)
 
-said_fits : (rings : List Ring) (s : Said) → FitsSaid s → is_too_much s ≡ false → is_misplaced rings s ≡ false → spaced_length (map printed (fields_said s)) ≤ most_bytes
-said_fits rings (SaysRow (Sub ring blocks)) fits few placed = sub_length ring blocks fits.0.1 (few_blocks (length blocks) few)
-said_fits rings (SaysRow (Write at word)) fits few placed = write_length at word
-said_fits rings (SaysRow (Reg register value)) fits few placed = reg_length register value
-said_fits rings (SaysRow (Bell slot target)) fits few placed = bell_length slot target
-said_fits rings (SaysRow (Read event)) fits few placed = read_length event fits.0
-said_fits rings (SaysRing ring) fits few placed = ring_length ring ((shape_says ring.shape (allowed rings ring placed)).few)
+said_fits : (rings : List Ring) (later : List ℕ) (s : Said) → FitsSaid s → is_too_much s ≡ false → is_misplaced rings later s ≡ false → spaced_length (map printed (fields_said s)) ≤ most_bytes
+unfolding trace_row_fields
+said_fits rings later (SaysRow (Plain (Sub ring blocks))) fits few placed = sub_length ring blocks fits.0.1 (few_blocks (length blocks) few)
+said_fits rings later (SaysRow (Plain (Write at word))) fits few placed = write_length at word
+said_fits rings later (SaysRow (Plain (Reg register value))) fits few placed = reg_length register value
+said_fits rings later (SaysRow (Plain (Bell slot target))) fits few placed = bell_length slot target
+said_fits rings later (SaysRow (Plain (Read event))) fits few placed = read_length event fits.0
+said_fits rings later (SaysRow (Comes ring)) fits few placed = ring_length ring ((shape_says ring.shape (allowed ring (has_used_id rings later (Comes ring)) placed)).few)
+said_fits rings later (SaysRow (Goes ring)) fits few placed = goes_length ring
+said_fits rings later (SaysRow (Withdraws ring position)) fits few placed = withdraws_length ring position
+said_fits rings later (SaysRing ring) fits few placed = ring_length ring ((shape_says ring.shape (allowed ring (list_any (clash ring) rings) placed)).few)
 
 short_line : (st : State) (line : TextLine) (s : Said) → IsGood st line s → is_too_long line ≡ false
 unfolding is_too_long
 short_line st line s good =
     let long = length-fields_of line.content in
     let same = written_lengths (fields_said s) (fields_of line.content) good.spelled.written in
-    let fits = said_fits st.rings s good.spelled.fits good.few good.placed in
+    let fits = said_fits st.rings st.later s good.spelled.fits good.few good.placed in
     le-ltb most_bytes (length line.content) (omega (arith, long, same, fits))
 
-read_in : (line : TextLine) (s : Said) → IsRead s (fields_of line.content) → said_in line ≡ Some s
+read_in : (st : State) (line : TextLine) (s : Said) → IsRead st.version st.begun s (fields_of line.content) → said_in st line ≡ Some s
 unfolding said_in form_in
-read_in line s is = ap (λ (o : Option Form). option_and_then said_of o) is.formed ∙ is.says
+read_in st line s is = ap (λ (o : Option Form). option_and_then said_of o) is.formed ∙ is.says
 
-formed_in : (line : TextLine) (s : Said) (is : IsRead s (fields_of line.content)) → form_in line ≡ Some (is.form)
+formed_in : (st : State) (line : TextLine) (s : Said) (is : IsRead st.version st.begun s (fields_of line.content)) → form_in st line ≡ Some (is.form)
 unfolding form_in
-formed_in line s is = is.formed
+formed_in st line s is = is.formed
 
-pub none_from_good : (st : State) (line : TextLine) (s : Said) → IsGood st line s → (row_fault st line ≡ None) × (said_in line ≡ Some s)
+pub none_from_good : (st : State) (line : TextLine) (s : Said) → IsGood st line s → (row_fault st line ≡ None) × (said_in st line ≡ Some s)
 unfolding is_bad_number is_past_limit is_bad_shape
 none_from_good st line s good =
-    let read = read_from_spelled s (fields_of line.content) good.spelled in
-    let says = read_in line s read in
-    let formed = formed_in line s read in
+    let read = read_from_spelled st.version st.begun s (fields_of line.content) good.spelled good.ordered in
+    let says = read_in st line s read in
+    let formed = formed_in st line s read in
     let filled = all_filled (fields_said s) (fields_of line.content) (said_sound s) good.spelled.written in
-    let row = no_bad_row st line (record {
-      ended = good.ended;
-      filled = filled;
-      formed = rw formed refl;
-      ordered = rw formed (in_order st.begun (is_ring_form read.form) (λ begun. read.sort ∙ good.ordered begun));
-    }) in (
+    let row = no_bad_row st line (record { ended = good.ended; filled = filled; formed = rw formed refl }) in (
       no_row_fault st line (record {
         short = short_line st line s good;
         row = row;
@@ -168,10 +158,6 @@ none_from_good st line s good =
       }),
       says,
     )
-  where
-    in_order : (begun ring : Bool) → (begun ≡ true → ring ≡ false) → (begun && ring) ≡ false
-    in_order true ring none = none refl
-    in_order false ring none = refl
 
 -- ---- the next line
 
@@ -179,7 +165,7 @@ line_fault_is : (st : State) (line : TextLine) → 2 ≤ st.lines → line_fault
 unfolding line_fault
 line_fault_is st line behind = rw (ne_eqb st.lines 0 (λ e. omega (arith, e)), ne_eqb st.lines 1 (λ e. omega (arith, e))) refl
 
-after_is : (st : State) (line : TextLine) → 2 ≤ st.lines → after st line ≡ with_said st (said_in line)
+after_is : (st : State) (line : TextLine) → 2 ≤ st.lines → after st line ≡ with_said st (said_in st line)
 unfolding after
 after_is st line behind = rw (ne_eqb st.lines 0 (λ e. omega (arith, e)), ne_eqb st.lines 1 (λ e. omega (arith, e))) refl
 
@@ -187,7 +173,7 @@ pub ok_there : {A : Type 0} (fault : Option LineFault) (a b : A) → option_map_
 ok_there (Some f) a b is = cc is
 ok_there None a b is = (refl, cc is)
 
-pub step_from_read : (st : State) (line : TextLine) (p : State × Option Row) → 2 ≤ st.lines → read_line st line ≡ Ok p →
+pub step_from_read : (st : State) (line : TextLine) (p : State × Option TraceRow) → 2 ≤ st.lines → read_line st line ≡ Ok p →
     (s : Said) × IsGood st line s × (with_said st (Some s) ≡ p)
 unfolding read_line
 step_from_read st line p behind is =

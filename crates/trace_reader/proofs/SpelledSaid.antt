@@ -1,7 +1,7 @@
 -- What a line of a trace says, and how it is written
-use Rattle.std.proofs.Common.{◌≡◌, ◌≢◌, ◌<◌, ◌^◌, ℕ, Bool, true, false, List, length, Some, All, refl, codes}
-use Rattle.trace_reader.proofs.Words.{is_wide, IsRow, Ring, Row, Sub, Write, Reg, Bell, Read, bytes_eq, Line, Field, are_written, row_fields, ring_fields, Form, form_of, is_ring_form, said_lines, said_of, sub_line, write_line, reg_line, bell_line, event_line, ring_line, Said, SaysRow, SaysRing}
-use Rattle.trace_reader.proofs.Grammar.{AreLines, IsSaid, table_read, table_written}
+use Rattle.std.proofs.Common.{◌≡◌, ◌≢◌, ◌<◌, ◌^◌, ◌&&◌, ◌++◌, ℕ, Bool, true, false, not, List, length, Some, All, refl}
+use Rattle.trace_reader.proofs.Words.{is_wide, IsRow, Ring, Row, Sub, Write, Reg, Bell, Read, TraceRow, Plain, Comes, Goes, Withdraws, Xfer, Version, has_ring_rows, is_of_version, Line, Field, are_written, row_fields, ring_fields, trace_row_fields, Form, form_of, driver_lines, ring_lines, said_of, sub_line, write_line, reg_line, bell_line, event_line, ring_line, comes_line, goes_line, withdraws_line, Said, SaysRow, SaysRing}
+use Rattle.trace_reader.proofs.Grammar.{AreLines, IsSaid, said_read, table_written}
 use Rattle.trace_reader.proofs.SpelledSegments.{FitsSegment}
 
 -- a declaration has a block at least, and a register of 32 bits a value of 32
@@ -18,17 +18,27 @@ pub record FitsRing (ring : Ring) : Type 0 where
   pub some : 0 < length ring.shape.segments
   pub segments : All FitsSegment ring.shape.segments
 
+abbrev pub FitsRow : TraceRow → Type 0
+FitsRow (Plain row) = IsRow row × FitsText row
+FitsRow (Comes ring) = FitsRing ring × (ring.shape.kind ≡ Xfer)
+FitsRow (Goes ring) = ring < 256
+FitsRow (Withdraws ring position) = (ring < 256) × (position < 2 ^ 64)
+
 abbrev pub FitsSaid : Said → Type 0
-FitsSaid (SaysRow row) = IsRow row × FitsText row
+FitsSaid (SaysRow row) = FitsRow row
 FitsSaid (SaysRing ring) = FitsRing ring
 
 abbrev pub fields_said : Said → List Field
-fields_said (SaysRow row) = row_fields row
+fields_said (SaysRow row) = trace_row_fields row
 fields_said (SaysRing ring) = ring_fields ring
 
-abbrev pub says_ring : Said → Bool
-says_ring (SaysRow row) = false
-says_ring (SaysRing ring) = true
+-- it may be said where the version has rows of rings, or not, and where rows have begun, or not
+abbrev pub stands : Bool → Bool → Said → Bool
+stands ring_rows begun (SaysRing ring) = not begun
+stands ring_rows begun (SaysRow (Plain row)) = true
+stands ring_rows begun (SaysRow (Comes ring)) = ring_rows && begun
+stands ring_rows begun (SaysRow (Goes ring)) = ring_rows
+stands ring_rows begun (SaysRow (Withdraws ring position)) = ring_rows
 
 -- the fields spell it
 pub record IsSpelled (s : Said) (fields : List (List ℕ)) : Type 0 where
@@ -36,58 +46,96 @@ pub record IsSpelled (s : Said) (fields : List (List ℕ)) : Type 0 where
   pub fits : FitsSaid s
 
 -- the fields have a form that says it
-pub record IsRead (s : Said) (fields : List (List ℕ)) : Type 0 where
+pub record IsRead (version : Version) (begun : Bool) (s : Said) (fields : List (List ℕ)) : Type 0 where
   pub form : Form
-  pub formed : form_of fields ≡ Some form
+  pub formed : form_of version begun fields ≡ Some form
   pub says : said_of form ≡ Some s
-  pub sort : is_ring_form form ≡ says_ring s
 
--- a ring's line says a ring, and no other does
-abbrev IsSort : Line Said → Said → Type 0
-IsSort l s = bytes_eq l.word (codes "ring") ≡ says_ring s
+-- what a line says may stand there
+abbrev IsSort : Bool → Bool → Line Said → Said → Type 0
+IsSort ring_rows begun l s = stands ring_rows begun s ≡ true
 
-said_are_lines : AreLines fields_said FitsSaid IsSort said_lines
-unfolding row_fields ring_fields
-said_are_lines = (
+rings_are_lines : (ring_rows begun : Bool) → AreLines fields_said FitsSaid (IsSort ring_rows begun) (ring_lines ring_rows begun)
+unfolding ring_fields trace_row_fields
+rings_are_lines false false = ((λ v. (refl, (λ fits. record { id = fits.0; some = fits.1.1.1; segments = fits.1.1.0 }), refl)), tt)
+rings_are_lines false true = tt
+rings_are_lines true false = (
+  (λ v. (refl, (λ fits. record { id = fits.0; some = fits.1.1.1; segments = fits.1.1.0 }), refl)),
+  ((λ v. (refl, (λ fits. fits.0), refl)), ((λ v. (refl, (λ fits. (fits.0, fits.1.0)), refl)), tt)),
+)
+rings_are_lines true true = (
+  (λ v. (refl, (λ fits. (record { id = fits.0; some = fits.1.1.1; segments = fits.1.1.0 }, fits.1.0)), refl)),
+  ((λ v. (refl, (λ fits. fits.0), refl)), ((λ v. (refl, (λ fits. (fits.0, fits.1.0)), refl)), tt)),
+)
+
+said_are_lines : (ring_rows begun : Bool) → AreLines fields_said FitsSaid (IsSort ring_rows begun) (driver_lines ++ ring_lines ring_rows begun)
+unfolding row_fields trace_row_fields
+said_are_lines ring_rows begun = (
   (λ v. (refl, (λ fits. ((fits.0, fits.1.0), fits.1.1)), refl)),
   (
     (λ v. (refl, (λ fits. ((fits.0, fits.1.0), tt)), refl)),
     (
       (λ v. (refl, (λ fits. fits), refl)),
-      (
-        (λ v. (refl, (λ fits. ((fits.0, fits.1.0), tt)), refl)),
-        (
-          (λ v. (refl, (λ fits. (fits, tt)), refl)),
-          (
-            (λ v. (refl, (λ fits. record { id = fits.0; some = fits.1.1.1; segments = fits.1.1.0 }), refl)),
-            tt,
-          ),
-        ),
-      ),
+      ((λ v. (refl, (λ fits. ((fits.0, fits.1.0), tt)), refl)), ((λ v. (refl, (λ fits. (fits, tt)), refl)), rings_are_lines ring_rows begun)),
     ),
   ),
 )
 
-each_is_said : (s : Said) → IsSaid fields_said FitsSaid IsSort said_lines s
-unfolding row_fields ring_fields
-each_is_said (SaysRow (Sub ring blocks)) = record { line = sub_line; says = (ring, blocks); makes = refl; named = refl; spelled = refl; fits = λ is. (is.0.0, (is.0.1, is.1)) }
-each_is_said (SaysRow (Write at word)) = record { line = write_line; says = (at, (word, tt)); makes = refl; named = refl; spelled = refl; fits = λ is. (is.0.0, (is.0.1, tt)) }
-each_is_said (SaysRow (Reg register value)) = record { line = reg_line; says = (register, value); makes = refl; named = refl; spelled = refl; fits = λ is. is }
-each_is_said (SaysRow (Bell slot target)) = record { line = bell_line; says = (slot, (target, tt)); makes = refl; named = refl; spelled = refl; fits = λ is. (is.0.0, (is.0.1, tt)) }
-each_is_said (SaysRow (Read event)) = record { line = event_line; says = event; makes = refl; named = refl; spelled = refl; fits = λ is. is.0 }
-each_is_said (SaysRing ring) =
+plain_is_said : (ring_rows begun : Bool) (row : Row) → IsSaid fields_said FitsSaid (IsSort ring_rows begun) (driver_lines ++ ring_lines ring_rows begun) (SaysRow (Plain row))
+unfolding row_fields trace_row_fields
+plain_is_said ring_rows begun (Sub ring blocks) = record { line = sub_line; says = (ring, blocks); makes = refl; named = refl; spelled = refl; fits = λ is. (is.0.0, (is.0.1, is.1)) }
+plain_is_said ring_rows begun (Write at word) = record { line = write_line; says = (at, (word, tt)); makes = refl; named = refl; spelled = refl; fits = λ is. (is.0.0, (is.0.1, tt)) }
+plain_is_said ring_rows begun (Reg register value) = record { line = reg_line; says = (register, value); makes = refl; named = refl; spelled = refl; fits = λ is. is }
+plain_is_said ring_rows begun (Bell slot target) = record { line = bell_line; says = (slot, (target, tt)); makes = refl; named = refl; spelled = refl; fits = λ is. (is.0.0, (is.0.1, tt)) }
+plain_is_said ring_rows begun (Read event) = record { line = event_line; says = event; makes = refl; named = refl; spelled = refl; fits = λ is. is.0 }
+
+each_is_said : (ring_rows begun : Bool) (s : Said) → stands ring_rows begun s ≡ true → IsSaid fields_said FitsSaid (IsSort ring_rows begun) (driver_lines ++ ring_lines ring_rows begun) s
+unfolding ring_fields trace_row_fields
+each_is_said ring_rows begun (SaysRow (Plain row)) there = plain_is_said ring_rows begun row
+each_is_said true true (SaysRow (Comes ring)) there =
+    record { line = comes_line; says = (ring.id, (ring.shape.kind, ring.shape.segments)); makes = refl; named = refl; spelled = refl; fits = λ is. (is.0.id, (is.1, (is.0.segments, is.0.some))) }
+each_is_said true false (SaysRow (Comes ring)) there = cc there
+each_is_said false begun (SaysRow (Comes ring)) there = cc there
+each_is_said true true (SaysRow (Goes ring)) there = record { line = goes_line; says = (ring, tt); makes = refl; named = refl; spelled = refl; fits = λ is. (is, tt) }
+each_is_said true false (SaysRow (Goes ring)) there = record { line = goes_line; says = (ring, tt); makes = refl; named = refl; spelled = refl; fits = λ is. (is, tt) }
+each_is_said false begun (SaysRow (Goes ring)) there = cc there
+each_is_said true true (SaysRow (Withdraws ring position)) there =
+    record { line = withdraws_line; says = (ring, (position, tt)); makes = refl; named = refl; spelled = refl; fits = λ is. (is.0, (is.1, tt)) }
+each_is_said true false (SaysRow (Withdraws ring position)) there =
+    record { line = withdraws_line; says = (ring, (position, tt)); makes = refl; named = refl; spelled = refl; fits = λ is. (is.0, (is.1, tt)) }
+each_is_said false begun (SaysRow (Withdraws ring position)) there = cc there
+each_is_said true false (SaysRing ring) there =
     record { line = ring_line; says = (ring.id, (ring.shape.kind, ring.shape.segments)); makes = refl; named = refl; spelled = refl; fits = λ is. (is.id, (tt, (is.segments, is.some))) }
+each_is_said false false (SaysRing ring) there =
+    record { line = ring_line; says = (ring.id, (ring.shape.kind, ring.shape.segments)); makes = refl; named = refl; spelled = refl; fits = λ is. (is.id, (tt, (is.segments, is.some))) }
+each_is_said ring_rows true (SaysRing ring) there = cc there
 
--- the fields of a form spell what it says
-pub spelled_from_read : (fields : List (List ℕ)) (form : Form) (s : Said) → form_of fields ≡ Some form → said_of form ≡ Some s → IsSpelled s fields × (is_ring_form form ≡ says_ring s)
-unfolding form_of said_of
-spelled_from_read fields form s is says =
-    let p = table_written fields_said FitsSaid IsSort said_lines said_are_lines fields form s is says in
-    (record { written = p.0; fits = p.1 }, p.2)
+module _ (version : Version) (begun : Bool) where
+  -- the fields of a form spell what it says, and it may stand there
+  pub spelled_from_read : (fields : List (List ℕ)) (form : Form) (s : Said) → form_of version begun fields ≡ Some form → said_of form ≡ Some s →
+      IsSpelled s fields × (stands (has_ring_rows version) begun s ≡ true)
+  unfolding form_of said_of
+  spelled_from_read fields form s is says =
+      let ring_rows = has_ring_rows version in
+      let p = table_written fields_said FitsSaid (IsSort ring_rows begun) (driver_lines ++ ring_lines ring_rows begun) (said_are_lines ring_rows begun) fields form s is says in
+      (record { written = p.0; fits = p.1 }, p.2)
 
--- fields that spell it have a form that says it
-pub read_from_spelled : (s : Said) (fields : List (List ℕ)) → IsSpelled s fields → IsRead s fields
-unfolding form_of said_of
-read_from_spelled s fields is =
-    let p = table_read fields_said FitsSaid IsSort said_lines each_is_said fields s is.fits is.written in
-    record { form = p.0; formed = p.1; says = p.2; sort = (table_written fields_said FitsSaid IsSort said_lines said_are_lines fields p.0 s p.1 p.2).2 }
+  -- fields that spell it have a form that says it
+  pub read_from_spelled : (s : Said) (fields : List (List ℕ)) → IsSpelled s fields → stands (has_ring_rows version) begun s ≡ true → IsRead version begun s fields
+  unfolding form_of said_of
+  read_from_spelled s fields is there =
+      let ring_rows = has_ring_rows version in
+      let p = said_read fields_said FitsSaid (IsSort ring_rows begun) (driver_lines ++ ring_lines ring_rows begun) s (each_is_said ring_rows begun s there) fields is.fits is.written in
+      record { form = p.0; formed = p.1; says = p.2 }
+
+-- ---- a row that stands there
+
+pub row_of_version : (version : Version) (begun : Bool) (row : TraceRow) → stands (has_ring_rows version) begun (SaysRow row) ≡ true → is_of_version version row ≡ true
+row_of_version version begun (Plain row) there = refl
+row_of_version version begun (Comes ring) there = by_tests (has_ring_rows version) begun there
+  where
+    by_tests : (a b : Bool) → (a && b) ≡ true → a ≡ true
+    by_tests true b both = refl
+    by_tests false b both = cc both
+row_of_version version begun (Goes ring) there = there
+row_of_version version begun (Withdraws ring position) there = there

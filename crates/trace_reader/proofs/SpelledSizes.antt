@@ -1,6 +1,6 @@
 -- The fields of rows and rings: none is empty or has a space, and all fit a line
 use Rattle.std.proofs.Common.{◌≡◌, ◌*◌, ◌<◌, ◌≤◌, ◌∷◌, ◌++◌, ◌∙◌, ℕ, true, List, [], length, map, All, refl, ap, arith, length-append, codes, nat_lt, w8, w16, w32, w64, ltb-true}
-use Rattle.trace_reader.proofs.Words.{flat_map, list_all, to_ascii_lowercase, str_to_ascii_lowercase, map-append, AllPass-from_list_all, All-weaker, All-append, All-head, All-tail, digits_of, digits_stay_lower, length-digits_of, spaced_length, IsBlock, ring_name, Block, RingKind, Cmd, Evt, Xfer, Segment, register_name, most_bytes, most_declared, Word, Digits, printed, block_fields, segment_field, row_fields, ring_fields, Register, Usbcmd, Usbsts, Dnctrl, Crcr, Dcbaap, Config, Iman, Imod, Erstsz, Erstba, Erdp, Ring, Row, Sub, Write, Reg, Bell, Read}
+use Rattle.trace_reader.proofs.Words.{flat_map, list_all, to_ascii_lowercase, str_to_ascii_lowercase, map-append, AllPass-from_list_all, All-weaker, All-append, All-head, All-tail, digits_of, digits_stay_lower, length-digits_of, spaced_length, IsBlock, ring_name, Block, RingKind, Cmd, Evt, Xfer, Segment, register_name, most_bytes, most_declared, Word, Digits, printed, block_fields, segment_field, row_fields, ring_fields, Register, Usbcmd, Usbsts, Dnctrl, Crcr, Dcbaap, Config, Iman, Imod, Erstsz, Erstba, Erdp, Ring, Row, Sub, Write, Reg, Bell, Read, TraceRow, Plain, Comes, Goes, Withdraws, trace_row_fields}
 use Rattle.trace_reader.proofs.SpelledFields.{IsSound, AllSound, sound_word, sound_digits, sound_append, sound_map, plain_digits, are_same_bytes, spaced_length-append}
 use Rattle.trace_reader.proofs.SpelledValues.{word_field}
 
@@ -86,6 +86,13 @@ ring_sound ring = (
   (digits_8 ring.id, (kind_sound ring.shape.kind, sound_map segment_field segment_sound ring.shape.segments)),
 )
 
+pub trace_row_sound : (row : TraceRow) → AllSound (trace_row_fields row)
+unfolding trace_row_fields
+trace_row_sound (Plain row) = row_sound row
+trace_row_sound (Comes ring) = ring_sound ring
+trace_row_sound (Goes ring) = (sound_named (codes "free") (omega arith) refl, (digits_8 ring, tt))
+trace_row_sound (Withdraws ring position) = (sound_named (codes "nop") (omega arith) refl, (digits_8 ring, (digits_64 position, tt)))
+
 -- ---- lengths
 
 words_length : (words : List ℕ) → spaced_length (map printed (map word_field words)) ≡ 9 * length words
@@ -161,3 +168,11 @@ read_length event is = omega (arith, block_length event is)
 pub ring_length : (ring : Ring) → length ring.shape.segments ≤ 64 → spaced_length (map printed (ring_fields ring)) ≤ most_bytes
 unfolding ring_fields
 ring_length ring few = omega (arith, two_digits ring.id, kind_length ring.shape.kind, segments_length ring.shape.segments)
+
+pub goes_length : (ring : ℕ) → spaced_length (map printed (trace_row_fields (Goes ring))) ≤ most_bytes
+unfolding trace_row_fields
+goes_length ring = omega (arith, two_digits ring)
+
+pub withdraws_length : (ring position : ℕ) → spaced_length (map printed (trace_row_fields (Withdraws ring position))) ≤ most_bytes
+unfolding trace_row_fields
+withdraws_length ring position = omega (arith, two_digits ring, sixteen_digits position)

@@ -1,7 +1,8 @@
 -- A refused text spells no trace
 use Rattle.std.proofs.Common.{◌≡◌, ◌∙◌, ℕ, List, Bool, true, false, Result, Ok, Err, refl, sym, IfOk, IfErr}
-use Rattle.trace_reader.proofs.Words.{LineFault, ReadFault, IfBadLine, TraceText, trace_of, spells, IsTrace}
+use Rattle.trace_reader.proofs.Words.{LineFault, ReadFault, IfBadLine, DriverText, all_plain, driver_trace_of, spells, IsTrace}
 use Rattle.trace_reader.specs.declared.fault.ReadFault.TheVariants.{Line, Memory}
+use Rattle.trace_reader.proofs.DriverTraces.{driver_trace}
 use Rattle.trace_reader.proofs.Spelled.{read_if_spelled}
 
 -- what is refused is no value that is spelled, where each valid one that is spelled is read
@@ -14,9 +15,11 @@ none_spelled {T} reads spelled Is read (Line line fault) refused = λ t valid. b
     by_test t valid true e = cc (sym refused ∙ read t e valid)
 none_spelled reads spelled Is read Memory refused = tt
 
-pub refused_unspelled : (text : List ℕ) (e : ReadFault) → IfBadLine e (λ line code. trace_of text ≡ Err (line, code)) →
-    IfBadLine e (λ line code. (trace : TraceText) → IsTrace trace → spells trace text ≡ false)
-refused_unspelled text e refused = none_spelled (trace_of text) (λ trace. spells trace text) (λ trace. IsTrace trace) (λ trace spelled is. read_if_spelled text trace spelled is) e refused
+pub refused_unspelled : (text : List ℕ) (e : ReadFault) → IfBadLine e (λ line code. driver_trace_of text ≡ Err (line, code)) →
+    IfBadLine e (λ line code. (trace : DriverText) → IsTrace (all_plain trace) → spells (all_plain trace) text ≡ false)
+refused_unspelled text e refused =
+    none_spelled (driver_trace_of text) (λ trace. spells (all_plain trace) text) (λ trace. IsTrace (all_plain trace))
+    (λ trace spelled is. driver_trace text trace (read_if_spelled text (all_plain trace) spelled is)) e refused
 
 pub ok_also : {T E : Type 0} {P Q : T → Type 0} (r : Result T E) → ((x : T) → P x → Q x) → IfOk r P → IfOk r Q
 ok_also (Ok x) f is = f x is

@@ -26,11 +26,11 @@ pub use Rattle.std.specs.Int.{Width, byte_len}
 pub use Rattle.std.specs.List.{flat_map, join_with_byte, list_all, list_any, slice_split}
 pub use Rattle.std.specs.Option.{option_and_then, option_map, option_map_or}
 pub use Rattle.std.specs.Str.{bytes_eq, str_to_ascii_lowercase}
-pub use Rattle.trace_reader.specs.Entries.{Answers, AnswersRow, IfBadLine, IfFault, at_line, form_behind, placed, ring_of, said_alone, said_by, state_of, text_of, took_in, unless_begun, value_of}
+pub use Rattle.trace_reader.specs.Entries.{Answers, AnswersRow, IfBadLine, IfFault, SaysPlaced, at_line, form_behind, form_if, placed, ring_form, ring_of, row_of, said_alone, said_by, state_of, text_of, took_in, value_of}
 unfoldable pub use Rattle.trace_reader.specs.Entries.{content_fault, said_by_fields, said_by_line, word_named}
 pub use Rattle.trace_reader.specs.Forms.{are_blocks, named}
 unfoldable pub use Rattle.trace_reader.specs.Forms.{kind_named, register_named}
-pub use Rattle.trace_reader.specs.Grammar.{Behind, Blocks, Byte, Event, FormOf, Kind, KindOfRing, Line, Long, Nothing, RegisterValue, Segments, Tail, Told, Values, WordAddress, are_behind, are_fields, behind, form_as, is_known, line_named, told, value_in, values}
+pub use Rattle.trace_reader.specs.Grammar.{TransferKind, Behind, Blocks, Byte, Event, FormOf, Kind, KindOfRing, Line, Long, Nothing, RegisterValue, Segments, Tail, Told, Values, WordAddress, are_behind, are_fields, behind, form_as, is_known, line_named, told, value_in, values}
 pub use Rattle.trace_reader.specs.LineAnswers.{AnswersBy, faulted_by, valued_by}
 pub use Rattle.trace_reader.specs.LineByLine.{has_no_form, next_value, unless_fault}
 unfoldable pub use Rattle.trace_reader.specs.LineByLine.{line_says, lines_say}
@@ -39,21 +39,21 @@ unfoldable pub use Rattle.trace_reader.specs.PlanSpelling.{plan_line_fields, pla
 pub use Rattle.trace_reader.specs.Plans.{PlanText, declares_too_much, is_no_plan_ring, is_past_plan_limit, plan_behind, plan_in, plan_line, plan_line_fault, plan_ring, plan_ring_fault, plan_sub_line, ret_line, ring_alone, with_ring}
 unfoldable pub use Rattle.trace_reader.specs.Plans.{is_plan_version, plan_form_of, plan_of, plan_value, ring_line_form, ring_value}
 pub use Rattle.trace_reader.specs.Printing.{in_a_row, spaced}
-pub use Rattle.trace_reader.specs.Reading.{State, TraceText, go_on, is_misplaced, is_too_much, next_number, start, whole, with_row, with_said, with_size, with_version}
+pub use Rattle.trace_reader.specs.Reading.{State, TextOf, TraceText, behind_row, go_on, has_no_shape, is_misplaced, is_too_much, next_number, start, whole, with_row, with_said, with_size, with_version}
 unfoldable pub use Rattle.trace_reader.specs.Reading.{after, form_in, is_bad_number, is_bad_row, is_bad_shape, is_past_limit, is_too_long, line_fault, read_line, read_lines, row_fault, said_in, size_of, trace_of, version_of}
 pub use Rattle.trace_reader.specs.ScheduleSpelling.{IsSchedule, schedule_version_fields}
 unfoldable pub use Rattle.trace_reader.specs.ScheduleSpelling.{printed_schedule, schedule_lines, spells_schedule, step_fields}
 pub use Rattle.trace_reader.specs.Schedules.{event_form, finish_line, is_past_schedule_limit, look_line, other_line, report_line, row_line, schedule_in, scrib_line, step_fault, step_line, step_lines}
 unfoldable pub use Rattle.trace_reader.specs.Schedules.{is_schedule_version, schedule_of, step_form_of, step_value}
 pub use Rattle.trace_reader.specs.Spelling.{Digits, Field, Word, are_written, block_fields, is_written, lines_written, may_be_written, printed, segment_field, size_fields, size_word, version_fields, version_word}
-unfoldable pub use Rattle.trace_reader.specs.Spelling.{printed_line, printed_trace, ring_fields, row_fields, spells, trace_lines}
-pub use Rattle.trace_reader.specs.TraceLines.{Form, bell_line, event_line, is_ring_form, reg_line, ring_as, ring_line, said_lines, sub_line, write_line}
+unfoldable pub use Rattle.trace_reader.specs.Spelling.{printed_line, printed_trace, ring_fields, row_fields, spells, trace_lines, trace_row_fields}
+pub use Rattle.trace_reader.specs.TraceLines.{Form, bell_line, comes_line, driver_lines, event_line, goes_line, reg_line, ring_lines, withdraws_line, ring_as, ring_line, said_lines, sub_line, write_line}
 unfoldable pub use Rattle.trace_reader.specs.TraceLines.{form_of, said_of}
 pub use Rattle.trace_reader.specs.Valid.{IsTrace}
 pub use Rattle.trace_reader.specs.Values.{Said, SaysRing, SaysRow, both, cons, event_of}
 unfoldable pub use Rattle.trace_reader.specs.Values.{block_of, blocks_of, register_value_of, segment_of, segments_of, word_address_of}
 pub use Rattle.trace_reader.specs.declared.entry.FirstWord.{FirstWord}
-pub use Rattle.trace_reader.specs.declared.entry.FirstWord.TheVariants.{Db, Ev, Reg as RegWord, Ring as RingWord, Sub as SubWord, W}
+pub use Rattle.trace_reader.specs.declared.entry.FirstWord.TheVariants.{Db, Ev, Reg as RegWord, Ring as RingWord, Sub as SubWord, W, Free as FreeWord, Nop as NopWord}
 pub use Rattle.trace_reader.specs.declared.entry.RingEntry.{RingEntry}
 pub use Rattle.trace_reader.specs.declared.fault.LineError.{LineError}
 pub use Rattle.trace_reader.specs.declared.fault.LineError.TheVariants.{Fault, Memory}
@@ -81,3 +81,9 @@ pub use Rattle.trb.specs.declared.ring_kind.RingKind.{RingKind}
 pub use Rattle.trb.specs.declared.ring_kind.RingKind.TheVariants.{Cmd, Evt, Xfer}
 pub use Rattle.traces.specs.declared.version.Version.{Version}
 pub use Rattle.traces.specs.declared.version.Version.TheVariants.{One, Two, Three}
+pub use Rattle.traces.specs.TraceRows.{IsTraceRow, begins_with_ring, has_used_id, have_new_ids, ids_with, is_of_version, is_used}
+pub use Rattle.traces.specs.Versions.{has_ring_rows}
+pub use Rattle.traces.specs.declared.trace_row.TraceRow.{TraceRow}
+pub use Rattle.traces.specs.declared.trace_row.TraceRow.TheVariants.{Comes, Goes, Plain, Withdraws}
+pub use Rattle.trace_reader.specs.DriverRows.{DriverText, all_plain, driver_row, taken, with_taken}
+unfoldable pub use Rattle.trace_reader.specs.DriverRows.{driver_trace_of, take_lines, text_taken}

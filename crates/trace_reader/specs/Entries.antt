@@ -1,5 +1,5 @@
 -- What the reader's functions answer, in the words of Reading
-use Rattle.std.specs.Prelude.{◌≡◌, ℕ, ◌&&◌, Bool, true, not, List, [], ◌∷◌, ◌++◌, length, Option, Some, None, Result, Ok, Err, nat_lt, vec_len, ◌==◌, codes, if◌then◌else◌}
+use Rattle.std.specs.Prelude.{◌≡◌, ℕ, Bool, true, false, not, List, [], ◌∷◌, ◌++◌, length, Option, Some, None, Result, Ok, Err, nat_lt, codes, if◌then◌else◌}
 use Rattle.std.specs.Option.{option_map_or}
 use Rattle.std.specs.Str.{bytes_eq}
 use Rattle.segments.specs.ShapeValue.{shape_of}
@@ -12,28 +12,42 @@ use Rattle.trace_reader.specs.declared.fault.LineError.TheVariants.{Fault, Memor
 use Rattle.trace_reader.specs.declared.fault.ReadFault.{ReadFault}
 use Rattle.trace_reader.specs.declared.fault.ReadFault.TheVariants.{Line, Memory as NoMemory}
 use Rattle.trace_reader.specs.declared.entry.Entry.{Entry}
-use Rattle.trace_reader.specs.declared.entry.Entry.TheVariants.{Row as RowEntry, Ring as RingEntry}
-use Rattle.trace_reader.specs.declared.entry.RingEntry.{RingEntry as LineOfRing}
+use Rattle.trace_reader.specs.declared.entry.Entry.TheVariants.{Row as RowSaid, Ring as RingSaid}
+use Rattle.trace_reader.specs.declared.entry.RingEntry.{RingEntry}
+use Rattle.trace_reader.specs.declared.entry.RowEntry.{RowEntry}
+use Rattle.trace_reader.specs.declared.entry.RowEntry.TheVariants.{Plain as PlainEntry, Comes as ComesEntry, Goes as GoesEntry, Withdraws as WithdrawsEntry}
 use Rattle.trace_reader.specs.declared.entry.FirstWord.{FirstWord}
 use Rattle.trace_reader.specs.declared.so_far.TraceSoFar.{TraceSoFar}
 use Rattle.traces.specs.declared.ring.Ring.{Ring}
-use Rattle.trace_reader.specs.declared.entry.FirstWord.TheVariants.{Sub as SubWord, W, Reg as RegWord, Db, Ev, Ring as RingWord}
+use Rattle.trace_reader.specs.declared.entry.FirstWord.TheVariants.{Sub as SubWord, W, Reg as RegWord, Db, Ev, Ring as RingWord, Free as FreeWord, Nop as NopWord}
 use Rattle.traces.specs.declared.row.Row.{Row}
 use Rattle.traces.specs.declared.trace.Trace.{Trace}
+use Rattle.traces.specs.declared.trace_row.TraceRow.{TraceRow}
+use Rattle.traces.specs.declared.trace_row.TraceRow.TheVariants.{Plain, Comes, Goes, Withdraws}
+use Rattle.traces.specs.declared.version.Version.{Version}
 use Rattle.trace_reader.specs.Grammar.{form_as}
-use Rattle.trace_reader.specs.TraceLines.{Form, form_of, is_ring_form, said_of, sub_line, write_line, reg_line, bell_line, event_line, ring_line}
+use Rattle.trace_reader.specs.Grammar as grammar
+use Rattle.trace_reader.specs.TraceLines.{Form, form_of, said_of, sub_line, write_line, reg_line, bell_line, event_line, ring_line, comes_line, goes_line, withdraws_line}
 use Rattle.traces.specs.Limits.{most_bytes}
-use Rattle.trace_reader.specs.Reading.{State, TraceText, is_bad_row, is_past_limit, is_misplaced, is_too_long, next_number, read_line, said_in, with_said}
+use Rattle.trace_reader.specs.DriverRows.{DriverText}
+use Rattle.trace_reader.specs.Reading.{State, behind_row, is_bad_row, is_past_limit, is_misplaced, is_too_long, read_line, said_in, with_said}
 use Rattle.trace_reader.specs.Values.{Said, SaysRow, SaysRing}
 
 -- a ring as its line says
-abbrev pub ring_of : LineOfRing → Ring
+abbrev pub ring_of : RingEntry → Ring
 ring_of ring = record { id = ring.id; shape = shape_of ring.kind ring.segments.items }
+
+-- a row as its line says
+abbrev pub row_of : RowEntry → TraceRow
+row_of (PlainEntry row) = Plain row
+row_of (ComesEntry ring) = Comes (ring_of ring)
+row_of (GoesEntry ring) = Goes ring
+row_of (WithdrawsEntry ring position) = Withdraws ring position
 
 -- what a read line says
 abbrev pub value_of : Entry → Said
-value_of (RowEntry row) = SaysRow row
-value_of (RingEntry ring) = SaysRing (ring_of ring)
+value_of (RowSaid row) = SaysRow (row_of row)
+value_of (RingSaid ring) = SaysRing (ring_of ring)
 
 -- the answer is the wanted one, or memory was wanting
 abbrev pub Answers : Result Entry LineError → Result Said LineFault → Type 0
@@ -64,30 +78,40 @@ word_named word =
     else if bytes_eq word (codes "db") then Some Db
     else if bytes_eq word (codes "ev") then Some Ev
     else if bytes_eq word (codes "ring") then Some RingWord
+    else if bytes_eq word (codes "free") then Some FreeWord
+    else if bytes_eq word (codes "nop") then Some NopWord
     else None
 
+-- the form of such a line, where the version has rows of rings
+abbrev pub form_if : Bool → grammar.Line Said → List (List ℕ) → Option Form
+form_if true line fields = form_as line fields
+form_if false line fields = None
+
+-- a ring of the header, where no row has begun the rows; else one that comes
+abbrev pub ring_form : Bool → Bool → List (List ℕ) → Option Form
+ring_form ring_rows false fields = form_as ring_line fields
+ring_form ring_rows true fields = form_if ring_rows comes_line fields
+
 -- the form of the fields behind the first word
-abbrev pub form_behind : Option FirstWord → List (List ℕ) → Option Form
-form_behind (Some SubWord) fields = form_as sub_line fields
-form_behind (Some W) fields = form_as write_line fields
-form_behind (Some RegWord) fields = form_as reg_line fields
-form_behind (Some Db) fields = form_as bell_line fields
-form_behind (Some Ev) fields = form_as event_line fields
-form_behind (Some RingWord) fields = form_as ring_line fields
-form_behind None fields = None
+abbrev pub form_behind : Bool → Bool → Option FirstWord → List (List ℕ) → Option Form
+form_behind ring_rows begun (Some SubWord) fields = form_as sub_line fields
+form_behind ring_rows begun (Some W) fields = form_as write_line fields
+form_behind ring_rows begun (Some RegWord) fields = form_as reg_line fields
+form_behind ring_rows begun (Some Db) fields = form_as bell_line fields
+form_behind ring_rows begun (Some Ev) fields = form_as event_line fields
+form_behind ring_rows begun (Some RingWord) fields = ring_form ring_rows begun fields
+form_behind ring_rows begun (Some FreeWord) fields = form_if ring_rows goes_line fields
+form_behind ring_rows begun (Some NopWord) fields = form_if ring_rows withdraws_line fields
+form_behind ring_rows begun None fields = None
 
 -- a line of this form, by its numbers
 abbrev pub said_by : Option Form → Result Said LineFault
 said_by None = Err BadRow
 said_by (Some form) = option_map_or Ok (said_of form) (Err Number)
 
-abbrev pub unless_begun : Bool → Option Form → Option Form
-unless_begun begun None = None
-unless_begun begun (Some form) = if begun && is_ring_form form then None else Some form
-
--- a line of these fields; behind a row no ring may follow
-unfoldable pub said_by_fields : Bool → List (List ℕ) → Result Said LineFault
-said_by_fields begun fields = said_by (unless_begun begun (form_of fields))
+-- a line of these fields
+unfoldable pub said_by_fields : Version → Bool → List (List ℕ) → Result Said LineFault
+said_by_fields version begun fields = said_by (form_of version begun fields)
 
 -- the fault of a line before its fields are looked at
 unfoldable pub content_fault : TextLine → Option LineFault
@@ -98,41 +122,47 @@ content_fault line =
     else None
 
 -- a line by itself: its content's fault, or what its fields say
-abbrev pub said_alone : Bool → TextLine → Result Said LineFault
-said_alone begun line = option_map_or Err (content_fault line) (said_by_fields begun (fields_of line.content))
+abbrev pub said_alone : Version → Bool → TextLine → Result Said LineFault
+said_alone version begun line = option_map_or Err (content_fault line) (said_by_fields version begun (fields_of line.content))
 
--- a line of these bytes says the row, behind rings and behind rows
+-- a line of these bytes says what the driver did, in each version, behind rings and behind rows
 abbrev pub SaysAlone : Row → List ℕ → Type 0
-SaysAlone row content = (begun : Bool) → said_alone begun (record { content = content; is_ended = true }) ≡ Ok (SaysRow row)
+SaysAlone row content = (version : Version) (begun : Bool) → said_alone version begun (record { content = content; is_ended = true }) ≡ Ok (SaysRow (Plain row))
 
 -- a line behind the header, before its ring is placed among the others
 unfoldable pub said_by_line : State → TextLine → Result Said LineFault
 said_by_line st line =
     if is_too_long line then Err Limit
     else if is_bad_row st line then Err BadRow
-    else option_map_or (λ said. if is_past_limit st line then Err Limit else Ok said) (said_in line) (Err Number)
+    else option_map_or (λ said. if is_past_limit st line then Err Limit else Ok said) (said_in st line) (Err Number)
 
--- what a trace says
-abbrev pub text_of : Trace → TraceText
+-- what a trace says all rows of which are the driver's
+abbrev pub text_of : Trace → DriverText
 text_of trace = record { header = trace.header; first = trace.first; rows = trace.rows }
 
 -- what the reader holds
 abbrev pub state_of : TraceSoFar → State
-state_of r = record { lines = r.lines; version = r.version; size = r.size; rings = r.rings.items; begun = not (vec_len r.rows == 0) }
+state_of r = record { lines = r.lines; version = r.version; size = r.size; rings = r.rings.items; begun = r.begun; later = r.later.items }
 
 -- the rows so far, and the row of the next line, if it says one
-abbrev pub took_in : List Row → Result (State × Option Row) LineFault → Result (State × List Row) LineFault
+abbrev pub took_in : {R : Type 0} → List R → Result (State × Option R) LineFault → Result (State × List R) LineFault
 took_in rows (Ok (st, Some row)) = Ok (st, rows ++ row ∷ [])
 took_in rows (Ok (st, None)) = Ok (st, rows)
 took_in rows (Err fault) = Err fault
 
 -- the answer is the row that a line says behind the first row's, or the line's least fault, or memory was wanting
-abbrev pub AnswersRow : State → Result Row LineError → TextLine → Type 0
-AnswersRow st (Ok row) line = read_line st line ≡ Ok (record st { lines = next_number st; begun = true }, Some row)
+abbrev pub AnswersRow : State → Result TraceRow LineError → TextLine → Type 0
+AnswersRow st (Ok row) line = read_line st line ≡ Ok (behind_row st row, Some row)
 AnswersRow st (Err (Fault fault)) line = read_line st line ≡ Err fault
 AnswersRow st (Err Memory) line = Unit {0}
 
 -- a line behind the header, with its ring among those before it
-abbrev pub placed : State → Result Said LineFault → Result (State × Option Row) LineFault
+abbrev pub placed : State → Result Said LineFault → Result (State × Option TraceRow) LineFault
 placed st (Err fault) = Err fault
-placed st (Ok said) = if is_misplaced st.rings said then Err Shape else Ok (with_said st (Some said))
+placed st (Ok said) = if is_misplaced st.rings st.later said then Err Shape else Ok (with_said st (Some said))
+
+-- the row that a line says, among the rings before it
+abbrev pub SaysPlaced : State → Result TraceRow LineError → Said → Type 0
+SaysPlaced st (Ok row) said = placed st (Ok said) ≡ Ok (behind_row st row, Some row)
+SaysPlaced st (Err (Fault fault)) said = placed st (Ok said) ≡ Err fault
+SaysPlaced st (Err Memory) said = Unit {0}

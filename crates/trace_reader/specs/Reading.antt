@@ -14,9 +14,11 @@ use Rattle.traces.specs.declared.header.Header.{Header}
 use Rattle.traces.specs.declared.version.Version.{Version}
 use Rattle.traces.specs.declared.version.Version.TheVariants.{One, Two, Three}
 use Rattle.traces.specs.declared.ring.Ring.{Ring}
-use Rattle.traces.specs.declared.row.Row.{Row}
+use Rattle.traces.specs.declared.trace_row.TraceRow.{TraceRow}
+use Rattle.traces.specs.declared.trace_row.TraceRow.TheVariants.{Plain, Comes, Goes, Withdraws}
 use Rattle.traces.specs.declared.row.Row.TheVariants.{Sub}
-use Rattle.trace_reader.specs.TraceLines.{Form, form_of, is_ring_form, said_of}
+use Rattle.traces.specs.TraceRows.{has_used_id, ids_with}
+use Rattle.trace_reader.specs.TraceLines.{Form, form_of, said_of}
 use Rattle.traces.specs.Header.{clash}
 use Rattle.traces.specs.Limits.{most_lines, most_bytes, most_declared}
 use Rattle.trace_reader.specs.Values.{Said, SaysRow, SaysRing}
@@ -29,11 +31,13 @@ pub record State : Type 0 where
   pub size : ContextSize
   -- the rings, in the order of their lines
   pub rings : List Ring
-  -- a row was read, so that no ring may follow
+  -- a row was read: a ring that follows is a row too
   pub begun : Bool
+  -- the IDs of the rings that came behind the first row
+  pub later : List ℕ
 
 abbrev pub start : State
-start = record { lines = 0; version = One; size = Bytes32; rings = []; begun = false }
+start = record { lines = 0; version = One; size = Bytes32; rings = []; begun = false; later = [] }
 
 -- the number of the next line
 abbrev pub next_number : State → ℕ
@@ -55,47 +59,53 @@ size_of line =
     else None
 
 -- the form of a line, where it has one, and what it says, where its numbers are right
-unfoldable pub form_in : TextLine → Option Form
-form_in line = form_of (fields_of line.content)
+unfoldable pub form_in : State → TextLine → Option Form
+form_in st line = form_of st.version st.begun (fields_of line.content)
 
-unfoldable pub said_in : TextLine → Option Said
-said_in line = option_and_then said_of (form_in line)
+unfoldable pub said_in : State → TextLine → Option Said
+said_in st line = option_and_then said_of (form_in st line)
 
--- 2 Row: no line feed at the end, an empty field, no form, or a ring behind a row
+-- 2 Row: no line feed at the end, an empty field, or no form: so is a ring behind a row, where the version has no such rows
 unfoldable pub is_bad_row : State → TextLine → Bool
-is_bad_row st line =
-    not line.is_ended || has_empty_field (fields_of line.content) || is_none (form_in line)
-    || (st.begun && option_map_or is_ring_form (form_in line) false)
+is_bad_row st line = not line.is_ended || has_empty_field (fields_of line.content) || is_none (form_in st line)
 
 -- 3 Number: a number of another length or with another character, or one that doesn't fit its place
-unfoldable pub is_bad_number : TextLine → Bool
-is_bad_number line = is_none (said_in line)
+unfoldable pub is_bad_number : State → TextLine → Bool
+is_bad_number st line = is_none (said_in st line)
 
 abbrev pub is_too_much : Said → Bool
-is_too_much (SaysRow (Sub ring blocks)) = nat_lt most_declared (length blocks)
+is_too_much (SaysRow (Plain (Sub ring blocks))) = nat_lt most_declared (length blocks)
 is_too_much _ = false
 
 -- 4 Limit: a line past the limit, or too many blocks in one declaration; a line of too many bytes has this fault alone
 unfoldable pub is_past_limit : State → TextLine → Bool
-is_past_limit st line = nat_lt most_lines (next_number st) || option_map_or is_too_much (said_in line) false
+is_past_limit st line = nat_lt most_lines (next_number st) || option_map_or is_too_much (said_in st line) false
 
 unfoldable pub is_too_long : TextLine → Bool
 is_too_long line = nat_lt most_bytes (length line.content)
 
-abbrev pub is_misplaced : List Ring → Said → Bool
-is_misplaced rings (SaysRing ring) = not (is_shape ring.shape) || list_any (clash ring) rings
-is_misplaced rings (SaysRow row) = false
+-- its ring's segments make none
+abbrev pub has_no_shape : TraceRow → Bool
+has_no_shape (Comes ring) = not (is_shape ring.shape)
+has_no_shape (Plain row) = false
+has_no_shape (Goes ring) = false
+has_no_shape (Withdraws ring position) = false
 
--- 5 Shape: segments that make no ring, or a ring that can't stand beside an earlier one
+-- beside the rings of the header and those that came later, by their IDs
+abbrev pub is_misplaced : List Ring → List ℕ → Said → Bool
+is_misplaced rings later (SaysRing ring) = not (is_shape ring.shape) || list_any (clash ring) rings
+is_misplaced rings later (SaysRow row) = has_no_shape row || has_used_id rings later row
+
+-- 5 Shape: segments that make no ring, a ring of the header that can't stand beside an earlier one, or a later one with an ID that was used before
 unfoldable pub is_bad_shape : State → TextLine → Bool
-is_bad_shape st line = option_map_or (is_misplaced st.rings) (said_in line) false
+is_bad_shape st line = option_map_or (is_misplaced st.rings st.later) (said_in st line) false
 
 -- the least fault of a line behind the header
 unfoldable pub row_fault : State → TextLine → Option LineFault
 row_fault st line =
     if is_too_long line then Some Limit
     else if is_bad_row st line then Some BadRow
-    else if is_bad_number line then Some Number
+    else if is_bad_number st line then Some Number
     else if is_past_limit st line then Some Limit
     else if is_bad_shape st line then Some Shape
     else None
@@ -107,8 +117,12 @@ line_fault st line =
     else if st.lines == 1 then (if is_none (size_of line) then Some BadHeader else None)
     else row_fault st line
 
-abbrev pub with_said : State → Option Said → State × Option Row
-with_said st (Some (SaysRow row)) = (record st { lines = next_number st; begun = true }, Some row)
+-- behind a line that says the row
+abbrev pub behind_row : State → TraceRow → State
+behind_row st row = record st { lines = next_number st; begun = true; later = ids_with st.later row }
+
+abbrev pub with_said : State → Option Said → State × Option TraceRow
+with_said st (Some (SaysRow row)) = (behind_row st row, Some row)
 with_said st (Some (SaysRing ring)) = (record st { lines = next_number st; rings = st.rings ++ ring ∷ [] }, None)
 with_said st None = (st, None)
 
@@ -121,39 +135,43 @@ with_size st (Some size) = record st { lines = next_number st; size = size }
 with_size st None = st
 
 -- what is read after a line without a fault, and the row that the line says, if it says one
-unfoldable pub after : State → TextLine → State × Option Row
+unfoldable pub after : State → TextLine → State × Option TraceRow
 after st line =
     if st.lines == 0 then (with_version st (version_of line), None)
     else if st.lines == 1 then (with_size st (size_of line), None)
-    else with_said st (said_in line)
+    else with_said st (said_in st line)
 
 -- the next line: the new state and the row, or the least fault
-unfoldable pub read_line : State → TextLine → Result (State × Option Row) LineFault
+unfoldable pub read_line : State → TextLine → Result (State × Option TraceRow) LineFault
 read_line st line = option_map_or Err (line_fault st line) (Ok (after st line))
 
-abbrev pub with_row : Option Row → Result (State × List Row) (ℕ × LineFault) → Result (State × List Row) (ℕ × LineFault)
+abbrev pub with_row : {R : Type 0} → Option R → Result (State × List R) (ℕ × LineFault) → Result (State × List R) (ℕ × LineFault)
 with_row (Some row) (Ok (st, rows)) = Ok (st, row ∷ rows)
 with_row None (Ok (st, rows)) = Ok (st, rows)
 with_row row (Err fault) = Err fault
 
-abbrev pub go_on : ℕ → Result (State × Option Row) LineFault → (State → Result (State × List Row) (ℕ × LineFault)) → Result (State × List Row) (ℕ × LineFault)
+abbrev pub go_on : {R : Type 0} → ℕ → Result (State × Option R) LineFault → (State → Result (State × List R) (ℕ × LineFault)) → Result (State × List R) (ℕ × LineFault)
 go_on number (Ok (st, row)) rest = with_row row (rest st)
 go_on number (Err fault) rest = Err (number, fault)
 
 -- all lines: the state behind them and the rows, or the first bad line and its least fault
-unfoldable pub read_lines : State → List TextLine → Result (State × List Row) (ℕ × LineFault)
+unfoldable pub read_lines : State → List TextLine → Result (State × List TraceRow) (ℕ × LineFault)
 read_lines st [] = Ok (st, [])
 read_lines st (line ∷ lines) = go_on (next_number st) (read_line st line) (λ after. read_lines after lines)
 
--- what a text of a trace says
-pub record TraceText : Type 0 where
+-- a header, and rows of this sort
+pub record TextOf (R : Type 0) : Type 0 where
   pub header : Header
   -- the number of the first row's line
   pub first : ℕ
-  pub rows : List Row
+  pub rows : List R
+
+-- what a text of a trace says
+abbrev pub TraceText : Type 0
+TraceText = TextOf TraceRow
 
 -- a text ends behind its header at the earliest: the line that isn't there is a bad one
-abbrev pub whole : Result (State × List Row) (ℕ × LineFault) → Result TraceText (ℕ × LineFault)
+abbrev pub whole : {R : Type 0} → Result (State × List R) (ℕ × LineFault) → Result (TextOf R) (ℕ × LineFault)
 whole (Ok (st, rows)) =
     if nat_lt st.lines 2 then Err (next_number st, BadHeader)
     else Ok (record { header = record { version = st.version; context_size = st.size; rings = st.rings }; first = next_number st - length rows; rows = rows })

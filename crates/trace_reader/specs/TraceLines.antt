@@ -1,44 +1,68 @@
--- The lines of a trace behind its first two, as data
-use Rattle.std.specs.Prelude.{ℕ, Bool, List, [], ◌∷◌, Option, codes}
-use Rattle.std.specs.Str.{bytes_eq}
+-- The lines of a trace behind its first two, as data: which there are, by the trace's version and by whether rows have begun
+use Rattle.std.specs.Prelude.{ℕ, Bool, true, false, List, [], ◌∷◌, ◌++◌, Option, codes}
+use Rattle.traces.specs.Versions.{has_ring_rows}
 use Rattle.traces.specs.declared.ring.Ring.{Ring}
 use Rattle.traces.specs.declared.row.Row.TheVariants.{Sub, Write, Reg, Bell, Read}
-use Rattle.trace_reader.specs.Grammar.{Byte, Number, WordAddress, KindOfRing, Nothing, Event, RegisterValue, Blocks, Segments, Values, Line, FormOf, form_in, value_in}
+use Rattle.traces.specs.declared.trace_row.TraceRow.TheVariants.{Plain, Comes, Goes, Withdraws}
+use Rattle.traces.specs.declared.version.Version.{Version}
+use Rattle.trace_reader.specs.Grammar.{Byte, Number, Long, WordAddress, KindOfRing, TransferKind, Nothing, Event, RegisterValue, Blocks, Segments, Values, Line, FormOf, form_in, value_in}
 use Rattle.trace_reader.specs.Values.{Said, SaysRow, SaysRing}
 
+-- ---- what the driver does
+
 abbrev pub sub_line : Line Said
-sub_line = record { word = codes "sub"; kinds = Byte ∷ []; tail = Blocks; make = λ v. SaysRow (Sub v.0 v.1) }
+sub_line = record { word = codes "sub"; kinds = Byte ∷ []; tail = Blocks; make = λ v. SaysRow (Plain (Sub v.0 v.1)) }
 
 abbrev pub write_line : Line Said
-write_line = record { word = codes "w"; kinds = WordAddress ∷ Number ∷ []; tail = Nothing; make = λ v. SaysRow (Write v.0 v.1.0) }
+write_line = record { word = codes "w"; kinds = WordAddress ∷ Number ∷ []; tail = Nothing; make = λ v. SaysRow (Plain (Write v.0 v.1.0)) }
 
 abbrev pub reg_line : Line Said
-reg_line = record { word = codes "reg"; kinds = []; tail = RegisterValue; make = λ v. SaysRow (Reg v.0 v.1) }
+reg_line = record { word = codes "reg"; kinds = []; tail = RegisterValue; make = λ v. SaysRow (Plain (Reg v.0 v.1)) }
 
 abbrev pub bell_line : Line Said
-bell_line = record { word = codes "db"; kinds = Byte ∷ Byte ∷ []; tail = Nothing; make = λ v. SaysRow (Bell v.0 v.1.0) }
+bell_line = record { word = codes "db"; kinds = Byte ∷ Byte ∷ []; tail = Nothing; make = λ v. SaysRow (Plain (Bell v.0 v.1.0)) }
 
 abbrev pub event_line : Line Said
-event_line = record { word = codes "ev"; kinds = []; tail = Event; make = λ v. SaysRow (Read v) }
+event_line = record { word = codes "ev"; kinds = []; tail = Event; make = λ v. SaysRow (Plain (Read v)) }
+
+abbrev pub driver_lines : List (Line Said)
+driver_lines = sub_line ∷ write_line ∷ reg_line ∷ bell_line ∷ event_line ∷ []
+
+-- ---- rings
 
 abbrev pub ring_as : Values (Byte ∷ KindOfRing ∷ []) Segments → Ring
 ring_as v = record { id = v.0; shape = record { kind = v.1.0; segments = v.1.1 } }
 
+-- a ring of the header
 abbrev pub ring_line : Line Said
 ring_line = record { word = codes "ring"; kinds = Byte ∷ KindOfRing ∷ []; tail = Segments; make = λ v. SaysRing (ring_as v) }
 
-abbrev pub said_lines : List (Line Said)
-said_lines = sub_line ∷ write_line ∷ reg_line ∷ bell_line ∷ event_line ∷ ring_line ∷ []
+-- a transfer ring that comes behind the first row
+abbrev pub comes_line : Line Said
+comes_line = record { word = codes "ring"; kinds = Byte ∷ TransferKind ∷ []; tail = Segments; make = λ v. SaysRow (Comes (ring_as v)) }
+
+abbrev pub goes_line : Line Said
+goes_line = record { word = codes "free"; kinds = Byte ∷ []; tail = Nothing; make = λ v. SaysRow (Goes v.0) }
+
+abbrev pub withdraws_line : Line Said
+withdraws_line = record { word = codes "nop"; kinds = Byte ∷ Long ∷ []; tail = Nothing; make = λ v. SaysRow (Withdraws v.0 v.1.0) }
+
+-- the lines of rings, where the version has rows of rings, or not, and where rows have begun, or not
+abbrev pub ring_lines : Bool → Bool → List (Line Said)
+ring_lines false false = ring_line ∷ []
+ring_lines false true = []
+ring_lines true false = ring_line ∷ goes_line ∷ withdraws_line ∷ []
+ring_lines true true = comes_line ∷ goes_line ∷ withdraws_line ∷ []
+
+abbrev pub said_lines : Version → Bool → List (Line Said)
+said_lines version begun = driver_lines ++ ring_lines (has_ring_rows version) begun
 
 -- a line with the fields behind its word, before a number is looked at
 abbrev pub Form : Type 0
 Form = FormOf Said
 
-unfoldable pub form_of : List (List ℕ) → Option Form
-form_of fields = form_in said_lines fields
+unfoldable pub form_of : Version → Bool → List (List ℕ) → Option Form
+form_of version begun fields = form_in (said_lines version begun) fields
 
 unfoldable pub said_of : Form → Option Said
 said_of form = value_in form
-
-abbrev pub is_ring_form : Form → Bool
-is_ring_form form = bytes_eq form.0.word (codes "ring")

@@ -1,10 +1,11 @@
 ghost use Rattle.std.specs.Prelude.{◌≡◌, ◌≤◌, ◌∷◌, Some, None, length, map, IfOk, IfErr, IfSome, IfNone};
 ghost use Rattle.segments.specs.ShapeValue.{segment_of};
 ghost use Rattle.trace_reader.specs.declared.fault.LineFault.{LineFault};
-ghost use Rattle.trace_reader.specs.Entries.{Answers, IfFault, ring_of, said_by, said_by_fields, unless_begun, word_named};
+ghost use Rattle.trace_reader.specs.Entries.{Answers, IfFault, form_if, ring_form, ring_of, said_by, said_by_fields, word_named};
 ghost use Rattle.trace_reader.specs.Forms.{kind_named, named, register_named};
 ghost use Rattle.trace_reader.specs.Grammar.{form_as};
-ghost use Rattle.trace_reader.specs.TraceLines.{bell_line, event_line, reg_line, ring_line, sub_line, write_line};
+ghost use Rattle.trace_reader.specs.TraceLines.{bell_line, comes_line, event_line, goes_line, reg_line, ring_line, sub_line, withdraws_line, write_line};
+ghost use Rattle.traces.specs.Versions.{has_ring_rows};
 ghost use Rattle.trace_reader.specs.LineAnswers.{AnswersBy, valued_by};
 ghost use Rattle.trace_reader.specs.Plans.{ring_alone, ring_value};
 ghost use Rattle.trace_reader.specs.Schedules.{event_form};
@@ -15,14 +16,23 @@ use crate::fault::{LineError, LineFault};
 use guest_memory::Addr;
 use line_text::{Fields, two_words_of, u8_of, u16_of, u32_of, u64_of};
 use std::alloc::Global;
-use traces::{Register, Row};
+use traces::{Register, Row, Version};
 use trb::{Block, Blocks, RingKind};
 
 /// What a line behind the header says.
 #[derive(Drop)]
 pub enum Entry {
-    Row(Row),
+    Row(RowEntry),
     Ring(RingEntry),
+}
+
+/// What the line of a row says; where a ring comes, its segments may make none.
+#[derive(Drop)]
+pub enum RowEntry {
+    Plain(Row),
+    Comes(RingEntry),
+    Goes(u8),
+    Withdraws { ring: u8, position: u64 },
 }
 
 /// What the line of a ring says; its segments may make no ring.
@@ -33,16 +43,17 @@ pub struct RingEntry {
     pub segments: Vec<(u64, u16)>,
 }
 
-/// The entry of a line with these fields, of which there are `count`. A ring line has its place only where no row has
-/// `begun` the rows.
+/// The entry of a line with these fields, of which there are `count`. The line of a ring is one of the header where no row has
+/// `begun` the rows; else it is a row, where the version has such rows.
 pub fn entry_of(
     alloc: Global,
+    version: Version,
     begun: bool,
     count: usize,
     mut fields: Fields,
 ) -> Result<Entry, LineError>
     requires { count ≡ length fields }
-    ensures { Answers result (said_by_fields begun fields.entry) }
+    ensures { Answers result (said_by_fields version begun fields.entry) }
 {
     let Some(word) = fields.next() else {
         return Err(LineFault::Row.into());
@@ -53,7 +64,9 @@ pub fn entry_of(
         Some(FirstWord::Reg) => reg_entry(fields),
         Some(FirstWord::Db) => bell_entry(fields),
         Some(FirstWord::Ev) => read_entry(fields),
-        Some(FirstWord::Ring) => ring_entry(alloc, begun, count - 1, fields),
+        Some(FirstWord::Ring) => ring_entry(alloc, version, begun, count - 1, fields),
+        Some(FirstWord::Free) => goes_entry(version, fields),
+        Some(FirstWord::Nop) => withdraws_entry(version, fields),
         None => Err(LineFault::Row.into()),
     }
 }
@@ -67,6 +80,8 @@ enum FirstWord {
     Db,
     Ev,
     Ring,
+    Free,
+    Nop,
 }
 
 #[tactic(auto, unfolding(crate::specs::Entries::word_named))]
@@ -85,6 +100,10 @@ fn word_named(word: &[u8]) -> Option<FirstWord>
         Some(FirstWord::Ev)
     } else if word == b"ring".as_slice() {
         Some(FirstWord::Ring)
+    } else if word == b"free".as_slice() {
+        Some(FirstWord::Free)
+    } else if word == b"nop".as_slice() {
+        Some(FirstWord::Nop)
     } else {
         None
     }
@@ -103,10 +122,8 @@ fn sub_entry(alloc: Global, count: usize, mut fields: Fields) -> Result<Entry, L
     }
     let ring = u8_of(ring).ok_or(LineFault::Number)?;
     let blocks = blocks_of(alloc, fields)?;
-    Ok(Entry::Row(Row::Sub {
-        ring,
-        blocks: Blocks::new(blocks),
-    }))
+    let blocks = Blocks::new(blocks);
+    Ok(Entry::Row(RowEntry::Plain(Row::Sub { ring, blocks })))
 }
 
 #[tactic(auto, unfolding(crate::specs::TraceLines::said_of))]
@@ -118,7 +135,7 @@ fn write_entry(mut fields: Fields) -> Result<Entry, LineError>
     };
     let at = word_address_of(address).ok_or(LineFault::Number)?;
     let word = u32_of(word).ok_or(LineFault::Number)?;
-    Ok(Entry::Row(Row::Write { at, word }))
+    Ok(Entry::Row(RowEntry::Plain(Row::Write { at, word })))
 }
 
 #[tactic(auto, unfolding(crate::specs::TraceLines::said_of))]
@@ -130,7 +147,7 @@ fn reg_entry(mut fields: Fields) -> Result<Entry, LineError>
     };
     let register = register_named(name).ok_or(LineFault::Row)?;
     let value = register_value_of(register, value).ok_or(LineFault::Number)?;
-    Ok(Entry::Row(Row::Reg { register, value }))
+    Ok(Entry::Row(RowEntry::Plain(Row::Reg { register, value })))
 }
 
 #[tactic(auto, unfolding(crate::specs::TraceLines::said_of))]
@@ -142,14 +159,14 @@ fn bell_entry(mut fields: Fields) -> Result<Entry, LineError>
     };
     let slot = u8_of(slot).ok_or(LineFault::Number)?;
     let target = u8_of(target).ok_or(LineFault::Number)?;
-    Ok(Entry::Row(Row::Bell { slot, target }))
+    Ok(Entry::Row(RowEntry::Plain(Row::Bell { slot, target })))
 }
 
 fn read_entry(fields: Fields) -> Result<Entry, LineError>
     ensures { Answers result (said_by (form_as event_line fields.entry)) }
 {
     let event = event_behind(fields)?;
-    Ok(Entry::Row(Row::Read { event }))
+    Ok(Entry::Row(RowEntry::Plain(Row::Read { event })))
 }
 
 /// The block of exactly four words.
@@ -167,14 +184,78 @@ pub fn event_behind(mut fields: Fields) -> Result<Block, LineError>
     Ok(event)
 }
 
-fn ring_entry(alloc: Global, begun: bool, count: usize, fields: Fields) -> Result<Entry, LineError>
+fn ring_entry(
+    alloc: Global,
+    version: Version,
+    begun: bool,
+    count: usize,
+    fields: Fields,
+) -> Result<Entry, LineError>
     requires { count ≡ length fields }
-    ensures { Answers result (said_by (unless_begun begun (form_as ring_line fields.entry))) }
+    ensures { Answers result (said_by (ring_form (has_ring_rows version) begun fields.entry)) }
 {
-    if begun {
+    if !begun {
+        return header_ring(alloc, count, fields);
+    }
+    if !version.has_ring_rows() {
         return Err(LineFault::Row.into());
     }
+    comes_entry(alloc, count, fields)
+}
+
+/// A ring of the header.
+fn header_ring(alloc: Global, count: usize, fields: Fields) -> Result<Entry, LineError>
+    requires { count ≡ length fields }
+    ensures { Answers result (said_by (form_as ring_line fields.entry)) }
+{
     Ok(Entry::Ring(ring_behind(alloc, count, fields)?))
+}
+
+/// A ring that comes: a transfer ring.
+#[tactic(auto, unfolding(crate::specs::TraceLines::said_of))]
+fn comes_entry(alloc: Global, count: usize, mut fields: Fields) -> Result<Entry, LineError>
+    requires { count ≡ length fields }
+    ensures { Answers result (said_by (form_as comes_line fields.entry)) }
+{
+    let (Some(id), Some(kind)) = (fields.next(), fields.next()) else {
+        return Err(LineFault::Row.into());
+    };
+    if count < 3 || kind != b"xfer".as_slice() {
+        return Err(LineFault::Row.into());
+    }
+    let id = u8_of(id).ok_or(LineFault::Number)?;
+    let segments = segments_of(alloc, fields)?;
+    let kind = RingKind::Xfer;
+    Ok(Entry::Row(RowEntry::Comes(RingEntry { id, kind, segments })))
+}
+
+#[tactic(auto, unfolding(crate::specs::TraceLines::said_of))]
+fn goes_entry(version: Version, mut fields: Fields) -> Result<Entry, LineError>
+    ensures { Answers result (said_by (form_if (has_ring_rows version) goes_line fields.entry)) }
+{
+    if !version.has_ring_rows() {
+        return Err(LineFault::Row.into());
+    }
+    let (Some(ring), None) = (fields.next(), fields.next()) else {
+        return Err(LineFault::Row.into());
+    };
+    let ring = u8_of(ring).ok_or(LineFault::Number)?;
+    Ok(Entry::Row(RowEntry::Goes(ring)))
+}
+
+#[tactic(auto, unfolding(crate::specs::TraceLines::said_of))]
+fn withdraws_entry(version: Version, mut fields: Fields) -> Result<Entry, LineError>
+    ensures { Answers result (said_by (form_if (has_ring_rows version) withdraws_line fields.entry)) }
+{
+    if !version.has_ring_rows() {
+        return Err(LineFault::Row.into());
+    }
+    let (Some(ring), Some(position), None) = (fields.next(), fields.next(), fields.next()) else {
+        return Err(LineFault::Row.into());
+    };
+    let ring = u8_of(ring).ok_or(LineFault::Number)?;
+    let position = u64_of(position).ok_or(LineFault::Number)?;
+    Ok(Entry::Row(RowEntry::Withdraws { ring, position }))
 }
 
 /// The ring of the fields behind the word `ring`.

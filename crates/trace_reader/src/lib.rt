@@ -2,8 +2,10 @@
 #![tactic(auto)]
 
 mod clashes;
+mod driver_rows;
 mod entry;
 mod fault;
+mod later;
 mod line;
 mod plan_line;
 mod plans;
@@ -15,16 +17,18 @@ mod segments_so_far;
 mod so_far;
 mod step_line;
 
+pub use driver_rows::driver_row;
 pub use entry::block_of;
 pub use fault::{LineError, LineFault, ReadFault};
+pub use later::note_id;
 pub use line::{MOST_BYTES, MOST_LINES, row_in};
 pub use plans::read_plan;
-pub use print::{print_trace, with_ring, with_sub, with_write};
+pub use print::{print_trace, with_ring, with_row, with_sub, with_write};
 pub use quick::{bell_ahead, declaration_ahead, erdp_ahead, event_ahead, write_ahead};
 pub use read::read_trace;
 pub use schedules::{print_schedule, read_schedule};
 pub use so_far::TraceSoFar;
 pub use traces::{
     Header, Plan, PlanLine, PlanLines, Register, Ring, Rings, Row, Rows, Schedule, Step, Steps,
-    Trace,
+    Trace, TraceRow,
 };

@@ -3,13 +3,14 @@ ghost use Rattle.trace_reader.specs.Entries.{Answers, AnswersRow, content_fault,
 ghost use Rattle.traces.specs.Limits.{most_lines};
 ghost use Rattle.trace_reader.specs.Reading.{State, is_too_much, size_of, version_of};
 
-use crate::entry::{Entry, entry_of};
+use crate::entry::{Entry, RowEntry, entry_of};
 use crate::fault::{LineError, LineFault};
+use crate::later::placed_row;
 use crate::quick::quick_row;
 use contexts::ContextSize;
 use line_text::{Fields, Line, Survey};
 use std::alloc::Global;
-use traces::{Row, Version};
+use traces::{Header, Row, TraceRow, Version};
 
 /// Lines of a trace or a plan.
 pub const MOST_LINES: u32 = 1048576;
@@ -54,11 +55,17 @@ pub fn size_of(line: &Line) -> Option<ContextSize>
 }
 
 /// What a line behind the header says; `lines` were read before it, and rows if they have `begun`.
-pub fn entry_in(alloc: Global, lines: u32, begun: bool, line: &Line) -> Result<Entry, LineError>
-    ensures answer { (st : State) → st.lines ≡ lines → st.begun ≡ begun → Answers result (said_by_line st line.now) }
+pub fn entry_in(
+    alloc: Global,
+    version: Version,
+    lines: u32,
+    begun: bool,
+    line: &Line,
+) -> Result<Entry, LineError>
+    ensures answer { (st : State) → st.version ≡ version → st.lines ≡ lines → st.begun ≡ begun → Answers result (said_by_line st line.now) }
     ensures within { OnOk result (lines + 1 ≤ most_lines) }
 {
-    let entry = entry_alone(alloc, begun, line)?;
+    let entry = entry_alone(alloc, version, begun, line)?;
     if lines >= MOST_LINES {
         return Err(LineFault::Limit.into());
     }
@@ -68,27 +75,45 @@ pub fn entry_in(alloc: Global, lines: u32, begun: bool, line: &Line) -> Result<E
     Ok(entry)
 }
 
-/// The row that a line says behind the first row's; `lines` were read before it.
-pub fn row_in(alloc: Global, lines: u32, line: &Line) -> Result<Row, LineError>
+/// The row that a line says behind the first row's; `lines` were read before it, and of them the header and the IDs of the rings that
+/// came later.
+pub fn row_in(
+    alloc: Global,
+    header: &Header,
+    later: &[u8],
+    lines: u32,
+    line: &Line,
+) -> Result<TraceRow, LineError>
     requires { 2 ≤ lines }
-    ensures answer { (st : State) → st.lines ≡ lines → st.begun ≡ true → AnswersRow st result line.now }
+    ensures answer { (st : State) → st.version ≡ header.now.version → st.rings ≡ header.now.rings → st.later ≡ later.now → st.lines ≡ lines → st.begun ≡ true → AnswersRow st result line.now }
     ensures within { OnOk result (lines + 1 ≤ most_lines) }
 {
-    match entry_in(alloc, lines, true, line)? {
-        Entry::Row(row) => Ok(row),
+    match entry_in(alloc, header.version, lines, true, line)? {
+        Entry::Row(row) => placed_row(alloc, header.rings.as_slice(), later, row),
         Entry::Ring(_) => unreachable!(),
     }
 }
 
 /// What a line behind the header says by itself.
-fn entry_alone(alloc: Global, begun: bool, line: &Line) -> Result<Entry, LineError>
-    ensures { Answers result (said_alone begun line.now) }
+fn entry_alone(
+    alloc: Global,
+    version: Version,
+    begun: bool,
+    line: &Line,
+) -> Result<Entry, LineError>
+    ensures { Answers result (said_alone version begun line.now) }
 {
     if let Some(row) = quick_row(line) {
-        return Ok(Entry::Row(row));
+        return Ok(Entry::Row(RowEntry::Plain(row)));
     }
     let content = content_of(line)?;
-    entry_of(alloc, begun, Survey::of(content).count, Fields::of(content))
+    entry_of(
+        alloc,
+        version,
+        begun,
+        Survey::of(content).count,
+        Fields::of(content),
+    )
 }
 
 /// The bytes of a line that has not too many, ends with a line feed, and has no empty field.
@@ -116,7 +141,8 @@ fn is_too_much(entry: &Entry) -> bool
     ensures { result ≡ is_too_much (value_of entry.now) }
 {
     match entry {
-        Entry::Row(Row::Sub { blocks, .. }) => blocks.as_slice().len() > MOST_BLOCKS,
+        Entry::Row(RowEntry::Plain(Row::Sub { blocks, .. })) => blocks.as_slice().len()
+            > MOST_BLOCKS,
         _ => false,
     }
 }

@@ -2,8 +2,8 @@ ghost use Rattle.std.specs.Prelude.{◌≡◌, ◌++◌, ◌∷◌, [], Ok, map,
 ghost use Rattle.std.specs.List.{flat_map};
 ghost use Rattle.traces.specs.declared.row.Row.TheVariants.{Sub, Write};
 ghost use Rattle.trace_reader.specs.Entries.{text_of};
-ghost use Rattle.trace_reader.specs.Reading.{trace_of};
-ghost use Rattle.trace_reader.specs.Spelling.{block_fields, printed, printed_line, printed_trace, ring_fields, row_fields, segment_field, size_fields, version_fields};
+ghost use Rattle.trace_reader.specs.DriverRows.{all_plain, driver_trace_of};
+ghost use Rattle.trace_reader.specs.Spelling.{block_fields, printed, printed_line, printed_trace, ring_fields, row_fields, segment_field, size_fields, trace_row_fields, version_fields};
 ghost use Rattle.trace_reader.specs.Printing.{in_a_row, spaced};
 
 use contexts::ContextSize;
@@ -11,14 +11,14 @@ use guest_memory::Addr;
 use line_text::{push_u8, push_u16, push_u32, push_u64};
 use segments::Segment;
 use std::alloc::{AllocError, Global};
-use traces::{Header, Ring, Row, Trace, Version};
+use traces::{Header, Ring, Row, Trace, TraceRow, Version};
 use trb::Block;
 
 /// The text of a trace, with its numbers in lower case.
 pub fn print_trace(alloc: Global, trace: &Trace) -> Result<Vec<u8>, AllocError>
-    ensures printed { IfOk result (λ out. out.items ≡ printed_trace (text_of trace.now)) }
+    ensures printed { IfOk result (λ out. out.items ≡ printed_trace (all_plain (text_of trace.now))) }
     // What is printed is read as the same trace.
-    ensures reread { IfOk result (λ out. trace_of out.items ≡ Ok (text_of trace.now)) }
+    ensures reread { IfOk result (λ out. driver_trace_of out.items ≡ Ok (text_of trace.now)) }
 {
     let mut out = Vec::new(alloc);
     push_header(&mut out, &trace.header)?;
@@ -32,6 +32,15 @@ pub fn with_ring(text: Vec<u8>, ring: &Ring) -> Result<Vec<u8>, AllocError>
 {
     let mut longer = text;
     push_ring(&mut longer, ring)?;
+    Ok(longer)
+}
+
+/// A text with the line of a row behind it.
+pub fn with_row(text: Vec<u8>, row: &TraceRow) -> Result<Vec<u8>, AllocError>
+    ensures { IfOk result (λ longer. longer.items ≡ text.items ++ printed_line (trace_row_fields row.now)) }
+{
+    let mut longer = text;
+    push_trace_row(&mut longer, row)?;
     Ok(longer)
 }
 
@@ -121,6 +130,36 @@ fn push_ring_fields(out: &mut Vec<u8>, ring: &Ring) -> Result<(), AllocError>
     out.extend_from_slice(b" ")?;
     out.extend_from_slice(ring.shape.kind().name().as_bytes())?;
     push_segments(out, ring.shape.segments())
+}
+
+/// Appends the line of a row, also of one of a ring.
+fn push_trace_row(out: &mut Vec<u8>, row: &TraceRow) -> Result<(), AllocError>
+    ensures { OnOk result (out.new.items ≡ out.old.items ++ printed_line (trace_row_fields row.now)) }
+{
+    push_trace_row_fields(out, row)?;
+    out.extend_from_slice(b"\n")?;
+    Ok(())
+}
+
+/// Appends the fields of a row, also of one of a ring, with a space between each two.
+#[tactic(auto, unfolding(crate::specs::Spelling::trace_row_fields))]
+fn push_trace_row_fields(out: &mut Vec<u8>, row: &TraceRow) -> Result<(), AllocError>
+    ensures { OnOk result (out.new.items ≡ out.old.items ++ in_a_row (trace_row_fields row.now)) }
+{
+    match row {
+        TraceRow::Plain(row) => push_row_fields(out, row),
+        TraceRow::Comes(ring) => push_ring_fields(out, ring.as_ring()),
+        TraceRow::Goes(ring) => {
+            out.extend_from_slice(b"free ")?;
+            push_u8(out, *ring)
+        }
+        TraceRow::Withdraws { ring, position } => {
+            out.extend_from_slice(b"nop ")?;
+            push_u8(out, *ring)?;
+            out.extend_from_slice(b" ")?;
+            push_u64(out, *position)
+        }
+    }
 }
 
 /// Appends the line of a row.

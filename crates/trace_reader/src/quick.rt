@@ -4,6 +4,8 @@ ghost use Rattle.trace_reader.specs.RowsAhead.{BeginsWithRow};
 ghost use Rattle.trace_reader.specs.Values.{SaysRow};
 ghost use Rattle.traces.specs.declared.register.Register.TheVariants.{Erdp};
 ghost use Rattle.traces.specs.declared.row.Row.{Row};
+ghost use Rattle.traces.specs.declared.trace_row.TraceRow.TheVariants.{Plain};
+ghost use Rattle.traces.specs.declared.version.Version.{Version};
 
 use crate::entry::{block_of, word_address_of};
 use guest_memory::Addr;
@@ -13,7 +15,7 @@ use trb::{Block, Blocks};
 
 /// The row of a line of a frequent form, by the places of its fields. Where it answers none, the line may still say one.
 pub fn quick_row(line: &Line) -> Option<Row>
-    ensures { IfSome result (λ row. (begun : Bool) → said_alone begun line.now ≡ Ok (SaysRow row)) }
+    ensures { IfSome result (λ row. (version : Version) (begun : Bool) → said_alone version begun line.now ≡ Ok (SaysRow (Plain row))) }
 {
     if !line.is_ended() {
         return None;

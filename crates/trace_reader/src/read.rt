@@ -1,55 +1,57 @@
-ghost use Rattle.std.specs.Prelude.{ℕ, List, ◌≡◌, ◌<◌, ◌≤◌, ◌+◌, [], false, Ok, Err, IsTrue, OnOk, IfOk, IfErr};
+ghost use Rattle.std.specs.Prelude.{ℕ, List, ◌≡◌, ◌≤◌, ◌+◌, [], Ok, Err, IsTrue, OnOk, IfOk, IfErr, false, None};
 ghost use Rattle.std.specs.Str.{str_to_ascii_lowercase};
-ghost use Rattle.segments.specs.Shape.{IsShape, is_shape};
-ghost use Rattle.trace_reader.specs.declared.fault.LineFault.{LineFault};
-ghost use Rattle.trace_reader.specs.Entries.{IfBadLine, IfFault, at_line, placed, ring_of, state_of, text_of, took_in};
-ghost use Rattle.trace_reader.specs.Reading.{TraceText, read_line, start, trace_of, whole};
+ghost use Rattle.trace_reader.specs.DriverRows.{DriverText, all_plain, driver_row, driver_trace_of, taken};
+ghost use Rattle.trace_reader.specs.Entries.{IfBadLine, IfFault, at_line, placed, ring_of, row_of, state_of, text_of, took_in};
+ghost use Rattle.trace_reader.specs.Reading.{TraceText, read_line, start, whole};
 ghost use Rattle.trace_reader.specs.Spelling.{printed_trace, spells};
 ghost use Rattle.trace_reader.specs.Valid.{IsTrace};
 ghost use Rattle.traces.specs.Header.{IsHeader};
 ghost use Rattle.traces.specs.Limits.{most_lines};
 ghost use Rattle.trace_reader.specs.Values.{SaysRing, SaysRow};
+ghost use Rattle.traces.specs.declared.row.Row.{Row};
 
 use crate::clashes::clashes_with_one;
-use crate::entry::{Entry, RingEntry};
+use crate::driver_rows::driver_row;
+use crate::entry::{Entry, RingEntry, RowEntry};
 use crate::fault::{LineError, LineFault, ReadFault};
+use crate::later::{note_id, placed_row, shaped};
 use crate::line::{entry_in, size_of, version_of};
 use crate::segments_so_far::SegmentsSoFar;
 use crate::so_far::TraceSoFar;
 use contexts::ContextSize;
 use line_text::{Line, first_line};
-use segments::RingShape;
 use std::alloc::Global;
-use traces::{Header, Ring, Rings, Row, Rows, Trace, Version};
+use traces::{Header, Rings, Row, Rows, Trace, TraceRow, Version};
 
 /// Reads the text of a trace: `xtrace 1`, `2` or `3`, `ctx 20` or `ctx 40`, the lines of the rings, then the rows. Every byte
-/// sequence is answered, by its trace or by the first bad line and the least of its faults; `Memory` is answered only where a growth
-/// was refused.
+/// sequence is answered, by its trace or by the first bad line and the least of its faults; a row by which a ring comes or goes, or a
+/// descriptor is withdrawn, is a bad line. `Memory` is answered only where a growth was refused.
 pub fn read_trace(alloc: Global, text: &[u8]) -> Result<Trace, ReadFault>
-    ensures read { IfOk result (λ trace. trace_of text.now ≡ Ok (text_of trace)) }
-    ensures refused { IfErr result (λ e. IfBadLine e (λ line code. trace_of text.now ≡ Err (line, code))) }
+    ensures read { IfOk result (λ trace. driver_trace_of text.now ≡ Ok (text_of trace)) }
+    ensures refused { IfErr result (λ e. IfBadLine e (λ line code. driver_trace_of text.now ≡ Err (line, code))) }
 
     // In lower case the text is what is printed of the trace.
-    ensures lowered { IfOk result (λ trace. str_to_ascii_lowercase text.now ≡ printed_trace (text_of trace)) }
+    ensures lowered { IfOk result (λ trace. str_to_ascii_lowercase text.now ≡ printed_trace (all_plain (text_of trace))) }
 
     // The text spells the trace, and no other.
-    ensures spelled { IfOk result (λ trace. IsTrue (spells (text_of trace) text.now)) }
-    ensures alone { IfOk result (λ trace. (other : TraceText) → IsTrace other → IsTrue (spells other text.now) → other ≡ text_of trace) }
+    ensures spelled { IfOk result (λ trace. IsTrue (spells (all_plain (text_of trace)) text.now)) }
+    ensures alone { IfOk result (λ trace. (other : TraceText) → IsTrace other → IsTrue (spells other text.now) → other ≡ all_plain (text_of trace)) }
 
-    // A refused text spells no trace.
-    ensures unspelled { IfErr result (λ e. IfBadLine e (λ line code. (trace : TraceText) → IsTrace trace → spells trace text.now ≡ false)) }
+    // A refused text spells no trace with the driver's rows alone.
+    ensures unspelled { IfErr result (λ e. IfBadLine e (λ line code. (trace : DriverText) → IsTrace (all_plain trace) → spells (all_plain trace) text.now ≡ false)) }
 {
     let mut so_far = TraceSoFar::new(alloc);
+    let mut rows = Vec::new(alloc);
     let mut rest = text;
     while !rest.is_empty() {
         let (line, after) = first_line(rest);
         let number = so_far.lines + 1;
-        if let Err(error) = so_far.add(&line) {
+        if let Err(error) = add_driver_line(&mut so_far, &mut rows, &line) {
             return Err(at_line(number, error));
         }
         rest = after;
     }
-    so_far.finish()
+    finish(so_far, rows)
 }
 
 /// The fault of the line with this number.
@@ -62,11 +64,47 @@ pub fn at_line(line: u32, error: LineError) -> ReadFault
     }
 }
 
+/// Adds the next line of the text, where it says no row or one of the driver.
+fn add_driver_line(
+    so_far: &mut TraceSoFar,
+    rows: &mut Vec<Row>,
+    line: &Line,
+) -> Result<(), LineError>
+    ensures ok { OnOk result (took_in rows.old.items (taken driver_row (read_line (state_of so_far.old) line.now)) ≡ Ok (state_of so_far.new, rows.new.items)) }
+    ensures err { IfErr result (λ e. IfFault e (λ f. taken driver_row (read_line (state_of so_far.old) line.now) ≡ Err f)) }
+    ensures more { OnOk result (so_far.new.lines ≡ so_far.old.lines + 1) }
+{
+    let Some(row) = so_far.add(line)? else {
+        return Ok(());
+    };
+    rows.push(driver_row(row)?)?;
+    Ok(())
+}
+
+/// The trace, where its header is whole.
+fn finish(so_far: TraceSoFar, rows: Vec<Row>) -> Result<Trace, ReadFault>
+    requires { (text : List ℕ) × (driver_trace_of text ≡ whole (Ok (state_of so_far, rows.items))) }
+    ensures read { IfOk result (λ trace. whole (Ok (state_of so_far, rows.items)) ≡ Ok (text_of trace)) }
+    ensures refused { IfErr result (λ e. IfBadLine e (λ line code. whole {R = Row} (Ok (state_of so_far, rows.items)) ≡ Err (line, code))) }
+{
+    if so_far.lines < 2 {
+        return Err(ReadFault::Line {
+            line: so_far.lines + 1,
+            code: LineFault::Header,
+        });
+    }
+    let first = so_far.lines + 1 - rows.len() as u32;
+    Ok(Trace {
+        header: so_far.into_header(),
+        first,
+        rows: Rows::new(rows),
+    })
+}
+
 impl TraceSoFar {
     /// No line was read.
     pub fn new(alloc: Global) -> TraceSoFar
-        ensures state { state_of result ≡ start }
-        ensures rows { result.rows.items ≡ [] }
+        ensures { state_of result ≡ start }
     {
         TraceSoFar {
             alloc,
@@ -75,19 +113,27 @@ impl TraceSoFar {
             rings: Vec::new(alloc),
             segments: SegmentsSoFar::new(alloc),
             has_all_segments: true,
-            rows: Vec::new(alloc),
+            begun: false,
+            later: Vec::new(alloc),
             lines: 0,
         }
     }
 
-    /// Adds the next line of the text.
-    pub fn add(&mut self, line: &Line) -> Result<(), LineError>
-        ensures ok { OnOk result (took_in self.old.rows.items (read_line (state_of self.old) line.now) ≡ Ok (state_of self.new, self.new.rows.items)) }
+    /// Adds the next line of the text; the row that it says, if it says one.
+    pub fn add(&mut self, line: &Line) -> Result<Option<TraceRow>, LineError>
+        ensures ok { IfOk result (λ row. read_line (state_of self.old) line.now ≡ Ok (state_of self.new, row)) }
         ensures err { IfErr result (λ e. IfFault e (λ f. read_line (state_of self.old) line.now ≡ Err f)) }
+        ensures more { OnOk result (self.new.lines ≡ self.old.lines + 1) }
     {
         match self.lines {
-            0 => self.add_version(line),
-            1 => self.add_size(line),
+            0 => {
+                self.add_version(line)?;
+                Ok(None)
+            }
+            1 => {
+                self.add_size(line)?;
+                Ok(None)
+            }
             _ => self.add_entry(line),
         }
     }
@@ -95,8 +141,9 @@ impl TraceSoFar {
     /// Adds the first line.
     fn add_version(&mut self, line: &Line) -> Result<(), LineError>
         requires { self.old.lines ≡ 0 }
-        ensures ok { OnOk result (took_in self.old.rows.items (read_line (state_of self.old) line.now) ≡ Ok (state_of self.new, self.new.rows.items)) }
+        ensures ok { OnOk result (read_line (state_of self.old) line.now ≡ Ok (state_of self.new, None)) }
         ensures err { IfErr result (λ e. IfFault e (λ f. read_line (state_of self.old) line.now ≡ Err f)) }
+        ensures more { OnOk result (self.new.lines ≡ self.old.lines + 1) }
     {
         let Some(version) = version_of(line) else {
             return Err(LineFault::Header.into());
@@ -109,8 +156,9 @@ impl TraceSoFar {
     /// Adds the second line.
     fn add_size(&mut self, line: &Line) -> Result<(), LineError>
         requires { self.old.lines ≡ 1 }
-        ensures ok { OnOk result (took_in self.old.rows.items (read_line (state_of self.old) line.now) ≡ Ok (state_of self.new, self.new.rows.items)) }
+        ensures ok { OnOk result (read_line (state_of self.old) line.now ≡ Ok (state_of self.new, None)) }
         ensures err { IfErr result (λ e. IfFault e (λ f. read_line (state_of self.old) line.now ≡ Err f)) }
+        ensures more { OnOk result (self.new.lines ≡ self.old.lines + 1) }
     {
         let Some(size) = size_of(line) else {
             return Err(LineFault::Header.into());
@@ -121,31 +169,44 @@ impl TraceSoFar {
     }
 
     /// Adds a line behind the header.
-    fn add_entry(&mut self, line: &Line) -> Result<(), LineError>
+    fn add_entry(&mut self, line: &Line) -> Result<Option<TraceRow>, LineError>
         requires { 2 ≤ self.old.lines }
-        ensures ok { OnOk result (took_in self.old.rows.items (read_line (state_of self.old) line.now) ≡ Ok (state_of self.new, self.new.rows.items)) }
+        ensures ok { IfOk result (λ row. read_line (state_of self.old) line.now ≡ Ok (state_of self.new, row)) }
         ensures err { IfErr result (λ e. IfFault e (λ f. read_line (state_of self.old) line.now ≡ Err f)) }
+        ensures more { OnOk result (self.new.lines ≡ self.old.lines + 1) }
     {
-        match entry_in(self.alloc, self.lines, !self.rows.is_empty(), line)? {
+        match entry_in(self.alloc, self.version, self.lines, self.begun, line)? {
             Entry::Row(row) => self.add_row(row),
-            Entry::Ring(ring) => self.add_ring(ring),
+            Entry::Ring(ring) => {
+                self.add_ring(ring)?;
+                Ok(None)
+            }
         }
     }
 
-    fn add_row(&mut self, row: Row) -> Result<(), LineError>
+    fn add_row(&mut self, row: RowEntry) -> Result<Option<TraceRow>, LineError>
         requires { self.old.lines + 1 ≤ most_lines }
-        ensures ok { OnOk result (took_in self.old.rows.items (placed (state_of self.old) (Ok (SaysRow row))) ≡ Ok (state_of self.new, self.new.rows.items)) }
-        ensures err { IfErr result (λ e. IfFault e (λ f. ⊥)) }
+        ensures ok { IfOk result (λ said. placed (state_of self.old) (Ok (SaysRow (row_of row))) ≡ Ok (state_of self.new, said)) }
+        ensures err { IfErr result (λ e. IfFault e (λ f. placed (state_of self.old) (Ok (SaysRow (row_of row))) ≡ Err f)) }
+        ensures more { OnOk result (self.new.lines ≡ self.old.lines + 1) }
     {
-        self.rows.push(row)?;
+        let row = placed_row(
+            self.alloc,
+            self.rings.as_slice(),
+            self.later.as_slice(),
+            row,
+        )?;
+        note_id(&mut self.later, &row)?;
+        self.begun = true;
         self.lines += 1;
-        Ok(())
+        Ok(Some(row))
     }
 
     fn add_ring(&mut self, ring: RingEntry) -> Result<(), LineError>
         requires { self.old.lines + 1 ≤ most_lines }
-        ensures ok { OnOk result (took_in self.old.rows.items (placed (state_of self.old) (Ok (SaysRing (ring_of ring)))) ≡ Ok (state_of self.new, self.new.rows.items)) }
+        ensures ok { OnOk result (placed (state_of self.old) (Ok (SaysRing (ring_of ring))) ≡ Ok (state_of self.new, None)) }
         ensures err { IfErr result (λ e. IfFault e (λ f. placed (state_of self.old) (Ok (SaysRing (ring_of ring))) ≡ Err f)) }
+        ensures more { OnOk result (self.new.lines ≡ self.old.lines + 1) }
     {
         if !self.has_all_segments {
             return Err(LineError::Memory);
@@ -173,40 +234,4 @@ impl TraceSoFar {
             rings: Rings::new(self.rings),
         }
     }
-
-    /// The trace, where its header is whole.
-    fn finish(self) -> Result<Trace, ReadFault>
-        requires { (text : List ℕ) × (trace_of text ≡ whole (Ok (state_of self, self.rows.items))) }
-        ensures read { IfOk result (λ trace. whole (Ok (state_of self, self.rows.items)) ≡ Ok (text_of trace)) }
-        ensures refused { IfErr result (λ e. IfBadLine e (λ line code. whole (Ok (state_of self, self.rows.items)) ≡ Err (line, code))) }
-    {
-        if self.lines < 2 {
-            return Err(ReadFault::Line {
-                line: self.lines + 1,
-                code: LineFault::Header,
-            });
-        }
-        let first = self.lines + 1 - self.rows.len() as u32;
-        Ok(Trace {
-            header: Header {
-                version: self.version,
-                context_size: self.size,
-                rings: Rings::new(self.rings),
-            },
-            first,
-            rows: Rows::new(self.rows),
-        })
-    }
-}
-
-/// The ring of a line, where its segments make one.
-fn shaped(alloc: Global, entry: RingEntry) -> Result<Ring, LineError>
-    ensures read { IfOk result (λ ring. ring ≡ ring_of entry) }
-    ensures small { OnOk result (entry.id < 256) }
-    ensures allowed { IfOk result (λ ring. IsShape ring.shape) }
-    ensures err { IfErr result (λ e. IfFault e (λ f. (f ≡ LineFault.Shape) × (is_shape (ring_of entry).shape ≡ false))) }
-{
-    let RingEntry { id, kind, segments } = entry;
-    let shape = RingShape::new(alloc, kind, segments.as_slice())?;
-    Ok(Ring { id, shape })
 }

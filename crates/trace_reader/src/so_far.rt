@@ -1,4 +1,4 @@
-ghost use Rattle.std.specs.Prelude.{◌≡◌, ◌≤◌, true, vec_len};
+ghost use Rattle.std.specs.Prelude.{◌≡◌, ◌≤◌, true};
 ghost use Rattle.trace_reader.specs.SegmentsApart.{AreSegmentsOf};
 ghost use Rattle.traces.specs.Header.{IsHeader};
 ghost use Rattle.traces.specs.Limits.{most_lines};
@@ -6,7 +6,7 @@ ghost use Rattle.traces.specs.Limits.{most_lines};
 use crate::segments_so_far::SegmentsSoFar;
 use contexts::ContextSize;
 use std::alloc::Global;
-use traces::{Ring, Row, Version};
+use traces::{Ring, Version};
 
 /// What the lines so far have said.
 #[derive(Drop)]
@@ -19,10 +19,12 @@ pub struct TraceSoFar {
     pub(crate) segments: SegmentsSoFar,
     /// No memory was wanting where a ring was added: else no ring can be added any more.
     pub(crate) has_all_segments: bool,
-    pub rows: Vec<Row>,
+    /// A row was read.
+    pub begun: bool,
+    /// The IDs of the rings that came behind the first row.
+    pub later: Vec<u8>,
     /// How many lines were read.
     pub lines: u32,
-    pub ghost counted: { vec_len rows ≤ lines },
     pub ghost within: { lines ≤ most_lines },
     pub ghost headed: { IsHeader (record { version = version; context_size = size; rings = rings.items }) },
     pub ghost searched: { has_all_segments ≡ true → AreSegmentsOf rings.items segments },

@@ -24,6 +24,14 @@ is_of_version version (Comes ring) = has_ring_rows version
 is_of_version version (Goes ring) = has_ring_rows version
 is_of_version version (Withdraws ring position) = has_ring_rows version
 
+-- the first row is a ring's
+abbrev pub begins_with_ring : List TraceRow → Bool
+begins_with_ring [] = false
+begins_with_ring (Comes ring ∷ rows) = true
+begins_with_ring (Plain row ∷ rows) = false
+begins_with_ring (Goes ring ∷ rows) = false
+begins_with_ring (Withdraws ring position ∷ rows) = false
+
 -- the IDs of the rings that came, with the row's
 abbrev pub ids_with : List ℕ → TraceRow → List ℕ
 ids_with ids (Comes ring) = ids ++ ring.id ∷ []

@@ -4,24 +4,24 @@ use Rattle.trace_reader.proofs.LineFields.{alone, passed_on, past_limit, too_muc
 use Rattle.trace_reader.proofs.line.entry_in.Goals as goal
 
 pub returns-in_err-entry-clause-answer : goal.returns-in_err-entry-clause-answer
-returns-in_err-entry-clause-answer c st at started =
+returns-in_err-entry-clause-answer c st of at started =
     let p = err_from_is_err_and c.from_residual.result c.from_residual.ensures.1 in
-    let passed = passed_on (next_number st) c.in_err-entry.field-0.0 (said_alone c.args.begun c.args.line.now) c.in_err-entry.ensures in
-    rw (p.1, p.2, alone st c.args.line.now c.args.begun started) passed
+    let passed = passed_on (next_number st) c.in_err-entry.field-0.0 (said_alone c.args.version c.args.begun c.args.line.now) c.in_err-entry.ensures in
+    rw (p.1, p.2, alone st c.args.line.now c.args.version c.args.begun of started) passed
 
 pub returns-then-lines-ge-MOST_LINES-clause-answer : goal.returns-then-lines-ge-MOST_LINES-clause-answer
-returns-then-lines-ge-MOST_LINES-clause-answer c st at started =
+returns-then-lines-ge-MOST_LINES-clause-answer c st of at started =
     let past : most_lines < next_number st = omega (arith, at, c.if-lines-ge-MOST_LINES.true) in
-    rw (c.into.ensures, alone st c.args.line.now c.args.begun started)
-    (past_limit (next_number st) (value_of c.in_ok-entry.entry) (said_alone c.args.begun c.args.line.now) c.in_ok-entry.ensures past)
+    rw (c.into.ensures, alone st c.args.line.now c.args.version c.args.begun of started)
+    (past_limit (next_number st) (value_of c.in_ok-entry.entry) (said_alone c.args.version c.args.begun c.args.line.now) c.in_ok-entry.ensures past)
 
 pub returns-then-is_too_much-clause-answer : goal.returns-then-is_too_much-clause-answer
-returns-then-is_too_much-clause-answer c st at started =
-    rw (c.into-then-is_too_much.ensures, alone st c.args.line.now c.args.begun started)
-    (too_much (next_number st) (value_of c.in_ok-entry.entry) (said_alone c.args.begun c.args.line.now) c.in_ok-entry.ensures (sym c.is_too_much.ensures ∙ c.if-is_too_much.true))
+returns-then-is_too_much-clause-answer c st of at started =
+    rw (c.into-then-is_too_much.ensures, alone st c.args.line.now c.args.version c.args.begun of started)
+    (too_much (next_number st) (value_of c.in_ok-entry.entry) (said_alone c.args.version c.args.begun c.args.line.now) c.in_ok-entry.ensures (sym c.is_too_much.ensures ∙ c.if-is_too_much.true))
 
 pub returns-clause-answer : goal.returns-clause-answer
-returns-clause-answer c st at started =
+returns-clause-answer c st of at started =
     let within : next_number st ≤ most_lines = omega (arith, at, c.if-lines-ge-MOST_LINES.false) in
-    alone st c.args.line.now c.args.begun started
-    ∙ not_limited (next_number st) (value_of c.in_ok-entry.entry) (said_alone c.args.begun c.args.line.now) c.in_ok-entry.ensures within (sym c.is_too_much.ensures ∙ c.if-is_too_much.false)
+    alone st c.args.line.now c.args.version c.args.begun of started
+    ∙ not_limited (next_number st) (value_of c.in_ok-entry.entry) (said_alone c.args.version c.args.begun c.args.line.now) c.in_ok-entry.ensures within (sym c.is_too_much.ensures ∙ c.if-is_too_much.false)

@@ -1,12 +1,14 @@
 use Rattle.std.proofs.Common.{◌≡◌, ◌∙◌, rules, ap}
-use Rattle.trace_reader.proofs.Words.{text_of, trace_of, printed_trace, IsTrace}
-use Rattle.trace_reader.proofs.LinePieces.{whole_text}
+use Rattle.trace_reader.proofs.Words.{all_plain, driver_trace_of, text_of, printed_trace, IsTrace}
+use Rattle.trace_reader.proofs.DriverTraces.{driver_trace, is_trace}
+use Rattle.trace_reader.proofs.LinePieces.{plain_rows, whole_text}
 use Rattle.trace_reader.proofs.Printed.{printed_reads}
 use Rattle.trace_reader.proofs.print.print_trace.Goals as goal
 
 pub returns : goal.returns
 returns c =
     let trace = c.args.trace.now in
-    let printed : c.push_rows.new.out.items ≡ printed_trace (text_of trace) = rw (whole_text (text_of trace)) (search rules) in
-    let valid : IsTrace (text_of trace) = record { headed = trace.headed; rows = trace.fitting; first = trace.placed; within = trace.within } in
-    record { printed = printed; reread = ap trace_of printed ∙ printed_reads (text_of trace) valid }
+    let plain = all_plain (text_of trace) in
+    let printed : c.push_rows.new.out.items ≡ printed_trace plain = rw (whole_text plain, plain_rows trace.rows) (search rules) in
+    let valid : IsTrace plain = is_trace (text_of trace) (record { headed = trace.headed; rows = trace.fitting; first = trace.placed; within = trace.within }) in
+    record { printed = printed; reread = ap driver_trace_of printed ∙ driver_trace (printed_trace plain) (text_of trace) (printed_reads plain valid) }

@@ -1,4 +1,4 @@
-use Rattle.std.proofs.Common.{◌≤◌, arith, length}
+use Rattle.std.proofs.Common.{arith}
 use Rattle.std.proofs.lemmas.List.{length-take-le}
 use Rattle.trace_reader.proofs.RowsAhead.{cut_at}
 use Rattle.trace_reader.proofs.quick.content_ahead.Goals as goal

@@ -1,5 +1,6 @@
 use Rattle.std.proofs.Common.{◌∙◌, ap, sym, length, eqb-true}
-use Rattle.trace_reader.proofs.Words.{lines_of, state_of, text_of, read_lines, start}
+use Rattle.trace_reader.proofs.Words.{lines_of, state_of, text_of, all_plain, driver_row, driver_trace_of, start, take_lines}
+use Rattle.trace_reader.proofs.DriverTraces.{plain_trace}
 use Rattle.trace_reader.proofs.Lowered.{lowered}
 use Rattle.trace_reader.proofs.ReadSteps.{ended, nothing_before, prepend, read_on, stopped}
 use Rattle.trace_reader.proofs.Spelled.{one_trace, spelled_if_read}
@@ -7,49 +8,59 @@ use Rattle.trace_reader.proofs.Unspelled.{err_also, ok_also, refused_unspelled}
 use Rattle.trace_reader.proofs.read.read_trace.Goals as goal
 
 pub loop-rest-init : goal.loop-rest-init
-loop-rest-init c = rw (c.new-so_far.ensures.rows, c.new-so_far.ensures.state) (sym (nothing_before (read_lines start (lines_of c.args.text.now))))
+loop-rest-init c = rw (c.new-so_far.ensures, c.new-rows.ensures.items) (sym (nothing_before (take_lines driver_row start (lines_of c.args.text.now))))
 
 pub loop-rest-preserved : goal.loop-rest-preserved
 loop-rest-preserved c =
     let r = c.loop-rest.so_far in
-    read_on c.args.text.now r.rows.items c.add.new.self.rows.items (state_of r) (state_of c.add.new.self) c.first_line-line.result.0 c.first_line-line.result.1.now
+    read_on driver_row c.args.text.now c.loop-rest.rows.items c.add_driver_line.new.rows.items (state_of r) (state_of c.add_driver_line.new.so_far) c.first_line-line.result.0 c.first_line-line.result.1.now
     (lines_of c.loop-rest.rest.now) c.loop-rest.invariant c.first_line-line.ensures.lines c.in_default.ensures.ok
 
 pub returns-in-Err-clause-refused : goal.returns-in-Err-clause-refused
+unfolding driver_trace_of
 returns-in-Err-clause-refused c =
     let r = c.loop-rest.so_far in
     rw c.at_line.ensures
-    (stopped c.args.text.now r.rows.items (state_of r) c.first_line-line.result.0 (lines_of c.first_line-line.result.1.now) c.in-Err.error
-    (c.loop-rest.invariant ∙ ap (λ ls. prepend r.rows.items (read_lines (state_of r) ls)) c.first_line-line.ensures.lines) c.in-Err.ensures.err)
+    (stopped driver_row c.args.text.now c.loop-rest.rows.items (state_of r) c.first_line-line.result.0 (lines_of c.first_line-line.result.1.now) c.in-Err.error
+    (c.loop-rest.invariant ∙ ap (λ ls. prepend c.loop-rest.rows.items (take_lines driver_row (state_of r) ls)) c.first_line-line.ensures.lines) c.in-Err.ensures.err)
 
 pub finish-requires : goal.finish-requires
+unfolding driver_trace_of
 finish-requires c =
     let r = c.loop-rest.so_far in
-    (c.args.text.now, ended c.args.text.now c.loop-rest.rest.now r.rows.items (state_of r) c.loop-rest.invariant (eqb-true (length c.loop-rest.rest.now) 0 (sym c.loop-rest-test.ensures)))
+    (c.args.text.now, ended driver_row c.args.text.now c.loop-rest.rest.now c.loop-rest.rows.items (state_of r) c.loop-rest.invariant (eqb-true (length c.loop-rest.rest.now) 0 (sym c.loop-rest-test.ensures)))
 
 pub returns-clause-read : goal.returns-clause-read
+unfolding driver_trace_of
 returns-clause-read c =
     let r = c.loop-rest.so_far in
-    rw (ended c.args.text.now c.loop-rest.rest.now r.rows.items (state_of r) c.loop-rest.invariant (eqb-true (length c.loop-rest.rest.now) 0 (sym c.loop-rest-test.ensures))) c.finish.ensures.read
+    rw (ended driver_row c.args.text.now c.loop-rest.rest.now c.loop-rest.rows.items (state_of r) c.loop-rest.invariant (eqb-true (length c.loop-rest.rest.now) 0 (sym c.loop-rest-test.ensures))) c.finish.ensures.read
 
 pub returns-clause-refused : goal.returns-clause-refused
+unfolding driver_trace_of
 returns-clause-refused c =
     let r = c.loop-rest.so_far in
-    rw (ended c.args.text.now c.loop-rest.rest.now r.rows.items (state_of r) c.loop-rest.invariant (eqb-true (length c.loop-rest.rest.now) 0 (sym c.loop-rest-test.ensures))) c.finish.ensures.refused
+    rw (ended driver_row c.args.text.now c.loop-rest.rest.now c.loop-rest.rows.items (state_of r) c.loop-rest.invariant (eqb-true (length c.loop-rest.rest.now) 0 (sym c.loop-rest-test.ensures))) c.finish.ensures.refused
 
 pub returns-in-Err-clause-unspelled : goal.returns-in-Err-clause-unspelled
 returns-in-Err-clause-unspelled c = refused_unspelled c.args.text.now c.at_line.result (returns-in-Err-clause-refused c)
 
 pub returns-clause-spelled : goal.returns-clause-spelled
-returns-clause-spelled c = ok_also c.finish.result (λ trace is. (spelled_if_read c.args.text.now (text_of trace) is).0) (returns-clause-read c)
+returns-clause-spelled c =
+    ok_also c.finish.result (λ trace is. (spelled_if_read c.args.text.now (all_plain (text_of trace)) (plain_trace c.args.text.now (text_of trace) is)).0) (returns-clause-read c)
 
 pub returns-clause-alone : goal.returns-clause-alone
 returns-clause-alone c =
     ok_also c.finish.result
-    (λ trace is other valid spelled. let s = spelled_if_read c.args.text.now (text_of trace) is in one_trace c.args.text.now other (text_of trace) spelled valid s.0 s.1) (returns-clause-read c)
+    (λ trace is other valid spelled.
+    let s = spelled_if_read c.args.text.now (all_plain (text_of trace)) (plain_trace c.args.text.now (text_of trace) is) in
+    one_trace c.args.text.now other (all_plain (text_of trace)) spelled valid s.0 s.1) (returns-clause-read c)
 
 pub returns-clause-unspelled : goal.returns-clause-unspelled
 returns-clause-unspelled c = err_also c.finish.result (refused_unspelled c.args.text.now) (returns-clause-refused c)
 
 pub returns-clause-lowered : goal.returns-clause-lowered
-returns-clause-lowered c = ok_also c.finish.result (λ trace is. lowered c.args.text.now (text_of trace) (spelled_if_read c.args.text.now (text_of trace) is).0) (returns-clause-read c)
+returns-clause-lowered c =
+    ok_also c.finish.result
+    (λ trace is. lowered c.args.text.now (all_plain (text_of trace)) (spelled_if_read c.args.text.now (all_plain (text_of trace)) (plain_trace c.args.text.now (text_of trace) is)).0)
+    (returns-clause-read c)

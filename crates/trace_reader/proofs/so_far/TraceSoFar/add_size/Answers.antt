@@ -1,5 +1,5 @@
-use Rattle.std.proofs.Common.{ap, sym}
-use Rattle.trace_reader.specs.Entries.{state_of, took_in}
+use Rattle.std.proofs.Common.{sym}
+use Rattle.trace_reader.specs.Entries.{state_of}
 use Rattle.trace_reader.proofs.ReadSteps.{size_read, no_size}
 use Rattle.trace_reader.proofs.so_far.TraceSoFar.add_size.Goals as goal
 
@@ -7,5 +7,4 @@ pub returns-in_default-clause-err : goal.returns-in_default-clause-err
 returns-in_default-clause-err c = rw c.into.ensures (no_size (state_of c.args.self.now) c.args.line.now c.requires (sym c.in_default.ensures))
 
 pub returns-clause-ok : goal.returns-clause-ok
-returns-clause-ok c =
-    ap (took_in c.args.self.now.rows.items) (size_read (state_of c.args.self.now) c.args.line.now c.in-Some.size c.requires (sym c.in-Some.ensures))
+returns-clause-ok c = size_read (state_of c.args.self.now) c.args.line.now c.in-Some.size c.requires (sym c.in-Some.ensures)

@@ -1,0 +1,156 @@
+-- A trace all rows of which are the driver's is read as the same trace where only those rows are taken
+use Rattle.std.proofs.Common.{◌≡◌, ◌+◌, ◌-◌, ◌≤◌, ◌∷◌, ◌∙◌, ℕ, true, false, List, [], length, map, Option, Some, None, Result, Ok, Err, All, refl, ap, sym, arith}
+use Rattle.trace_reader.proofs.Words.{All-cons, All-head, All-nil, All-tail, length-map, TextLine, lines_of, LineFault, Ring, Row, TraceRow, Plain, Comes, Goes, Withdraws, Version, IsRow, FitsLine, begins_with_ring, have_new_ids, State, TraceText, DriverText, all_plain, driver_row, driver_trace_of, go_on, next_number, read_line, read_lines, start, take_lines, taken, text_taken, trace_of, whole, with_row, IsTrace, most_lines}
+use Rattle.traces.specs.Header.{IsHeader}
+use Rattle.trace_reader.proofs.ReadSteps.{header_there}
+use Rattle.trace_reader.proofs.Spelled.{spelled_if_read, whole_there}
+use Rattle.trace_reader.proofs.SpelledTraces.{IsLineRow}
+
+-- ---- one line
+
+module _ {R : Type 0} where
+  abbrev front : Option R → List R → List R
+  front None rows = rows
+  front (Some row) rows = row ∷ rows
+
+  front_there : (row : Option R) (rest : Result (State × List R) (ℕ × LineFault)) (end : State) (rows : List R) → with_row row rest ≡ Ok (end, rows) →
+      (q : List R) × (rest ≡ Ok (end, q)) × (front row q ≡ rows)
+  front_there (Some row) (Ok (st, q)) end rows is =
+      let same : (st, row ∷ q) ≡ (end, rows) = cc is in
+      (q, ap (λ (s : State). Ok (s, q)) (ap (λ (x : State × List R). x.0) same), ap (λ (x : State × List R). x.1) same)
+  front_there None (Ok (st, q)) end rows is =
+      let same : (st, q) ≡ (end, rows) = cc is in
+      (q, ap (λ (s : State). Ok (s, q)) (ap (λ (x : State × List R). x.0) same), ap (λ (x : State × List R). x.1) same)
+  front_there (Some row) (Err fault) end rows is = cc is
+  front_there None (Err fault) end rows is = cc is
+
+module _ (lines : List TextLine) (number : ℕ) (end : State) where
+  plain_step : (r : Result (State × Option TraceRow) LineFault) (rows : List Row) →
+      ((next : State) (rest : List Row) → take_lines driver_row next lines ≡ Ok (end, rest) → read_lines next lines ≡ Ok (end, map Plain rest)) →
+      go_on number (taken driver_row r) (λ s. take_lines driver_row s lines) ≡ Ok (end, rows) → go_on number r (λ s. read_lines s lines) ≡ Ok (end, map Plain rows)
+  plain_step (Ok (next, Some (Plain row))) rows later is =
+      let p = front_there (Some row) (take_lines driver_row next lines) end rows is in
+      ap (with_row (Some (Plain row))) (later next p.0 p.1) ∙ ap (λ (rs : List Row). Ok (end, map Plain rs)) p.2
+  plain_step (Ok (next, None)) rows later is =
+      let p = front_there None (take_lines driver_row next lines) end rows is in
+      ap (with_row None) (later next p.0 p.1) ∙ ap (λ (rs : List Row). Ok (end, map Plain rs)) p.2
+  plain_step (Ok (next, Some (Comes ring))) rows later is = cc is
+  plain_step (Ok (next, Some (Goes ring))) rows later is = cc is
+  plain_step (Ok (next, Some (Withdraws ring position))) rows later is = cc is
+  plain_step (Err fault) rows later is = cc is
+
+  same_front : (row : TraceRow) (q : List TraceRow) (rows : List Row) → row ∷ q ≡ map Plain rows → (x : Row) × (xs : List Row) × (rows ≡ x ∷ xs) × (row ≡ Plain x) × (q ≡ map Plain xs)
+  same_front row q [] is = cc is
+  same_front row q (x ∷ xs) is = (x, xs, refl, cc is, cc is)
+
+  driver_step : (r : Result (State × Option TraceRow) LineFault) (rows : List Row) →
+      ((next : State) (rest : List Row) → read_lines next lines ≡ Ok (end, map Plain rest) → take_lines driver_row next lines ≡ Ok (end, rest)) →
+      go_on number r (λ s. read_lines s lines) ≡ Ok (end, map Plain rows) → go_on number (taken driver_row r) (λ s. take_lines driver_row s lines) ≡ Ok (end, rows)
+  driver_step (Ok (next, Some row)) rows later is =
+      let p = front_there (Some row) (read_lines next lines) end (map Plain rows) is in
+      let f = same_front row p.0 rows p.2 in
+      let rest = later next f.1 (p.1 ∙ ap (λ (ts : List TraceRow). Ok (end, ts)) f.4) in
+      ap (λ (o : TraceRow). go_on number (taken driver_row (Ok (next, Some o))) (λ s. take_lines driver_row s lines)) f.3
+      ∙ ap (with_row (Some f.0)) rest ∙ ap (λ (rs : List Row). Ok (end, rs)) (sym f.2)
+  driver_step (Ok (next, None)) rows later is =
+      let p = front_there None (read_lines next lines) end (map Plain rows) is in
+      ap (with_row None) (later next rows (p.1 ∙ ap (λ (ts : List TraceRow). Ok (end, ts)) p.2))
+  driver_step (Err fault) rows later is = cc is
+
+-- ---- all lines
+
+plain_lines : (lines : List TextLine) (st end : State) (rows : List Row) → take_lines driver_row st lines ≡ Ok (end, rows) → read_lines st lines ≡ Ok (end, map Plain rows)
+unfolding take_lines read_lines
+plain_lines [] st end rows is = let same : (st, []) ≡ (end, rows) = cc is in ap (λ (x : State × List Row). Ok (x.0, map Plain x.1)) same
+plain_lines (line ∷ lines) st end rows is = plain_step lines (next_number st) end (read_line st line) rows (λ next rest. plain_lines lines next end rest) is
+
+none_plain : (st end : State) (rows : List Row) → ◌≡◌ {A = State × List TraceRow} (st, []) (end, map Plain rows) → ◌≡◌ {A = State × List Row} (st, []) (end, rows)
+none_plain st end [] is = ap (λ (x : State × List TraceRow). (x.0, [])) is
+none_plain st end (row ∷ rows) is = let none : [] ≡ Plain row ∷ map Plain rows = ap (λ (x : State × List TraceRow). x.1) is in cc none
+
+driver_lines_read : (lines : List TextLine) (st end : State) (rows : List Row) → read_lines st lines ≡ Ok (end, map Plain rows) → take_lines driver_row st lines ≡ Ok (end, rows)
+unfolding take_lines read_lines
+driver_lines_read [] st end rows is = let same : (st, []) ≡ (end, map Plain rows) = cc is in ap (λ (x : State × List Row). Ok x) (none_plain st end rows same)
+driver_lines_read (line ∷ lines) st end rows is = driver_step lines (next_number st) end (read_line st line) rows (λ next rest. driver_lines_read lines next end rest) is
+
+-- ---- a text
+
+-- so many rows of a text were read
+abbrev counted : State → List TraceRow → ℕ → Result TraceText (ℕ × LineFault)
+counted st rows n = Ok (record { header = record { version = st.version; context_size = st.size; rings = st.rings }; first = next_number st - n; rows = rows })
+
+pub plain_trace : (text : List ℕ) (trace : DriverText) → driver_trace_of text ≡ Ok trace → trace_of text ≡ Ok (all_plain trace)
+unfolding driver_trace_of text_taken trace_of
+plain_trace text trace is =
+    let p = whole_there (take_lines driver_row start (lines_of text)) trace is in
+    let st = p.0.0 in
+    let rows = p.0.1 in
+    ap (λ (r : Result (State × List TraceRow) (ℕ × LineFault)). whole r) (plain_lines (lines_of text) start st rows p.1) ∙ header_there st (map Plain rows) p.2
+    ∙ ap (counted st (map Plain rows)) (length-map rows Plain) ∙ ap (λ (t : DriverText). Ok (all_plain t)) p.3
+
+pub driver_trace : (text : List ℕ) (trace : DriverText) → trace_of text ≡ Ok (all_plain trace) → driver_trace_of text ≡ Ok trace
+unfolding driver_trace_of text_taken trace_of
+driver_trace text trace is =
+    let p = whole_there (read_lines start (lines_of text)) (all_plain trace) is in
+    let st = p.0.0 in
+    let rows_are : p.0.1 ≡ map Plain trace.rows = ap (λ (t : TraceText). t.rows) p.3 in
+    let read = driver_lines_read (lines_of text) start st trace.rows (p.1 ∙ ap (λ (ts : List TraceRow). Ok (st, ts)) rows_are) in
+    let count : length p.0.1 ≡ length trace.rows = ap (λ (ts : List TraceRow). length ts) rows_are ∙ length-map trace.rows Plain in
+    let first_is : next_number st - length trace.rows ≡ trace.first = ap (λ n. next_number st - n) (sym count) ∙ ap (λ (t : TraceText). t.first) p.3 in
+    let header_is = ap (λ (t : TraceText). t.header) p.3 in
+    let same : record { header = record { version = st.version; context_size = st.size; rings = st.rings }; first = next_number st - length trace.rows; rows = trace.rows } ≡ trace =
+    λ k. record { header = header_is k; first = first_is k; rows = trace.rows } in
+    ap (λ (r : Result (State × List Row) (ℕ × LineFault)). whole r) read ∙ header_there st trace.rows p.2 ∙ ap (λ (t : DriverText). Ok t) same
+
+-- ---- which of these have a text
+
+plain_rows : (version : Version) (rows : List Row) → All (λ row. IsRow row × FitsLine row) rows → All (IsLineRow version) (map Plain rows)
+plain_rows version [] are = All-nil (IsLineRow version)
+plain_rows version (row ∷ rows) are =
+    All-cons (IsLineRow version) (Plain row) (map Plain rows) (All-head (λ row. IsRow row × FitsLine row) row rows are, refl)
+    (plain_rows version rows (All-tail (λ row. IsRow row × FitsLine row) row rows are))
+
+rows_plain : (version : Version) (rows : List Row) → All (IsLineRow version) (map Plain rows) → All (λ row. IsRow row × FitsLine row) rows
+rows_plain version [] are = All-nil (λ row. IsRow row × FitsLine row)
+rows_plain version (row ∷ rows) are =
+    All-cons (λ row. IsRow row × FitsLine row) row rows (All-head (IsLineRow version) (Plain row) (map Plain rows) are).0
+    (rows_plain version rows (All-tail (IsLineRow version) (Plain row) (map Plain rows) are))
+
+none_begins : (rows : List Row) → begins_with_ring (map Plain rows) ≡ false
+none_begins [] = refl
+none_begins (row ∷ rows) = refl
+
+no_ids : (rings : List Ring) (later : List ℕ) (rows : List Row) → have_new_ids rings later (map Plain rows) ≡ true
+no_ids rings later [] = refl
+no_ids rings later (row ∷ rows) = no_ids rings later rows
+
+pub record IsDriverTrace (trace : DriverText) : Type 0 where
+  pub headed : IsHeader trace.header
+  pub rows : All (λ row. IsRow row × FitsLine row) trace.rows
+  pub first : trace.first ≡ length trace.header.rings + 3
+  pub within : trace.first + length trace.rows ≤ most_lines + 1
+
+pub is_trace : (trace : DriverText) → IsDriverTrace trace → IsTrace (all_plain trace)
+is_trace trace is = record {
+  headed = is.headed;
+  rows = plain_rows trace.header.version trace.rows is.rows;
+  begins = none_begins trace.rows;
+  new_ids = no_ids trace.header.rings [] trace.rows;
+  first = is.first;
+  within = let within = is.within in omega (arith, within, length-map trace.rows Plain);
+}
+
+pub is_driver_trace : (trace : DriverText) → IsTrace (all_plain trace) → IsDriverTrace trace
+is_driver_trace trace is = record {
+  headed = is.headed;
+  rows = rows_plain trace.header.version trace.rows is.rows;
+  first = is.first;
+  within = let within = is.within in omega (arith, within, length-map trace.rows Plain);
+}
+
+-- no more rows than lines were read
+pub few_rows : (text : List ℕ) (st : State) (rows : List Row) → driver_trace_of text ≡ whole (Ok (st, rows)) → 2 ≤ st.lines → length rows ≤ st.lines
+few_rows text st rows is there =
+    let read = is ∙ header_there st rows there in
+    let first = (is_driver_trace _ (spelled_if_read text _ (plain_trace text _ read)).1).first in
+    omega (arith, first)

@@ -1,0 +1,8 @@
+use Rattle.std.proofs.Common.{arith}
+use Rattle.std.proofs.lemmas.Grind.{common_steps}
+use Rattle.trace_reader.specs.Spelling.{trace_row_fields}
+use Rattle.trace_reader.proofs.LinePieces.{line_of}
+use Rattle.trace_reader.proofs.print.push_trace_row.Goals as goal
+
+pub returns : goal.returns
+returns c = rw (line_of (trace_row_fields c.args.row.now)) (grind (arith, common_steps, c.in_ok-push_trace_row_fields.ensures, c.in_ok-extend_from_slice.ensures.items))
