@@ -80,7 +80,7 @@ abbrev counted : State → List TraceRow → ℕ → Result TraceText (ℕ × Li
 counted st rows n = Ok (record { header = record { version = st.version; context_size = st.size; rings = st.rings }; first = next_number st - n; rows = rows })
 
 pub plain_trace : (text : List ℕ) (trace : DriverText) → driver_trace_of text ≡ Ok trace → trace_of text ≡ Ok (all_plain trace)
-unfolding driver_trace_of text_taken trace_of
+unfolding text_taken trace_of
 plain_trace text trace is =
     let p = whole_there (take_lines driver_row start (lines_of text)) trace is in
     let st = p.0.0 in
@@ -89,7 +89,7 @@ plain_trace text trace is =
     ∙ ap (counted st (map Plain rows)) (length-map rows Plain) ∙ ap (λ (t : DriverText). Ok (all_plain t)) p.3
 
 pub driver_trace : (text : List ℕ) (trace : DriverText) → trace_of text ≡ Ok (all_plain trace) → driver_trace_of text ≡ Ok trace
-unfolding driver_trace_of text_taken trace_of
+unfolding text_taken trace_of
 driver_trace text trace is =
     let p = whole_there (read_lines start (lines_of text)) (all_plain trace) is in
     let st = p.0.0 in
@@ -154,3 +154,20 @@ few_rows text st rows is there =
     let read = is ∙ header_there st rows there in
     let first = (is_driver_trace _ (spelled_if_read text _ (plain_trace text _ read)).1).first in
     omega (arith, first)
+
+-- ---- where each row is taken
+
+all_step : (lines : List TextLine) (number : ℕ) (r : Result (State × Option TraceRow) LineFault) → ((next : State) → take_lines (λ row. Ok row) next lines ≡ read_lines next lines) →
+    go_on number (taken (λ row. Ok row) r) (λ s. take_lines (λ row. Ok row) s lines) ≡ go_on number r (λ s. read_lines s lines)
+all_step lines number (Ok (next, Some row)) later = ap (with_row (Some row)) (later next)
+all_step lines number (Ok (next, None)) later = ap (with_row None) (later next)
+all_step lines number (Err fault) later = refl
+
+all_lines : (lines : List TextLine) (st : State) → take_lines (λ row. Ok row) st lines ≡ read_lines st lines
+unfolding take_lines read_lines
+all_lines [] st = refl
+all_lines (line ∷ lines) st = all_step lines (next_number st) (read_line st line) (λ next. all_lines lines next)
+
+pub all_taken : (text : List ℕ) → text_taken (λ row. Ok row) text ≡ trace_of text
+unfolding text_taken trace_of
+all_taken text = ap (λ (r : Result (State × List TraceRow) (ℕ × LineFault)). whole r) (all_lines (lines_of text) start)

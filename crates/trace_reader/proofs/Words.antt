@@ -85,5 +85,5 @@ pub use Rattle.traces.specs.TraceRows.{IsTraceRow, begins_with_ring, has_used_id
 pub use Rattle.traces.specs.Versions.{has_ring_rows}
 pub use Rattle.traces.specs.declared.trace_row.TraceRow.{TraceRow}
 pub use Rattle.traces.specs.declared.trace_row.TraceRow.TheVariants.{Comes, Goes, Plain, Withdraws}
-pub use Rattle.trace_reader.specs.DriverRows.{DriverText, all_plain, driver_row, taken, with_taken}
-unfoldable pub use Rattle.trace_reader.specs.DriverRows.{driver_trace_of, take_lines, text_taken}
+pub use Rattle.trace_reader.specs.DriverRows.{DriverText, all_plain, driver_row, driver_trace_of, taken, with_taken}
+unfoldable pub use Rattle.trace_reader.specs.DriverRows.{take_lines, text_taken}

@@ -42,7 +42,7 @@ abbrev pub DriverText : Type 0
 DriverText = TextOf Row
 
 -- the trace of a text all rows of which are the driver's; or its first bad line and the least fault there
-unfoldable pub driver_trace_of : List ℕ → Result DriverText (ℕ × LineFault)
+abbrev pub driver_trace_of : List ℕ → Result DriverText (ℕ × LineFault)
 driver_trace_of text = text_taken driver_row text
 
 -- the same trace

@@ -236,11 +236,11 @@ fn goes_entry(version: Version, mut fields: Fields) -> Result<Entry, LineError>
     if !version.has_ring_rows() {
         return Err(LineFault::Row.into());
     }
-    let (Some(ring), None) = (fields.next(), fields.next()) else {
+    let (Some(id), None) = (fields.next(), fields.next()) else {
         return Err(LineFault::Row.into());
     };
-    let ring = u8_of(ring).ok_or(LineFault::Number)?;
-    Ok(Entry::Row(RowEntry::Goes(ring)))
+    let id = u8_of(id).ok_or(LineFault::Number)?;
+    Ok(Entry::Row(RowEntry::Goes(id)))
 }
 
 #[tactic(auto, unfolding(crate::specs::TraceLines::said_of))]
@@ -250,10 +250,10 @@ fn withdraws_entry(version: Version, mut fields: Fields) -> Result<Entry, LineEr
     if !version.has_ring_rows() {
         return Err(LineFault::Row.into());
     }
-    let (Some(ring), Some(position), None) = (fields.next(), fields.next(), fields.next()) else {
+    let (Some(id), Some(position), None) = (fields.next(), fields.next(), fields.next()) else {
         return Err(LineFault::Row.into());
     };
-    let ring = u8_of(ring).ok_or(LineFault::Number)?;
+    let ring = u8_of(id).ok_or(LineFault::Number)?;
     let position = u64_of(position).ok_or(LineFault::Number)?;
     Ok(Entry::Row(RowEntry::Withdraws { ring, position }))
 }

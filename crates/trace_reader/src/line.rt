@@ -1,6 +1,8 @@
 ghost use Rattle.std.specs.Prelude.{◌≡◌, ◌≤◌, ◌+◌, Some, None, true, OnOk, IfOk, IfErr};
 ghost use Rattle.trace_reader.specs.Entries.{Answers, AnswersRow, content_fault, said_alone, said_by_line, value_of};
+ghost use Rattle.trace_reader.specs.Values.{SaysRow};
 ghost use Rattle.traces.specs.Limits.{most_lines};
+ghost use Rattle.traces.specs.declared.trace_row.TraceRow.TheVariants.{Plain};
 ghost use Rattle.trace_reader.specs.Reading.{State, is_too_much, size_of, version_of};
 
 use crate::entry::{Entry, RowEntry, entry_of};
@@ -141,8 +143,16 @@ fn is_too_much(entry: &Entry) -> bool
     ensures { result ≡ is_too_much (value_of entry.now) }
 {
     match entry {
-        Entry::Row(RowEntry::Plain(Row::Sub { blocks, .. })) => blocks.as_slice().len()
-            > MOST_BLOCKS,
+        Entry::Row(RowEntry::Plain(row)) => declares_too_much(row),
+        _ => false,
+    }
+}
+
+fn declares_too_much(row: &Row) -> bool
+    ensures { result ≡ is_too_much (SaysRow (Plain row.now)) }
+{
+    match row {
+        Row::Sub { blocks, .. } => blocks.as_slice().len() > MOST_BLOCKS,
         _ => false,
     }
 }

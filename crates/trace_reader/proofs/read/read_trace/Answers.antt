@@ -1,5 +1,5 @@
 use Rattle.std.proofs.Common.{◌∙◌, ap, sym, length, eqb-true}
-use Rattle.trace_reader.proofs.Words.{lines_of, state_of, text_of, all_plain, driver_row, driver_trace_of, start, take_lines}
+use Rattle.trace_reader.proofs.Words.{lines_of, state_of, text_of, all_plain, driver_row, start, take_lines}
 use Rattle.trace_reader.proofs.DriverTraces.{plain_trace}
 use Rattle.trace_reader.proofs.Lowered.{lowered}
 use Rattle.trace_reader.proofs.ReadSteps.{ended, nothing_before, prepend, read_on, stopped}
@@ -17,7 +17,6 @@ loop-rest-preserved c =
     (lines_of c.loop-rest.rest.now) c.loop-rest.invariant c.first_line-line.ensures.lines c.in_default.ensures.ok
 
 pub returns-in-Err-clause-refused : goal.returns-in-Err-clause-refused
-unfolding driver_trace_of
 returns-in-Err-clause-refused c =
     let r = c.loop-rest.so_far in
     rw c.at_line.ensures
@@ -25,19 +24,16 @@ returns-in-Err-clause-refused c =
     (c.loop-rest.invariant ∙ ap (λ ls. prepend c.loop-rest.rows.items (take_lines driver_row (state_of r) ls)) c.first_line-line.ensures.lines) c.in-Err.ensures.err)
 
 pub finish-requires : goal.finish-requires
-unfolding driver_trace_of
 finish-requires c =
     let r = c.loop-rest.so_far in
     (c.args.text.now, ended driver_row c.args.text.now c.loop-rest.rest.now c.loop-rest.rows.items (state_of r) c.loop-rest.invariant (eqb-true (length c.loop-rest.rest.now) 0 (sym c.loop-rest-test.ensures)))
 
 pub returns-clause-read : goal.returns-clause-read
-unfolding driver_trace_of
 returns-clause-read c =
     let r = c.loop-rest.so_far in
     rw (ended driver_row c.args.text.now c.loop-rest.rest.now c.loop-rest.rows.items (state_of r) c.loop-rest.invariant (eqb-true (length c.loop-rest.rest.now) 0 (sym c.loop-rest-test.ensures))) c.finish.ensures.read
 
 pub returns-clause-refused : goal.returns-clause-refused
-unfolding driver_trace_of
 returns-clause-refused c =
     let r = c.loop-rest.so_far in
     rw (ended driver_row c.args.text.now c.loop-rest.rest.now c.loop-rest.rows.items (state_of r) c.loop-rest.invariant (eqb-true (length c.loop-rest.rest.now) 0 (sym c.loop-rest-test.ensures))) c.finish.ensures.refused
