@@ -1,18 +1,21 @@
 -- What one call answers, by the first line of the bytes that stand ahead
-use Rattle.std.proofs.Common.{◌≡◌, inl, inr, ◌+◌, ◌≤◌, ◌<◌, ◌∷◌, ◌++◌, ◌∙◌, ℕ, List, [], Bool, true, false, Option, Some, None, Result, Ok, Err, refl, ap, sym, subst, append-nil, append_assoc, drop, length, length-append, arith, lt-ltb}
+use Rattle.std.proofs.Common.{◌≡◌, inl, inr, ◌≤◌, ◌<◌, ◌∷◌, ◌++◌, ◌∙◌, ℕ, List, [], Bool, true, false, Option, Some, None, Result, Ok, Err, refl, ap, sym, subst, append-nil, append_assoc, drop, length, length-append, arith, lt-ltb}
 use Rattle.std.proofs.KnownBytes.{Consumes-nil}
 use Rattle.std.proofs.lemmas.Bool.{cases_Bool}
 use Rattle.std.proofs.lemmas.List.{drop_at}
 use Rattle.std.specs.Io.KnownBytes.{IsAtEnd}
 use Rattle.traces.specs.Limits.{most_bytes, most_lines}
+use Rattle.traces.specs.TraceRows.{ids_with}
 use Rattle.traces.specs.declared.row.Row.{Row}
+use Rattle.traces.specs.declared.trace_row.TraceRow.{TraceRow}
+use Rattle.traces.specs.declared.trace_row.TraceRow.TheVariants.{Plain}
 use Rattle.line_text.proofs.Joins.{lines_of-ended, lines_of-nothing}
 use Rattle.line_text.specs.Lines.{TextLine, behind_content, lines_of}
 use Rattle.trace_reader.specs.declared.fault.LineFault.{LineFault}
 use Rattle.trace_reader.specs.declared.fault.LineError.{LineError}
 use Rattle.trace_reader.specs.declared.fault.LineError.TheVariants.{Fault, Memory}
 use Rattle.trace_reader.specs.Entries.{AnswersRow}
-use Rattle.trace_reader.specs.Reading.{State, next_number, read_line}
+use Rattle.trace_reader.specs.Reading.{State, behind_row, next_number, read_line}
 use Rattle.trace_reader.specs.RowsAhead.{BeginsWithRow}
 unfoldable use Rattle.trace_reader.specs.Reading.{is_too_long}
 use Rattle.row_reader.specs.declared.fault.StreamFault.{StreamFault}
@@ -127,13 +130,13 @@ pub call_of : (st : State) (text : List ℕ) (line : TextLine) (lines : List Tex
 unfolding next_row
 call_of st text line lines are = ap (call_in st text) are
 
-pub row_given : (st : State) (held held' : Option (List ℕ)) (before ahead text left : List ℕ) (line : TextLine) (rest : List ℕ) (number : ℕ) (row : Row) → StandsAhead held held' before ahead text line rest →
-    read_line st line ≡ Ok (record st { lines = next_number st; begun = true }, Some row) → (line.is_ended ≡ true → left ≡ rest) → number ≡ next_number st →
+pub row_given : (st : State) (held held' : Option (List ℕ)) (before ahead text left : List ℕ) (line : TextLine) (rest : List ℕ) (number : ℕ) (row : TraceRow) → StandsAhead held held' before ahead text line rest →
+    read_line st line ≡ Ok (behind_row st row, Some row) → (line.is_ended ≡ true → left ≡ rest) → number ≡ next_number st →
     IsCall (record { read = st; ended = false }) (behind_answer st (Ok (Some (number, row)))) held held' before left (Ok (Some (number, row)))
 row_given st held held' before ahead text left line rest number row stands read is at =
     let cut = cut_of held held' before ahead text line rest stands in
-    let ended = ended_if_read st line (record st { lines = next_number st; begun = true }, Some row) read in
-    let next : State = record st { lines = next_number st; begun = true } in
+    let ended = ended_if_read st line (behind_row st row, Some row) read in
+    let next : State = behind_row st row in
     let call : ℕ → List ℕ → Call = λ (n : ℕ) (l : List ℕ). record { answer = Ok (Some (n, row)); progress = record { read = next; ended = false }; left = l } in
     of_all held held' before ahead left (λ t l. next_row (record { read = st; ended = false }) t ≡ call number l) stands.comes (λ later.
     call_of st (ahead ++ later) line (lines_of (rest ++ later)) (ended_lines ahead rest later line cut ended)
@@ -169,12 +172,13 @@ no_row st held held' before ahead comes none =
 
 -- ---- how far the reading has come behind a call
 
-pub given : (st : State) (ended : Bool) (number : ℕ) (row : Row) (held held' : Option (List ℕ)) (ahead ahead' : List ℕ) → ended ≡ false → number ≡ next_number st →
-    IsCall (record { read = st; ended = false }) (record { read = record st { lines = next_number st; begun = true }; ended = false }) held held' ahead ahead' (Ok (Some (number, row))) →
-    IsCall (record { read = st; ended = ended }) (record { read = record st { lines = number; begun = true }; ended = ended }) held held' ahead ahead' (Ok (Some (number, row)))
-given st true number row held held' ahead ahead' is at right = cc is
-given st false number row held held' ahead ahead' is at right =
-    subst (λ (n : ℕ). IsCall (record { read = st; ended = false }) (record { read = record st { lines = n; begun = true }; ended = false }) held held' ahead ahead' (Ok (Some (number, row)))) (sym at) right
+pub given : (st : State) (ended : Bool) (number : ℕ) (row : TraceRow) (ids : List ℕ) (held held' : Option (List ℕ)) (ahead ahead' : List ℕ) → ended ≡ false → number ≡ next_number st → ids ≡ ids_with st.later row →
+    IsCall (record { read = st; ended = false }) (record { read = behind_row st row; ended = false }) held held' ahead ahead' (Ok (Some (number, row))) →
+    IsCall (record { read = st; ended = ended }) (record { read = record st { lines = number; begun = true; later = ids }; ended = ended }) held held' ahead ahead' (Ok (Some (number, row)))
+given st true number row ids held held' ahead ahead' is at noted right = cc is
+given st false number row ids held held' ahead ahead' is at noted right =
+    subst (λ (later : List ℕ). IsCall (record { read = st; ended = false }) (record { read = record st { lines = number; begun = true; later = later }; ended = false }) held held' ahead ahead' (Ok (Some (number, row)))) (sym noted)
+    (subst (λ (n : ℕ). IsCall (record { read = st; ended = false }) (record { read = record st { lines = n; begun = true; later = ids_with st.later row }; ended = false }) held held' ahead ahead' (Ok (Some (number, row)))) (sym at) right)
 
 -- the bytes ahead begin with a line that says a row
 pub begun_within : (ahead : List ℕ) (row : Row) (count : ℕ) → BeginsWithRow row count ahead → count ≤ length ahead
@@ -182,7 +186,7 @@ begun_within ahead row count begins = omega (arith, ap length begins.2, length-a
 
 pub row_begins : (st : State) (ended : Bool) (held : Option (List ℕ)) (ahead left : List ℕ) (row : Row) (count : ℕ) → BeginsWithRow row count ahead → 2 ≤ st.lines → next_number st ≤ most_lines →
     ended ≡ false → left ≡ drop count ahead →
-    IsCall (record { read = st; ended = ended }) (record { read = record st { lines = next_number st; begun = true }; ended = ended }) held held ahead left (Ok (Some (next_number st, row)))
+    IsCall (record { read = st; ended = ended }) (record { read = record st { lines = next_number st; begun = true }; ended = ended }) held held ahead left (Ok (Some (next_number st, Plain row)))
 row_begins st ended held ahead left row count begins behind within going is =
     let content = begins.0 in
     let rest = begins.1 in
@@ -191,10 +195,10 @@ row_begins st ended held ahead left row count begins behind within going is =
     let stands : StandsAhead held held ahead ahead ahead line rest = record { comes = nothing_came held ahead; is = refl; lines = lines; whole = begins.2; one = begins.4 } in
     let long : length (content ++ 10 ∷ []) ≡ count = omega (arith, length-append content (10 ∷ []), begins.3) in
     let behind_it : drop count ahead ≡ rest = ap (drop count) (begins.2 ∙ sym (append_assoc content (10 ∷ []) rest)) ∙ drop_at (content ++ 10 ∷ []) rest count long in
-    given st ended (next_number st) row held held ahead left going refl
-    (row_given st held held ahead ahead ahead left line rest (next_number st) row stands (begins.5 st behind within) (λ e. is ∙ behind_it) refl)
+    given st ended (next_number st) (Plain row) st.later held held ahead left going refl refl
+    (row_given st held held ahead ahead ahead left line rest (next_number st) (Plain row) stands (begins.5 st behind within) (λ e. is ∙ behind_it) refl)
 
-pub stopped : (st : State) (ended : Bool) (result : Result (Option (ℕ × Row)) StreamFault) (held held' : Option (List ℕ)) (ahead ahead' : List ℕ) → ended ≡ false →
+pub stopped : (st : State) (ended : Bool) (result : Result (Option (ℕ × TraceRow)) StreamFault) (held held' : Option (List ℕ)) (ahead ahead' : List ℕ) → ended ≡ false →
     IsCall (record { read = st; ended = false }) (record { read = st; ended = true }) held held' ahead ahead' result →
     IsCall (record { read = st; ended = ended }) (record { read = st; ended = true }) held held' ahead ahead' result
 stopped st true result held held' ahead ahead' is right = cc is

@@ -4,7 +4,7 @@ use Rattle.std.proofs.lemmas.Bool.{cases_Bool}
 use Rattle.std.proofs.lemmas.Slice.Eq.{bytes_eq-Decides}
 use Rattle.std.specs.Str.{bytes_eq}
 use Rattle.traces.specs.Limits.{most_bytes}
-use Rattle.traces.specs.declared.row.Row.{Row}
+use Rattle.traces.specs.declared.trace_row.TraceRow.{TraceRow}
 use Rattle.line_text.specs.Lines.{TextLine}
 use Rattle.trace_reader.specs.declared.fault.LineFault.{LineFault}
 use Rattle.trace_reader.specs.declared.fault.LineFault.TheVariants.{Limit}
@@ -30,7 +30,7 @@ unended_size : (line : TextLine) → line.is_ended ≡ false → size_of line �
 unfolding size_of
 unended_size line unended = rw unended refl
 
-pub ended_if_read : (st : State) (line : TextLine) (p : State × Option Row) → read_line st line ≡ Ok p → line.is_ended ≡ true
+pub ended_if_read : (st : State) (line : TextLine) (p : State × Option TraceRow) → read_line st line ≡ Ok p → line.is_ended ≡ true
 ended_if_read st line p is =
     elim (cases_Bool line.is_ended) [
       | inl ended ↦ ended

@@ -1,7 +1,7 @@
 -- What is read of a line before the first row
-use Rattle.std.proofs.Common.{◌≡◌, ◌⊎◌, inl, inr, ◌+◌, ◌-◌, ◌<◌, ◌≤◌, ◌∷◌, ◌++◌, ◌∙◌, ℕ, List, [], Bool, true, false, Option, Some, None, Result, Ok, Err, refl, ap, sym, subst, append_assoc, length, vec_len, le-ltb, lt-ltb, arith}
+use Rattle.std.proofs.Common.{◌≡◌, inl, inr, ◌+◌, ◌<◌, ◌≤◌, ◌∷◌, ◌++◌, ◌∙◌, ℕ, List, [], Bool, true, false, Option, Some, None, Result, Ok, Err, refl, ap, sym, subst, append_assoc, le-ltb, lt-ltb}
 use Rattle.contexts.specs.declared.size.ContextSize.{ContextSize}
-use Rattle.traces.specs.declared.row.Row.{Row}
+use Rattle.traces.specs.declared.trace_row.TraceRow.{TraceRow}
 use Rattle.traces.specs.declared.version.Version.{Version}
 use Rattle.line_text.proofs.Joins.{lines_of-nothing}
 use Rattle.line_text.specs.Lines.{TextLine, lines_of}
@@ -12,8 +12,8 @@ use Rattle.trace_reader.specs.declared.fault.LineFault.TheVariants.{Header as Ba
 use Rattle.trace_reader.specs.declared.fault.LineError.{LineError}
 use Rattle.trace_reader.specs.declared.fault.LineError.TheVariants.{Fault, Memory}
 use Rattle.trace_reader.specs.declared.so_far.TraceSoFar.{TraceSoFar}
-use Rattle.trace_reader.specs.Entries.{IfFault, state_of, took_in}
-use Rattle.trace_reader.specs.Reading.{State, next_number, read_line, size_of, start, version_of, with_said}
+use Rattle.trace_reader.specs.Entries.{IfFault, state_of}
+use Rattle.trace_reader.specs.Reading.{State, behind_row, next_number, read_line, size_of, start, version_of, with_said}
 use Rattle.trace_reader.specs.Values.{Said, SaysRing, SaysRow}
 use Rattle.trace_reader.proofs.ReadSteps.{no_size, no_version, size_read, version_read}
 use Rattle.trace_reader.proofs.SpelledLines.{step_from_read}
@@ -29,65 +29,54 @@ use Rattle.row_reader.proofs.Calls.{bad_ahead, none_held}
 use Rattle.row_reader.proofs.FirstLines.{IsCut, ended_behind, ended_lines}
 use Rattle.row_reader.proofs.LineEnds.{ended_if_read, three}
 
--- ---- the rows so far, where there was none
-
-got : State × List Row → Result (State × List Row) LineFault → State × List Row
-got other (Ok next) = next
-got other (Err fault) = other
-
-pub took : (r : Result (State × Option Row) LineFault) (next : State) (rows : List Row) → took_in [] r ≡ Ok (next, rows) →
-    ((rows ≡ []) × (r ≡ Ok (next, None))) ⊎ ((row : Row) × (rows ≡ row ∷ []) × (r ≡ Ok (next, Some row)))
-unfolding got
-took (Ok (st, Some row)) next rows is =
-    let p : (st, row ∷ []) ≡ (next, rows) = ap (got (next, rows)) is in
-    inr (row, sym (ap (λ (q : State × List Row). q.1) p), ap (λ (s : State). Ok (s, Some row)) (ap (λ (q : State × List Row). q.0) p))
-took (Ok (st, None)) next rows is =
-    let p : (st, []) ≡ (next, rows) = ap (got (next, rows)) is in
-    inl (sym (ap (λ (q : State × List Row). q.1) p), ap (λ (s : State). Ok (s, None)) (ap (λ (q : State × List Row). q.0) p))
-took (Err fault) next rows is = cc is
-
 -- ---- one line more
 
 -- what is read behind a line
-behind : State × Option Row → Result (State × Option Row) LineFault → State × Option Row
+behind : State × Option TraceRow → Result (State × Option TraceRow) LineFault → State × Option TraceRow
 behind other (Ok p) = p
 behind other (Err fault) = other
 
-abbrev good : State × Option Row → Result (State × Option Row) LineFault
+abbrev good : State × Option TraceRow → Result (State × Option TraceRow) LineFault
 good p = Ok p
 
-same_step : (a b : State × Option Row) → good a ≡ good b → a ≡ b
+same_step : (a b : State × Option TraceRow) → good a ≡ good b → a ≡ b
 unfolding behind
 same_step a b is = ap (behind a) is
 
-pub record IsStep (st : State) (p : State × Option Row) : Type 0 where
+pub record IsStep (st : State) (p : State × Option TraceRow) : Type 0 where
   pub lines : p.0.lines ≡ next_number st
-  pub row : (row : Row) → p.1 ≡ Some row → (2 ≤ st.lines) × (p.0 ≡ record st { lines = next_number st; begun = true })
+  pub row : (row : TraceRow) → p.1 ≡ Some row → (2 ≤ st.lines) × (p.0 ≡ behind_row st row)
+  pub later : p.1 ≡ None → p.0.later ≡ st.later
 
-no_row : (st next : State) (p : State × Option Row) → next.lines ≡ next_number st → (next, None) ≡ p → IsStep st p
-no_row st next p lines is = record {
-  lines = sym (ap (λ (q : State × Option Row). q.0.lines) is) ∙ lines;
-  row = λ row some. let none : None ≡ Some row = ap (λ (q : State × Option Row). q.1) is ∙ some in cc none;
+no_row : (st next : State) (p : State × Option TraceRow) → next.lines ≡ next_number st → next.later ≡ st.later → (next, None) ≡ p → IsStep st p
+no_row st next p lines later is = record {
+  lines = sym (ap (λ (q : State × Option TraceRow). q.0.lines) is) ∙ lines;
+  row = λ row some. let none : None ≡ Some row = ap (λ (q : State × Option TraceRow). q.1) is ∙ some in cc none;
+  later = λ none. sym (ap (λ (q : State × Option TraceRow). q.0.later) is) ∙ later;
 }
 
-first_step : (st : State) (line : TextLine) (p : State × Option Row) (version : Option Version) → st.lines ≡ 0 → version_of line ≡ version → read_line st line ≡ Ok p → IsStep st p
+first_step : (st : State) (line : TextLine) (p : State × Option TraceRow) (version : Option Version) → st.lines ≡ 0 → version_of line ≡ version → read_line st line ≡ Ok p → IsStep st p
 first_step st line p (Some version) at of is =
-    no_row st (record st { lines = next_number st; version = version }) p refl (same_step (record st { lines = next_number st; version = version }, None) p (sym (version_read st line version at of) ∙ is))
+    no_row st (record st { lines = next_number st; version = version }) p refl refl (same_step (record st { lines = next_number st; version = version }, None) p (sym (version_read st line version at of) ∙ is))
 first_step st line p None at of is = let bad = no_version st line at of in cc (sym bad ∙ is)
 
-second_step : (st : State) (line : TextLine) (p : State × Option Row) (size : Option ContextSize) → st.lines ≡ 1 → size_of line ≡ size → read_line st line ≡ Ok p → IsStep st p
+second_step : (st : State) (line : TextLine) (p : State × Option TraceRow) (size : Option ContextSize) → st.lines ≡ 1 → size_of line ≡ size → read_line st line ≡ Ok p → IsStep st p
 second_step st line p (Some size) at of is =
-    no_row st (record st { lines = next_number st; size = size }) p refl (same_step (record st { lines = next_number st; size = size }, None) p (sym (size_read st line size at of) ∙ is))
+    no_row st (record st { lines = next_number st; size = size }) p refl refl (same_step (record st { lines = next_number st; size = size }, None) p (sym (size_read st line size at of) ∙ is))
 second_step st line p None at of is = let bad = no_size st line at of in cc (sym bad ∙ is)
 
-later_step : (st : State) (p : State × Option Row) (said : Said) → 2 ≤ st.lines → with_said st (Some said) ≡ p → IsStep st p
+later_step : (st : State) (p : State × Option TraceRow) (said : Said) → 2 ≤ st.lines → with_said st (Some said) ≡ p → IsStep st p
 later_step st p (SaysRow row) behind is = record {
-  lines = sym (ap (λ (q : State × Option Row). q.0.lines) is);
-  row = λ other some. (behind, sym (ap (λ (q : State × Option Row). q.0) is));
+  lines = sym (ap (λ (q : State × Option TraceRow). q.0.lines) is);
+  row = λ other some.
+      let both : Some row ≡ Some other = ap (λ (q : State × Option TraceRow). q.1) is ∙ some in
+      let same : row ≡ other = cc both in
+      (behind, sym (ap (λ (q : State × Option TraceRow). q.0) is) ∙ ap (behind_row st) same);
+  later = λ none. let some : Some row ≡ None = ap (λ (q : State × Option TraceRow). q.1) is ∙ none in cc some;
 }
-later_step st p (SaysRing ring) behind is = no_row st (record st { lines = next_number st; rings = st.rings ++ ring ∷ [] }) p refl is
+later_step st p (SaysRing ring) behind is = no_row st (record st { lines = next_number st; rings = st.rings ++ ring ∷ [] }) p refl refl is
 
-pub step_of : (st : State) (line : TextLine) (p : State × Option Row) → read_line st line ≡ Ok p → IsStep st p
+pub step_of : (st : State) (line : TextLine) (p : State × Option TraceRow) → read_line st line ≡ Ok p → IsStep st p
 step_of st line p is =
     elim (three st.lines) [
       | inl first ↦ first_step st line p (version_of line) first refl is
@@ -100,7 +89,7 @@ step_of st line p is =
 
 -- ---- what opening makes of the line
 
-opened_at : (st : State) (text : List ℕ) (line : TextLine) (lines : List TextLine) (r : Result (State × Option Row) LineFault) → lines_of text ≡ line ∷ lines → read_line st line ≡ r →
+opened_at : (st : State) (text : List ℕ) (line : TextLine) (lines : List TextLine) (r : Result (State × Option TraceRow) LineFault) → lines_of text ≡ line ∷ lines → read_line st line ≡ r →
     opened_in st (lines_of text) text ≡ opened_by st text r (λ next. opened_in next lines (behind_line text))
 unfolding opened_in
 opened_at st text line lines r are is = ap (λ ls. opened_in st ls text) are ∙ ap (λ s. opened_by st text s (λ next. opened_in next lines (behind_line text))) is
@@ -113,7 +102,7 @@ ring_read st next ahead rest left later line cut read is =
     ∙ ap (λ t. opened_in next (lines_of (rest ++ later)) t) (ended_behind ahead rest later line cut ended)
     ∙ ap (λ r. opened_in next (lines_of (r ++ later)) (r ++ later)) (sym is)
 
-pub row_next : (st next : State) (ahead rest later : List ℕ) (line : TextLine) (row : Row) → IsCut ahead line rest → read_line st line ≡ Ok (next, Some row) →
+pub row_next : (st next : State) (ahead rest later : List ℕ) (line : TextLine) (row : TraceRow) → IsCut ahead line rest → read_line st line ≡ Ok (next, Some row) →
     opened_in st (lines_of (ahead ++ later)) (ahead ++ later) ≡ Ok (with_rows st false, ahead ++ later)
 row_next st next ahead rest later line row cut read =
     let ended = ended_if_read st line (next, Some row) read in
@@ -128,29 +117,19 @@ bad_next st held ahead rest line fault cut lines read filled =
 
 -- ---- what is told of the line
 
-pub no_rows : (rows : List Row) → length rows ≡ 0 → rows ≡ []
-no_rows [] none = refl
-no_rows (row ∷ rest) none = absurd (omega (arith, none))
+module _ (st next : State) (ahead rest left : List ℕ) (line : TextLine) (cut : IsCut ahead line rest) where
+  pub told_row : (row : TraceRow) → read_line st line ≡ Ok (next, Some row) → left ≡ ahead → IsTold st ahead next left (Ok true)
+  told_row row read same =
+      let step = (step_of st line (next, Some row) read).row row refl in
+      ((row, step.1), step.0, λ later. row_next st next ahead rest later line row cut read ∙ ap (λ l. Ok (with_rows st false, l ++ later)) (sym same))
 
-module _ (st : State) (so_far : TraceSoFar) (ahead rest left : List ℕ) (line : TextLine) (cut : IsCut ahead line rest) where
-  pub told_row : took_in [] (read_line st line) ≡ Ok (state_of so_far, so_far.rows.items) → (so_far.rows.items ≡ [] → ⊥) → left ≡ ahead → IsTold st ahead so_far left (Ok true)
-  told_row added some same =
-      elim (took (read_line st line) (state_of so_far) so_far.rows.items added) [
-        | inl p ↦ absurd (some p.0)
-        | inr p ↦
-            let step = (step_of st line (state_of so_far, Some p.0) p.2).row p.0 refl in
-            (step.1, step.0, omega (arith, ap length p.1, so_far.rows.ok), λ later. row_next st (state_of so_far) ahead rest later line p.0 cut p.2 ∙ ap (λ l. Ok (with_rows st false, l ++ later)) (sym same))
-      ]
-
-  pub told_ring : took_in [] (read_line st line) ≡ Ok (state_of so_far, so_far.rows.items) → so_far.rows.items ≡ [] → (line.is_ended ≡ true → left ≡ rest) → IsTold st ahead so_far left (Ok false)
-  told_ring added none is =
-      elim (took (read_line st line) (state_of so_far) so_far.rows.items added) [
-        | inl p ↦ (p.0, (step_of st line (state_of so_far, None) p.1).lines, λ later. ring_read st (state_of so_far) ahead rest left later line cut p.1 (is (ended_if_read st line (state_of so_far, None) p.1)))
-        | inr p ↦ let both : p.0 ∷ [] ≡ [] = sym p.1 ∙ none in cc both
-      ]
+  pub told_ring : read_line st line ≡ Ok (next, None) → (line.is_ended ≡ true → left ≡ rest) → IsTold st ahead next left (Ok false)
+  told_ring read is =
+      let step = step_of st line (next, None) read in
+      (step.later refl, step.lines, λ later. ring_read st next ahead rest left later line cut read (is (ended_if_read st line (next, None) read)))
 
   pub told_bad : (number : ℕ) (e : LineError) → lines_of ahead ≡ line ∷ lines_of rest → number ≡ next_number st → IfFault e (λ fault. read_line st line ≡ Err fault) →
-      IsTold st ahead so_far left (Err (fault_of number e))
+      IsTold st ahead next left (Err (fault_of number e))
   told_bad number (Fault fault) lines at bad =
       λ held filled.
       let b = bad_next st held ahead rest line fault cut lines bad filled in
@@ -163,15 +142,15 @@ module _ (st : State) (so_far : TraceSoFar) (ahead rest left : List ℕ) (line :
 pub record HasRead (held held' : Option (List ℕ)) (so_far : TraceSoFar) (ahead : List ℕ) : Type 0 where
   pub came : List ℕ
   pub consumed : Consumes held held' came
-  pub none : so_far.rows.items ≡ []
+  pub none : so_far.later.items ≡ []
   pub goes_on : (later : List ℕ) → opened (came ++ later) ≡ opened_in (state_of so_far) (lines_of (ahead ++ later)) (ahead ++ later)
 
-pub nothing_read : (held : Option (List ℕ)) (so_far : TraceSoFar) (ahead : List ℕ) → state_of so_far ≡ start → so_far.rows.items ≡ [] → ahead ≡ [] → HasRead held held so_far ahead
+pub nothing_read : (held : Option (List ℕ)) (so_far : TraceSoFar) (ahead : List ℕ) → state_of so_far ≡ start → ahead ≡ [] → HasRead held held so_far ahead
 unfolding opened
-nothing_read held so_far ahead state none empty = record {
+nothing_read held so_far ahead state empty = record {
   came = [];
   consumed = Consumes-nil held;
-  none = none;
+  none = ap (λ (s : State). s.later) state;
   goes_on = λ later.
       ap (λ (s : State). opened_in s (lines_of later) later) (sym state) ∙ ap (λ a. opened_in (state_of so_far) (lines_of (a ++ later)) (a ++ later)) (sym empty);
 }
@@ -188,18 +167,18 @@ module _ (held held' held'' : Option (List ℕ)) (so_far : TraceSoFar) (ahead ah
   }
 
 module _ (held held' : Option (List ℕ)) (so_far : TraceSoFar) (ahead : List ℕ) (read : HasRead held held' so_far ahead) where
-  pub line_more : (so_far' : TraceSoFar) (left : List ℕ) → IsTold (state_of so_far) ahead so_far' left (Ok false) → HasRead held held' so_far' left
-  line_more so_far' left told = record { came = read.came; consumed = read.consumed; none = told.0; goes_on = λ later. read.goes_on later ∙ told.2 later }
+  pub line_more : (so_far' : TraceSoFar) (left : List ℕ) → IsTold (state_of so_far) ahead (state_of so_far') left (Ok false) → HasRead held held' so_far' left
+  line_more so_far' left told = record { came = read.came; consumed = read.consumed; none = told.0 ∙ read.none; goes_on = λ later. read.goes_on later ∙ told.2 later }
 
   -- ---- where it ends
 
-  bad_line_told : (so_far' : TraceSoFar) (left : List ℕ) (line : ℕ) (fault : LineFault) → IsTold (state_of so_far) ahead so_far' left (Err (Line line fault)) → IsFilled true held' ahead →
+  bad_line_told : (so_far' : TraceSoFar) (left : List ℕ) (line : ℕ) (fault : LineFault) → IsTold (state_of so_far) ahead (state_of so_far') left (Err (Line line fault)) → IsFilled true held' ahead →
       IsOpened held held' (Err (Line line fault))
   bad_line_told so_far' left line fault told filled =
       let bad = told held' filled in
       (read.came, read.consumed, (bad.0, bad.1, read.goes_on bad.0 ∙ bad.2))
 
-  pub fault_told : (so_far' : TraceSoFar) (left : List ℕ) (fault : StreamFault) → IsTold (state_of so_far) ahead so_far' left (Err fault) → IsFilled true held' ahead → IsOpened held held' (Err fault)
+  pub fault_told : (so_far' : TraceSoFar) (left : List ℕ) (fault : StreamFault) → IsTold (state_of so_far) ahead (state_of so_far') left (Err fault) → IsFilled true held' ahead → IsOpened held held' (Err fault)
   fault_told so_far' left (Line line fault) told filled = bad_line_told so_far' left line fault told filled
   fault_told so_far' left Device told filled = absurd told
   fault_told so_far' left NoMemory told filled = tt
@@ -230,24 +209,23 @@ module _ (held held' : Option (List ℕ)) (so_far : TraceSoFar) (ahead : List �
       subst (λ (b : Bool). OfText b held held' [] (ahead_of reader.ahead) (λ text l. opened text ≡ Ok (progress_of reader, l))) (sym over)
       (subst (λ (a : List ℕ). OfText ended held held' [] a (λ text l. opened text ≡ Ok (progress_of reader, l))) (sym is) so)
 
-  pub end_told : (reader : RowReader) → IsFilled false held' ahead → 2 ≤ so_far.lines → (progress_of reader).read ≡ record (state_of so_far) { lines = so_far.lines - vec_len so_far.rows; begun = true } →
+  -- no ring has come
+  none_later : record (state_of so_far) { begun = true; later = [] } ≡ record (state_of so_far) { begun = true }
+  none_later = λ k. record (state_of so_far) { begun = true; later = sym read.none k }
+
+  pub end_told : (reader : RowReader) → IsFilled false held' ahead → 2 ≤ so_far.lines → (progress_of reader).read ≡ record (state_of so_far) { lines = so_far.lines; begun = true; later = [] } →
       reader.ended ≡ true → ahead_of reader.ahead ≡ ahead → IsOpened held held' (Ok reader)
   end_told reader none there is over same =
-      let few : vec_len so_far.rows ≡ 0 = omega (arith, ap length read.none, so_far.rows.ok) in
-      let all : so_far.lines - vec_len so_far.rows ≡ so_far.lines = omega (arith, few) in
-      let at : with_rows (state_of so_far) true ≡ progress_of reader =
-      progress_is reader (state_of so_far) true (is ∙ ap (λ n. record (state_of so_far) { lines = n; begun = true }) all) over in
+      let at : with_rows (state_of so_far) true ≡ progress_of reader = progress_is reader (state_of so_far) true (is ∙ none_later) over in
       opened_with reader true [] over (same ∙ none.0)
       (read.came, read.consumed, ([], none_held held' none.1, at_the_end none ∙ header_there there ∙ ap (λ (p : Progress). Ok (p, [])) at))
 
-  pub row_told : (so_far' : TraceSoFar) (left : List ℕ) (reader : RowReader) → IsTold (state_of so_far) ahead so_far' left (Ok true) →
-      (progress_of reader).read ≡ record (state_of so_far') { lines = so_far'.lines - vec_len so_far'.rows; begun = true } → reader.ended ≡ false → ahead_of reader.ahead ≡ left → IsOpened held held' (Ok reader)
+  pub row_told : (so_far' : TraceSoFar) (left : List ℕ) (reader : RowReader) → IsTold (state_of so_far) ahead (state_of so_far') left (Ok true) →
+      (progress_of reader).read ≡ record (state_of so_far') { lines = so_far.lines; begun = true; later = [] } → reader.ended ≡ false → ahead_of reader.ahead ≡ left → IsOpened held held' (Ok reader)
   row_told so_far' left reader told is over same =
       let st = state_of so_far in
-      let number : so_far'.lines ≡ so_far.lines + 1 = ap (λ (s : State). s.lines) told.0 in
-      let back : so_far'.lines - vec_len so_far'.rows ≡ so_far.lines = omega (arith, number, told.2) in
-      let before : record (state_of so_far') { lines = so_far'.lines - vec_len so_far'.rows; begun = true } ≡ record st { begun = true } =
-      ap (λ n. record (state_of so_far') { lines = n; begun = true }) back ∙ ap (λ (s : State). record s { lines = so_far.lines; begun = true }) told.0 in
+      let before : record (state_of so_far') { lines = so_far.lines; begun = true; later = [] } ≡ record st { begun = true } =
+      ap (λ (s : State). record s { lines = so_far.lines; begun = true; later = [] }) told.0.1 ∙ none_later in
       let at : with_rows st false ≡ progress_of reader = progress_is reader st false (is ∙ before) over in
       opened_with reader false left over same
-      (read.came, read.consumed, λ later. read.goes_on later ∙ told.3 later ∙ ap (λ (p : Progress). Ok (p, left ++ later)) at)
+      (read.came, read.consumed, λ later. read.goes_on later ∙ told.2 later ∙ ap (λ (p : Progress). Ok (p, left ++ later)) at)

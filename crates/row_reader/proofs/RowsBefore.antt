@@ -1,6 +1,6 @@
 -- The rows that calls give are those of the lines before the bad one, by their numbers
 use Rattle.std.proofs.Common.{◌≡◌, ◌+◌, ◌≤◌, ◌∷◌, ◌∙◌, ℕ, List, [], true, false, Option, Some, None, Result, Ok, Err, refl, ap, sym, subst, length, map, take, arith}
-use Rattle.traces.specs.declared.row.Row.{Row}
+use Rattle.traces.specs.declared.trace_row.TraceRow.{TraceRow}
 use Rattle.line_text.specs.Lines.{TextLine, lines_of}
 use Rattle.trace_reader.specs.declared.fault.LineFault.{LineFault}
 use Rattle.trace_reader.specs.Reading.{State, go_on, next_number, read_line, with_row}
@@ -13,7 +13,7 @@ use Rattle.row_reader.proofs.CallsJoined.{lines_left, no_ring_read}
 use Rattle.row_reader.proofs.LineEnds.{ended_if_read}
 use Rattle.row_reader.proofs.Openings.{step_of}
 
-behind_more : (number : ℕ) (row : ℕ × Row) (given : GivenRows) → IsBehind (number + 1) given → IsBehind number (row ∷ given.0, given.1)
+behind_more : (number : ℕ) (row : ℕ × TraceRow) (given : GivenRows) → IsBehind (number + 1) given → IsBehind number (row ∷ given.0, given.1)
 behind_more number row (rows, None) is = tt
 behind_more number row (rows, Some fault) is = omega (arith, is)
 
@@ -21,7 +21,7 @@ abbrev LinesLaw : List TextLine → Type 0
 LinesLaw lines = (st : State) (text : List ℕ) → lines_of text ≡ lines → st.begun ≡ true → 2 ≤ st.lines → AreOfLines st lines (rows_given lines (record { read = st; ended = false }) text)
 
 module _ (st : State) (text : List ℕ) (line : TextLine) (lines : List TextLine) (are : lines_of text ≡ line ∷ lines) (begun : st.begun ≡ true) (behind : 2 ≤ st.lines) (later : LinesLaw lines) where
-  by_line : (r : Result (State × Option Row) LineFault) → read_line st line ≡ r →
+  by_line : (r : Result (State × Option TraceRow) LineFault) → read_line st line ≡ r →
       AreOfLines st (line ∷ lines) (answered (call_on st text r).answer (rows_given lines (call_on st text r).progress (call_on st text r).left))
   unfolding read_lines
   by_line (Ok (next, Some row)) is =

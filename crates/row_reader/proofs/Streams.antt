@@ -1,27 +1,28 @@
 -- The rows so far and what further calls give are what the whole text says
-use Rattle.std.proofs.Common.{◌≡◌, ◌+◌, ◌∷◌, ◌++◌, ◌∙◌, ℕ, List, [], Bool, true, false, Option, Some, None, Result, Ok, Err, refl, ap, sym, subst, append-nil, append_assoc, map, arith}
-use Rattle.std.specs.Io.KnownBytes.{Consumes}
+use Rattle.std.proofs.Common.{◌≡◌, ◌+◌, ◌∷◌, ◌++◌, ◌∙◌, ℕ, List, [], Bool, true, false, Option, Some, None, Result, Ok, Err, refl, ap, sym, subst, append-nil, append_assoc, map}
 use Rattle.std.proofs.KnownBytes.{Consumes-trans}
 use Rattle.traces.specs.declared.header.Header.{Header}
-use Rattle.traces.specs.declared.row.Row.{Row}
+use Rattle.traces.specs.declared.trace_row.TraceRow.{TraceRow}
 use Rattle.traces.specs.declared.trace.Trace.{Trace}
 use Rattle.line_text.specs.Lines.{TextLine, lines_of}
 use Rattle.trace_reader.specs.declared.fault.LineFault.{LineFault}
 use Rattle.trace_reader.specs.Entries.{text_of}
-use Rattle.trace_reader.specs.Reading.{State, TraceText, next_number, read_line, trace_of}
+use Rattle.trace_reader.specs.DriverRows.{DriverText, driver_row, text_taken}
+use Rattle.trace_reader.specs.Reading.{State, TextOf, next_number, read_line}
+use Rattle.trace_reader.proofs.DriverTraces.{is_driver_trace, plain_trace}
 use Rattle.trace_reader.proofs.Spelled.{spelled_if_read}
 use Rattle.row_reader.specs.declared.reader.RowReader.{RowReader}
 use Rattle.row_reader.specs.declared.fault.StreamFault.TheVariants.{Line}
-use Rattle.row_reader.specs.Ahead.{OfLater, OfText, IsHeld, ahead_of}
+use Rattle.row_reader.specs.Ahead.{OfLater, OfText, ahead_of}
 use Rattle.row_reader.specs.Answers.{IsCall}
 use Rattle.row_reader.specs.ReaderState.{IsOpened, progress_of}
 use Rattle.row_reader.specs.RowByRow.{Call, Progress, call_in, call_on, opened}
 unfoldable use Rattle.row_reader.specs.RowByRow.{next_row}
-use Rattle.row_reader.specs.Streams.{HasRead, IsBadLine, IsReadTo, OfStream, OfTrace, read_with}
-use Rattle.row_reader.specs.WholeTexts.{GivenRows, answered, joined, joined_behind, rows_given}
-unfoldable use Rattle.row_reader.specs.WholeTexts.{read_by_calls}
-use Rattle.row_reader.proofs.Calls.{call_of}
-use Rattle.row_reader.proofs.CallsJoined.{calls_say_the_text, lines_left}
+use Rattle.row_reader.specs.Streams.{HasRead, IsBadTaken, IsReadTo, OfStream, OfTrace, read_with}
+use Rattle.row_reader.specs.WholeTexts.{GivenOf, GivenRows, answered, given_taken, joined, joined_behind, rows_given, with_given}
+unfoldable use Rattle.row_reader.specs.WholeTexts.{taken_by_calls}
+use Rattle.row_reader.proofs.Calls.{call_of, some_held}
+use Rattle.row_reader.proofs.CallsJoined.{calls_say_what_is_taken, lines_left}
 use Rattle.row_reader.proofs.LineEnds.{ended_if_read}
 use Rattle.row_reader.proofs.Openings.{step_of}
 
@@ -54,6 +55,10 @@ pub known_text : (bytes : List ℕ) (held' : Option (List ℕ)) (P : List ℕ �
 known_text bytes None P (came, used, so) = absurd used
 known_text bytes (Some rest) P (came, used, (later, is, so)) = subst P (ap (λ l. came ++ l) is ∙ sym used) so
 
+-- of all texts that may still come, one
+some_text : (held held' : Option (List ℕ)) (ahead ahead' : List ℕ) (P : List ℕ → Type 0) → OfText false held held' ahead ahead' (λ text left. P text) → OfText true held held' ahead [] (λ text left. P text)
+some_text held held' ahead ahead' P (came, used, all) = let later = some_held held' in (came, used, (later.0, later.1, all later.0))
+
 -- ---- one call, and those behind it
 
 over : (st : State) (lines : List TextLine) (left : List ℕ) → rows_given lines (record { read = st; ended = true }) left ≡ ([], None)
@@ -73,7 +78,7 @@ bad_given : (p p' : Progress) (left left' : List ℕ) (fault : ℕ × LineFault)
     rows_given lines p left ≡ ([], Some fault)
 bad_given p p' left left' fault lines is = (given_first p left (record { answer = Err fault; progress = p'; left = left' }) lines is).1
 
-module _ (st : State) (p' : Progress) (left left' : List ℕ) (row : ℕ × Row) where
+module _ (st : State) (p' : Progress) (left left' : List ℕ) (row : ℕ × TraceRow) where
   abbrev GivesRow : Call → Type 0
   GivesRow c = c ≡ record { answer = Ok (Some row); progress = p'; left = left' }
 
@@ -83,7 +88,7 @@ module _ (st : State) (p' : Progress) (left left' : List ℕ) (row : ℕ × Row)
     number : row.0 ≡ next_number st
     behind : p'.read.lines ≡ row.0
 
-  line_read : (line : TextLine) (lines : List TextLine) → lines_of left ≡ line ∷ lines → (r : Result (State × Option Row) LineFault) → read_line st line ≡ r → GivesRow (call_on st left r) →
+  line_read : (line : TextLine) (lines : List TextLine) → lines_of left ≡ line ∷ lines → (r : Result (State × Option TraceRow) LineFault) → read_line st line ≡ r → GivesRow (call_on st left r) →
       LineRead line lines
   line_read line lines are (Ok (next, Some r)) is gives =
       let step = step_of st line (next, Some r) is in
@@ -115,126 +120,156 @@ module _ (st : State) (p' : Progress) (left left' : List ℕ) (row : ℕ × Row)
       ∙ ap (λ (c : Call). answered c.answer (rows_given l.1 c.progress c.left)) gives
       ∙ ap (λ ls. answered (Ok (Some row)) (rows_given ls p' left')) (sym l.3.others)
 
--- ---- the rows so far
+module _ {R : Type 0} (take : TraceRow → Result R LineFault) where
+  -- ---- the rows so far
 
-module _ (h : Header) (first : ℕ) (done : List Row) where
-  with_row_read : (row : ℕ × Row) (given : GivenRows) → read_with h first done (answered (Ok (Some row)) given) ≡ read_with h first (done ++ row.1 ∷ []) given
-  with_row_read row (rows, None) = ap (λ (rs : List Row). Ok (record { header = h; first = first; rows = rs })) (sym (append_assoc done (row.1 ∷ []) (map (λ r. r.1) rows)))
-  with_row_read row (rows, Some fault) = refl
+  module _ (h : Header) (first : ℕ) (done : List R) where
+    with_row_read : (number : ℕ) (one : R) (given : GivenOf R) → read_with h first done (with_given number (Ok one) given) ≡ read_with h first (done ++ one ∷ []) given
+    with_row_read number one (rows, None) = ap (λ (rs : List R). Ok (record { header = h; first = first; rows = rs })) (sym (append_assoc done (one ∷ []) (map (λ r. r.1) rows)))
+    with_row_read number one (rows, Some fault) = refl
 
-  with_none : read_with h first done ([], None) ≡ Ok (record { header = h; first = first; rows = done })
-  with_none = ap (λ (rs : List Row). Ok (record { header = h; first = first; rows = rs })) (append-nil done)
+    -- the row is taken
+    row_taken : (row : ℕ × TraceRow) (one : R) (given : GivenRows) → take row.1 ≡ Ok one →
+        read_with h first done (given_taken take (answered (Ok (Some row)) given)) ≡ read_with h first (done ++ one ∷ []) (given_taken take given)
+    row_taken row one given is = ap (λ o. read_with h first done (with_given row.0 o (given_taken take given))) is ∙ with_row_read row.0 one (given_taken take given)
 
-joined_so : (st : State) (given : GivenRows) → joined st given ≡ read_with (record { version = st.version; context_size = st.size; rings = st.rings }) (st.lines + 1) [] given
-joined_so st (rows, None) = refl
-joined_so st (rows, Some fault) = refl
+    -- the row isn't taken
+    row_untaken : (row : ℕ × TraceRow) (fault : LineFault) (given : GivenRows) → take row.1 ≡ Err fault →
+        read_with h first done (given_taken take (answered (Ok (Some row)) given)) ≡ Err (row.0, fault)
+    row_untaken row fault given is = ap (λ o. read_with h first done (with_given row.0 o (given_taken take given))) is
 
-opened_so : (st : State) (ended : Bool) (text left : List ℕ) → opened text ≡ Ok (record { read = st; ended = ended }, left) →
-    trace_of text ≡ read_with (record { version = st.version; context_size = st.size; rings = st.rings }) (st.lines + 1) [] (rows_given (lines_of left) (record { read = st; ended = ended }) left)
-unfolding read_by_calls
-opened_so st ended text left is =
-    sym (calls_say_the_text text) ∙ ap joined_behind is ∙ joined_so st (rows_given (lines_of left) (record { read = st; ended = ended }) left)
+    with_none : read_with h first done ([], None) ≡ Ok (record { header = h; first = first; rows = done })
+    with_none = ap (λ (rs : List R). Ok (record { header = h; first = first; rows = rs })) (append-nil done)
 
--- where the reading was opened no row was read
-pub opened_read : (held held' : Option (List ℕ)) (r : RowReader) → IsOpened held held' (Ok r) → HasRead held held' (r.lines + 1) [] r
-opened_read held held' r is =
-    text_too r.ended held held' [] (ahead_of r.ahead) (λ text left. opened text ≡ Ok (progress_of r, left))
-    (λ text left. trace_of text ≡ read_with r.header (r.lines + 1) [] (rows_given (lines_of left) (progress_of r) left)) (opened_so (progress_of r).read r.ended) is
+  joined_so : (st : State) (given : GivenOf R) → joined st given ≡ read_with (record { version = st.version; context_size = st.size; rings = st.rings }) (st.lines + 1) [] given
+  joined_so st (rows, None) = refl
+  joined_so st (rows, Some fault) = refl
 
-module _ (held held' held'' : Option (List ℕ)) (h : Header) (first : ℕ) (done : List Row) (st st' : State) (ahead ahead' : List ℕ) where
-  abbrev Stands : Bool → Type 0
-  Stands ended = IsReadTo held held' h first done (record { read = st; ended = ended }) ahead
+  opened_so : (st : State) (ended : Bool) (text left : List ℕ) → opened text ≡ Ok (record { read = st; ended = ended }, left) →
+      text_taken take text ≡ read_with (record { version = st.version; context_size = st.size; rings = st.rings }) (st.lines + 1) [] (given_taken take (rows_given (lines_of left) (record { read = st; ended = ended }) left))
+  unfolding taken_by_calls
+  opened_so st ended text left is =
+      sym (calls_say_what_is_taken take text) ∙ ap (joined_behind take) is ∙ joined_so st (given_taken take (rows_given (lines_of left) (record { read = st; ended = ended }) left))
 
-  abbrev Says : Call → List ℕ → List ℕ → Type 0
-  Says c text left = next_row (record { read = st; ended = false }) text ≡ record c { left = left }
+  -- where the reading was opened no row was read
+  pub opened_read : (held held' : Option (List ℕ)) (r : RowReader) → IsOpened held held' (Ok r) → HasRead take held held' (r.lines + 1) [] r
+  opened_read held held' r is =
+      text_too r.ended held held' [] (ahead_of r.ahead) (λ text left. opened text ≡ Ok (progress_of r, left))
+      (λ text left. text_taken take text ≡ read_with r.header (r.lines + 1) [] (given_taken take (rows_given (lines_of left) (progress_of r) left))) (opened_so (progress_of r).read r.ended) is
 
-  row_more : (ended : Bool) (row : ℕ × Row) → Stands ended → IsCall (record { read = st; ended = ended }) (record { read = st'; ended = false }) held' held'' ahead ahead' (Ok (Some row)) →
-      IsReadTo held held'' h first (done ++ row.1 ∷ []) (record { read = st'; ended = false }) ahead'
-  row_more true row stands (came, used, all) = absurd (over_gives st (record { read = st'; ended = false }) (ahead ++ came ++ []) (ahead' ++ []) row (all []))
-  row_more false row stands call =
-      let p' : Progress = record { read = st'; ended = false } in
-      text_then false held held' held'' ahead ahead' (λ text left. trace_of text ≡ read_with h first done (rows_given (lines_of left) (record { read = st; ended = false }) left))
-      (λ text left. next_row (record { read = st; ended = false }) text ≡ record { answer = Ok (Some row); progress = p'; left = left })
-      (λ text left. trace_of text ≡ read_with h first (done ++ row.1 ∷ []) (rows_given (lines_of left) p' left))
-      (λ text left left' told gives. told ∙ ap (read_with h first done) (row_given st p' left left' row gives) ∙ with_row_read h first done row (rows_given (lines_of left') p' left')) stands call
+  module _ (held held' held'' : Option (List ℕ)) (h : Header) (first : ℕ) (done : List R) (st st' : State) (ahead ahead' : List ℕ) where
+    abbrev Stands : Bool → Type 0
+    Stands ended = IsReadTo take held held' h first done (record { read = st; ended = ended }) ahead
 
-  -- the answers that end the reading, and what they say of the whole text
-  end_more : (answer : Result (Option (ℕ × Row)) (ℕ × LineFault)) (said : Result TraceText (ℕ × LineFault)) →
-      ((left left' : List ℕ) → next_row (record { read = st; ended = false }) left ≡ record { answer = answer; progress = record { read = st'; ended = true }; left = left' } →
-      read_with h first done (rows_given (lines_of left) (record { read = st; ended = false }) left) ≡ said) →
-      Stands false → OfText true held' held'' ahead ahead' (λ text left. next_row (record { read = st; ended = false }) text ≡ record { answer = answer; progress = record { read = st'; ended = true }; left = left }) →
-      OfStream held held'' (λ text. trace_of text ≡ said)
-  end_more answer said says stands call =
-      text_then true held held' held'' ahead ahead' (λ text left. trace_of text ≡ read_with h first done (rows_given (lines_of left) (record { read = st; ended = false }) left))
-      (λ text left. next_row (record { read = st; ended = false }) text ≡ record { answer = answer; progress = record { read = st'; ended = true }; left = left })
-      (λ text left. trace_of text ≡ said) (λ text left left' told gives. told ∙ says left left' gives) stands call
+    abbrev Says : Call → List ℕ → List ℕ → Type 0
+    Says c text left = next_row (record { read = st; ended = false }) text ≡ record c { left = left }
 
-  all_read : (ended : Bool) → Stands ended → IsCall (record { read = st; ended = ended }) (record { read = st'; ended = true }) held' held'' ahead ahead' (Ok None) → (ended ≡ true → held'' ≡ held') →
-      OfStream held held'' (λ text. trace_of text ≡ Ok (record { header = h; first = first; rows = done }))
-  all_read true stands call still =
-      subst (λ (x : Option (List ℕ)). OfStream held x (λ text. trace_of text ≡ Ok (record { header = h; first = first; rows = done }))) (sym (still refl))
-      (text_too true held held' [] ahead (λ text left. trace_of text ≡ read_with h first done (rows_given (lines_of left) (record { read = st; ended = true }) left))
-      (λ text left. trace_of text ≡ Ok (record { header = h; first = first; rows = done }))
-      (λ text left told. told ∙ ap (read_with h first done) (over st (lines_of left) left) ∙ with_none h first done) stands)
-  all_read false stands call still =
-      end_more (Ok None) (Ok (record { header = h; first = first; rows = done }))
-      (λ left left' gives.
-      ap (read_with h first done) (none_given (record { read = st; ended = false }) (record { read = st'; ended = true }) left left' (lines_of left) gives) ∙ with_none h first done) stands call
+    row_more : (ended : Bool) (row : ℕ × TraceRow) (one : R) → take row.1 ≡ Ok one → Stands ended → IsCall (record { read = st; ended = ended }) (record { read = st'; ended = false }) held' held'' ahead ahead' (Ok (Some row)) →
+        IsReadTo take held held'' h first (done ++ one ∷ []) (record { read = st'; ended = false }) ahead'
+    row_more true row one is stands (came, used, all) = absurd (over_gives st (record { read = st'; ended = false }) (ahead ++ came ++ []) (ahead' ++ []) row (all []))
+    row_more false row one is stands call =
+        let p' : Progress = record { read = st'; ended = false } in
+        text_then false held held' held'' ahead ahead' (λ text left. text_taken take text ≡ read_with h first done (given_taken take (rows_given (lines_of left) (record { read = st; ended = false }) left)))
+        (λ text left. next_row (record { read = st; ended = false }) text ≡ record { answer = Ok (Some row); progress = p'; left = left })
+        (λ text left. text_taken take text ≡ read_with h first (done ++ one ∷ []) (given_taken take (rows_given (lines_of left) p' left)))
+        (λ text left left' told gives. told ∙ ap (λ g. read_with h first done (given_taken take g)) (row_given st p' left left' row gives) ∙ row_taken h first done row one (rows_given (lines_of left') p' left') is) stands call
 
-  over_bad : (left : List ℕ) (fault : ℕ × LineFault) (c : Call) → next_row (record { read = st; ended = true }) left ≡ record c { answer = Err fault } → ⊥
-  unfolding next_row
-  over_bad left fault c is = let none = ap (λ (d : Call). d.answer) is in cc none
+    -- a row that isn't taken, whatever follows it
+    row_refused : (ended : Bool) (row : ℕ × TraceRow) (fault : LineFault) → take row.1 ≡ Err fault → Stands ended →
+        IsCall (record { read = st; ended = ended }) (record { read = st'; ended = false }) held' held'' ahead ahead' (Ok (Some row)) → IsBadTaken take held held'' row.0 fault
+    row_refused true row fault is stands (came, used, all) = absurd (over_gives st (record { read = st'; ended = false }) (ahead ++ came ++ []) (ahead' ++ []) row (all []))
+    row_refused false row fault is stands call =
+        let p' : Progress = record { read = st'; ended = false } in
+        some_text held held'' [] ahead' (λ text. text_taken take text ≡ Err (row.0, fault))
+        (text_then false held held' held'' ahead ahead' (λ text left. text_taken take text ≡ read_with h first done (given_taken take (rows_given (lines_of left) (record { read = st; ended = false }) left)))
+        (λ text left. next_row (record { read = st; ended = false }) text ≡ record { answer = Ok (Some row); progress = p'; left = left })
+        (λ text left. text_taken take text ≡ Err (row.0, fault))
+        (λ text left left' told gives. told ∙ ap (λ g. read_with h first done (given_taken take g)) (row_given st p' left left' row gives) ∙ row_untaken h first done row fault (rows_given (lines_of left') p' left') is)
+        stands call)
 
-  bad_read : (ended : Bool) (line : ℕ) (fault : LineFault) → Stands ended →
-      IsCall (record { read = st; ended = ended }) (record { read = st'; ended = true }) held' held'' ahead ahead' (Err (Line line fault)) → IsBadLine held held'' line fault
-  bad_read true line fault stands (came, used, (later, is, call)) =
-      absurd (over_bad (ahead ++ came ++ later) (line, fault) (record { answer = Err (line, fault); progress = record { read = st'; ended = true }; left = ahead' ++ later }) call)
-  bad_read false line fault stands call =
-      end_more (Err (line, fault)) (Err (line, fault))
-      (λ left left' gives.
-      ap (read_with h first done) (bad_given (record { read = st; ended = false }) (record { read = st'; ended = true }) left left' (line, fault) (lines_of left) gives)) stands call
+    -- the answers that end the reading, and what they say of the whole text
+    end_more : (answer : Result (Option (ℕ × TraceRow)) (ℕ × LineFault)) (said : Result (TextOf R) (ℕ × LineFault)) →
+        ((left left' : List ℕ) → next_row (record { read = st; ended = false }) left ≡ record { answer = answer; progress = record { read = st'; ended = true }; left = left' } →
+        read_with h first done (given_taken take (rows_given (lines_of left) (record { read = st; ended = false }) left)) ≡ said) →
+        Stands false → OfText true held' held'' ahead ahead' (λ text left. next_row (record { read = st; ended = false }) text ≡ record { answer = answer; progress = record { read = st'; ended = true }; left = left }) →
+        OfStream held held'' (λ text. text_taken take text ≡ said)
+    end_more answer said says stands call =
+        text_then true held held' held'' ahead ahead' (λ text left. text_taken take text ≡ read_with h first done (given_taken take (rows_given (lines_of left) (record { read = st; ended = false }) left)))
+        (λ text left. next_row (record { read = st; ended = false }) text ≡ record { answer = answer; progress = record { read = st'; ended = true }; left = left })
+        (λ text left. text_taken take text ≡ said) (λ text left left' told gives. told ∙ says left left' gives) stands call
 
--- ---- the same of a reader
+    all_read : (ended : Bool) → Stands ended → IsCall (record { read = st; ended = ended }) (record { read = st'; ended = true }) held' held'' ahead ahead' (Ok None) → (ended ≡ true → held'' ≡ held') →
+        OfStream held held'' (λ text. text_taken take text ≡ Ok (record { header = h; first = first; rows = done }))
+    all_read true stands call still =
+        subst (λ (x : Option (List ℕ)). OfStream held x (λ text. text_taken take text ≡ Ok (record { header = h; first = first; rows = done }))) (sym (still refl))
+        (text_too true held held' [] ahead (λ text left. text_taken take text ≡ read_with h first done (given_taken take (rows_given (lines_of left) (record { read = st; ended = true }) left)))
+        (λ text left. text_taken take text ≡ Ok (record { header = h; first = first; rows = done }))
+        (λ text left told. told ∙ ap (λ g. read_with h first done (given_taken take g)) (over st (lines_of left) left) ∙ with_none h first done) stands)
+    all_read false stands call still =
+        end_more (Ok None) (Ok (record { header = h; first = first; rows = done }))
+        (λ left left' gives.
+        ap (λ g. read_with h first done (given_taken take g)) (none_given (record { read = st; ended = false }) (record { read = st'; ended = true }) left left' (lines_of left) gives) ∙ with_none h first done) stands call
 
--- a row stands on the next line
-line_of_row : (held held' : Option (List ℕ)) (ahead ahead' : List ℕ) (st st' : State) (ended : Bool) (row : ℕ × Row) →
-    IsCall (record { read = st; ended = ended }) (record { read = st'; ended = false }) held held' ahead ahead' (Ok (Some row)) → (row.0 ≡ next_number st) × (st'.lines ≡ row.0)
-line_of_row held held' ahead ahead' st st' true row (came, used, all) = absurd (over_gives st (record { read = st'; ended = false }) (ahead ++ came ++ []) (ahead' ++ []) row (all []))
-line_of_row held held' ahead ahead' st st' false row (came, used, all) =
-    let l = row_line st (record { read = st'; ended = false }) (ahead ++ came ++ []) (ahead' ++ []) row (lines_of (ahead ++ came ++ [])) refl (all []) in
-    (l.3.number, l.3.behind)
+    over_bad : (left : List ℕ) (fault : ℕ × LineFault) (c : Call) → next_row (record { read = st; ended = true }) left ≡ record c { answer = Err fault } → ⊥
+    unfolding next_row
+    over_bad left fault c is = let none = ap (λ (d : Call). d.answer) is in cc none
 
-pub row_numbered : (held held' : Option (List ℕ)) (r r' : RowReader) (row : ℕ × Row) → r'.ended ≡ false → IsCall (progress_of r) (progress_of r') held held' (ahead_of r.ahead) (ahead_of r'.ahead) (Ok (Some row)) →
-    (row.0 ≡ r.lines + 1) × (r'.lines ≡ row.0)
-row_numbered held held' r r' row on call =
-    line_of_row held held' (ahead_of r.ahead) (ahead_of r'.ahead) (progress_of r).read (progress_of r').read r.ended row
-    (subst (λ (e : Bool). IsCall (progress_of r) (record { read = (progress_of r').read; ended = e }) held held' (ahead_of r.ahead) (ahead_of r'.ahead) (Ok (Some row))) on call)
+    bad_read : (ended : Bool) (line : ℕ) (fault : LineFault) → Stands ended →
+        IsCall (record { read = st; ended = ended }) (record { read = st'; ended = true }) held' held'' ahead ahead' (Err (Line line fault)) → IsBadTaken take held held'' line fault
+    bad_read true line fault stands (came, used, (later, is, call)) =
+        absurd (over_bad (ahead ++ came ++ later) (line, fault) (record { answer = Err (line, fault); progress = record { read = st'; ended = true }; left = ahead' ++ later }) call)
+    bad_read false line fault stands call =
+        end_more (Err (line, fault)) (Err (line, fault))
+        (λ left left' gives.
+        ap (λ g. read_with h first done (given_taken take g)) (bad_given (record { read = st; ended = false }) (record { read = st'; ended = true }) left left' (line, fault) (lines_of left) gives)) stands call
 
-module _ (held held' held'' : Option (List ℕ)) (first : ℕ) (done : List Row) (r r' : RowReader) (headed : r'.header ≡ r.header) (read : HasRead held held' first done r) where
-  pub row_read : (row : ℕ × Row) → r'.ended ≡ false → IsCall (progress_of r) (progress_of r') held' held'' (ahead_of r.ahead) (ahead_of r'.ahead) (Ok (Some row)) →
-      HasRead held held'' first (done ++ row.1 ∷ []) r'
-  row_read row on call =
-      subst (λ (h : Header). IsReadTo held held'' h first (done ++ row.1 ∷ []) (progress_of r') (ahead_of r'.ahead)) (sym headed)
-      (subst (λ (e : Bool). IsReadTo held held'' r.header first (done ++ row.1 ∷ []) (record { read = (progress_of r').read; ended = e }) (ahead_of r'.ahead)) (sym on)
-      (row_more held held' held'' r.header first done (progress_of r).read (progress_of r').read (ahead_of r.ahead) (ahead_of r'.ahead) r.ended row read
-      (subst (λ (e : Bool). IsCall (progress_of r) (record { read = (progress_of r').read; ended = e }) held' held'' (ahead_of r.ahead) (ahead_of r'.ahead) (Ok (Some row))) on call)))
+  -- ---- the same of a reader
 
-  pub end_read : r'.ended ≡ true → IsCall (progress_of r) (progress_of r') held' held'' (ahead_of r.ahead) (ahead_of r'.ahead) (Ok None) → (r.ended ≡ true → held'' ≡ held') →
-      OfStream held held'' (λ text. trace_of text ≡ Ok (record { header = r.header; first = first; rows = done }))
-  end_read ended call still =
-      all_read held held' held'' r.header first done (progress_of r).read (progress_of r').read (ahead_of r.ahead) (ahead_of r'.ahead) r.ended read
-      (subst (λ (e : Bool). IsCall (progress_of r) (record { read = (progress_of r').read; ended = e }) held' held'' (ahead_of r.ahead) (ahead_of r'.ahead) (Ok None)) ended call) still
+  -- a row stands on the next line
+  line_of_row : (held held' : Option (List ℕ)) (ahead ahead' : List ℕ) (st st' : State) (ended : Bool) (row : ℕ × TraceRow) →
+      IsCall (record { read = st; ended = ended }) (record { read = st'; ended = false }) held held' ahead ahead' (Ok (Some row)) → (row.0 ≡ next_number st) × (st'.lines ≡ row.0)
+  line_of_row held held' ahead ahead' st st' true row (came, used, all) = absurd (over_gives st (record { read = st'; ended = false }) (ahead ++ came ++ []) (ahead' ++ []) row (all []))
+  line_of_row held held' ahead ahead' st st' false row (came, used, all) =
+      let l = row_line st (record { read = st'; ended = false }) (ahead ++ came ++ []) (ahead' ++ []) row (lines_of (ahead ++ came ++ [])) refl (all []) in
+      (l.3.number, l.3.behind)
 
-  pub line_read_bad : r'.ended ≡ true → (line : ℕ) (fault : LineFault) → IsCall (progress_of r) (progress_of r') held' held'' (ahead_of r.ahead) (ahead_of r'.ahead) (Err (Line line fault)) →
-      IsBadLine held held'' line fault
-  line_read_bad ended line fault call =
-      bad_read held held' held'' r.header first done (progress_of r).read (progress_of r').read (ahead_of r.ahead) (ahead_of r'.ahead) r.ended line fault read
-      (subst (λ (e : Bool). IsCall (progress_of r) (record { read = (progress_of r').read; ended = e }) held' held'' (ahead_of r.ahead) (ahead_of r'.ahead) (Err (Line line fault))) ended call)
+  pub row_numbered : (held held' : Option (List ℕ)) (r r' : RowReader) (row : ℕ × TraceRow) → r'.ended ≡ false → IsCall (progress_of r) (progress_of r') held held' (ahead_of r.ahead) (ahead_of r'.ahead) (Ok (Some row)) →
+      (row.0 ≡ r.lines + 1) × (r'.lines ≡ row.0)
+  row_numbered held held' r r' row on call =
+      line_of_row held held' (ahead_of r.ahead) (ahead_of r'.ahead) (progress_of r).read (progress_of r').read r.ended row
+      (subst (λ (e : Bool). IsCall (progress_of r) (record { read = (progress_of r').read; ended = e }) held held' (ahead_of r.ahead) (ahead_of r'.ahead) (Ok (Some row))) on call)
+
+  module _ (held held' held'' : Option (List ℕ)) (first : ℕ) (done : List R) (r r' : RowReader) (headed : r'.header ≡ r.header) (read : HasRead take held held' first done r) where
+    pub row_read : (row : ℕ × TraceRow) (one : R) → take row.1 ≡ Ok one → r'.ended ≡ false → IsCall (progress_of r) (progress_of r') held' held'' (ahead_of r.ahead) (ahead_of r'.ahead) (Ok (Some row)) →
+        HasRead take held held'' first (done ++ one ∷ []) r'
+    row_read row one is on call =
+        subst (λ (h : Header). IsReadTo take held held'' h first (done ++ one ∷ []) (progress_of r') (ahead_of r'.ahead)) (sym headed)
+        (subst (λ (e : Bool). IsReadTo take held held'' r.header first (done ++ one ∷ []) (record { read = (progress_of r').read; ended = e }) (ahead_of r'.ahead)) (sym on)
+        (row_more held held' held'' r.header first done (progress_of r).read (progress_of r').read (ahead_of r.ahead) (ahead_of r'.ahead) r.ended row one is read
+        (subst (λ (e : Bool). IsCall (progress_of r) (record { read = (progress_of r').read; ended = e }) held' held'' (ahead_of r.ahead) (ahead_of r'.ahead) (Ok (Some row))) on call)))
+
+    pub row_read_refused : (row : ℕ × TraceRow) (fault : LineFault) → take row.1 ≡ Err fault → r'.ended ≡ false → IsCall (progress_of r) (progress_of r') held' held'' (ahead_of r.ahead) (ahead_of r'.ahead) (Ok (Some row)) →
+        IsBadTaken take held held'' row.0 fault
+    row_read_refused row fault is on call =
+        row_refused held held' held'' r.header first done (progress_of r).read (progress_of r').read (ahead_of r.ahead) (ahead_of r'.ahead) r.ended row fault is read
+        (subst (λ (e : Bool). IsCall (progress_of r) (record { read = (progress_of r').read; ended = e }) held' held'' (ahead_of r.ahead) (ahead_of r'.ahead) (Ok (Some row))) on call)
+
+    pub end_read : r'.ended ≡ true → IsCall (progress_of r) (progress_of r') held' held'' (ahead_of r.ahead) (ahead_of r'.ahead) (Ok None) → (r.ended ≡ true → held'' ≡ held') →
+        OfStream held held'' (λ text. text_taken take text ≡ Ok (record { header = r.header; first = first; rows = done }))
+    end_read ended call still =
+        all_read held held' held'' r.header first done (progress_of r).read (progress_of r').read (ahead_of r.ahead) (ahead_of r'.ahead) r.ended read
+        (subst (λ (e : Bool). IsCall (progress_of r) (record { read = (progress_of r').read; ended = e }) held' held'' (ahead_of r.ahead) (ahead_of r'.ahead) (Ok None)) ended call) still
+
+    pub line_read_bad : r'.ended ≡ true → (line : ℕ) (fault : LineFault) → IsCall (progress_of r) (progress_of r') held' held'' (ahead_of r.ahead) (ahead_of r'.ahead) (Err (Line line fault)) →
+        IsBadTaken take held held'' line fault
+    line_read_bad ended line fault call =
+        bad_read held held' held'' r.header first done (progress_of r).read (progress_of r').read (ahead_of r.ahead) (ahead_of r'.ahead) r.ended line fault read
+        (subst (λ (e : Bool). IsCall (progress_of r) (record { read = (progress_of r').read; ended = e }) held' held'' (ahead_of r.ahead) (ahead_of r'.ahead) (Err (Line line fault))) ended call)
 
 -- what the text says is a trace whose header and rows are allowed
-pub trace_told : (held held' : Option (List ℕ)) (t : TraceText) (P : Trace → Type 0) → OfStream held held' (λ text. trace_of text ≡ Ok t) → ((trace : Trace) → text_of trace ≡ t → P trace) → OfTrace held held' P
+pub trace_told : (held held' : Option (List ℕ)) (t : DriverText) (P : Trace → Type 0) → OfStream held held' (λ text. text_taken driver_row text ≡ Ok t) → ((trace : Trace) → text_of trace ≡ t → P trace) → OfTrace held held' P
 trace_told held held' t P (came, used, (later, is, told)) step =
-    let valid = (spelled_if_read (came ++ later) t told).1 in
+    let valid = is_driver_trace t (spelled_if_read (came ++ later) _ (plain_trace (came ++ later) t told)).1 in
     let trace : Trace = record { header = t.header; first = t.first; rows = t.rows; headed = valid.headed; placed = valid.first; fitting = valid.rows; within = valid.within } in
     (trace, (came, used, (later, is, told)), step trace refl)
 

@@ -1,9 +1,8 @@
 -- How far a reader of rows has come, and what is answered where it begins
-use Rattle.std.specs.Prelude.{◌≡◌, ◌≤◌, ℕ, Bool, true, false, List, [], ◌++◌, vec_len, Option, Result, Ok, Err}
+use Rattle.std.specs.Prelude.{◌≡◌, ◌≤◌, ℕ, Bool, true, false, List, [], ◌++◌, Option, Result, Ok, Err}
 use Rattle.line_text.specs.Lines.{lines_of}
-use Rattle.trace_reader.specs.Entries.{state_of}
-use Rattle.trace_reader.specs.Reading.{State, next_number}
-use Rattle.trace_reader.specs.declared.so_far.TraceSoFar.{TraceSoFar}
+use Rattle.traces.specs.declared.trace_row.TraceRow.{TraceRow}
+use Rattle.trace_reader.specs.Reading.{State, behind_row, next_number}
 use Rattle.row_reader.specs.declared.fault.StreamFault.{StreamFault}
 use Rattle.row_reader.specs.declared.fault.StreamFault.TheVariants.{Line, Device, Memory}
 use Rattle.row_reader.specs.declared.reader.RowReader.{RowReader}
@@ -12,7 +11,7 @@ use Rattle.row_reader.specs.RowByRow.{Progress, opened, opened_in, with_rows}
 
 abbrev pub progress_of : RowReader → Progress
 progress_of r = record {
-  read = record { lines = r.lines; version = r.header.version; size = r.header.context_size; rings = r.header.rings; begun = true };
+  read = record { lines = r.lines; version = r.header.version; size = r.header.context_size; rings = r.header.rings; begun = true; later = r.later.items };
   ended = r.ended;
 }
 
@@ -24,15 +23,15 @@ IsOpened held held' (Err Device) = Unit {0}
 IsOpened held held' (Err Memory) = Unit {0}
 
 -- a line before the first row was read and it goes on behind it; or it says a row, and is left; or it is bad
-abbrev pub IsTold : State → List ℕ → TraceSoFar → List ℕ → Result Bool StreamFault → Type 0
-IsTold st ahead so_far left (Ok false) =
-    (so_far.rows.items ≡ []) × (so_far.lines ≡ next_number st)
-    × ((later : List ℕ) → opened_in st (lines_of (ahead ++ later)) (ahead ++ later) ≡ opened_in (state_of so_far) (lines_of (left ++ later)) (left ++ later))
-IsTold st ahead so_far left (Ok true) =
-    (state_of so_far ≡ record st { lines = next_number st; begun = true }) × (2 ≤ st.lines) × (vec_len so_far.rows ≡ 1)
+abbrev pub IsTold : State → List ℕ → State → List ℕ → Result Bool StreamFault → Type 0
+IsTold st ahead next left (Ok false) =
+    (next.later ≡ st.later) × (next.lines ≡ next_number st)
+    × ((later : List ℕ) → opened_in st (lines_of (ahead ++ later)) (ahead ++ later) ≡ opened_in next (lines_of (left ++ later)) (left ++ later))
+IsTold st ahead next left (Ok true) =
+    ((row : TraceRow) × (next ≡ behind_row st row)) × (2 ≤ st.lines)
     × ((later : List ℕ) → opened_in st (lines_of (ahead ++ later)) (ahead ++ later) ≡ Ok (with_rows st false, left ++ later))
-IsTold st ahead so_far left (Err (Line line fault)) =
+IsTold st ahead next left (Err (Line line fault)) =
     (held : Option (List ℕ)) → IsFilled true held ahead →
     (later : List ℕ) × IsHeld held later × (opened_in st (lines_of (ahead ++ later)) (ahead ++ later) ≡ Err (line, fault))
-IsTold st ahead so_far left (Err Device) = ⊥
-IsTold st ahead so_far left (Err Memory) = Unit {0}
+IsTold st ahead next left (Err Device) = ⊥
+IsTold st ahead next left (Err Memory) = Unit {0}

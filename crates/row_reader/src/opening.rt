@@ -1,8 +1,9 @@
 //! The lines before the first row.
-ghost use Rattle.std.specs.Prelude.{◌≡◌, ◌<◌, ◌≤◌, ◌-◌, [], true, length, vec_len};
+ghost use Rattle.std.specs.Prelude.{◌≡◌, ◌<◌, ◌≤◌, [], true, length};
 ghost use Rattle.trace_reader.specs.Entries.{state_of};
 ghost use Rattle.row_reader.specs.Ahead.{ahead_of};
 ghost use Rattle.row_reader.specs.Answers.{told_failures};
+ghost use Rattle.traces.specs.Limits.{most_lines};
 ghost use Rattle.row_reader.specs.ReaderState.{IsOpened, IsTold, progress_of};
 
 use crate::ahead::Ahead;
@@ -23,8 +24,9 @@ impl RowReader {
         let mut so_far = TraceSoFar::new(alloc);
         let mut ahead = Ahead::new(alloc)?;
         while ahead.fill_line(source)? {
+            let lines = so_far.lines;
             if says_row(&mut so_far, &mut ahead)? {
-                return Ok(RowReader::behind_header(so_far, ahead, false));
+                return Ok(RowReader::behind_header(so_far, lines, ahead, false));
             }
         }
         if so_far.lines < 2 {
@@ -33,19 +35,21 @@ impl RowReader {
                 fault: LineFault::Header,
             });
         }
-        Ok(RowReader::behind_header(so_far, ahead, true))
+        let lines = so_far.lines;
+        Ok(RowReader::behind_header(so_far, lines, ahead, true))
     }
 
-    /// The reader that stands before the first row. What was read has at most the line of this one.
-    fn behind_header(so_far: TraceSoFar, ahead: Ahead, ended: bool) -> RowReader
-        requires { 2 ≤ so_far.lines - vec_len so_far.rows }
-        ensures read { (progress_of result).read ≡ record (state_of so_far) { lines = so_far.lines - vec_len so_far.rows; begun = true } }
+    /// The reader that stands before the first row, behind so many lines. The line of this row may have been read already.
+    fn behind_header(so_far: TraceSoFar, lines: u32, ahead: Ahead, ended: bool) -> RowReader
+        requires behind { 2 ≤ lines }
+        requires within { lines ≤ most_lines }
+        ensures read { (progress_of result).read ≡ record (state_of so_far) { lines = lines; begun = true; later = [] } }
         ensures ended { result.ended ≡ ended }
         ensures ahead { result.ahead ≡ ahead }
     {
-        let lines = so_far.lines - so_far.rows.len() as u32;
         RowReader {
             alloc: so_far.alloc,
+            later: Vec::new(so_far.alloc),
             lines,
             ended,
             ahead,
@@ -56,18 +60,15 @@ impl RowReader {
 
 /// Reads the first line; whether it says a row. Then it is left.
 fn says_row(so_far: &mut TraceSoFar, ahead: &mut Ahead) -> Result<bool, StreamFault>
-    requires some { 0 < length (ahead_of ahead.old) }
-    requires none { so_far.old.rows.items ≡ [] }
-    ensures { IsTold (state_of so_far.old) (ahead_of ahead.old) so_far.new (ahead_of ahead.new) result }
+    requires { 0 < length (ahead_of ahead.old) }
+    ensures { IsTold (state_of so_far.old) (ahead_of ahead.old) (state_of so_far.new) (ahead_of ahead.new) result }
 {
     let number = so_far.lines + 1;
     let (line, rest) = first_line(ahead.as_slice());
     let left = rest.len();
     match so_far.add(&line) {
-        Ok(()) => {
-            if !so_far.rows.is_empty() {
-                return Ok(true);
-            }
+        Ok(Some(_)) => Ok(true),
+        Ok(None) => {
             ahead.keep_last(left);
             Ok(false)
         }

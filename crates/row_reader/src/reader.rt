@@ -11,6 +11,8 @@ use traces::Header;
 pub struct RowReader {
     pub(crate) alloc: Global,
     pub(crate) header: Header,
+    /// The IDs of the rings that came behind the first row.
+    pub(crate) later: Vec<u8>,
     /// How many lines were read.
     pub(crate) lines: u32,
     /// It has told a fault or the end.

@@ -15,9 +15,10 @@ use crate::source::Source;
 use line_text::first_line;
 use std::alloc::Global;
 use trace_reader::{
-    MOST_LINES, bell_ahead, declaration_ahead, erdp_ahead, event_ahead, row_in, write_ahead,
+    MOST_LINES, bell_ahead, declaration_ahead, erdp_ahead, event_ahead, note_id, row_in,
+    write_ahead,
 };
-use traces::{Header, Register, Row};
+use traces::{Header, Register, Row, TraceRow};
 use trb::Blocks;
 
 impl RowReader {
@@ -40,7 +41,10 @@ impl RowReader {
     /// definition. Where no row is answered the reading has ended, and from then on each call answers none and reads nothing. A failure of
     /// the device is told, and nothing else is told as one.
     #[inline(always)]
-    pub fn next_row<S: Source>(&mut self, source: &mut S) -> Result<Option<(u32, Row)>, StreamFault>
+    pub fn next_row<S: Source>(
+        &mut self,
+        source: &mut S,
+    ) -> Result<Option<(u32, TraceRow)>, StreamFault>
         ensures answer { IsCall (progress_of self.old) (progress_of self.new) (S.held source.old) (S.held source.new) (ahead_of self.old.ahead) (ahead_of self.new.ahead) result }
         ensures over { self.new.ended ≡ has_ended result }
         ensures nothing { self.old.ended ≡ true → (result ≡ Ok None) × (self.new ≡ self.old) × (source.new ≡ source.old) }
@@ -53,14 +57,18 @@ impl RowReader {
         if let Some((at, word)) = write_ahead(self.ahead.as_slice()) {
             self.ahead.skip(28);
             self.lines += 1;
-            return Ok(Some((self.lines, Row::Write { at, word })));
+            let row = Row::Write { at, word };
+            return Ok(Some((self.lines, TraceRow::Plain(row))));
         }
         self.other_row(source)
     }
 
     /// The next row, where it isn't known to be a write: by the places of its fields, where they are those of a frequent form.
     #[inline(never)]
-    fn other_row<S: Source>(&mut self, source: &mut S) -> Result<Option<(u32, Row)>, StreamFault>
+    fn other_row<S: Source>(
+        &mut self,
+        source: &mut S,
+    ) -> Result<Option<(u32, TraceRow)>, StreamFault>
         requires going { self.now.ended ≡ false }
         requires limit { self.now.lines + 1 ≤ most_lines }
         ensures answer { IsCall (progress_of self.old) (progress_of self.new) (S.held source.old) (S.held source.new) (ahead_of self.old.ahead) (ahead_of self.new.ahead) result }
@@ -71,36 +79,40 @@ impl RowReader {
         if let Some(event) = event_ahead(self.ahead.as_slice()) {
             self.ahead.skip(39);
             self.lines += 1;
-            return Ok(Some((self.lines, Row::Read { event })));
+            let row = Row::Read { event };
+            return Ok(Some((self.lines, TraceRow::Plain(row))));
         }
         if let Some((ring, block)) = declaration_ahead(self.ahead.as_slice()) {
             self.ahead.skip(43);
             self.lines += 1;
             let blocks = Blocks::one(block);
-            return Ok(Some((self.lines, Row::Sub { ring, blocks })));
+            let row = Row::Sub { ring, blocks };
+            return Ok(Some((self.lines, TraceRow::Plain(row))));
         }
         if let Some((slot, target)) = bell_ahead(self.ahead.as_slice()) {
             self.ahead.skip(9);
             self.lines += 1;
-            return Ok(Some((self.lines, Row::Bell { slot, target })));
+            let row = Row::Bell { slot, target };
+            return Ok(Some((self.lines, TraceRow::Plain(row))));
         }
         if let Some(value) = erdp_ahead(self.ahead.as_slice()) {
             self.ahead.skip(26);
             self.lines += 1;
-            return Ok(Some((
-                self.lines,
-                Row::Reg {
-                    register: Register::Erdp,
-                    value,
-                },
-            )));
+            let row = Row::Reg {
+                register: Register::Erdp,
+                value,
+            };
+            return Ok(Some((self.lines, TraceRow::Plain(row))));
         }
         self.searched_row(source)
     }
 
     /// The next row, where a line feed is looked for.
     #[inline(never)]
-    fn searched_row<S: Source>(&mut self, source: &mut S) -> Result<Option<(u32, Row)>, StreamFault>
+    fn searched_row<S: Source>(
+        &mut self,
+        source: &mut S,
+    ) -> Result<Option<(u32, TraceRow)>, StreamFault>
         ensures answer { IsCall (progress_of self.old) (progress_of self.new) (S.held source.old) (S.held source.new) (ahead_of self.old.ahead) (ahead_of self.new.ahead) result }
         ensures over { self.new.ended ≡ has_ended result }
         ensures nothing { self.old.ended ≡ true → (result ≡ Ok None) × (self.new ≡ self.old) × (source.new ≡ source.old) }
@@ -110,10 +122,22 @@ impl RowReader {
         if self.ended {
             return Ok(None);
         }
-        match row_ahead(self.alloc, self.lines, &mut self.ahead, source) {
-            Ok(Some(found)) => {
-                self.lines = found.0;
-                Ok(Some(found))
+        let found = row_ahead(
+            self.alloc,
+            &self.header,
+            self.later.as_slice(),
+            self.lines,
+            &mut self.ahead,
+            source,
+        );
+        match found {
+            Ok(Some((number, row))) => {
+                if let Err(error) = note_id(&mut self.later, &row) {
+                    self.ended = true;
+                    return Err(error.into());
+                }
+                self.lines = number;
+                Ok(Some((number, row)))
             }
             Ok(None) => {
                 self.ended = true;
@@ -130,28 +154,36 @@ impl RowReader {
 /// The row of the text's first line and that line's number; so many were read before it. None where no byte is left.
 fn row_ahead<S: Source>(
     alloc: Global,
+    header: &Header,
+    later: &[u8],
     lines: u32,
     ahead: &mut Ahead,
     source: &mut S,
-) -> Result<Option<(u32, Row)>, StreamFault>
+) -> Result<Option<(u32, TraceRow)>, StreamFault>
     requires behind { 2 ≤ lines }
     requires within { lines ≤ most_lines }
-    ensures answer { (st : State) → st.lines ≡ lines → st.begun ≡ true →
+    ensures answer { (st : State) → st.version ≡ header.now.version → st.rings ≡ header.now.rings → st.later ≡ later.now → st.lines ≡ lines → st.begun ≡ true →
         IsCall (record { read = st; ended = false }) (behind_answer st result) (S.held source.old) (S.held source.new) (ahead_of ahead.old) (ahead_of ahead.new) result }
     ensures numbered { IfOk result (λ found. IfSome found (λ r. (r.0 ≡ lines + 1) × (r.0 ≤ most_lines))) }
     ensures failures { S.failed source.new ≡ told_failures (S.failed source.old) result }
 {
-    match row_standing(alloc, lines, ahead) {
+    match row_standing(alloc, header, later, lines, ahead) {
         Some(found) => Ok(Some(found)),
-        None => row_behind_reads(alloc, lines, ahead, source),
+        None => row_behind_reads(alloc, header, later, lines, ahead, source),
     }
 }
 
 /// The row of the first line and that line's number, where this line stands ahead as a whole and says a row: so it is of most.
-fn row_standing(alloc: Global, lines: u32, ahead: &mut Ahead) -> Option<(u32, Row)>
+fn row_standing(
+    alloc: Global,
+    header: &Header,
+    later: &[u8],
+    lines: u32,
+    ahead: &mut Ahead,
+) -> Option<(u32, TraceRow)>
     requires behind { 2 ≤ lines }
     requires within { lines ≤ most_lines }
-    ensures row { IfSome result (λ found. (st : State) (held : Option (List ℕ)) → st.lines ≡ lines → st.begun ≡ true →
+    ensures row { IfSome result (λ found. (st : State) (held : Option (List ℕ)) → st.version ≡ header.now.version → st.rings ≡ header.now.rings → st.later ≡ later.now → st.lines ≡ lines → st.begun ≡ true →
         IsCall (record { read = st; ended = false }) (behind_answer st (Ok (Some found))) held held (ahead_of ahead.old) (ahead_of ahead.new) (Ok (Some found))) }
     ensures numbered { IfSome result (λ found. (found.0 ≡ lines + 1) × (found.0 ≤ most_lines)) }
     ensures none { IfNone result (ahead.new ≡ ahead.old) }
@@ -162,7 +194,7 @@ fn row_standing(alloc: Global, lines: u32, ahead: &mut Ahead) -> Option<(u32, Ro
     }
     let (line, rest) = first_line(bytes);
     let left = rest.len();
-    let Ok(row) = row_in(alloc, lines, &line) else {
+    let Ok(row) = row_in(alloc, header, later, lines, &line) else {
         return None;
     };
     ahead.keep_last(left);
@@ -173,13 +205,15 @@ fn row_standing(alloc: Global, lines: u32, ahead: &mut Ahead) -> Option<(u32, Ro
 /// The same where pieces may have to be read first.
 fn row_behind_reads<S: Source>(
     alloc: Global,
+    header: &Header,
+    later: &[u8],
     lines: u32,
     ahead: &mut Ahead,
     source: &mut S,
-) -> Result<Option<(u32, Row)>, StreamFault>
+) -> Result<Option<(u32, TraceRow)>, StreamFault>
     requires behind { 2 ≤ lines }
     requires within { lines ≤ most_lines }
-    ensures answer { (st : State) → st.lines ≡ lines → st.begun ≡ true →
+    ensures answer { (st : State) → st.version ≡ header.now.version → st.rings ≡ header.now.rings → st.later ≡ later.now → st.lines ≡ lines → st.begun ≡ true →
         IsCall (record { read = st; ended = false }) (behind_answer st result) (S.held source.old) (S.held source.new) (ahead_of ahead.old) (ahead_of ahead.new) result }
     ensures numbered { IfOk result (λ found. IfSome found (λ r. (r.0 ≡ lines + 1) × (r.0 ≤ most_lines))) }
     ensures failures { S.failed source.new ≡ told_failures (S.failed source.old) result }
@@ -189,7 +223,7 @@ fn row_behind_reads<S: Source>(
     }
     let (line, rest) = first_line(ahead.as_slice());
     let left = rest.len();
-    match row_in(alloc, lines, &line) {
+    match row_in(alloc, header, later, lines, &line) {
         Ok(row) => {
             ahead.keep_last(left);
             Ok(Some((lines + 1, row)))

@@ -5,7 +5,7 @@ use Rattle.row_reader.proofs.FirstLines.{ended_left}
 use Rattle.row_reader.proofs.rows.row_standing.Goals as goal
 
 pub returns-clause-row : goal.returns-clause-row
-returns-clause-row c st held at begun =
+returns-clause-row c st held of rings later at begun =
     let ahead = ahead_of c.args.ahead.now in
     let text = c.as_slice-bytes.result.now in
     let line = c.first_line-line.result.0 in
@@ -13,5 +13,5 @@ returns-clause-row c st held at begun =
     let first = c.first_line-line.ensures in
     let stands : StandsAhead held held ahead ahead text line rest =
     record { comes = nothing_came held ahead; is = c.as_slice-bytes.ensures; lines = first.lines; whole = first.whole; one = first.one } in
-    row_given st held held ahead ahead text (ahead_of c.keep_last.new.self) line rest (c.args.lines + 1) c.in-Ok.row stands (c.in-Ok.ensures.answer st at begun)
+    row_given st held held ahead ahead text (ahead_of c.keep_last.new.self) line rest (c.args.lines + 1) c.in-Ok.row stands (c.in-Ok.ensures.answer st of rings later at begun)
     (λ ended. c.keep_last.ensures (line.content ++ 10 ∷ []) rest (ended_left ahead rest line (cut_of held held ahead ahead text line rest stands) ended) refl) (ap (λ n. n + 1) (sym at))

@@ -1,4 +1,4 @@
-use Rattle.std.proofs.Common.{◌+◌, ◌∙◌, Bool, Ok, false, true, refl, ap, subst}
+use Rattle.std.proofs.Common.{◌+◌, ◌∙◌, Bool, Ok, refl, ap, subst}
 use Rattle.std.proofs.lemmas.Result.{err_from_is_err_and}
 use Rattle.trace_reader.specs.Entries.{state_of}
 use Rattle.row_reader.specs.Ahead.{IsFilled, ahead_of}
@@ -8,7 +8,7 @@ use Rattle.row_reader.proofs.reader.RowReader.open.Goals as goal
 
 pub loop-ahead-init : goal.loop-ahead-init
 loop-ahead-init g c =
-    (nothing_read (g.S.Source.held c.args.source.now) c.new-so_far.result (ahead_of c.in_ok-ahead.ahead) c.new-so_far.ensures.state c.new-so_far.ensures.rows c.in_ok-ahead.ensures, refl)
+    (nothing_read (g.S.Source.held c.args.source.now) c.new-so_far.result (ahead_of c.in_ok-ahead.ahead) c.new-so_far.ensures c.in_ok-ahead.ensures, refl)
 
 pub returns-in_err-says_row-clause-opened : goal.returns-in_err-says_row-clause-opened
 returns-in_err-says_row-clause-opened g c =
@@ -29,7 +29,7 @@ returns-then-branch-2-clause-opened g c =
     let ahead = ahead_of c.fill_line.new.self in
     let read = more_came held (g.S.Source.held c.loop-ahead.source) held' so_far (ahead_of c.loop-ahead.ahead) ahead c.loop-ahead.invariant.0 c.in_ok-fill_line.ensures.came in
     let left = ahead_of c.says_row.new.ahead in
-    let told = subst (λ (b : Bool). IsTold (state_of so_far) ahead c.says_row.new.so_far left (Ok b)) c.if-branch-2.true c.in_ok-says_row.ensures in
+    let told = subst (λ (b : Bool). IsTold (state_of so_far) ahead (state_of c.says_row.new.so_far) left (Ok b)) c.if-branch-2.true c.in_ok-says_row.ensures in
     let made = c.behind_header in
     row_told held held' so_far ahead read c.says_row.new.so_far left made.result told made.ensures.read made.ensures.ended (ap ahead_of made.ensures.ahead)
 
@@ -41,7 +41,7 @@ loop-ahead-preserved g c =
     let ahead = ahead_of c.fill_line.new.self in
     let read = more_came held (g.S.Source.held c.loop-ahead.source) held' so_far (ahead_of c.loop-ahead.ahead) ahead c.loop-ahead.invariant.0 c.in_ok-fill_line.ensures.came in
     let left = ahead_of c.says_row.new.ahead in
-    let told = subst (λ (b : Bool). IsTold (state_of so_far) ahead c.says_row.new.so_far left (Ok b)) c.if-branch-2.false c.in_ok-says_row.ensures in
+    let told = subst (λ (b : Bool). IsTold (state_of so_far) ahead (state_of c.says_row.new.so_far) left (Ok b)) c.if-branch-2.false c.in_ok-says_row.ensures in
     (line_more held held' so_far ahead read c.says_row.new.so_far left told, c.in_ok-fill_line.ensures.failures ∙ c.loop-ahead.invariant.1)
 
 pub returns-then-so_far-lt2-clause-opened : goal.returns-then-so_far-lt2-clause-opened

@@ -1,6 +1,6 @@
-use Rattle.std.proofs.Common.{◌≡◌, ◌+◌, ◌≤◌, ℕ, Option, IfSome, None, Ok, false, true, refl, subst}
+use Rattle.std.proofs.Common.{◌≡◌, ◌+◌, ◌≤◌, ℕ, Option, IfSome, None, Ok, false, refl, subst, sym}
 use Rattle.traces.specs.Limits.{most_lines}
-use Rattle.traces.specs.declared.row.Row.{Row}
+use Rattle.traces.specs.declared.trace_row.TraceRow.{TraceRow}
 use Rattle.row_reader.specs.Ahead.{ahead_of}
 use Rattle.row_reader.specs.Answers.{IsCall, behind_answer}
 use Rattle.row_reader.specs.ReaderState.{progress_of}
@@ -12,26 +12,27 @@ returns-then-self-clause-answer g c =
     let r = c.args.self.now in
     still ((progress_of r).read) r.ended (g.S.Source.held c.args.source.now) (ahead_of r.ahead) c.if-self.true
 
-pub returns-in-Ok-Some-clause-answer : goal.returns-in-Ok-Some-clause-answer
-returns-in-Ok-Some-clause-answer g c =
-    let r = c.args.self.now in
-    let st = (progress_of r).read in
-    let held = g.S.Source.held c.args.source.now in
-    let held' = g.S.Source.held c.row_ahead.new.source in
-    let ahead = ahead_of r.ahead in
-    let ahead' = ahead_of c.row_ahead.new.ahead in
-    let found = c.in-Ok-Some.found in
-    let right = subst (λ (o : Option (ℕ × Row)). IsCall (record { read = st; ended = false }) (behind_answer st (Ok o)) held held' ahead ahead' (Ok o)) c.in-Ok-Some.field-0-is (c.in-Ok-Some.ensures.answer st refl refl) in
-    let number = subst (λ (o : Option (ℕ × Row)). IfSome o (λ p. (p.0 ≡ r.lines + 1) × (p.0 ≤ most_lines))) c.in-Ok-Some.field-0-is c.in-Ok-Some.ensures.numbered in
-    given st r.ended found.0 found.1 held held' ahead ahead' c.if-self.false number.0 right
-
 pub returns-in-Ok-None-clause-answer : goal.returns-in-Ok-None-clause-answer
 returns-in-Ok-None-clause-answer g c =
     let r = c.args.self.now in
     let st = (progress_of r).read in
     let held = g.S.Source.held c.args.source.now in
-    let held' = g.S.Source.held c.row_ahead.new.source in
+    let held' = g.S.Source.held c.row_ahead-found.new.source in
     let ahead = ahead_of r.ahead in
-    let ahead' = ahead_of c.row_ahead.new.ahead in
-    let right = subst (λ (o : Option (ℕ × Row)). IsCall (record { read = st; ended = false }) (behind_answer st (Ok o)) held held' ahead ahead' (Ok o)) c.in-Ok-None.field-0-is (c.in-Ok-None.ensures.answer st refl refl) in
+    let ahead' = ahead_of c.row_ahead-found.new.ahead in
+    let right = subst (λ (o : Option (ℕ × TraceRow)). IsCall (record { read = st; ended = false }) (behind_answer st (Ok o)) held held' ahead ahead' (Ok o)) c.in-Ok-None.field-0-is (c.in-Ok-None.ensures.answer st refl refl (sym c.as_slice.ensures.value) refl refl) in
     stopped st r.ended (Ok None) held held' ahead ahead' c.if-self.false right
+
+pub returns-in_default-clause-answer : goal.returns-in_default-clause-answer
+returns-in_default-clause-answer g c =
+    let r = c.args.self.now in
+    let st = (progress_of r).read in
+    let held = g.S.Source.held c.args.source.now in
+    let held' = g.S.Source.held c.row_ahead-found.new.source in
+    let ahead = ahead_of r.ahead in
+    let ahead' = ahead_of c.row_ahead-found.new.ahead in
+    let row : ℕ × TraceRow = (c.in-Ok-Some.number, c.in-Ok-Some.row) in
+    let right = subst (λ (o : Option (ℕ × TraceRow)). IsCall (record { read = st; ended = false }) (behind_answer st (Ok o)) held held' ahead ahead' (Ok o)) c.in-Ok-Some.field-0-is
+    (c.in-Ok-Some.ensures.answer st refl refl (sym c.as_slice.ensures.value) refl refl) in
+    let number = subst (λ (o : Option (ℕ × TraceRow)). IfSome o (λ p. (p.0 ≡ r.lines + 1) × (p.0 ≤ most_lines))) c.in-Ok-Some.field-0-is c.in-Ok-Some.ensures.numbered in
+    given st r.ended row.0 row.1 _ held held' ahead ahead' c.if-self.false number.0 c.in_default.ensures right
