@@ -25,7 +25,7 @@ use Rattle.safety.proofs.TestsPassed.{clean_tests}
 use Rattle.ring_changes.specs.Changes.{emptied}
 use Rattle.traces.specs.declared.trace_row.TraceRow.{TraceRow}
 use Rattle.traces.specs.declared.trace_row.TraceRow.TheVariants.{Comes, Goes, Plain, Withdraws}
-use Rattle.ring_changes.specs.Histories.{AreKept, IsKept, IsTraceRow, RingsHeadline, Scene, header_after, header_now, known_after, known_now, row_made, row_next, scene_reached, step_made}
+use Rattle.ring_changes.specs.Histories.{AreKept, IsKept, FitsFields, RingsHeadline, Scene, header_after, header_now, known_after, known_now, row_made, row_next, scene_reached, step_made}
 use Rattle.ring_changes.specs.Withdrawals.{restored, ring_restored, without_descriptor}
 use Rattle.ring_changes.proofs.Restored.{row_comes, row_keeps, row_runs as restored_row_runs, stopped_still}
 use Rattle.ring_changes.proofs.Withdrawn.{withdraw_keeps, withdraw_runs}
@@ -46,13 +46,13 @@ module _ (h : Header) (is : IsHeader h) (k : Known) (keeps : DriverKeeps h k) wh
   law : RowLaw h
   law = row_runs h is (kept_driver h) (still_rings h) (square_law h) (more_law h)
 
-  row_goes : (row : TraceRow) (w v : World) → IsTraceRow row → Runs h k w → IsKept h k row → row_made h w row ≡ Some v → Holds (header_after h row) (known_after h k row) (steps.counted h v)
+  row_goes : (row : TraceRow) (w v : World) → FitsFields row → Runs h k w → IsKept h k row → row_made h w row ≡ Some v → Holds (header_after h row) (known_after h k row) (steps.counted h v)
   row_goes (Plain row) w v is_row run kept at =
       row_holds h is law (restored h k row) row w v is_row (row_keeps h is k keeps row kept.1) (restored_row_runs h is k keeps row w kept.1 run) (row_comes h is k keeps row kept.0 kept.2) at
   row_goes (Withdraws r p) w v is_row run kept at =
       inl (subst (λ x. Runs h (known_after h k (Withdraws r p)) (steps.counted h x)) (same_Some (without_descriptor w r p) v at) (withdraw_runs h r p is k w keeps kept.1 run))
   row_goes (Comes b) w v coming run kept at =
-      inl (subst (λ x. Runs (header_after h (Comes b)) (known_after h k (Comes b)) (steps.counted h x)) (same_Some (emptied w b.value.id) v at) (comes_runs h is b.value coming k w keeps kept.1 run))
+      inl (subst (λ x. Runs (header_after h (Comes b)) (known_after h k (Comes b)) (steps.counted h x)) (same_Some (emptied w b.id) v at) (comes_runs h is b coming k w keeps kept.1 run))
   row_goes (Goes id) w v is_row run kept at = inl (subst (λ x. Runs (header_after h (Goes id)) (known_after h k (Goes id)) (steps.counted h x)) (same_Some (emptied w id) v at) (goes_runs h is id k w keeps kept.1 run))
 
   record StepGoes (w u : World) : Type 0 where
@@ -109,29 +109,29 @@ module _ (h : Header) (is : IsHeader h) where
     pub headed : IsHeader (header_now h past)
     pub keeps : DriverKeeps (header_now h past) (known_now h past)
 
-  now_keeps : (past : List TraceRow) → All IsTraceRow past → AreKept h past → (known_now h past).stopped ≡ false → Keeps past
+  now_keeps : (past : List TraceRow) → All FitsFields past → AreKept h past → (known_now h past).stopped ≡ false → Keeps past
   now_keeps [] are kept on = record { headed = is; keeps = nothing_kept h is }
   now_keeps (Plain row ∷ past) are kept on =
       let g : Header = header_now h past in
       let k : Known = known_now h past in
-      let p = now_keeps past (All-tail IsTraceRow (Plain row) past are) kept.0 (row_off (header_now h past) (known_now h past) row kept.1) in
+      let p = now_keeps past (All-tail FitsFields (Plain row) past are) kept.0 (row_off (header_now h past) (known_now h past) row kept.1) in
       record {
         headed = p.headed;
         keeps = kept_driver g p.headed (restored g k row) row (row_keeps g p.headed k p.keeps row kept.1.1) (row_comes g p.headed k p.keeps row kept.1.0 kept.1.2) on;
       }
   now_keeps (Withdraws r q ∷ past) are kept on =
-      let p = now_keeps past (All-tail IsTraceRow (Withdraws r q) past are) kept.0 kept.1.0 in
+      let p = now_keeps past (All-tail FitsFields (Withdraws r q) past are) kept.0 kept.1.0 in
       record { headed = p.headed; keeps = withdraw_keeps (header_now h past) r q p.headed (known_now h past) p.keeps kept.1.1 }
   now_keeps (Comes b ∷ past) are kept on =
-      let r = b.value in
-      let p = now_keeps past (All-tail IsTraceRow (Comes b) past are) kept.0 kept.1.0 in
-      let coming = All-head IsTraceRow (Comes b) past are in
+      let r = b in
+      let p = now_keeps past (All-tail FitsFields (Comes b) past are) kept.0 kept.1.0 in
+      let coming = All-head FitsFields (Comes b) past are in
       record {
         headed = comes_header (header_now h past) p.headed r coming (known_now h past) p.keeps kept.1.1;
         keeps = comes_keeps (header_now h past) p.headed r coming (known_now h past) p.keeps kept.1.1;
       }
   now_keeps (Goes id ∷ past) are kept on =
-      let p = now_keeps past (All-tail IsTraceRow (Goes id) past are) kept.0 kept.1.0 in
+      let p = now_keeps past (All-tail FitsFields (Goes id) past are) kept.0 kept.1.0 in
       record {
         headed = gone_ring_header (header_now h past) p.headed (known_now h past) p.keeps id kept.1.1;
         keeps = gone_ring_kept (header_now h past) p.headed (known_now h past) p.keeps id kept.1.1;
@@ -146,8 +146,8 @@ module _ (h : Header) (is : IsHeader h) where
 
   -- a run has come to a scene, with `past` the rows that were made, the newest first
   record CameTo (past : List TraceRow) (x : Scene) : Type 0 where
-    made : All IsTraceRow past
-    left : All IsTraceRow x.rows
+    made : All FitsFields past
+    left : All FitsFields x.rows
     kept : AreKept h (reverse x.rows ++ past)
     header : x.header ≡ header_now h past
     holds : Holds (header_now h past) (known_now h past) x.world
@@ -164,13 +164,13 @@ module _ (h : Header) (is : IsHeader h) where
       let there = some_of (λ w. let z : Scene = record { header = header_after (header_now h past) row; rows = rest; world = steps.counted (header_now h past) w } in z) (row_made (header_now h past) x.world row) y at in
       let kept : AreKept h (reverse rest ++ (row ∷ past)) = subst (AreKept h) (one_more row rest past) (subst (λ l. AreKept h (reverse l ++ past)) same c.kept) in
       let own : AreKept h (row ∷ past) = later_kept (reverse rest) (row ∷ past) kept in
-      let left : All IsTraceRow (row ∷ rest) = subst (All IsTraceRow) same c.left in
-      let is_row : IsTraceRow row = All-head IsTraceRow row rest left in (
+      let left : All FitsFields (row ∷ rest) = subst (All FitsFields) same c.left in
+      let is_row : FitsFields row = All-head FitsFields row rest left in (
         row,
         subst (CameTo (row ∷ past)) there.2
             (record {
-              made = All-cons IsTraceRow row past is_row c.made;
-              left = All-tail IsTraceRow row rest left;
+              made = All-cons FitsFields row past is_row c.made;
+              left = All-tail FitsFields row rest left;
               kept = kept;
               header = refl;
               holds = elim c.holds [
@@ -220,16 +220,16 @@ module _ (h : Header) (is : IsHeader h) where
       by (Other b) is_step at = (past, stays past x y (Other b) is_step (λ e. cc) c at)
       by (Scribble a w) is_step at = (past, stays past x y (Scribble a w) is_step (λ e. cc) c at)
 
-  first : (rows : List TraceRow) → All IsTraceRow rows → AreKept h (reverse rows) → CameTo [] (record { header = h; rows = rows; world = opening [] })
+  first : (rows : List TraceRow) → All FitsFields rows → AreKept h (reverse rows) → CameTo [] (record { header = h; rows = rows; world = opening [] })
   first rows are kept = record {
-    made = All-nil IsTraceRow;
+    made = All-nil FitsFields;
     left = are;
     kept = subst (AreKept h) (sym (append-nil (reverse rows))) kept;
     header = refl;
     holds = inl (opens h []);
   }
 
-  came : (rows : List TraceRow) → All IsTraceRow rows → AreKept h (reverse rows) → (made : List Step) (x : Scene) → All IsStep made → scene_reached h rows made ≡ Some x →
+  came : (rows : List TraceRow) → All FitsFields rows → AreKept h (reverse rows) → (made : List Step) (x : Scene) → All IsStep made → scene_reached h rows made ≡ Some x →
       (past : List TraceRow) × CameTo past x
   came rows are kept [] x all at = ([], subst (CameTo []) (same_Some (record { header = h; rows = rows; world = opening [] }) x at) (first rows are kept))
   came rows are kept (s ∷ older) x all at =

@@ -20,23 +20,23 @@ use Rattle.ring_knowledge.specs.Rings.{on_ring}
 use Rattle.ring_changes.specs.Withdrawals.{is_bad_withdraw, is_left, restored, ring_restored, some_flips, without_descriptor}
 use Rattle.ring_changes.specs.Changes.{IsComing, emptied, forgotten, is_bad_free, is_bad_ring, with_ring, without_ring}
 
--- what a row keeps by its line alone
-abbrev pub IsTraceRow : TraceRow → Type 0
-IsTraceRow (Plain row) = IsRow row
-IsTraceRow (Comes ring) = IsComing ring.value
-IsTraceRow (Goes id) = id < 256
-IsTraceRow (Withdraws r p) = (r < 256) × (p < 2 ^ 64)
+-- what the type of a row keeps
+abbrev pub FitsFields : TraceRow → Type 0
+FitsFields (Plain row) = IsRow row
+FitsFields (Comes ring) = IsComing ring
+FitsFields (Goes id) = id < 256
+FitsFields (Withdraws r p) = (r < 256) × (p < 2 ^ 64)
 
 -- the rings that are there behind a row, and what is known: of a ring that comes nothing; what a row starts or moves is restored
 abbrev pub header_after : Header → TraceRow → Header
 header_after h (Plain row) = h
-header_after h (Comes ring) = with_ring h ring.value
+header_after h (Comes ring) = with_ring h ring
 header_after h (Goes id) = without_ring h id
 header_after h (Withdraws r p) = h
 
 abbrev pub known_after : Header → Known → TraceRow → Known
 known_after h k (Plain row) = learned h (restored h k row) row
-known_after h k (Comes ring) = forgotten k ring.value.id
+known_after h k (Comes ring) = forgotten k ring.id
 known_after h k (Goes id) = forgotten k id
 known_after h k (Withdraws r p) = on_ring h k r (changes.Withdraws p)
 
@@ -44,7 +44,7 @@ known_after h k (Withdraws r p) = on_ring h k r (changes.Withdraws p)
 -- that ring is the controller's again
 abbrev pub IsKept : Header → Known → TraceRow → Type 0
 IsKept h k (Plain row) = (lenient h (restored h k row) row ≡ []) × (is_left h k (ring_restored h k row) ≡ false) × (some_flips h (restored h k row) row ≡ false)
-IsKept h k (Comes ring) = (k.stopped ≡ false) × (is_bad_ring h k ring.value ≡ false)
+IsKept h k (Comes ring) = (k.stopped ≡ false) × (is_bad_ring h k ring ≡ false)
 IsKept h k (Goes id) = (k.stopped ≡ false) × (is_bad_free h k id ≡ false)
 IsKept h k (Withdraws r p) = (k.stopped ≡ false) × (is_bad_withdraw h k r p ≡ false)
 
@@ -73,7 +73,7 @@ pub record Scene : Type 0 where
 -- on a ring that comes nothing has happened
 abbrev pub row_made : Header → World → TraceRow → Option World
 row_made h w (Plain row) = driver.row_done h w row
-row_made h w (Comes ring) = Some (emptied w ring.value.id)
+row_made h w (Comes ring) = Some (emptied w ring.id)
 row_made h w (Goes id) = Some (emptied w id)
 row_made h w (Withdraws r p) = Some (without_descriptor w r p)
 
@@ -95,5 +95,5 @@ module _ (h : Header) where
   -- behind each step of each run beside rows that break no rule the world is safe
   abbrev pub RingsHeadline : Type 0
   RingsHeadline =
-      (rows : List TraceRow) → IsHeader h → All IsTraceRow rows → AreKept h (reverse rows) →
+      (rows : List TraceRow) → IsHeader h → All FitsFields rows → AreKept h (reverse rows) →
       (made : List Step) (x : Scene) → All IsStep made → scene_reached rows made ≡ Some x → IsSafe x.header x.world

@@ -46,12 +46,12 @@ module _ (h : Header) (first : ℕ) where
         (λ l. ap (λ ms. is_among ms l) (goes_open (header_now h past) is (known_now h past) d id good) ∙ among_filtered (λ m. not (is_of_ring id m)) (open_now h past) l)
 
     -- nothing begins or ends
-    pub comes_lent : (ring : Box Ring Global) → IsComing ring.value → is_bad_ring (header_now h past) (known_now h past) ring.value ≡ false →
+    pub comes_lent : (ring : Box Ring Global) → IsComing ring → is_bad_ring (header_now h past) (known_now h past) ring ≡ false →
         ring_lents h first (Comes ring ∷ past) ≡ ring_lents h first past
     unfolding ring_lents
     comes_lent ring coming good =
         nothing_passed (open_now h past) (open_now h (Comes ring ∷ past)) (first + length past) (ring_lents h first past) (lent_open past room)
-        (λ l. ap (λ ms. is_among ms l) (comes_open (header_now h past) is (known_now h past) d ring.value coming good))
+        (λ l. ap (λ ms. is_among ms l) (comes_open (header_now h past) is (known_now h past) d ring coming good))
 
   -- ---- plain rows
 

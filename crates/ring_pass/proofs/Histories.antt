@@ -41,7 +41,7 @@ module _ (h : Header) where
       let k = known_now h past in
       let g = header_now h past in
       ap (λ f. f p) (free_same g (restored g k row) row r) ∙ ap (λ (x : Known). (x.ring r).free p) (restored_same g k row none) ∙ none r p
-  nothing_free_now (Comes ring ∷ past) clean r p = forgotten_free (known_now h past) ring.value.id (nothing_free_now past clean.0) r p
+  nothing_free_now (Comes ring ∷ past) clean r p = forgotten_free (known_now h past) ring.id (nothing_free_now past clean.0) r p
   nothing_free_now (Goes id ∷ past) clean r p = forgotten_free (known_now h past) id (nothing_free_now past clean.0) r p
   nothing_free_now (Withdraws s q ∷ past) clean r p = absurd clean.1
 

@@ -107,15 +107,15 @@ module _ {B M : Type 0} (words : M → ℕ → ℕ) (Holds : Header → List Len
       subst (λ us. HoldsAll Holds g us log x) (sym (lents_plain row))
       (subst (λ n. HoldsAll Holds g (grown g k row n ts) log x) numbered (subst (λ (y : Header). HoldsAll Holds y (grown y k row number ts) log x) p.header held))
 
-  pub comes_logged : (ring : Box Ring Global) → IsComing ring.value → k.stopped ≡ false → is_bad_ring g k ring.value ≡ false → HoldsAll Holds g ts before.log before.ranges →
-      HoldsAll Holds (with_ring g ring.value) (ring_lents h first (Comes ring ∷ past)) before.log before.ranges
+  pub comes_logged : (ring : Ring) → IsComing ring → k.stopped ≡ false → is_bad_ring g k ring ≡ false → HoldsAll Holds g ts before.log before.ranges →
+      HoldsAll Holds (with_ring g ring) (ring_lents h first (Comes ring ∷ past)) before.log before.ranges
   comes_logged ring coming on good held =
       let is = headed_now words h past before p in
       let d = (tracked_now words h past before p).keeps on in
-      subst (λ us. HoldsAll Holds (with_ring g ring.value) us before.log before.ranges) (sym (comes_lent h first past low is d ring coming good))
+      subst (λ us. HoldsAll Holds (with_ring g ring) us before.log before.ranges) (sym (comes_lent h first past low is d ring coming good))
       (record {
-        held = other_rings g (with_ring g ring.value) ts before.log (comes_alike g is k d ring.value coming good ts (lent_open h first past low)) held.held;
-        found = ranges_found g (with_ring g ring.value) before.ranges (comes_commands g is k d ring.value coming good) ts held.found;
+        held = other_rings g (with_ring g ring) ts before.log (comes_alike g is k d ring coming good ts (lent_open h first past low)) held.held;
+        found = ranges_found g (with_ring g ring) before.ranges (comes_commands g is k d ring coming good) ts held.found;
       })
 
   pub goes_logged : (id number : ℕ) → number ≡ first + length past → k.stopped ≡ false → is_bad_free g k id ≡ false → (log : B) → Holds before.header (map (ended_where (is_of_ring id) number) ts) log →

@@ -1,5 +1,5 @@
 -- A row more of a pass
-use Rattle.std.proofs.Common.{◌≡◌, ◌+◌, ◌++◌, ◌∷◌, ◌∙◌, ℕ, true, false, List, [], Box, Global, All, Option, Some, None, Result, Ok, Err, IfErr, suc, length, reverse, arith, refl, sym, ap, subst, inl, inr}
+use Rattle.std.proofs.Common.{◌≡◌, ◌+◌, ◌++◌, ◌∷◌, ◌∙◌, ℕ, true, false, List, [], All, Option, Some, None, Result, Ok, Err, IfErr, suc, length, reverse, arith, refl, sym, ap, subst, inl, inr}
 use Rattle.safety.proofs.Words.{reverse-append, All-cons, All-head, All-nil, All-tail, Header, Known, Ring, IsHeader, DriverKeeps, learned, nothing}
 use Rattle.std.proofs.lemmas.Grind.{common_steps}
 use Rattle.safety.proofs.DriverHistories.{kept_restored}
@@ -26,18 +26,13 @@ use Rattle.row_checks.specs.Tracking.{IsTracked}
 use Rattle.lease_rows.specs.LeftBehind.{EntriesFit}
 use Rattle.lease_rows.proofs.EntriesFit.{nothing_fits, row_fits, still_fit}
 use Rattle.ring_changes.specs.Changes.{IsComing, forgotten, is_bad_free, is_bad_ring, with_ring, without_ring}
-use Rattle.ring_changes.specs.Histories.{AreKept, IsTraceRow, header_now, known_now}
+use Rattle.ring_changes.specs.Histories.{AreKept, FitsFields, header_now, known_now}
 use Rattle.ring_changes.proofs.GoneRings.{gone_ring_kept}
 use Rattle.ring_changes.proofs.RingRuns.{comes_keeps}
 use Rattle.ring_changes.proofs.RingsHeadline.{rings_headline}
-use Rattle.ring_checks.specs.declared.fault.RingFault.{RingFault}
-use Rattle.ring_checks.specs.declared.fault.RingFault.TheVariants.{Refused, Memory}
-use Rattle.ring_checks.specs.declared.rule.RingRule.{RingRule}
-use Rattle.ring_checks.specs.declared.rule.RingRule.TheVariants.{BadFree, BadRing}
-use Rattle.ring_checks.specs.RingSteps.{IfRefused, IsRingStep}
+use Rattle.ownership_rules.specs.declared.refusal.Refusal.TheVariants.{BadFree, BadRing}
+use Rattle.ring_checks.specs.RingSteps.{IsRingStep}
 use Rattle.ring_pass.specs.Clean.{IsLeastOfRing}
-use Rattle.ring_pass.specs.Faults.{row_fault}
-use Rattle.ring_pass.specs.declared.fault.RingRowFault.TheVariants.{Broken}
 use Rattle.ring_pass.specs.Passing.{DoNoHarm, IsRingPassed}
 use Rattle.ring_pass.specs.declared.pass.RingPass.{RingPass}
 use Rattle.ring_pass.proofs.Histories.{kept_now, known_plain, nothing_free_now}
@@ -55,15 +50,15 @@ coming_by_header h r is kind = record {
   shape = shape_allowed (with_ring h r) is r (among_last r h.rings);
 }
 
-all_joined : (xs ys : List TraceRow) → All IsTraceRow xs → All IsTraceRow ys → All IsTraceRow (xs ++ ys)
+all_joined : (xs ys : List TraceRow) → All FitsFields xs → All FitsFields ys → All FitsFields (xs ++ ys)
 all_joined [] ys first second = second
-all_joined (x ∷ xs) ys first second = All-cons IsTraceRow x (xs ++ ys) (All-head IsTraceRow x xs first) (all_joined xs ys (All-tail IsTraceRow x xs first) second)
+all_joined (x ∷ xs) ys first second = All-cons FitsFields x (xs ++ ys) (All-head FitsFields x xs first) (all_joined xs ys (All-tail FitsFields x xs first) second)
 
-all_reversed : (rows : List TraceRow) → All IsTraceRow rows → All IsTraceRow (reverse rows)
+all_reversed : (rows : List TraceRow) → All FitsFields rows → All FitsFields (reverse rows)
 all_reversed [] are = are
 all_reversed (row ∷ rows) are =
-    subst (All IsTraceRow) (sym (reverse-append (row ∷ []) rows))
-    (all_joined (reverse rows) (row ∷ []) (all_reversed rows (All-tail IsTraceRow row rows are)) (All-cons IsTraceRow row [] (All-head IsTraceRow row rows are) (All-nil IsTraceRow)))
+    subst (All FitsFields) (sym (reverse-append (row ∷ []) rows))
+    (all_joined (reverse rows) (row ∷ []) (all_reversed rows (All-tail FitsFields row rows are)) (All-cons FitsFields row [] (All-head FitsFields row rows are) (All-nil FitsFields)))
 
 reversed_twice : (rows : List TraceRow) → reverse (reverse rows) ≡ rows
 reversed_twice rows = grind (arith, common_steps)
@@ -139,15 +134,15 @@ module _ {B M : Type 0} (words : M → ℕ → ℕ) where
         }
 
     -- behind a ring that comes
-    pub comes_behind : (ring : Box Ring Global) (after : TraceRecord) → ring.value.shape.kind ≡ Xfer → (DriverKeeps before.header k → k.stopped ≡ false → IsRingStep before.header k (Comes ring) after (words before.memory)) →
-        k.stopped ≡ false → IsWithin after.events (length past) → (later : RingPass B M) → later.header ≡ with_ring before.header ring.value → IsHeader later.header → IsFinder later.header.rings later.finder → later.record ≡ after →
+    pub comes_behind : (ring : Ring) (after : TraceRecord) → ring.shape.kind ≡ Xfer → (DriverKeeps before.header k → k.stopped ≡ false → IsRingStep before.header k (Comes ring) after (words before.memory)) →
+        k.stopped ≡ false → IsWithin after.events (length past) → (later : RingPass B M) → later.header ≡ with_ring before.header ring → IsHeader later.header → IsFinder later.header.rings later.finder → later.record ≡ after →
         words later.memory ≡ words before.memory → IsRingPassed words h (Comes ring ∷ past) later
     comes_behind ring after kind stepped on reads later header is found recorded at =
         let keeps = tracked_now.keeps on in
         let now : IsRingStep g k (Comes ring) after (words before.memory) =
         subst (λ (x : Header). IsRingStep x k (Comes ring) after (words before.memory)) p.header (stepped (p.tracked.keeps on) on) in
-        let there : later.header ≡ with_ring g ring.value = header ∙ ap (λ (x : Header). with_ring x ring.value) p.header in
-        let coming : IsComing ring.value = coming_by_header g ring.value (subst IsHeader there is) kind in
+        let there : later.header ≡ with_ring g ring = header ∙ ap (λ (x : Header). with_ring x ring) p.header in
+        let coming : IsComing ring = coming_by_header g ring (subst IsHeader there is) kind in
         record {
           opening = p.opening;
           header = there;
@@ -155,7 +150,7 @@ module _ {B M : Type 0} (words : M → ℕ → ℕ) where
           found = found;
           few_reads = rw recorded (one_later after (length past) reads);
           tracked = rw (recorded, at) (subst (λ (x : Header). IsTracked x (known_now h (Comes ring ∷ past)) after (words before.memory)) (sym there)
-              (record { follows = now.followed; keeps = λ still. comes_keeps g headed_now ring.value coming k keeps now.kept.1 }));
+              (record { follows = now.followed; keeps = λ still. comes_keeps g headed_now ring coming k keeps now.kept.1 }));
           entries = forgotten_fits k _ p.entries;
           clean = (p.clean, now.kept);
         }
@@ -198,29 +193,20 @@ module _ {B M : Type 0} (words : M → ℕ → ℕ) where
     pub least_now : (row : Row) (c : Refusal) → IsLeast before.header k row c → IsLeast g k row c
     least_now row c least = subst (λ (x : Header). IsLeast x k row c) p.header least
 
-    bad_now : (ring : Box Ring Global) → k.stopped ≡ false → ((k : Known) → FollowsTrace before.header k before.record (words before.memory) → is_bad_ring before.header k ring.value ≡ true) →
-        (c : RingRule) → c ≡ BadRing → IsLeastOfRing g k (Comes ring) (Broken c)
-    bad_now ring on bad BadRing is = (on, subst (λ (x : Header). is_bad_ring x k ring.value ≡ true) p.header (bad k p.tracked.follows))
-    bad_now ring on bad BadFree is = absurd cc
+    pub comes_refused : (ring : Ring) → k.stopped ≡ false → (e : step.StepFault) →
+        steps.IfRefused e (λ c. (c ≡ BadRing) × ((k : Known) → FollowsTrace before.header k before.record (words before.memory) → is_bad_ring before.header k ring ≡ true)) →
+        steps.IfRefused e (λ c. IsLeastOfRing g k (Comes ring) c)
+    comes_refused ring on (variants.Refused c) bad =
+        subst (λ (x : Refusal). IsLeastOfRing g k (Comes ring) x) (sym bad.0) (on, subst (λ (x : Header). is_bad_ring x k ring ≡ true) p.header (bad.1 k p.tracked.follows))
+    comes_refused ring on variants.Memory bad = tt
 
-    pub comes_refused : (ring : Box Ring Global) → k.stopped ≡ false → (e : RingFault) →
-        IfRefused e (λ c. (c ≡ BadRing) × ((k : Known) → FollowsTrace before.header k before.record (words before.memory) → is_bad_ring before.header k ring.value ≡ true)) →
-        IsLeastOfRing g k (Comes ring) (row_fault e)
-    comes_refused ring on (Refused c) bad = bad_now ring on bad.1 c bad.0
-    comes_refused ring on Memory bad = tt
-
-    bound_now : (id : ℕ) → k.stopped ≡ false →
-        ((k : Known) (memory : ℕ → ℕ) → FollowsTrace before.header k before.record memory → DriverKeeps before.header k → is_bad_free before.header k id ≡ true) →
-        (c : RingRule) → c ≡ BadFree → IsLeastOfRing g k (Goes id) (Broken c)
-    bound_now id on bad BadFree is = (on, subst (λ (x : Header). is_bad_free x k id ≡ true) p.header (bad k (words before.memory) p.tracked.follows (p.tracked.keeps on)))
-    bound_now id on bad BadRing is = absurd cc
-
-    pub goes_refused : (id : ℕ) → k.stopped ≡ false → (e : RingFault) →
-        IfRefused e (λ c. (c ≡ BadFree) × ((k : Known) (memory : ℕ → ℕ) → FollowsTrace before.header k before.record memory → DriverKeeps before.header k → is_bad_free before.header k id ≡ true)) →
-        IsLeastOfRing g k (Goes id) (row_fault e)
-    goes_refused id on (Refused c) bad = bound_now id on bad.1 c bad.0
-    goes_refused id on Memory bad = tt
+    pub goes_refused : (id : ℕ) → k.stopped ≡ false → (e : step.StepFault) →
+        steps.IfRefused e (λ c. (c ≡ BadFree) × ((k : Known) (memory : ℕ → ℕ) → FollowsTrace before.header k before.record memory → DriverKeeps before.header k → is_bad_free before.header k id ≡ true)) →
+        steps.IfRefused e (λ c. IsLeastOfRing g k (Goes id) c)
+    goes_refused id on (variants.Refused c) bad =
+        subst (λ (x : Refusal). IsLeastOfRing g k (Goes id) x) (sym bad.0) (on, subst (λ (x : Header). is_bad_free x k id ≡ true) p.header (bad.1 k (words before.memory) p.tracked.follows (p.tracked.keeps on)))
+    goes_refused id on variants.Memory bad = tt
 
     -- no run beside the rows, in their order, does harm
-    pub no_harm : All IsTraceRow past → DoNoHarm h (reverse past)
+    pub no_harm : All FitsFields past → DoNoHarm h (reverse past)
     no_harm are = rings_headline h (reverse past) p.opening (all_reversed past are) (subst (AreKept h) (sym (reversed_twice past)) (kept_now h past p.clean))

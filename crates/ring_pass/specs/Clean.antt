@@ -7,14 +7,13 @@ use Rattle.ring_knowledge.specs.Known.{Known}
 use Rattle.ownership_rules.specs.Rules.{broken}
 use Rattle.ring_changes.specs.Changes.{is_bad_free, is_bad_ring}
 use Rattle.ring_changes.specs.Histories.{header_now, known_now}
-use Rattle.ring_checks.specs.declared.rule.RingRule.TheVariants.{BadFree, BadRing}
-use Rattle.ring_pass.specs.declared.fault.RingRowFault.{RingRowFault}
-use Rattle.ring_pass.specs.declared.fault.RingRowFault.TheVariants.{AfterStop, Broken, Memory}
+use Rattle.ownership_rules.specs.declared.refusal.Refusal.{Refusal}
+use Rattle.ownership_rules.specs.declared.refusal.Refusal.TheVariants.{AfterStop, BadFree, BadRing}
 
 -- the row breaks no rule: behind a stop none may come. Descriptors aren't withdrawn here
 abbrev pub BreaksNone : Header → Known → TraceRow → Type 0
 BreaksNone h k (Plain row) = broken h k row ≡ []
-BreaksNone h k (Comes ring) = (k.stopped ≡ false) × (is_bad_ring h k ring.value ≡ false)
+BreaksNone h k (Comes ring) = (k.stopped ≡ false) × (is_bad_ring h k ring ≡ false)
 BreaksNone h k (Goes id) = (k.stopped ≡ false) × (is_bad_free h k id ≡ false)
 BreaksNone h k (Withdraws r p) = ⊥
 
@@ -23,10 +22,9 @@ abbrev pub AreClean : Header → List TraceRow → Type 0
 AreClean h [] = Unit {0}
 AreClean h (row ∷ past) = AreClean h past × BreaksNone (header_now h past) (known_now h past) row
 
--- the least rule that a ring breaks which comes or goes: behind a stop none may, and before it this one is broken; want of memory says nothing
-abbrev pub IsLeastOfRing : Header → Known → TraceRow → RingRowFault → Type 0
+-- the least rule that a ring breaks which comes or goes: behind a stop none may, and before it this one is broken
+abbrev pub IsLeastOfRing : Header → Known → TraceRow → Refusal → Type 0
 IsLeastOfRing h k row AfterStop = k.stopped ≡ true
-IsLeastOfRing h k (Comes ring) (Broken BadRing) = (k.stopped ≡ false) × (is_bad_ring h k ring.value ≡ true)
-IsLeastOfRing h k (Goes id) (Broken BadFree) = (k.stopped ≡ false) × (is_bad_free h k id ≡ true)
-IsLeastOfRing h k row (Broken c) = ⊥
-IsLeastOfRing h k row Memory = Unit {0}
+IsLeastOfRing h k (Comes ring) BadRing = (k.stopped ≡ false) × (is_bad_ring h k ring ≡ true)
+IsLeastOfRing h k (Goes id) BadFree = (k.stopped ≡ false) × (is_bad_free h k id ≡ true)
+IsLeastOfRing h k row c = ⊥

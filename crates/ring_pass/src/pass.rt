@@ -15,15 +15,15 @@ ghost use Rattle.lease_book.specs.InStep.{AreOpen};
 ghost use Rattle.lease_book.specs.Lents.{Lent, ended_where, lents};
 ghost use Rattle.ring_leases.specs.RingLents.{is_of_ring, ring_lents};
 ghost use Rattle.trace_record.specs.FollowsTrace.{FollowsTrace};
-ghost use Rattle.ring_changes.specs.Histories.{IsTraceRow, header_now, known_now};
+ghost use Rattle.ring_changes.specs.Histories.{FitsFields, header_now, known_now};
 ghost use Rattle.trace_record.specs.Steps.{IfRefused, IsLeast};
 ghost use Rattle.ring_pass.specs.Clean.{IsLeastOfRing};
 ghost use Rattle.ring_pass.specs.Passing.{DoNoHarm, IsRingLogged, IsRingPassed};
 
-use crate::fault::RingRowFault;
 use guest_memory::WordMemory;
 use lease_book::{LeaseLog, RangeIndexes};
 use lease_rows::note_row;
+use ownership_rules::Refusal;
 use ring_checks::{check_coming, check_going};
 use ring_finder::Finder;
 use ring_leases::note_going;
@@ -105,18 +105,18 @@ impl<B: LeaseLog + Drop, M: WordMemory + Drop> RingPass<B, M> {
     }
 
     /// Checks a transfer ring that comes, and takes it up. No lease begins or ends (xHCI 4.9).
-    pub fn ring_comes(&mut self, ring: Box<Ring>) -> Result<(), RingRowFault>
+    pub fn ring_comes(&mut self, ring: Ring) -> Result<(), StepFault>
         requires so_far { (h : Header) × (past : List TraceRow) × IsRingPassed M.words h past self.old }
-        requires transfers { ring.value.shape.kind ≡ Xfer }
+        requires transfers { ring.shape.kind ≡ Xfer }
         ensures passed { OnOk result ((h : Header) (past : List TraceRow) → IsRingPassed M.words h past self.old → IsRingPassed M.words h (Comes ring ∷ past) self.new) }
         ensures logged { OnOk result ((list : List Lease) (h : Header) (first : ℕ) (past : List TraceRow) → IsRingPassed M.words h past self.old →
             first + length past < without_end →
             IsRingLogged (B.holds list) h first past self.old → IsRingLogged (B.holds list) h first (Comes ring ∷ past) self.new) }
-        ensures refused { IfErr result (λ e. (h : Header) (past : List TraceRow) → IsRingPassed M.words h past self.old →
-            IsLeastOfRing (header_now h past) (known_now h past) (Comes ring) e) }
+        ensures refused { IfErr result (λ e. IfRefused e (λ c. (h : Header) (past : List TraceRow) → IsRingPassed M.words h past self.old →
+            IsLeastOfRing (header_now h past) (known_now h past) (Comes ring) c)) }
     {
         if self.record.registers.is_stopped() {
-            return Err(RingRowFault::AfterStop);
+            return Err(StepFault::Refused(Refusal::AfterStop));
         }
         check_coming(
             self.alloc,
@@ -130,17 +130,17 @@ impl<B: LeaseLog + Drop, M: WordMemory + Drop> RingPass<B, M> {
     }
 
     /// Checks a ring that goes, ends the leases of its blocks and Links, and forgets it (xHCI 4.9).
-    pub fn ring_goes(&mut self, number: u32, id: u8) -> Result<(), RingRowFault>
+    pub fn ring_goes(&mut self, number: u32, id: u8) -> Result<(), StepFault>
         requires so_far { (h : Header) × (past : List TraceRow) × IsRingPassed M.words h past self.old }
         ensures passed { OnOk result ((h : Header) (past : List TraceRow) → IsRingPassed M.words h past self.old → IsRingPassed M.words h (Goes id ∷ past) self.new) }
         ensures logged { OnOk result ((list : List Lease) (h : Header) (first : ℕ) (past : List TraceRow) → IsRingPassed M.words h past self.old →
             number ≡ first + length past → first + length past < without_end →
             IsRingLogged (B.holds list) h first past self.old → IsRingLogged (B.holds list) h first (Goes id ∷ past) self.new) }
-        ensures refused { IfErr result (λ e. (h : Header) (past : List TraceRow) → IsRingPassed M.words h past self.old →
-            IsLeastOfRing (header_now h past) (known_now h past) (Goes id) e) }
+        ensures refused { IfErr result (λ e. IfRefused e (λ c. (h : Header) (past : List TraceRow) → IsRingPassed M.words h past self.old →
+            IsLeastOfRing (header_now h past) (known_now h past) (Goes id) c)) }
     {
         if self.record.registers.is_stopped() {
-            return Err(RingRowFault::AfterStop);
+            return Err(StepFault::Refused(Refusal::AfterStop));
         }
         self.end_leases(number, id);
         check_going(
@@ -180,7 +180,7 @@ impl<B: LeaseLog + Drop, M: WordMemory + Drop> RingPass<B, M> {
 
     /// The log of the rows so far. No run of the controller's model beside them does harm.
     pub fn into_log(self) -> B
-        ensures harmless { (h : Header) (past : List TraceRow) → IsRingPassed M.words h past self → All IsTraceRow past → DoNoHarm h (reverse past) }
+        ensures harmless { (h : Header) (past : List TraceRow) → IsRingPassed M.words h past self → All FitsFields past → DoNoHarm h (reverse past) }
         ensures logged { (list : List Lease) (h : Header) (first : ℕ) (past : List TraceRow) → IsRingLogged (B.holds list) h first past self →
             B.holds list (header_now h past) (ring_lents h first past) result }
     {

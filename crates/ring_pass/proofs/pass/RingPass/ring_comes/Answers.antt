@@ -37,6 +37,6 @@ returns-clause-logged g c = λ list h first past p room held.
     let k = known_now h past in
     let on = sym (c.is_stopped.ensures k p.tracked.follows.registers) ∙ c.if-is_stopped.false in
     let step = c.in_ok-check_coming.ensures.ok k p.tracked.follows (p.tracked.keeps on) on in
-    let coming = coming_by_header before.header c.args.ring.value (subst IsHeader c.in_ok-check_coming.ensures.comes c.in_ok-check_coming.ensures.headed) c.requires.transfers in
+    let coming = coming_by_header before.header c.args.ring (subst IsHeader c.in_ok-check_coming.ensures.comes c.in_ok-check_coming.ensures.headed) c.requires.transfers in
     comes_logged words (g.B.LeaseLog.holds list) (g.met.B.LeaseLog.other_rings list) h first past before p room c.args.ring coming on
-    (subst (λ (x : Header). is_bad_ring x k c.args.ring.value ≡ false) p.header step.kept.1) held
+    (subst (λ (x : Header). is_bad_ring x k c.args.ring ≡ false) p.header step.kept.1) held
