@@ -198,8 +198,8 @@ fn row_standing(
         return None;
     };
     ahead.keep_last(left);
-    let number = lines + 1;
-    Some((number, row))
+    let standing = (lines + 1, row);
+    Some(standing)
 }
 
 /// The same where pieces may have to be read first.
