@@ -1,5 +1,5 @@
 -- What the log of a pass keeps behind one row more
-use Rattle.std.proofs.Common.{◌≡◌, ◌+◌, ◌<◌, ◌≤◌, ◌∷◌, ◌∙◌, ℕ, Bool, true, false, not, ◌||◌, ◌==◌, None, List, [], Box, Global, length, map, arith, refl, sym, ap, subst}
+use Rattle.std.proofs.Common.{◌≡◌, ◌+◌, ◌<◌, ◌≤◌, ◌∷◌, ◌∙◌, ℕ, Bool, true, false, not, ◌||◌, ◌==◌, None, List, [], length, map, arith, refl, sym, ap, subst}
 use Rattle.std.proofs.lemmas.Bool.{or_parts}
 use Rattle.safety.proofs.Words.{Header, Known, Ring, IsHeader, open_leases}
 use Rattle.std.proofs.lemmas.Bool.{false≢true}
