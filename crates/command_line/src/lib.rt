@@ -95,7 +95,7 @@ Example:
 
 const EXPLAIN: &str = "\
 Prints what the rule is for, what a controller does to a driver that breaks it, what to write instead, and a trace that breaks
-it, status 0; else status 3. The rules have the numbers 10 to 25.
+it, status 0; else status 3. The rules have the numbers 10 to 25 and 32 to 35.
 
 Examples:
   xhcitrace explain 13
@@ -241,7 +241,7 @@ pub fn one_shown(alloc: Global) -> Result<Error, AllocError> {
 pub fn no_rule(alloc: Global) -> Result<Error, AllocError> {
     command(alloc)?.error(
         ErrorKind::InvalidValue,
-        "there is no such rule: a rule has a number from 10 to 25, or a name as WriteToOwned",
+        "there is no such rule: a rule has a number from 10 to 25 or from 32 to 35, or a name as WriteToOwned",
     )
 }
 
