@@ -16,6 +16,7 @@ use trb::Block;
 
 /// Checks a declaration before the stop, and notes it: rules 12, 15, 16 and 23, in this order. The driver has kept the rules so
 /// far.
+#[inline(always)]
 pub fn check_declaration(
     header: &Header,
     finder: &Finder,

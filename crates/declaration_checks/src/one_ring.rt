@@ -12,6 +12,7 @@ use trace_record::StepFault;
 use trb::{Block, Fault, RingKind, descriptor_fault};
 
 /// Checks a declaration on a ring, and notes it.
+#[inline(always)]
 pub fn declare_on(
     shape: &RingShape,
     known: &mut RingRecord,

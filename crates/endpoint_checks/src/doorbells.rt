@@ -24,6 +24,7 @@ use traces::Header;
 
 /// Whether a doorbell may not be rung now: before the start, that of the host controller with a target, or that of an endpoint
 /// that doesn't work or that an unfinished command may change (xHCI 4.7, 4.8.3, 5.6).
+#[inline(always)]
 pub fn is_bad_doorbell<M: WordMemory>(
     header: &Header,
     t: &TraceRecord,
@@ -44,6 +45,7 @@ pub fn is_bad_doorbell<M: WordMemory>(
 }
 
 /// The same of the doorbell of an endpoint.
+#[inline(always)]
 fn is_bad_bell<M: WordMemory>(
     header: &Header,
     t: &TraceRecord,
@@ -87,6 +89,7 @@ fn works(state: EndpointState) -> bool
 
 /// Notes a doorbell: that of the host controller opens the command ring, and that of an endpoint opens its ring and makes it
 /// Running where it is Stopped (xHCI 4.7, 4.8.3).
+#[inline(always)]
 pub fn ring_doorbell(finder: &Finder, t: &mut TraceRecord, slot: u8, target: u8)
     ensures followed { (h : HeaderValue) (k : Known) (m : ℕ → ℕ) → IsHeader h → IsFinder h.rings finder.now → FollowsTrace h k t.old m →
         FollowsTrace h (learned h k (Bell slot target)) t.new m }
@@ -98,6 +101,7 @@ pub fn ring_doorbell(finder: &Finder, t: &mut TraceRecord, slot: u8, target: u8)
 }
 
 /// The number of the ring that a doorbell opens.
+#[inline(always)]
 fn number_rung(finder: &Finder, devices: &DeviceRecord, slot: u8, target: u8) -> Option<usize>
     ensures { (h : HeaderValue) (k : Known) → IsFinder h.rings finder.now → FollowsDevices k devices.now → result ≡ number_rung h k slot target }
 {

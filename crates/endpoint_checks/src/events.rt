@@ -17,6 +17,7 @@ use trb::{Block, BlockKind};
 
 /// Whether no controller can have posted an event, whatever its type says: before the start, without room in the event ring, with
 /// another Cycle bit than that of its place, or of a type that is no event's.
+#[inline(always)]
 pub fn is_no_event(t: &TraceRecord, event: Block) -> bool
     ensures { (h : Header) (k : Known) (m : ℕ → ℕ) → FollowsTrace h k t.now m → IsSetUp h k →
         result ≡ (not k.started || is_past_room h k || not (cycle event == cycle_of (event_shape h) k.reads) || not (is_event (kind event))) }
@@ -72,6 +73,7 @@ fn is_event(kind: BlockKind) -> bool
 }
 
 /// Counts an event that was read, which has the Cycle bit of its place.
+#[inline(always)]
 pub fn count_read(t: &mut TraceRecord, event: Block)
     requires few { IsWithin t.old.events (2 ^ 32) }
     ensures followed { (h : Header) (k : Known) (m : ℕ → ℕ) → FollowsTrace h k t.old m → (cycle event == cycle_of (event_shape h) k.reads) ≡ true →

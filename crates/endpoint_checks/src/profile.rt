@@ -9,6 +9,7 @@ ghost use Rattle.ownership_rules.specs.Events.{is_in_profile};
 use trb::{Block, BlockFlags, BlockKind, Flags};
 
 /// Whether the profile leaves an event out: a Transfer Event with Event Data, or with a code that it doesn't have.
+#[inline(always)]
 pub fn is_left_out(event: Block) -> bool
     ensures { result ≡ (is_transfer_event (kind event) && not (is_in_profile event)) }
 {

@@ -16,6 +16,7 @@ use ring_finder::Finder;
 use ring_knowledge::RingRecord;
 
 /// The number of an endpoint's ring in the header.
+#[inline(always)]
 pub fn endpoint_ring(finder: &Finder, devices: &DeviceRecord, slot: u8, index: u8) -> Option<usize>
     ensures value { (rings : List RingValue) (k : Known) → IsFinder rings finder.now → FollowsDevices k devices.now → result ≡ number_of rings (k.ring_of slot index) }
     ensures below { (rings : List RingValue) → IsFinder rings finder.now → IfSome result (λ number. number < length rings) }
@@ -27,6 +28,7 @@ pub fn endpoint_ring(finder: &Finder, devices: &DeviceRecord, slot: u8, index: u
 }
 
 /// Opens the ring with this number, if there is one.
+#[inline(always)]
 pub fn open_ring(records: &mut Vec<RingRecord>, number: Option<usize>)
     ensures opened { (h : HeaderValue) (k : Known) (n : ℕ) (ring : RingValue) → IsHeader h → number ≡ Some n → slice_get h.rings n ≡ Some ring →
         FollowsRings h k records.old.items → FollowsRings h (on_ring h k ring.id Opens) records.new.items }

@@ -38,6 +38,7 @@ use trb::Block;
 /// Notes a Transfer Event of the profile that a controller can have posted, and tells whether one can: not where its endpoint is
 /// Disabled, or hasn't come to what the event says of the spot that it names. What is noted is how far the controller has come on
 /// the ring, and in which state the endpoint is (xHCI 4.8.3, 4.9.2, 4.10.2).
+#[inline(always)]
 pub fn read_transfer_event(
     header: &Header,
     finder: &Finder,
@@ -72,6 +73,7 @@ fn is_off(state: EndpointState) -> bool
 }
 
 /// Whether a controller can have posted the event for the spot that it names.
+#[inline(always)]
 fn can_report_at(
     header: &Header,
     finder: &Finder,
@@ -93,6 +95,7 @@ fn can_report_at(
 }
 
 /// Whether a controller can have posted the event for a spot of a ring.
+#[inline(always)]
 fn can_report(
     finder: &Finder,
     t: &TraceRecord,
@@ -182,6 +185,7 @@ fn is_stop_of(command: Option<Command>, slot: u8, index: u8) -> bool
 
 /// Notes a Transfer Event that can have been posted, and names this spot. A Short Packet finishes the block that it names, and no
 /// more of its descriptor.
+#[inline(always)]
 fn note_at(header: &Header, t: &mut TraceRecord, event: Block, at: NamedSpot)
     requires headed { IsHeader header.now }
     requires below { at.number < length header.now.rings }
@@ -203,6 +207,7 @@ fn note_at(header: &Header, t: &mut TraceRecord, event: Block, at: NamedSpot)
 }
 
 /// Notes what an event with this code says of a spot of a ring, by its number.
+#[inline(always)]
 fn note_report(records: &mut Vec<RingRecord>, ring: usize, shape: &RingShape, code: u8, spot: Spot)
     requires { number spot < 2 ^ 63 }
     ensures { (known : RingValue) (v : RingView) → slice_get records.old.items ring ≡ Some known → FollowsRing shape.now v known → MayReport shape.now v code spot →
@@ -214,6 +219,7 @@ fn note_report(records: &mut Vec<RingRecord>, ring: usize, shape: &RingShape, co
 }
 
 /// The same of the record of the ring.
+#[inline(always)]
 fn note_on_ring(known: &mut RingRecord, shape: &RingShape, code: u8, spot: Spot)
     requires { number spot < 2 ^ 63 }
     ensures { (v : RingView) → FollowsRing shape.now v known.old → MayReport shape.now v code spot → FollowsRing shape.now (reported shape.now v code spot) known.new }

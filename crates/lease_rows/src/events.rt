@@ -24,6 +24,7 @@ use trb::{Block, BlockKind};
 
 /// Notes the row of a number that reads an event, but a Command Completion Event; the record is that before it. A Transfer Event
 /// ends the leases of the blocks and Links that its ring's controller has passed. Where the leases of ranges stand stays.
+#[inline(always)]
 pub(crate) fn note_transfer<B: LeaseLog>(
     book: &mut B,
     header: &Header,

@@ -32,6 +32,7 @@ use trace_record::{StepFault, TraceRecord};
 use traces::{Header, Register};
 
 /// Checks a register write before the stop, and notes it.
+#[inline(always)]
 pub fn check_register<M: WordMemory>(
     header: &Header,
     finder: &Finder,
@@ -66,6 +67,7 @@ pub fn check_register<M: WordMemory>(
 
 /// Whether a set-up register is written too late, too early, with a wrong value or, before version 3, twice, or the start or a
 /// reset comes too early or too late.
+#[inline(always)]
 fn is_bad_register<M: WordMemory>(
     header: &Header,
     finder: &Finder,

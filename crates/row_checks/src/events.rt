@@ -28,6 +28,7 @@ use traces::Header;
 use trb::{Block, BlockKind};
 
 /// Checks an event before the stop, and notes it: rules 21 and 23, in this order.
+#[inline(always)]
 pub fn check_event<M: WordMemory>(
     header: &Header,
     finder: &Finder,
@@ -58,6 +59,7 @@ pub fn check_event<M: WordMemory>(
 }
 
 /// Notes what an event adds that a controller can have posted, but for its count, and tells whether one can, by its type.
+#[inline(always)]
 fn note_event<M: WordMemory>(
     header: &Header,
     finder: &Finder,

@@ -72,6 +72,7 @@ pub fn check_row<M: WordMemory>(
 }
 
 /// Checks a write before the stop, makes it, and notes what it gives. Most writes give nothing: these are checked here.
+#[inline(always)]
 fn check_word<M: WordMemory>(
     header: &Header,
     finder: &Finder,
@@ -97,6 +98,7 @@ fn check_word<M: WordMemory>(
 }
 
 /// The same of a write that gives nothing.
+#[inline(always)]
 fn check_plain_word<M: WordMemory>(
     header: &Header,
     kept: &mut TraceRecord,
@@ -161,6 +163,7 @@ fn check_giving_word<M: WordMemory>(
 }
 
 /// Checks a doorbell before the stop, and notes it (xHCI 4.7, 4.8.3, 5.6).
+#[inline(always)]
 fn check_doorbell<M: WordMemory>(
     header: &Header,
     finder: &Finder,
