@@ -1,5 +1,5 @@
 -- How far a pass over the rows of a trace has come, and what it comes to
-use Rattle.std.specs.Prelude.{ℕ, List, [], length, reverse}
+use Rattle.std.specs.Prelude.{ℕ, List, [], length, reverse, Result, Ok, Err}
 use Rattle.traces.specs.declared.header.Header.{Header}
 use Rattle.traces.specs.declared.row.Row.{Row}
 use Rattle.traces.specs.declared.trace.Trace.{Trace}
@@ -10,7 +10,10 @@ use Rattle.ownership_rules.specs.Clean.{IsClean}
 use Rattle.lease_book.specs.Lents.{Lent, lents}
 use Rattle.lease_rows.specs.CleanRows.{FollowsBook}
 use Rattle.trace_record.specs.Fresh.{IsWithin}
-use Rattle.trace_reader.specs.Reading.{TraceText}
+use Rattle.trace_reader.specs.DriverRows.{DriverText}
+use Rattle.trace_reader.specs.declared.fault.LineFault.{LineFault}
+use Rattle.row_reader.specs.declared.fault.StreamFault.{StreamFault}
+use Rattle.row_reader.specs.declared.fault.StreamFault.TheVariants.{Line}
 use Rattle.row_checks.specs.Tracking.{IsTracked}
 use Rattle.row_reader.specs.declared.reader.RowReader.{RowReader}
 use Rattle.row_pass.specs.declared.pass.Pass.{Pass}
@@ -48,5 +51,10 @@ IfRefusedRow (Whole log) P = Unit {0}
 IfRefusedRow (Refused row c) P = P row c
 
 -- what a reader's header and rows make
-abbrev pub with_rows : RowReader → ℕ → List Row → TraceText
+abbrev pub with_rows : RowReader → ℕ → List Row → DriverText
 with_rows reader first rows = record { header = reader.header; first = first; rows = rows }
+
+-- a row that isn't taken is the bad line with this number
+abbrev pub at_line : ℕ → Result Row LineFault → Result Row StreamFault
+at_line number (Ok row) = Ok row
+at_line number (Err fault) = Err (Line number fault)

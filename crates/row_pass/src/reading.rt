@@ -6,8 +6,8 @@ ghost use Rattle.traces.specs.declared.row.Row.{Row};
 ghost use Rattle.row_reader.specs.Answers.{told_failures};
 ghost use Rattle.row_reader.specs.ReaderState.{IsOpened};
 ghost use Rattle.row_reader.specs.Streams.{HasRead, IfBadLine, IsBadLine, OfStream, OfTrace};
-ghost use Rattle.trace_reader.specs.Reading.{trace_of};
-ghost use Rattle.row_pass.specs.Passing.{Begins, IfRefusedRow, IfWhole, IsWholeLog, with_rows};
+ghost use Rattle.trace_reader.specs.DriverRows.{driver_row, text_taken};
+ghost use Rattle.row_pass.specs.Passing.{Begins, IfRefusedRow, IfWhole, IsWholeLog, at_line, with_rows};
 
 use crate::pass::Pass;
 use guest_memory::WordMemory;
@@ -15,7 +15,9 @@ use lease_book::LeaseLog;
 use ownership_rules::Refusal;
 use row_reader::{RowReader, Source, StreamFault};
 use std::alloc::Global;
+use trace_reader::driver_row;
 use trace_record::StepFault;
+use traces::{Row, TraceRow};
 
 /// What a pass over the rows of a trace comes to.
 #[derive(Drop)]
@@ -27,7 +29,7 @@ pub enum Passed<B> {
 }
 
 /// Checks the rows of a trace in one pass as they are read, none of which was read yet. Behind a refused row it reads on: a bad line later
-/// is told in place of the refusal. The memory is all zero.
+/// is told in place of the refusal. A row by which a ring comes or goes, or a descriptor is withdrawn, is a bad line. The memory is all zero.
 pub fn pass_rows<S: Source, B: LeaseLog + Drop, M: WordMemory + Drop>(
     alloc: Global,
     reader: RowReader,
@@ -47,6 +49,7 @@ pub fn pass_rows<S: Source, B: LeaseLog + Drop, M: WordMemory + Drop>(
     let mut reader = reader;
     let mut pass = Pass::new(alloc, reader.header(), log, memory)?;
     while let Some((number, row)) = reader.next_row(source)? {
+        let row = driver_row_at(number, row)?;
         match pass.row(reader.header(), number, &row) {
             Ok(()) => drop(row),
             Err(StepFault::Refused(refusal)) => {
@@ -64,14 +67,29 @@ pub fn pass_rows<S: Source, B: LeaseLog + Drop, M: WordMemory + Drop>(
 
 /// Reads the rows that are left, for a bad line among theirs.
 fn read_on<S: Source>(reader: &mut RowReader, source: &mut S) -> Result<(), StreamFault>
-    ensures rows { OnOk result ((held : Option (List ℕ)) (first : ℕ) (done : List Row) → HasRead held (S.held source.old) first done reader.old →
-        (more : List Row) × OfStream held (S.held source.new) (λ text. trace_of text ≡ Ok (with_rows reader.old first (done ++ more)))) }
-    ensures line { IfErr result (λ e. IfBadLine e (λ line fault. (held : Option (List ℕ)) (first : ℕ) (done : List Row) → HasRead held (S.held source.old) first done reader.old →
+    ensures rows { OnOk result ((held : Option (List ℕ)) (first : ℕ) (done : List Row) → HasRead driver_row held (S.held source.old) first done reader.old →
+        (more : List Row) × OfStream held (S.held source.new) (λ text. text_taken driver_row text ≡ Ok (with_rows reader.old first (done ++ more)))) }
+    ensures line { IfErr result (λ e. IfBadLine e (λ line fault. (held : Option (List ℕ)) (first : ℕ) (done : List Row) → HasRead driver_row held (S.held source.old) first done reader.old →
         IsBadLine held (S.held source.new) line fault)) }
     ensures failures { S.failed source.new ≡ told_failures (S.failed source.old) result }
 {
-    while let Some((_, row)) = reader.next_row(source)? {
+    while let Some((number, row)) = reader.next_row(source)? {
+        let row = driver_row_at(number, row)?;
         drop(row);
     }
     Ok(())
+}
+
+/// The driver's row; else the line with this number is bad.
+#[inline(always)]
+fn driver_row_at(number: u32, row: TraceRow) -> Result<Row, StreamFault>
+    ensures { result ≡ at_line number (driver_row row) }
+{
+    match driver_row(row) {
+        Ok(row) => Ok(row),
+        Err(fault) => Err(StreamFault::Line {
+            line: number,
+            fault,
+        }),
+    }
 }

@@ -3,9 +3,9 @@ use Rattle.traces.specs.Limits.{most_lines}
 use Rattle.row_pass.proofs.RowsRead.{IsReadOn}
 use Rattle.row_pass.proofs.reading.read_on.Given as goal
 
-abbrev pub invariant-loop-row : goal.invariant-loop-row
-invariant-loop-row g l = IsReadOn l.fn.reader (g.S.Source.held l.fn.source) (g.S.Source.held l.source) l.reader × (g.S.Source.failed l.source ≡ g.S.Source.failed l.fn.source)
+abbrev pub invariant-loop-number : goal.invariant-loop-number
+invariant-loop-number g l = IsReadOn l.fn.reader (g.S.Source.held l.fn.source) (g.S.Source.held l.source) l.reader × (g.S.Source.failed l.source ≡ g.S.Source.failed l.fn.source)
 
 -- the lines that a trace may still have
-abbrev pub decreases-loop-row : goal.decreases-loop-row
-decreases-loop-row g l = most_lines - l.reader.lines
+abbrev pub decreases-loop-number : goal.decreases-loop-number
+decreases-loop-number g l = most_lines - l.reader.lines

@@ -1,7 +1,5 @@
 use Rattle.std.proofs.Common.{length, refl}
 use Rattle.ring_knowledge.specs.Learned.{known}
-use Rattle.trace_record.specs.WordPlaces.{IsOwnedSo, IsPlaced}
-use Rattle.row_pass.specs.Passing.{IsPassed}
 use Rattle.row_pass.proofs.Rows.{behind_row, clean_row, on_both, refused_too}
 use Rattle.row_pass.proofs.pass.Pass.checked_row.Goals as goal
 
