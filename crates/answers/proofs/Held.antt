@@ -3,7 +3,7 @@ use Rattle.std.proofs.Common.{◌≡◌, ℕ, List, Option, Some, None, inl, inr
 use Rattle.std.specs.Prelude.{IfSome}
 use Rattle.traces.specs.declared.trace.Trace.{Trace}
 use Rattle.trace_reader.specs.Entries.{IfBadLine, text_of as spelled}
-use Rattle.trace_reader.specs.Reading.{trace_of}
+use Rattle.trace_reader.specs.DriverRows.{driver_trace_of}
 use Rattle.trace_reader.specs.declared.fault.ReadFault.{ReadFault}
 use Rattle.trace_reader.specs.declared.fault.ReadFault.TheVariants.{Line, Memory as OutOfMemory}
 use Rattle.answers.specs.Answers.{answer_of_fault}
@@ -11,14 +11,14 @@ use Rattle.answers.specs.Inputs.{IsTextOf, IsTraceAnswer, IsUnread, opened}
 use Rattle.answers.specs.declared.answer.Answer.{Answer}
 use Rattle.answers.specs.declared.answer.Answer.TheVariants.{BadLine}
 
-pub text_held : (known : Option (List ℕ)) (text : List ℕ) (trace : Trace) → IfSome known (λ xs. text ≡ xs) → trace_of text ≡ Ok (spelled trace) → IsTextOf known trace
+pub text_held : (known : Option (List ℕ)) (text : List ℕ) (trace : Trace) → IfSome known (λ xs. text ≡ xs) → driver_trace_of text ≡ Ok (spelled trace) → IsTextOf known trace
 text_held None text trace same read = tt
-text_held (Some xs) text trace same read = subst (λ (l : List ℕ). trace_of l ≡ Ok (spelled trace)) same read
+text_held (Some xs) text trace same read = subst (λ (l : List ℕ). driver_trace_of l ≡ Ok (spelled trace)) same read
 
-pub unread_right : (known : Option (List ℕ)) (text : List ℕ) (fault : ReadFault) → IfSome known (λ xs. text ≡ xs) → IfBadLine fault (λ line code. trace_of text ≡ Err (line, code)) →
+pub unread_right : (known : Option (List ℕ)) (text : List ℕ) (fault : ReadFault) → IfSome known (λ xs. text ≡ xs) → IfBadLine fault (λ line code. driver_trace_of text ≡ Err (line, code)) →
     IsUnread known (answer_of_fault fault)
 unread_right None text (Line line code) same bad = tt
-unread_right (Some xs) text (Line line code) same bad = subst (λ (l : List ℕ). trace_of l ≡ Err (line, code)) same bad
+unread_right (Some xs) text (Line line code) same bad = subst (λ (l : List ℕ). driver_trace_of l ≡ Err (line, code)) same bad
 unread_right known text OutOfMemory same bad = tt
 
 -- an input of which nothing is known

@@ -2,7 +2,7 @@
 use Rattle.std.specs.Prelude.{◌≡◌, ◌⊎◌, ℕ, List, Option, Some, None, Result, Ok, Err}
 use Rattle.traces.specs.declared.trace.Trace.{Trace}
 use Rattle.trace_reader.specs.Entries.{text_of as spelled}
-use Rattle.trace_reader.specs.Reading.{trace_of}
+use Rattle.trace_reader.specs.DriverRows.{driver_trace_of}
 use Rattle.trace_reader.specs.declared.fault.LineFault.{LineFault}
 use Rattle.answers.specs.declared.answer.Answer.{Answer}
 use Rattle.answers.specs.declared.answer.Answer.TheVariants.{BadLine, Memory, Device}
@@ -15,12 +15,12 @@ opened bytes (Err error) = None
 -- the known bytes of an input spell the trace; of bytes that aren't known nothing is said
 abbrev pub IsTextOf : Option (List ℕ) → Trace → Type 0
 IsTextOf None trace = Unit {0}
-IsTextOf (Some bytes) trace = trace_of bytes ≡ Ok (spelled trace)
+IsTextOf (Some bytes) trace = driver_trace_of bytes ≡ Ok (spelled trace)
 
 -- the first bad line of the known bytes of an input, and the least of its faults
 abbrev pub IsFirstBad : Option (List ℕ) → ℕ → LineFault → Type 0
 IsFirstBad None line fault = Unit {0}
-IsFirstBad (Some bytes) line fault = trace_of bytes ≡ Err (line, fault)
+IsFirstBad (Some bytes) line fault = driver_trace_of bytes ≡ Err (line, fault)
 
 -- what is right to answer where no trace is read: its first bad line, or that memory or the device failed
 abbrev pub IsUnread : Option (List ℕ) → Answer → Type 0

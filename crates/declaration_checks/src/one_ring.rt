@@ -30,6 +30,7 @@ pub fn declare_on(
 }
 
 /// Which rule a declaration breaks first.
+#[inline(always)]
 fn declaration_refusal(shape: &RingShape, known: &RingRecord, blocks: &[Block]) -> Option<Refusal>
     ensures first { (v : RingView) → FollowsRing shape.now v known.now → result ≡ first_broken (room_tests shape.now v blocks.now) }
     ensures some { IfNone result (0 < length blocks.now) }

@@ -84,6 +84,7 @@ impl DeviceRecord {
     }
 
     /// Keeps this of an endpoint from now on.
+    #[inline(always)]
     pub(crate) fn set_endpoint(&mut self, slot: u8, index: u8, kept: Endpoint)
         requires { index < 32 }
         ensures { IsWithEndpoint self.old self.new slot index kept }

@@ -84,6 +84,7 @@ pub fn count_read(t: &mut TraceRecord, event: Block)
 }
 
 /// The same of the event ring.
+#[inline(always)]
 fn count(events: &mut Option<EventPlace>, event: Block)
     requires few { IsWithin events.old (2 ^ 32) }
     ensures counted { (h : Header) (k : Known) → FollowsEvents h k events.old → (cycle event == cycle_of (event_shape h) k.reads) ≡ true →

@@ -16,6 +16,7 @@ use trace_record::TraceRecord;
 use traces::Header;
 
 /// Whether an unfinished command may change an endpoint: the one that names its slot alone, or the one that names it.
+#[inline(always)]
 pub fn is_touched<M: WordMemory>(
     header: &Header,
     t: &TraceRecord,

@@ -1,7 +1,7 @@
 //! The diagnostic of a refused row, by the rule that it breaks.
 ghost use Rattle.std.specs.Prelude.{◌≡◌, IfOk, IsOk, string_bytes};
 ghost use Rattle.diagnostics.specs.Layout.{IsToldOf};
-ghost use Rattle.trace_reader.specs.Reading.{trace_of};
+ghost use Rattle.trace_reader.specs.DriverRows.{driver_trace_of};
 
 use command_findings::{
     after_stop, bad_command, bad_doorbell, bad_erdp, bad_register, busy, not_in_profile,
@@ -27,7 +27,7 @@ pub fn explain_refused(
     row: u32,
     refusal: Refusal,
 ) -> Result<String, AllocError>
-    ensures { IsOk (trace_of text.now) → IfOk result (λ told. IsToldOf path.now (Matter.Rule refusal) row (string_bytes told)) }
+    ensures { IsOk (driver_trace_of text.now) → IfOk result (λ told. IsToldOf path.now (Matter.Rule refusal) row (string_bytes told)) }
 {
     match read_trace(alloc, text) {
         Ok(trace) => explain_row(alloc, path, text, &trace, row, refusal),

@@ -14,8 +14,9 @@ use Rattle.row_reader.specs.declared.fault.StreamFault.{StreamFault}
 use Rattle.row_reader.specs.declared.fault.StreamFault.TheVariants.{Line, Device, Memory}
 use Rattle.row_reader.specs.ReaderState.{IsOpened}
 use Rattle.row_reader.specs.WholeTexts.{joined_behind}
-unfoldable use Rattle.row_reader.specs.WholeTexts.{read_by_calls}
-use Rattle.row_reader.proofs.CallsJoined.{calls_say_the_text}
+unfoldable use Rattle.row_reader.specs.WholeTexts.{taken_by_calls}
+use Rattle.row_reader.proofs.CallsJoined.{calls_say_what_is_taken}
+use Rattle.trace_reader.specs.DriverRows.{driver_row}
 use Rattle.row_checks.proofs.Harmless.{harmless}
 use Rattle.row_pass.proofs.Verdicts.{accepted, reversed_twice, room}
 use Rattle.ownership_checker.specs.Streams.{IfBadLine, IsBadLine, IsSound}
@@ -56,7 +57,7 @@ as_many_ended over row ts = length-map ts (ended_where over row)
 -- ---- a bad line before the first row
 
 pub opened_bad : (held held' : Option (List ℕ)) (e : StreamFault) → IsOpened held held' (Err e) → IfBadLine e (IsBadLine held held')
-unfolding read_by_calls
-opened_bad held held' (Line line fault) (came, used, (later, is, told)) = (came, used, (later, is, sym (calls_say_the_text (came ++ later)) ∙ ap joined_behind told))
+unfolding taken_by_calls
+opened_bad held held' (Line line fault) (came, used, (later, is, told)) = (came, used, (later, is, sym (calls_say_what_is_taken driver_row (came ++ later)) ∙ ap (joined_behind driver_row) told))
 opened_bad held held' Device told = tt
 opened_bad held held' Memory told = tt

@@ -293,6 +293,7 @@ fn is_bad_place<M: WordMemory>(
 
 /// Takes a value that is written to ERDP, where it names an event place up to the one that is read next; whether the write of
 /// this register may be. Before the start a value that names no event place has no effect, and may be in version 3.
+#[inline(always)]
 fn note_dequeue(
     header: &Header,
     is_started: bool,

@@ -64,7 +64,7 @@ impl RowReader {
     }
 
     /// The next row, where it isn't known to be a write: by the places of its fields, where they are those of a frequent form.
-    #[inline(never)]
+    #[inline(always)]
     fn other_row<S: Source>(
         &mut self,
         source: &mut S,

@@ -18,8 +18,9 @@ use Rattle.row_reader.specs.declared.fault.StreamFault.TheVariants.{Line, Device
 use Rattle.row_reader.specs.ReaderState.{IsOpened}
 use Rattle.row_reader.specs.Streams.{IfBadLine, IsBadLine}
 use Rattle.row_reader.specs.WholeTexts.{joined_behind}
-unfoldable use Rattle.row_reader.specs.WholeTexts.{read_by_calls}
-use Rattle.row_reader.proofs.CallsJoined.{calls_say_the_text}
+unfoldable use Rattle.row_reader.specs.WholeTexts.{taken_by_calls}
+use Rattle.row_reader.proofs.CallsJoined.{calls_say_what_is_taken}
+use Rattle.trace_reader.specs.DriverRows.{driver_row}
 use Rattle.row_pass.specs.declared.reading.Passed.{Passed}
 use Rattle.row_pass.specs.declared.reading.Passed.TheVariants.{Whole, Refused}
 use Rattle.row_pass.specs.Passing.{IfRefusedRow, IfWhole, IsWholeLog}
@@ -28,8 +29,8 @@ use Rattle.verifier.specs.Streams.{IsVerified}
 
 -- a bad line before the rows
 pub opened_bad : (held held' : Option (List ℕ)) (e : StreamFault) → IsOpened held held' (Err e) → IfBadLine e (IsBadLine held held')
-unfolding read_by_calls
-opened_bad held held' (Line line fault) (came, used, (later, is, told)) = (came, used, (later, is, sym (calls_say_the_text (came ++ later)) ∙ ap joined_behind told))
+unfolding taken_by_calls
+opened_bad held held' (Line line fault) (came, used, (later, is, told)) = (came, used, (later, is, sym (calls_say_what_is_taken driver_row (came ++ later)) ∙ ap (joined_behind driver_row) told))
 opened_bad held held' Device is = tt
 opened_bad held held' Memory is = tt
 

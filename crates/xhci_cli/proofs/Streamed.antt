@@ -3,7 +3,7 @@ use Rattle.std.proofs.Common.{◌≡◌, ℕ, Bool, true, false, List, length, O
 use Rattle.std.specs.Prelude.{IfErr, is_some}
 use Rattle.traces.specs.declared.trace.Trace.{Trace}
 use Rattle.trace_reader.specs.Entries.{text_of as spelled}
-use Rattle.trace_reader.specs.Reading.{trace_of}
+use Rattle.trace_reader.specs.DriverRows.{driver_trace_of}
 use Rattle.trace_reader.specs.declared.fault.LineFault.{LineFault}
 use Rattle.row_reader.specs.declared.fault.StreamFault.{StreamFault}
 use Rattle.row_reader.specs.declared.fault.StreamFault.TheVariants.{Line, Device as NoDevice, Memory as NoMemory}
@@ -23,13 +23,13 @@ use Rattle.answers.specs.declared.answer.Answer.TheVariants.{Accepted, Refused, 
 use Rattle.xhci_cli.specs.CheckAnswers.{IsCheckAnswer, IsHindered, IsVerdictAlone, answer_of_check_fault}
 use Rattle.xhci_cli.specs.VerifyAnswers.{IsVerdictBeside, IsVerified}
 
-text_known : (known known' : Option (List ℕ)) (trace : Trace) → OfStream known known' (λ text. trace_of text ≡ Ok (spelled trace)) → IsTextOf known trace
+text_known : (known known' : Option (List ℕ)) (trace : Trace) → OfStream known known' (λ text. driver_trace_of text ≡ Ok (spelled trace)) → IsTextOf known trace
 text_known None known' trace read = tt
-text_known (Some bytes) known' trace read = known_text bytes known' (λ text. trace_of text ≡ Ok (spelled trace)) read
+text_known (Some bytes) known' trace read = known_text bytes known' (λ text. driver_trace_of text ≡ Ok (spelled trace)) read
 
 bad_known : (known known' : Option (List ℕ)) (line : ℕ) (fault : LineFault) → IsBadLine known known' line fault → IsFirstBad known line fault
 bad_known None known' line fault bad = tt
-bad_known (Some bytes) known' line fault bad = known_text bytes known' (λ text. trace_of text ≡ Err (line, fault)) bad
+bad_known (Some bytes) known' line fault bad = known_text bytes known' (λ text. driver_trace_of text ≡ Err (line, fault)) bad
 
 pub unread_right : (known known' : Option (List ℕ)) (fault : StreamFault) → IfBadLine fault (IsBadLine known known') → IsUnread known (answer_of_stream_fault fault)
 unread_right known known' (Line line fault) bad = bad_known known known' line fault bad

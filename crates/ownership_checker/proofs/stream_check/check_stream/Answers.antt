@@ -26,3 +26,8 @@ returns-in-Whole-clause-accepted g c =
     of_trace held held' (λ trace. IsWholeLog HoldsLents trace book) (λ trace. IsSound trace c.into_leases.result.items)
     (λ trace w. sound_book trace w.clean c.into_leases.result.items (c.into_leases.ensures trace.header trace.first (reverse trace.rows) (room trace) w.kept))
     (whole held [] c.in_ok-reader.ensures.opened begins)
+
+pub returns-in-Refused-clause-refused : goal.returns-in-Refused-clause-refused
+returns-in-Refused-clause-refused g c =
+    let refused = rw c.in-Refused.is at c.in_ok-book-2.ensures.refused in
+    refused (g.S.Source.held c.args.source.now) c.in_ok-reader.ensures.opened

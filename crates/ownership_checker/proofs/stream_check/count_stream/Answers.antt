@@ -28,3 +28,8 @@ returns-in-Whole-clause-accepted g c =
     of_trace held held' (λ trace. IsWholeLog (λ h ts (l : LeaseCount). l.count ≡ length ts) trace log) (λ trace. (leases : List Lease) × IsSound trace leases × (count ≡ length leases))
     (λ trace w. let ts = lents trace.header trace.first (reverse trace.rows) in sound_count trace w.clean count (c.count.ensures [] trace.header ts w.kept))
     (whole held [] c.in_ok-reader.ensures.opened begins)
+
+pub returns-in-Refused-clause-refused : goal.returns-in-Refused-clause-refused
+returns-in-Refused-clause-refused g c =
+    let refused = rw c.in-Refused.is at c.in_ok-log-2.ensures.refused in
+    refused (g.S.Source.held c.args.source.now) c.in_ok-reader.ensures.opened
