@@ -74,8 +74,7 @@ fn read_on<S: Source>(reader: &mut RowReader, source: &mut S) -> Result<(), Stre
     ensures failures { S.failed source.new ≡ told_failures (S.failed source.old) result }
 {
     while let Some((number, row)) = reader.next_row(source)? {
-        let row = driver_row_at(number, row)?;
-        drop(row);
+        drop(driver_row_at(number, row)?);
     }
     Ok(())
 }
