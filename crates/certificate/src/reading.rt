@@ -51,8 +51,9 @@ fn records_of(alloc: Global, records: &[u8]) -> Result<Vec<Lease>, CertFault>
 fn leases_in(alloc: Global, records: &[u8]) -> Result<Vec<Lease>, AllocError>
     ensures { IfOk result (λ leases. leases.items ≡ leases_in records.now (length records.now / 24)) }
 {
-    let mut leases = Vec::new(alloc);
-    for record in 0..records.len() / RECORD {
+    let count = records.len() / RECORD;
+    let mut leases = Vec::with_capacity(alloc, count)?;
+    for record in 0..count {
         leases.push(lease_in(&records[RECORD * record..]))?;
     }
     Ok(leases)

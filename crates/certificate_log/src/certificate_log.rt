@@ -112,6 +112,7 @@ impl LeaseLog for CertificateLog<'_> {
         Ok(())
     }
 
+    #[inline(always)]
     fn end_passed(&mut self, row: u32, ring: &Ring, from: u64, to: u64) {
         for number in from..to {
             self.end_block(row, ring, number);
