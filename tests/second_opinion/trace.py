@@ -40,6 +40,12 @@ class Event:
     block: tuple
 
 
+@dataclass(frozen=True)
+class RingRow:
+    """A ring goes, or a descriptor of it is withdrawn. No command judges such rows yet."""
+    ring: int
+
+
 class BadLine(Exception):
     """The first bad line, and the least fault there."""
 
@@ -111,15 +117,22 @@ def lines_of(text):
     return lines + [(pieces[-1], False)] if pieces[-1] else lines
 
 
-def has_form(fields):
-    """A known first word, known other words, and as many fields as it takes."""
+def ring_kinds(version, is_begun):
+    """The kinds that a ring may have: behind a row only a transfer ring comes, and not in version 1."""
+    return RING_KINDS if not is_begun else {'xfer'} if version > 1 else set()
+
+
+def has_form(fields, version, is_begun):
+    """A known first word, known other words, and as many fields as it takes; `is_begun` tells whether a row came before."""
     word, rest = fields[0], fields[1:]
     if word == 'sub':
         return len(rest) > 1 and len(rest[1:]) % 4 == 0
     if word == 'reg':
         return len(rest) == 2 and rest[0] in REGISTERS
     if word == 'ring':
-        return len(rest) > 2 and rest[1] in RING_KINDS
+        return len(rest) > 2 and rest[1] in ring_kinds(version, is_begun)
+    if word in ('free', 'nop'):
+        return version > 1 and len(rest) == {'free': 1, 'nop': 2}[word]
     return len(rest) == {'w': 2, 'db': 2, 'ev': 4}.get(word, -1)
 
 
@@ -168,15 +181,25 @@ def said_by(fields):
         return Doorbell(number(rest[0], 2), number(rest[1], 2))
     if word == 'ev':
         return Event(blocks_of(rest)[0])
+    if word == 'free':
+        return RingRow(number(rest[0], 2))
+    if word == 'nop':
+        number(rest[1], 16)
+        return RingRow(number(rest[0], 2))
     return Ring(number(rest[0], 2), rest[1], [segment_of(field) for field in rest[2:]])
 
 
-def read_line(line, content, is_ended, rings, rows):
+def is_bad_shape(ring, rings, is_begun):
+    """The ring's own shape, or what it shares with those before it: behind a row its ID alone."""
+    return not is_shape(ring) or any(ring.number == other.number if is_begun else clash(ring, other) for other in rings)
+
+
+def read_line(line, content, is_ended, version, rings, rows):
     """What a line behind the first two says; `rings` and `rows` are what those before it said."""
     if len(content) > MOST_BYTES:
         raise BadLine(line, 4)
     fields = content.decode('latin-1').split(' ')
-    if not is_ended or '' in fields or not has_form(fields) or (rows and fields[0] == 'ring'):
+    if not is_ended or '' in fields or not has_form(fields, version, bool(rows)):
         raise BadLine(line, 2)
     try:
         said = said_by(fields)
@@ -184,8 +207,10 @@ def read_line(line, content, is_ended, rings, rows):
         raise BadLine(line, 3) from None
     if line > MOST_LINES or (isinstance(said, Declare) and len(said.blocks) > MOST_BLOCKS):
         raise BadLine(line, 4)
-    if isinstance(said, Ring) and (not is_shape(said) or any(clash(said, ring) for ring in rings)):
+    if isinstance(said, Ring) and is_bad_shape(said, rings, bool(rows)):
         raise BadLine(line, 5)
+    if isinstance(said, RingRow) or (rows and isinstance(said, Ring)):
+        raise BadLine(line, 2)
     return said
 
 
@@ -199,7 +224,7 @@ def read_trace(text):
         raise BadLine(2, 1)
     rings, rows = [], []
     for line, (content, is_ended) in enumerate(lines[2:], start=3):
-        said = read_line(line, content, is_ended, rings, rows)
+        said = read_line(line, content, is_ended, versions[lines[0]], rings, rows)
         (rings if isinstance(said, Ring) else rows).append(said)
     context_bytes = 32 if lines[1][0] == b'ctx 20' else 64
     return Trace(versions[lines[0]], context_bytes, rings, len(lines) - len(rows) + 1, rows)
