@@ -1,6 +1,5 @@
 -- Worked examples of rings that come and go
-use Rattle.std.specs.Prelude.{◌≡◌, ℕ, true, false, List, [], ◌∷◌, Box, refl}
-use Rattle.std.specs.declared.alloc.Global.{Global}
+use Rattle.std.specs.Prelude.{◌≡◌, ℕ, true, false, List, [], ◌∷◌, refl}
 use Rattle.trb.specs.declared.ring_kind.RingKind.TheVariants.{Xfer}
 use Rattle.contexts.specs.declared.size.ContextSize.TheVariants.{Bytes32}
 use Rattle.traces.specs.declared.version.Version.TheVariants.{Three}
@@ -25,34 +24,30 @@ may_come : is_bad_ring (header_now no_rings []) (known_now no_rings []) (ring_at
 unfolding rules_on_literals is_bad_ring is_bad_segment shows_first_lap
 may_come = refl
 
-module _ (b : Box Ring Global) where
-  abbrev boxed : Ring → Box Ring Global
-  boxed r = record b { value = r }
+abbrev one : List TraceRow
+one = Comes (ring_at 2 0x30000) ∷ []
 
-  abbrev one : List TraceRow
-  one = Comes (boxed (ring_at 2 0x30000)) ∷ []
+-- over a ring that is there none may come
+over_another : is_bad_ring (header_now no_rings one) (known_now no_rings one) (ring_at 3 0x30020) ≡ true
+unfolding rules_on_literals is_bad_ring is_bad_segment shows_first_lap with_ring forgotten
+over_another = refl
 
-  -- over a ring that is there none may come
-  over_another : is_bad_ring (header_now no_rings one) (known_now no_rings one) (ring_at 3 0x30020) ≡ true
-  unfolding rules_on_literals is_bad_ring is_bad_segment shows_first_lap with_ring forgotten
-  over_another = refl
+may_go : is_bad_free (header_now no_rings one) (known_now no_rings one) 2 ≡ false
+unfolding rules_on_literals is_bad_free is_had with_ring forgotten
+may_go = refl
 
-  may_go : is_bad_free (header_now no_rings one) (known_now no_rings one) 2 ≡ false
-  unfolding rules_on_literals is_bad_free is_had with_ring forgotten
-  may_go = refl
+abbrev gone : List TraceRow
+gone = Goes 2 ∷ one
 
-  abbrev gone : List TraceRow
-  gone = Goes 2 ∷ one
+-- where one was another may come
+in_its_place : is_bad_ring (header_now no_rings gone) (known_now no_rings gone) (ring_at 3 0x30020) ≡ false
+unfolding rules_on_literals is_bad_ring is_bad_segment shows_first_lap with_ring without_ring forgotten
+in_its_place = refl
 
-  -- where one was another may come
-  in_its_place : is_bad_ring (header_now no_rings gone) (known_now no_rings gone) (ring_at 3 0x30020) ≡ false
-  unfolding rules_on_literals is_bad_ring is_bad_segment shows_first_lap with_ring without_ring forgotten
-  in_its_place = refl
+-- but not where a control word shows the Cycle bit of the first lap
+abbrev written : List TraceRow
+written = Plain (Write 0x3002c 1) ∷ gone
 
-  -- but not where a control word shows the Cycle bit of the first lap
-  abbrev written : List TraceRow
-  written = Plain (Write 0x3002c 1) ∷ gone
-
-  shows_its_cycle : is_bad_ring (header_now no_rings written) (known_now no_rings written) (ring_at 3 0x30020) ≡ true
-  unfolding rules_on_literals is_bad_ring is_bad_segment shows_first_lap with_ring without_ring forgotten restored_on ring_restored ring_moved
-  shows_its_cycle = refl
+shows_its_cycle : is_bad_ring (header_now no_rings written) (known_now no_rings written) (ring_at 3 0x30020) ≡ true
+unfolding rules_on_literals is_bad_ring is_bad_segment shows_first_lap with_ring without_ring forgotten restored_on ring_restored ring_moved
+shows_its_cycle = refl

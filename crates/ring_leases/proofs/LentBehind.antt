@@ -1,5 +1,5 @@
 -- What is lent behind a ring that goes, and behind one that comes; behind plain rows it is as in a trace of these alone
-use Rattle.std.proofs.Common.{◌≡◌, ◌+◌, ◌≤◌, ◌∷◌, ◌∙◌, ℕ, false, not, Box, Global, List, [], length, map, arith, refl, ap}
+use Rattle.std.proofs.Common.{◌≡◌, ◌+◌, ◌≤◌, ◌∷◌, ◌∙◌, ℕ, false, not, List, [], length, map, arith, refl, ap}
 use Rattle.std.proofs.lemmas.List.{length-map}
 use Rattle.safety.proofs.Words.{Header, IsHeader, Ring, DriverKeeps, learned, open_leases}
 use Rattle.traces.specs.declared.row.Row.{Row}
@@ -46,7 +46,7 @@ module _ (h : Header) (first : ℕ) where
         (λ l. ap (λ ms. is_among ms l) (goes_open (header_now h past) is (known_now h past) d id good) ∙ among_filtered (λ m. not (is_of_ring id m)) (open_now h past) l)
 
     -- nothing begins or ends
-    pub comes_lent : (ring : Box Ring Global) → IsComing ring → is_bad_ring (header_now h past) (known_now h past) ring ≡ false →
+    pub comes_lent : (ring : Ring) → IsComing ring → is_bad_ring (header_now h past) (known_now h past) ring ≡ false →
         ring_lents h first (Comes ring ∷ past) ≡ ring_lents h first past
     unfolding ring_lents
     comes_lent ring coming good =
