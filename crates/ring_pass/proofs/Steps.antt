@@ -1,7 +1,6 @@
 -- A row more of a pass
 use Rattle.std.proofs.Common.{◌≡◌, ◌+◌, ◌++◌, ◌∷◌, ◌∙◌, ℕ, true, false, List, [], All, Option, Some, None, Result, Ok, Err, IfErr, suc, length, reverse, arith, refl, sym, ap, subst, inl, inr}
 use Rattle.safety.proofs.Words.{reverse-append, All-cons, All-head, All-nil, All-tail, Header, Known, Ring, IsHeader, DriverKeeps, learned, nothing}
-use Rattle.std.proofs.lemmas.Grind.{common_steps}
 use Rattle.safety.proofs.DriverHistories.{kept_restored}
 use Rattle.safety.proofs.Lenient.{lenient_row}
 use Rattle.safety.proofs.NothingKept.{nothing_kept}
@@ -32,10 +31,12 @@ use Rattle.ring_changes.proofs.RingRuns.{comes_keeps}
 use Rattle.ring_changes.proofs.RingsHeadline.{rings_headline}
 use Rattle.ownership_rules.specs.declared.refusal.Refusal.TheVariants.{BadFree, BadRing}
 use Rattle.ring_checks.specs.RingSteps.{IsRingStep}
-use Rattle.ring_pass.specs.Clean.{IsLeastOfRing}
+use Rattle.ring_pass.specs.Clean.{IsLeastOfRow}
 use Rattle.ring_pass.specs.Passing.{DoNoHarm, IsRingPassed}
 use Rattle.ring_pass.specs.declared.pass.RingPass.{RingPass}
+use Rattle.ring_pass.proofs.Broken.{least_broken, none_broken}
 use Rattle.ring_pass.proofs.Histories.{kept_now, known_plain, nothing_free_now}
+use Rattle.ring_pass.proofs.Verdicts.{reversed_twice}
 
 among_last : (r : Ring) (rs : List Ring) → IsAmong r (rs ++ r ∷ [])
 among_last r [] = inl refl
@@ -59,9 +60,6 @@ all_reversed [] are = are
 all_reversed (row ∷ rows) are =
     subst (All FitsFields) (sym (reverse-append (row ∷ []) rows))
     (all_joined (reverse rows) (row ∷ []) (all_reversed rows (All-tail FitsFields row rows are)) (All-cons FitsFields row [] (All-head FitsFields row rows are) (All-nil FitsFields)))
-
-reversed_twice : (rows : List TraceRow) → reverse (reverse rows) ≡ rows
-reversed_twice rows = grind (arith, common_steps)
 
 one_more : (events : Option EventState) (n : ℕ) → IsWithin events n → IsWithin events (n + 1)
 one_more None n within = tt
@@ -152,7 +150,7 @@ module _ {B M : Type 0} (words : M → ℕ → ℕ) where
           tracked = rw (recorded, at) (subst (λ (x : Header). IsTracked x (known_now h (Comes ring ∷ past)) after (words before.memory)) (sym there)
               (record { follows = now.followed; keeps = λ still. comes_keeps g headed_now ring coming k keeps now.kept.1 }));
           entries = forgotten_fits k _ p.entries;
-          clean = (p.clean, now.kept);
+          clean = (p.clean, none_broken k BadRing (is_bad_ring g k ring) now.kept);
         }
 
     -- behind a ring that goes
@@ -173,7 +171,7 @@ module _ {B M : Type 0} (words : M → ℕ → ℕ) where
           tracked = rw (recorded, at) (subst (λ (x : Header). IsTracked x (known_now h (Goes id ∷ past)) after (words before.memory)) (sym there)
               (record { follows = now.followed; keeps = λ still. gone_ring_kept g headed_now k keeps id now.kept.1 }));
           entries = forgotten_fits k _ p.entries;
-          clean = (p.clean, now.kept);
+          clean = (p.clean, none_broken k BadFree (is_bad_free g k id) now.kept);
         }
 
     -- the log and the indexes tell nothing of this
@@ -190,23 +188,34 @@ module _ {B M : Type 0} (words : M → ℕ → ℕ) where
       clean = p.clean;
     })
 
-    pub least_now : (row : Row) (c : Refusal) → IsLeast before.header k row c → IsLeast g k row c
+    pub least_now : (row : Row) (c : Refusal) → IsLeast before.header k row c → IsLeastOfRow g k (Plain row) c
     least_now row c least = subst (λ (x : Header). IsLeast x k row c) p.header least
-
-    pub comes_refused : (ring : Ring) → k.stopped ≡ false → (e : step.StepFault) →
-        steps.IfRefused e (λ c. (c ≡ BadRing) × ((k : Known) → FollowsTrace before.header k before.record (words before.memory) → is_bad_ring before.header k ring ≡ true)) →
-        steps.IfRefused e (λ c. IsLeastOfRing g k (Comes ring) c)
-    comes_refused ring on (variants.Refused c) bad =
-        subst (λ (x : Refusal). IsLeastOfRing g k (Comes ring) x) (sym bad.0) (on, subst (λ (x : Header). is_bad_ring x k ring ≡ true) p.header (bad.1 k p.tracked.follows))
-    comes_refused ring on variants.Memory bad = tt
-
-    pub goes_refused : (id : ℕ) → k.stopped ≡ false → (e : step.StepFault) →
-        steps.IfRefused e (λ c. (c ≡ BadFree) × ((k : Known) (memory : ℕ → ℕ) → FollowsTrace before.header k before.record memory → DriverKeeps before.header k → is_bad_free before.header k id ≡ true)) →
-        steps.IfRefused e (λ c. IsLeastOfRing g k (Goes id) c)
-    goes_refused id on (variants.Refused c) bad =
-        subst (λ (x : Refusal). IsLeastOfRing g k (Goes id) x) (sym bad.0) (on, subst (λ (x : Header). is_bad_free x k id ≡ true) p.header (bad.1 k (words before.memory) p.tracked.follows (p.tracked.keeps on)))
-    goes_refused id on variants.Memory bad = tt
 
     -- no run beside the rows, in their order, does harm
     pub no_harm : All FitsFields past → DoNoHarm h (reverse past)
     no_harm are = rings_headline h (reverse past) p.opening (all_reversed past are) (subst (AreKept h) (sym (reversed_twice past)) (kept_now h past p.clean))
+
+  -- ---- a ring that is refused, whatever rows were passed before it
+
+  pub comes_refused : (before : RingPass B M) (ring : Ring) → ((h : Header) (past : List TraceRow) → IsRingPassed words h past before → (known_now h past).stopped ≡ false) → (e : step.StepFault) →
+      steps.IfRefused e (λ c. (c ≡ BadRing) × ((k : Known) → FollowsTrace before.header k before.record (words before.memory) → is_bad_ring before.header k ring ≡ true)) →
+      steps.IfRefused e (λ c. (h : Header) (past : List TraceRow) → IsRingPassed words h past before → IsLeastOfRow (header_now h past) (known_now h past) (Comes ring) c)
+  comes_refused before ring on (variants.Refused c) bad = λ h past p.
+      let g = header_now h past in
+      let k = known_now h past in
+      subst (λ (x : Refusal). IsLeastOfRow g k (Comes ring) x) (sym bad.0)
+      (least_broken k BadRing (is_bad_ring g k ring) (on h past p) (subst (λ (x : Header). is_bad_ring x k ring ≡ true) p.header (bad.1 k p.tracked.follows)))
+  comes_refused before ring on variants.Memory bad = tt
+
+  pub goes_refused : (before later : RingPass B M) (id : ℕ) → ((h : Header) (past : List TraceRow) → IsRingPassed words h past before → IsRingPassed words h past later × ((known_now h past).stopped ≡ false)) →
+      (e : step.StepFault) →
+      steps.IfRefused e (λ c. (c ≡ BadFree) × ((k : Known) (memory : ℕ → ℕ) → FollowsTrace later.header k later.record memory → DriverKeeps later.header k → is_bad_free later.header k id ≡ true)) →
+      steps.IfRefused e (λ c. (h : Header) (past : List TraceRow) → IsRingPassed words h past before → IsLeastOfRow (header_now h past) (known_now h past) (Goes id) c)
+  goes_refused before later id still (variants.Refused c) bad = λ h past p.
+      let g = header_now h past in
+      let k = known_now h past in
+      let q = (still h past p).0 in
+      let on = (still h past p).1 in
+      subst (λ (x : Refusal). IsLeastOfRow g k (Goes id) x) (sym bad.0)
+      (least_broken k BadFree (is_bad_free g k id) on (subst (λ (x : Header). is_bad_free x k id ≡ true) q.header (bad.1 k (words later.memory) q.tracked.follows (q.tracked.keeps on))))
+  goes_refused before later id still variants.Memory bad = tt

@@ -1,2 +1,5 @@
+pub mod Rules
 pub mod Clean
 pub mod Passing
+pub mod RingRows
+pub mod Reading

@@ -1,6 +1,10 @@
-//! A pass over rows between which rings come and go: each is checked, and the leases that begin and end with it are told to a log.
+//! A pass over rows between which rings come and go, as they are read: each is checked, and the leases that begin and end with it are told to
+//! a log.
 #![tactic(auto)]
 
+mod headers;
 mod pass;
+mod reading;
 
 pub use pass::RingPass;
+pub use reading::{Passed, pass_rows};

@@ -4,7 +4,7 @@ ghost use Rattle.traces.specs.Header.{IsHeader};
 ghost use Rattle.traces.specs.Limits.{most_lines};
 ghost use Rattle.traces.specs.declared.header.Header.{Header};
 ghost use Rattle.traces.specs.declared.trace_row.TraceRow.{TraceRow};
-ghost use Rattle.traces.specs.declared.trace_row.TraceRow.TheVariants.{Plain, Comes, Goes};
+ghost use Rattle.traces.specs.declared.trace_row.TraceRow.TheVariants.{Plain, Comes, Goes, Withdraws};
 ghost use Rattle.traces.specs.Header.{ring_with};
 ghost use Rattle.ring_knowledge.specs.declared.lease.Lease.{Lease};
 ghost use Rattle.ring_knowledge.specs.Known.{Known};
@@ -16,8 +16,8 @@ ghost use Rattle.lease_book.specs.Lents.{Lent, ended_where, lents};
 ghost use Rattle.ring_leases.specs.RingLents.{is_of_ring, ring_lents};
 ghost use Rattle.trace_record.specs.FollowsTrace.{FollowsTrace};
 ghost use Rattle.ring_changes.specs.Histories.{FitsFields, header_now, known_now};
-ghost use Rattle.trace_record.specs.Steps.{IfRefused, IsLeast};
-ghost use Rattle.ring_pass.specs.Clean.{IsLeastOfRing};
+ghost use Rattle.trace_record.specs.Steps.{IfRefused};
+ghost use Rattle.ring_pass.specs.Clean.{IsLeastOfRow};
 ghost use Rattle.ring_pass.specs.Passing.{DoNoHarm, IsRingLogged, IsRingPassed};
 
 use guest_memory::WordMemory;
@@ -30,7 +30,7 @@ use ring_leases::note_going;
 use row_checks::check_row;
 use std::alloc::{AllocError, Global};
 use trace_record::{StepFault, TraceRecord};
-use traces::{Header, Ring, Row};
+use traces::{Header, Ring, Row, TraceRow};
 
 /// What is known after the rows so far, the rings that are there, and the log of the leases.
 #[derive(Drop)]
@@ -70,6 +70,36 @@ impl<B: LeaseLog + Drop, M: WordMemory + Drop> RingPass<B, M> {
         })
     }
 
+    /// Checks a row, and notes it and its leases. Descriptors aren't withdrawn here: a row that does breaks a rule.
+    pub fn row(&mut self, number: u32, row: TraceRow) -> Result<(), StepFault>
+        requires so_far { (h : Header) × (past : List TraceRow) × IsRingPassed M.words h past self.old × (length past ≤ most_lines) }
+        requires fits { FitsFields row }
+        ensures passed { OnOk result ((h : Header) (past : List TraceRow) → IsRingPassed M.words h past self.old → IsRingPassed M.words h (row ∷ past) self.new) }
+        ensures logged { OnOk result ((list : List Lease) (h : Header) (first : ℕ) (past : List TraceRow) → IsRingPassed M.words h past self.old →
+            number ≡ first + length past → first + length past < without_end →
+            IsRingLogged (B.holds list) h first past self.old → IsRingLogged (B.holds list) h first (row ∷ past) self.new) }
+        ensures refused { IfErr result (λ e. IfRefused e (λ c. (h : Header) (past : List TraceRow) → IsRingPassed M.words h past self.old →
+            IsLeastOfRow (header_now h past) (known_now h past) row c)) }
+    {
+        match row {
+            TraceRow::Plain(row) => self.driver_row(number, &row),
+            TraceRow::Comes(ring) => self.ring_comes(ring.into_ring()),
+            TraceRow::Goes(id) => self.ring_goes(number, id),
+            TraceRow::Withdraws { .. } => Err(StepFault::Refused(self.withdrawal())),
+        }
+    }
+
+    /// The rule that a row breaks by which a descriptor is withdrawn.
+    fn withdrawal(&self) -> Refusal
+        ensures { (h : Header) (past : List TraceRow) (ring position : ℕ) → IsRingPassed M.words h past self.now →
+            IsLeastOfRow (header_now h past) (known_now h past) (Withdraws ring position) result }
+    {
+        if self.record.registers.is_stopped() {
+            return Refusal::AfterStop;
+        }
+        Refusal::BadWithdraw
+    }
+
     /// Checks what the driver did, or an event that it read, and notes it and its leases.
     pub fn driver_row(&mut self, number: u32, row: &Row) -> Result<(), StepFault>
         requires so_far { (h : Header) × (past : List TraceRow) × IsRingPassed M.words h past self.old × (length past ≤ most_lines) }
@@ -78,7 +108,7 @@ impl<B: LeaseLog + Drop, M: WordMemory + Drop> RingPass<B, M> {
             number ≡ first + length past → first + length past < without_end →
             IsRingLogged (B.holds list) h first past self.old → IsRingLogged (B.holds list) h first (Plain row.now ∷ past) self.new) }
         ensures refused { IfErr result (λ e. IfRefused e (λ c. (h : Header) (past : List TraceRow) → IsRingPassed M.words h past self.old →
-            IsLeast (header_now h past) (known_now h past) row.now c)) }
+            IsLeastOfRow (header_now h past) (known_now h past) (Plain row.now) c)) }
     {
         let place = self.record.place(&self.header, &self.finder, row);
         let owned = self.record.owns(&self.header, &self.memory, row, place);
@@ -113,7 +143,7 @@ impl<B: LeaseLog + Drop, M: WordMemory + Drop> RingPass<B, M> {
             first + length past < without_end →
             IsRingLogged (B.holds list) h first past self.old → IsRingLogged (B.holds list) h first (Comes ring ∷ past) self.new) }
         ensures refused { IfErr result (λ e. IfRefused e (λ c. (h : Header) (past : List TraceRow) → IsRingPassed M.words h past self.old →
-            IsLeastOfRing (header_now h past) (known_now h past) (Comes ring) c)) }
+            IsLeastOfRow (header_now h past) (known_now h past) (Comes ring) c)) }
     {
         if self.record.registers.is_stopped() {
             return Err(StepFault::Refused(Refusal::AfterStop));
@@ -137,7 +167,7 @@ impl<B: LeaseLog + Drop, M: WordMemory + Drop> RingPass<B, M> {
             number ≡ first + length past → first + length past < without_end →
             IsRingLogged (B.holds list) h first past self.old → IsRingLogged (B.holds list) h first (Goes id ∷ past) self.new) }
         ensures refused { IfErr result (λ e. IfRefused e (λ c. (h : Header) (past : List TraceRow) → IsRingPassed M.words h past self.old →
-            IsLeastOfRing (header_now h past) (known_now h past) (Goes id) c)) }
+            IsLeastOfRow (header_now h past) (known_now h past) (Goes id) c)) }
     {
         if self.record.registers.is_stopped() {
             return Err(StepFault::Refused(Refusal::AfterStop));

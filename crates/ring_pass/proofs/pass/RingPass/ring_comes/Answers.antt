@@ -1,7 +1,9 @@
 use Rattle.std.proofs.Common.{◌≡◌, ◌∙◌, false, length, refl, sym, subst}
 use Rattle.std.proofs.lemmas.Result.{err_from_is_err_and}
 use Rattle.trace_record.specs.Fresh.{IsWithin}
-use Rattle.ring_changes.specs.Histories.{known_now}
+use Rattle.ring_changes.specs.Histories.{header_now, known_now}
+use Rattle.ownership_rules.specs.declared.refusal.Refusal.TheVariants.{BadRing}
+use Rattle.ring_pass.proofs.Broken.{least_stopped}
 use Rattle.ring_pass.proofs.Steps.{comes_behind, comes_refused, coming_by_header}
 use Rattle.ring_pass.proofs.Logged.{comes_logged}
 use Rattle.traces.specs.declared.header.Header.{Header}
@@ -10,14 +12,16 @@ use Rattle.ring_changes.specs.Changes.{is_bad_ring}
 use Rattle.ring_pass.proofs.pass.RingPass.ring_comes.Goals as goal
 
 pub returns-then-is_stopped-clause-refused : goal.returns-then-is_stopped-clause-refused
-returns-then-is_stopped-clause-refused g c = λ h past p. sym (c.is_stopped.ensures (known_now h past) p.tracked.follows.registers) ∙ c.if-is_stopped.true
+returns-then-is_stopped-clause-refused g c = λ h past p.
+    let k = known_now h past in
+    least_stopped k BadRing (is_bad_ring (header_now h past) k c.args.ring) (sym (c.is_stopped.ensures k p.tracked.follows.registers) ∙ c.if-is_stopped.true)
 
 pub returns-in_err-check_coming-clause-refused : goal.returns-in_err-check_coming-clause-refused
 returns-in_err-check_coming-clause-refused g c =
     let words = g.M.WordMemory.words in
     let e = err_from_is_err_and c.from_residual.result c.from_residual.ensures.1 in
-    rw (e.1, e.2) (λ h past p.
-    comes_refused words h past c.args.self.now p c.args.ring (sym (c.is_stopped.ensures (known_now h past) p.tracked.follows.registers) ∙ c.if-is_stopped.false)
+    rw (e.1, e.2)
+    (comes_refused words c.args.self.now c.args.ring (λ h past p. sym (c.is_stopped.ensures (known_now h past) p.tracked.follows.registers) ∙ c.if-is_stopped.false)
     c.in_err-check_coming.field-0.0 c.in_err-check_coming.ensures.refused)
 
 pub returns-clause-passed : goal.returns-clause-passed

@@ -2,6 +2,8 @@ use Rattle.std.proofs.Common.{◌≡◌, ◌∙◌, ◌∷◌, false, arith, len
 use Rattle.std.proofs.lemmas.Result.{err_from_is_err_and}
 use Rattle.trace_record.specs.Fresh.{IsWithin}
 use Rattle.ring_changes.specs.Histories.{header_now, known_now}
+use Rattle.ownership_rules.specs.declared.refusal.Refusal.TheVariants.{BadFree}
+use Rattle.ring_pass.proofs.Broken.{least_stopped}
 use Rattle.ring_pass.proofs.Steps.{goes_behind, goes_refused, same_still}
 use Rattle.traces.specs.declared.header.Header.{Header}
 use Rattle.traces.specs.declared.trace_row.TraceRow.TheVariants.{Goes}
@@ -15,15 +17,20 @@ use Rattle.ring_pass.proofs.Logged.{goes_logged, goes_transfer}
 use Rattle.ring_pass.proofs.pass.RingPass.ring_goes.Goals as goal
 
 pub returns-then-is_stopped-clause-refused : goal.returns-then-is_stopped-clause-refused
-returns-then-is_stopped-clause-refused g c = λ h past p. sym (c.is_stopped.ensures (known_now h past) p.tracked.follows.registers) ∙ c.if-is_stopped.true
+returns-then-is_stopped-clause-refused g c = λ h past p.
+    let k = known_now h past in
+    least_stopped k BadFree (is_bad_free (header_now h past) k c.args.id) (sym (c.is_stopped.ensures k p.tracked.follows.registers) ∙ c.if-is_stopped.true)
 
 pub returns-in_err-check_going-clause-refused : goal.returns-in_err-check_going-clause-refused
 returns-in_err-check_going-clause-refused g c =
     let words = g.M.WordMemory.words in
     let e = err_from_is_err_and c.from_residual.result c.from_residual.ensures.1 in
-    rw (e.1, e.2) (λ h past p.
-    let q = same_still words h past c.args.self.now p c.end_leases.new.self c.end_leases.ensures.header c.end_leases.ensures.finder c.end_leases.ensures.record c.end_leases.ensures.memory in
-    goes_refused words h past c.end_leases.new.self q c.args.id (sym (c.is_stopped.ensures (known_now h past) p.tracked.follows.registers) ∙ c.if-is_stopped.false)
+    rw (e.1, e.2)
+    (goes_refused words c.args.self.now c.end_leases.new.self c.args.id
+    (λ h past p. (
+      same_still words h past c.args.self.now p c.end_leases.new.self c.end_leases.ensures.header c.end_leases.ensures.finder c.end_leases.ensures.record c.end_leases.ensures.memory,
+      sym (c.is_stopped.ensures (known_now h past) p.tracked.follows.registers) ∙ c.if-is_stopped.false,
+    ))
     c.in_err-check_going.field-0.0 c.in_err-check_going.ensures.refused)
 
 pub returns-clause-passed : goal.returns-clause-passed

@@ -1,0 +1,256 @@
+-- How far the rows of a trace were read and passed, between which rings come and go, and what that says of the whole text
+use Rattle.std.proofs.Common.{◌≡◌, ℕ, ◌+◌, ◌-◌, ◌<◌, ◌≤◌, List, [], ◌∷◌, ◌++◌, ◌∙◌, true, false, Option, Some, None, Result, Ok, Err, All, refl, ap, sym, subst, arith, length, append-nil, append_assoc, add-zero}
+use Rattle.std.specs.Prelude.{reverse}
+use Rattle.safety.proofs.Words.{All-cons, All-nil}
+use Rattle.traces.specs.Limits.{most_lines}
+use Rattle.traces.specs.declared.header.Header.{Header}
+use Rattle.traces.specs.declared.trace_row.TraceRow.{TraceRow}
+use Rattle.trace_reader.specs.declared.fault.LineFault.{LineFault}
+use Rattle.trace_reader.specs.DriverRows.{text_taken}
+use Rattle.row_reader.specs.declared.reader.RowReader.{RowReader}
+use Rattle.row_reader.specs.declared.fault.StreamFault.{StreamFault}
+use Rattle.row_reader.specs.declared.fault.StreamFault.TheVariants.{Line, Device, Memory}
+use Rattle.row_reader.specs.Ahead.{ahead_of}
+use Rattle.row_reader.specs.Answers.{IsCall, has_ended}
+use Rattle.row_reader.specs.ReaderState.{IsOpened, progress_of}
+use Rattle.row_reader.specs.Streams.{HasRead, IfBadLine, IsBadTaken, OfStream}
+use Rattle.row_reader.proofs.Streams.{end_read, line_read_bad, opened_read, row_numbered, row_read, row_read_refused}
+use Rattle.ring_knowledge.specs.declared.lease.Lease.{Lease}
+use Rattle.ownership_rules.specs.declared.refusal.Refusal.{Refusal}
+use Rattle.ownership_rules.specs.Leases.{without_end}
+use Rattle.lease_book.specs.Lents.{Lent, lents}
+use Rattle.ring_changes.specs.Histories.{FitsFields, header_now, known_now}
+use Rattle.ring_leases.specs.RingLents.{ring_lents}
+use Rattle.ring_pass.specs.Clean.{IsLeastOfRow}
+use Rattle.ring_pass.specs.Passing.{DoNoHarm, IsRingLogged, IsRingPassed}
+use Rattle.ring_pass.specs.Reading.{Begins, IsWholeLog, OfRingTrace, with_rows}
+use Rattle.ring_pass.specs.RingRows.{at_line, ring_row}
+use Rattle.ring_pass.specs.Rules.{ring_verdict}
+use Rattle.ring_pass.specs.declared.pass.RingPass.{RingPass}
+use Rattle.ring_pass.proofs.RowsFit.{row_fits}
+use Rattle.ring_pass.proofs.Verdicts.{one_more, reversed_more, reversed_twice, row_refused}
+
+-- a call between two readers answered so
+abbrev pub Gives : Option (List ℕ) → Option (List ℕ) → RowReader → RowReader → Result (Option (ℕ × TraceRow)) StreamFault → Type 0
+Gives held held' r r' answer = IsCall (progress_of r) (progress_of r') held held' (ahead_of r.ahead) (ahead_of r'.ahead) answer
+
+-- a call gave a row, and the reading goes on
+pub record IsGiven (held held' : Option (List ℕ)) (r r' : RowReader) (row : ℕ × TraceRow) : Type 0 where
+  pub headed : r'.header ≡ r.header
+  pub on : r'.ended ≡ false
+  pub call : Gives held held' r r' (Ok (Some row))
+
+pub given : {o : Option (ℕ × TraceRow)} (held held' : Option (List ℕ)) (r r' : RowReader) (row : ℕ × TraceRow) → o ≡ Some row → r'.header ≡ r.header → r'.ended ≡ has_ended (Ok o) → Gives held held' r r' (Ok o) →
+    IsGiven held held' r r' row
+given held held' r r' row is headed over call = record {
+  headed = headed;
+  on = subst (λ (o : Option (ℕ × TraceRow)). r'.ended ≡ has_ended (Ok o)) is over;
+  call = subst (λ (o : Option (ℕ × TraceRow)). Gives held held' r r' (Ok o)) is call;
+}
+
+-- it gave none
+pub record IsOver (held held' : Option (List ℕ)) (r r' : RowReader) : Type 0 where
+  pub headed : r'.header ≡ r.header
+  pub over : r'.ended ≡ true
+  pub call : Gives held held' r r' (Ok None)
+
+pub ended : {o : Option (ℕ × TraceRow)} (held held' : Option (List ℕ)) (r r' : RowReader) → o ≡ None → r'.header ≡ r.header → r'.ended ≡ has_ended (Ok o) → Gives held held' r r' (Ok o) → IsOver held held' r r'
+ended held held' r r' is headed over call = record {
+  headed = headed;
+  over = subst (λ (o : Option (ℕ × TraceRow)). r'.ended ≡ has_ended (Ok o)) is over;
+  call = subst (λ (o : Option (ℕ × TraceRow)). Gives held held' r r' (Ok o)) is call;
+}
+
+-- behind a row fewer lines may be left
+pub fewer_left : (held held' : Option (List ℕ)) (r r' : RowReader) (row : ℕ × TraceRow) → IsGiven held held' r r' row → most_lines - r'.lines < most_lines - r.lines
+fewer_left held held' r r' row next = let n = row_numbered ring_row held held' r r' row next.on next.call in omega (arith, n.0, n.1, r'.within)
+
+-- ---- rows as they are taken
+
+taken : (number : ℕ) (o : Result TraceRow LineFault) (row : TraceRow) → Ok row ≡ at_line number o → o ≡ Ok row
+taken number (Ok other) row is = let same : row ≡ other = cc is in ap (λ (r : TraceRow). Ok r) (sym same)
+taken number (Err fault) row is = cc is
+
+untaken : (number : ℕ) (o : Result TraceRow LineFault) (e : StreamFault) → Err e ≡ at_line number o → (fault : LineFault) × (e ≡ Line number fault) × (o ≡ Err fault)
+untaken number (Ok row) e is = cc is
+untaken number (Err fault) e is = (fault, cc is, refl)
+
+-- so many rows were read and passed
+pub record IsUnderway {B M : Type 0} (words : M → ℕ → ℕ) (holds : List Lease → Header → List Lent → B → Type 0) (start : RowReader) (held held' : Option (List ℕ)) (log : B) (reader : RowReader)
+    (pass : RingPass B M) : Type 0 where
+  pub past : List TraceRow
+  pub numbered : reader.lines ≡ start.lines + length past
+  pub headed : reader.header ≡ start.header
+  pub read : (before : Option (List ℕ)) → IsOpened before held (Ok start) → HasRead ring_row before held' (start.lines + 1) (reverse past) reader
+  pub fitting : All FitsFields past
+  pub passed : IsRingPassed words start.header past pass
+  pub logged : (list : List Lease) → Begins (holds list) start log → IsRingLogged (holds list) start.header (start.lines + 1) past pass
+
+module _ {B M : Type 0} (words : M → ℕ → ℕ) (holds : List Lease → Header → List Lent → B → Type 0) (start : RowReader) (held : Option (List ℕ)) (log : B) where
+  pub underway : (pass : RingPass B M) (h : Header) → h ≡ start.header → IsRingPassed words h [] pass →
+      ((list : List Lease) (first : ℕ) → holds list h (lents h first []) log → IsRingLogged (holds list) h first [] pass) → IsUnderway words holds start held held log start pass
+  underway pass h is passed logged = record {
+    past = [];
+    numbered = sym (add-zero start.lines);
+    headed = refl;
+    read = λ before opened. opened_read ring_row before held start opened;
+    fitting = All-nil FitsFields;
+    passed = subst (λ (x : Header). IsRingPassed words x [] pass) is passed;
+    logged = λ list begins.
+        subst (λ (x : Header). IsRingLogged (holds list) x (start.lines + 1) [] pass) is
+        (logged list (start.lines + 1) (subst (λ (x : Header). holds list x (lents x (start.lines + 1) []) log) (sym is) (begins (start.lines + 1))));
+  }
+
+  module _ (held' held'' : Option (List ℕ)) (r r' : RowReader) (pass : RingPass B M) (u : IsUnderway words holds start held held' log r pass) where
+    module _ (row : ℕ × TraceRow) (next : IsGiven held' held'' r r' row) (one : TraceRow) (told : Ok one ≡ at_line row.0 (ring_row row.1)) where
+      number_so : row.0 ≡ start.lines + 1 + length u.past
+      number_so = let n = row_numbered ring_row held' held'' r r' row next.on next.call in omega (arith, n.0, u.numbered)
+
+      room_so : start.lines + 1 + length u.past < without_end
+      unfolding without_end
+      room_so = let n = row_numbered ring_row held' held'' r r' row next.on next.call in omega (arith, n.0, n.1, u.numbered, r'.within)
+
+      pub few_so : (h : Header) × (past : List TraceRow) × IsRingPassed words h past pass × (length past ≤ most_lines)
+      few_so = (start.header, u.past, u.passed, omega (arith, u.numbered, r.within))
+
+      pub fits_so : FitsFields one
+      fits_so = row_fits held' held'' r r' row one (taken row.0 (ring_row row.1) one told) next.on next.call
+
+      read_so : (before : Option (List ℕ)) → IsOpened before held (Ok start) → HasRead ring_row before held'' (start.lines + 1) (reverse (one ∷ u.past)) r'
+      read_so before opened =
+          subst (λ (rows : List TraceRow). HasRead ring_row before held'' (start.lines + 1) rows r') (reversed_more u.past one)
+          (row_read ring_row before held' held'' (start.lines + 1) (reverse u.past) r r' next.headed (u.read before opened) row one (taken row.0 (ring_row row.1) one told) next.on next.call)
+
+      pub row_passed : (pass' : RingPass B M) → ((h : Header) (past : List TraceRow) → IsRingPassed words h past pass → IsRingPassed words h (one ∷ past) pass') →
+          ((list : List Lease) (h : Header) (first : ℕ) (past : List TraceRow) → IsRingPassed words h past pass → row.0 ≡ first + length past → first + length past < without_end →
+          IsRingLogged (holds list) h first past pass → IsRingLogged (holds list) h first (one ∷ past) pass') → IsUnderway words holds start held held'' log r' pass'
+      row_passed pass' passes logs = record {
+        past = one ∷ u.past;
+        numbered = let n = row_numbered ring_row held' held'' r r' row next.on next.call in omega (arith, n.0, n.1, u.numbered);
+        headed = next.headed ∙ u.headed;
+        read = read_so;
+        fitting = All-cons FitsFields one u.past fits_so u.fitting;
+        passed = passes start.header u.past u.passed;
+        logged = λ list begins. logs list start.header (start.lines + 1) u.past u.passed number_so room_so (u.logged list begins);
+      }
+
+      -- a refused row, and rows behind it
+      pub refused_so : (last : Option (List ℕ)) (c : Refusal) → ((h : Header) (past : List TraceRow) → IsRingPassed words h past pass → IsLeastOfRow (header_now h past) (known_now h past) one c) →
+          ((before : Option (List ℕ)) (first : ℕ) (done : List TraceRow) → HasRead ring_row before held'' first done r' →
+          (more : List TraceRow) × OfStream before last (λ text. text_taken ring_row text ≡ Ok (with_rows r' first (done ++ more)))) →
+          (before : Option (List ℕ)) → IsOpened before held (Ok start) → OfRingTrace before last (λ trace. ring_verdict trace.header trace.first trace.rows ≡ Some (row.0, c))
+      refused_so last c least rest before opened =
+          let first = start.lines + 1 in
+          let read = rest before first (reverse (one ∷ u.past)) (read_so before opened) in
+          let rows : List TraceRow = reverse (one ∷ u.past) ++ read.0 in
+          let refused : ring_verdict r'.header first rows ≡ Some (row.0, c) =
+          ap (λ (x : Header). ring_verdict x first rows) (next.headed ∙ u.headed)
+          ∙ ap (ring_verdict start.header first) (one_more u.past one read.0)
+          ∙ row_refused start.header first u.past read.0 one c u.passed.clean (least start.header u.past u.passed)
+          ∙ ap (λ n. Some (n, c)) (sym number_so) in
+          (with_rows r' first rows, read.1, refused)
+
+      -- a refused row, and a bad line behind it
+      pub bad_behind : (last : Option (List ℕ)) (e : StreamFault) →
+          IfBadLine e (λ line fault. (before : Option (List ℕ)) (first : ℕ) (done : List TraceRow) → HasRead ring_row before held'' first done r' → IsBadTaken ring_row before last line fault) →
+          IfBadLine e (λ line fault. (before : Option (List ℕ)) → IsOpened before held (Ok start) → IsBadTaken ring_row before last line fault)
+      bad_behind last (Line line fault) told = λ before opened. told before (start.lines + 1) (reverse (one ∷ u.past)) (read_so before opened)
+      bad_behind last Device told = tt
+      bad_behind last Memory told = tt
+
+    -- a row by which a descriptor is withdrawn
+    pub untaken_so : (row : ℕ × TraceRow) → IsGiven held' held'' r r' row → (e : StreamFault) → Err e ≡ at_line row.0 (ring_row row.1) →
+        IfBadLine e (λ line fault. (before : Option (List ℕ)) → IsOpened before held (Ok start) → IsBadTaken ring_row before held'' line fault)
+    untaken_so row next e told =
+        let is = untaken row.0 (ring_row row.1) e told in
+        subst (λ (x : StreamFault). IfBadLine x (λ line fault. (before : Option (List ℕ)) → IsOpened before held (Ok start) → IsBadTaken ring_row before held'' line fault)) (sym is.1)
+        (λ before opened. row_read_refused ring_row before held' held'' (start.lines + 1) (reverse u.past) r r' next.headed (u.read before opened) row is.0 is.2 next.on next.call)
+
+    -- a bad line is told
+    pub bad_so : (e : StreamFault) → r'.header ≡ r.header → r'.ended ≡ true → Gives held' held'' r r' (Err e) →
+        IfBadLine e (λ line fault. (before : Option (List ℕ)) → IsOpened before held (Ok start) → IsBadTaken ring_row before held'' line fault)
+    bad_so (Line line fault) headed over call = λ before opened. line_read_bad ring_row before held' held'' (start.lines + 1) (reverse u.past) r r' headed (u.read before opened) over line fault call
+    bad_so Device headed over call = tt
+    bad_so Memory headed over call = tt
+
+    -- no row is left
+    pub whole_so : IsOver held' held'' r r' → (r.ended ≡ true → held'' ≡ held') →
+        (kept : B) → ((h : Header) (past : List TraceRow) → IsRingPassed words h past pass → All FitsFields past → DoNoHarm h (reverse past)) →
+        ((list : List Lease) (h : Header) (first : ℕ) (past : List TraceRow) → IsRingLogged (holds list) h first past pass → holds list (header_now h past) (ring_lents h first past) kept) →
+        (before : Option (List ℕ)) (list : List Lease) → IsOpened before held (Ok start) → Begins (holds list) start log → OfRingTrace before held'' (λ trace. IsWholeLog (holds list) trace kept)
+    whole_so last still kept harmless keeps before list opened begins =
+        let first = start.lines + 1 in (
+          with_rows start first (reverse u.past),
+          subst (λ (h : Header). OfStream before held'' (λ text. text_taken ring_row text ≡ Ok (record { header = h; first = first; rows = reverse u.past }))) u.headed
+              (end_read ring_row before held' held'' first (reverse u.past) r r' last.headed (u.read before opened) last.over last.call still),
+          record {
+            clean = rw (reversed_twice u.past) u.passed.clean;
+            harmless = harmless start.header u.past u.passed u.fitting;
+            kept = rw (reversed_twice u.past) (keeps list start.header first u.past (u.logged list begins));
+          },
+        )
+
+-- ---- rows that are read behind a refused one
+
+-- further rows were read
+pub record IsReadOn (start : RowReader) (held held' : Option (List ℕ)) (reader : RowReader) : Type 0 where
+  pub headed : reader.header ≡ start.header
+  pub read : (before : Option (List ℕ)) (first : ℕ) (done : List TraceRow) → HasRead ring_row before held first done start → (more : List TraceRow) × HasRead ring_row before held' first (done ++ more) reader
+
+module _ (start : RowReader) (held : Option (List ℕ)) where
+  pub none_read_on : IsReadOn start held held start
+  none_read_on = record {
+    headed = refl;
+    read = λ before first done read. ([], subst (λ (rows : List TraceRow). HasRead ring_row before held first rows start) (sym (append-nil done)) read);
+  }
+
+  module _ (held' held'' : Option (List ℕ)) (r r' : RowReader) (u : IsReadOn start held held' r) where
+    module _ (before : Option (List ℕ)) (first : ℕ) (done : List TraceRow) where
+      abbrev Read : Option (List ℕ) → RowReader → Type 0
+      Read x reader = (more : List TraceRow) × HasRead ring_row before x first (done ++ more) reader
+
+      row_more : (row : ℕ × TraceRow) → IsGiven held' held'' r r' row → (one : TraceRow) → ring_row row.1 ≡ Ok one → Read held' r → Read held'' r'
+      row_more row next one taken (more, read) = (
+        more ++ one ∷ [],
+        subst (λ (rows : List TraceRow). HasRead ring_row before held'' first rows r') (append_assoc done more (one ∷ []))
+            (row_read ring_row before held' held'' first (done ++ more) r r' next.headed read row one taken next.on next.call),
+      )
+
+      all_more : IsOver held' held'' r r' → (r.ended ≡ true → held'' ≡ held') → Read held' r →
+          (more : List TraceRow) × OfStream before held'' (λ text. text_taken ring_row text ≡ Ok (with_rows start first (done ++ more)))
+      all_more last still (more, read) = (
+        more,
+        subst (λ (h : Header). OfStream before held'' (λ text. text_taken ring_row text ≡ Ok (record { header = h; first = first; rows = done ++ more }))) u.headed
+            (end_read ring_row before held' held'' first (done ++ more) r r' last.headed read last.over last.call still),
+      )
+
+      bad_more : r'.header ≡ r.header → r'.ended ≡ true → (line : ℕ) (fault : LineFault) → Gives held' held'' r r' (Err (Line line fault)) → Read held' r → IsBadTaken ring_row before held'' line fault
+      bad_more headed over line fault call (more, read) = line_read_bad ring_row before held' held'' first (done ++ more) r r' headed read over line fault call
+
+    pub row_read_on : (row : ℕ × TraceRow) → IsGiven held' held'' r r' row → (one : TraceRow) → Ok one ≡ at_line row.0 (ring_row row.1) → IsReadOn start held held'' r'
+    row_read_on row next one told = record {
+      headed = next.headed ∙ u.headed;
+      read = λ before first done read. row_more before first done row next one (taken row.0 (ring_row row.1) one told) (u.read before first done read);
+    }
+
+    -- a row by which a descriptor is withdrawn
+    pub untaken_read_on : (row : ℕ × TraceRow) → IsGiven held' held'' r r' row → (e : StreamFault) → Err e ≡ at_line row.0 (ring_row row.1) →
+        IfBadLine e (λ line fault. (before : Option (List ℕ)) (first : ℕ) (done : List TraceRow) → HasRead ring_row before held first done start → IsBadTaken ring_row before held'' line fault)
+    untaken_read_on row next e told =
+        let is = untaken row.0 (ring_row row.1) e told in
+        subst (λ (x : StreamFault). IfBadLine x (λ line fault. (before : Option (List ℕ)) (first : ℕ) (done : List TraceRow) → HasRead ring_row before held first done start → IsBadTaken ring_row before held'' line fault))
+        (sym is.1)
+        (λ before first done read.
+        let so = u.read before first done read in
+        row_read_refused ring_row before held' held'' first (done ++ so.0) r r' next.headed so.1 row is.0 is.2 next.on next.call)
+
+    pub all_read_on : IsOver held' held'' r r' → (r.ended ≡ true → held'' ≡ held') →
+        (before : Option (List ℕ)) (first : ℕ) (done : List TraceRow) → HasRead ring_row before held first done start →
+        (more : List TraceRow) × OfStream before held'' (λ text. text_taken ring_row text ≡ Ok (with_rows start first (done ++ more)))
+    all_read_on last still before first done read = all_more before first done last still (u.read before first done read)
+
+    pub bad_read_on : (e : StreamFault) → r'.header ≡ r.header → r'.ended ≡ true → Gives held' held'' r r' (Err e) →
+        IfBadLine e (λ line fault. (before : Option (List ℕ)) (first : ℕ) (done : List TraceRow) → HasRead ring_row before held first done start → IsBadTaken ring_row before held'' line fault)
+    bad_read_on (Line line fault) headed over call = λ before first done read. bad_more before first done headed over line fault call (u.read before first done read)
+    bad_read_on Device headed over call = tt
+    bad_read_on Memory headed over call = tt

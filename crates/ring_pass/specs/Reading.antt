@@ -1,0 +1,45 @@
+-- What a pass over the rows of a trace comes to, between which rings come and go
+use Rattle.std.specs.Prelude.{◌≡◌, ℕ, List, [], Option, Ok, reverse}
+use Rattle.traces.specs.declared.header.Header.{Header}
+use Rattle.traces.specs.declared.trace_row.TraceRow.{TraceRow}
+use Rattle.trace_reader.specs.DriverRows.{text_taken}
+use Rattle.trace_reader.specs.Reading.{TraceText}
+use Rattle.row_reader.specs.Streams.{OfStream}
+use Rattle.row_reader.specs.declared.reader.RowReader.{RowReader}
+use Rattle.ownership_rules.specs.declared.refusal.Refusal.{Refusal}
+use Rattle.lease_book.specs.Lents.{Lent, lents}
+use Rattle.ring_changes.specs.Histories.{header_now}
+use Rattle.ring_leases.specs.RingLents.{ring_lents}
+use Rattle.ring_pass.specs.Clean.{AreClean}
+use Rattle.ring_pass.specs.Passing.{DoNoHarm}
+use Rattle.ring_pass.specs.RingRows.{ring_row}
+use Rattle.ring_pass.specs.declared.reading.Passed.{Passed}
+use Rattle.ring_pass.specs.declared.reading.Passed.TheVariants.{Whole, Refused}
+
+-- so it is of a trace that this text says, in which no descriptor is withdrawn
+abbrev pub OfRingTrace : Option (List ℕ) → Option (List ℕ) → (TraceText → Type 0) → Type 0
+OfRingTrace held held' P = (trace : TraceText) × OfStream held held' (λ text. text_taken ring_row text ≡ Ok trace) × P trace
+
+-- the log keeps the leases that stand before the first row
+abbrev pub Begins : {B : Type 0} → (Header → List Lent → B → Type 0) → RowReader → B → Type 0
+Begins Holds reader log = (first : ℕ) → Holds reader.header (lents reader.header first []) log
+
+-- no row of the trace breaks a rule, no run beside them does harm, and the log keeps their leases
+pub record IsWholeLog {B : Type 0} (Holds : Header → List Lent → B → Type 0) (trace : TraceText) (log : B) : Type 0 where
+  pub clean : AreClean trace.header (reverse trace.rows)
+  pub harmless : DoNoHarm trace.header trace.rows
+  pub kept : Holds (header_now trace.header (reverse trace.rows)) (ring_lents trace.header trace.first (reverse trace.rows)) log
+
+-- a trace that was passed whole
+abbrev pub IfWhole : {B : Type 0} → Passed B → (B → Type 0) → Type 0
+IfWhole (Whole log) P = P log
+IfWhole (Refused row c) P = Unit {0}
+
+-- a row that was refused
+abbrev pub IfRefusedRow : {B : Type 0} → Passed B → (ℕ → Refusal → Type 0) → Type 0
+IfRefusedRow (Whole log) P = Unit {0}
+IfRefusedRow (Refused row c) P = P row c
+
+-- what a reader's header and rows make
+abbrev pub with_rows : RowReader → ℕ → List TraceRow → TraceText
+with_rows reader first rows = record { header = reader.header; first = first; rows = rows }

@@ -1,0 +1,98 @@
+ghost use Rattle.std.specs.Prelude.{◌≡◌, ℕ, List, Option, Some, Ok, ◌++◌, IfErr, IfOk, OnOk};
+ghost use Rattle.traces.specs.declared.trace_row.TraceRow.{TraceRow};
+ghost use Rattle.ring_knowledge.specs.declared.lease.Lease.{Lease};
+ghost use Rattle.row_reader.specs.Answers.{told_failures};
+ghost use Rattle.row_reader.specs.ReaderState.{IsOpened};
+ghost use Rattle.row_reader.specs.Streams.{HasRead, IfBadLine, IsBadTaken, OfStream};
+ghost use Rattle.trace_reader.specs.DriverRows.{text_taken};
+ghost use Rattle.ring_pass.specs.Reading.{Begins, IfRefusedRow, IfWhole, IsWholeLog, OfRingTrace, with_rows};
+ghost use Rattle.ring_pass.specs.RingRows.{at_line, ring_row};
+ghost use Rattle.ring_pass.specs.Rules.{ring_verdict};
+
+use crate::headers::copy_header;
+use crate::pass::RingPass;
+use guest_memory::WordMemory;
+use lease_book::LeaseLog;
+use ownership_rules::Refusal;
+use row_reader::{RowReader, Source, StreamFault};
+use std::alloc::Global;
+use trace_reader::LineFault;
+use trace_record::StepFault;
+use traces::TraceRow;
+
+/// What a pass over the rows of a trace comes to.
+#[derive(Drop)]
+pub enum Passed<B> {
+    /// No row breaks a rule; the log of their leases.
+    Whole(B),
+    /// The first row that breaks a rule, by its line number, and the least of the rules that it breaks.
+    Refused { row: u32, refusal: Refusal },
+}
+
+/// Checks the rows of a trace in one pass as they are read, none of which was read yet; rings may come and go between them. Behind a
+/// refused row it reads on: a bad line later is told in place of the refusal. A row by which a descriptor is withdrawn is a bad line. The
+/// memory is all zero.
+pub fn pass_rows<S: Source, B: LeaseLog + Drop, M: WordMemory + Drop>(
+    alloc: Global,
+    reader: RowReader,
+    source: &mut S,
+    log: B,
+    memory: M,
+) -> Result<Passed<B>, StreamFault>
+    requires zero { (a : ℕ) → M.words memory a ≡ 0 }
+    ensures whole { IfOk result (λ passed. IfWhole passed (λ kept. (held : Option (List ℕ)) (list : List Lease) → IsOpened held (S.held source.old) (Ok reader) →
+        Begins (B.holds list) reader log → OfRingTrace held (S.held source.new) (λ trace. IsWholeLog (B.holds list) trace kept))) }
+    ensures refused { IfOk result (λ passed. IfRefusedRow passed (λ row c. (held : Option (List ℕ)) → IsOpened held (S.held source.old) (Ok reader) →
+        OfRingTrace held (S.held source.new) (λ trace. ring_verdict trace.header trace.first trace.rows ≡ Some (row, c)))) }
+    ensures line { IfErr result (λ e. IfBadLine e (λ line fault. (held : Option (List ℕ)) → IsOpened held (S.held source.old) (Ok reader) →
+        IsBadTaken ring_row held (S.held source.new) line fault)) }
+    ensures failures { S.failed source.new ≡ told_failures (S.failed source.old) result }
+{
+    let mut reader = reader;
+    let header = copy_header(alloc, reader.header())?;
+    let mut pass = RingPass::new(alloc, header, log, memory)?;
+    while let Some((number, row)) = reader.next_row(source)? {
+        let row = ring_row_at(number, row)?;
+        match pass.row(number, row) {
+            Ok(()) => {}
+            Err(StepFault::Refused(refusal)) => {
+                read_on(&mut reader, source)?;
+                return Ok(Passed::Refused {
+                    row: number,
+                    refusal,
+                });
+            }
+            Err(StepFault::Memory) => return Err(StreamFault::Memory),
+        }
+    }
+    Ok(Passed::Whole(pass.into_log()))
+}
+
+/// Reads the rows that are left, for a bad line among theirs.
+fn read_on<S: Source>(reader: &mut RowReader, source: &mut S) -> Result<(), StreamFault>
+    ensures rows { OnOk result ((held : Option (List ℕ)) (first : ℕ) (done : List TraceRow) → HasRead ring_row held (S.held source.old) first done reader.old →
+        (more : List TraceRow) × OfStream held (S.held source.new) (λ text. text_taken ring_row text ≡ Ok (with_rows reader.old first (done ++ more)))) }
+    ensures line { IfErr result (λ e. IfBadLine e (λ line fault. (held : Option (List ℕ)) (first : ℕ) (done : List TraceRow) → HasRead ring_row held (S.held source.old) first done reader.old →
+        IsBadTaken ring_row held (S.held source.new) line fault)) }
+    ensures failures { S.failed source.new ≡ told_failures (S.failed source.old) result }
+{
+    while let Some((number, row)) = reader.next_row(source)? {
+        drop(ring_row_at(number, row)?);
+    }
+    Ok(())
+}
+
+/// The row, if it withdraws no descriptor; else the line with this number is bad.
+fn ring_row_at(number: u32, row: TraceRow) -> Result<TraceRow, StreamFault>
+    ensures { result ≡ at_line number (ring_row row) }
+{
+    match row {
+        TraceRow::Withdraws { .. } => Err(StreamFault::Line {
+            line: number,
+            fault: LineFault::Row,
+        }),
+        TraceRow::Plain(row) => Ok(TraceRow::Plain(row)),
+        TraceRow::Comes(ring) => Ok(TraceRow::Comes(ring)),
+        TraceRow::Goes(id) => Ok(TraceRow::Goes(id)),
+    }
+}
