@@ -1,4 +1,4 @@
-ghost use Rattle.std.specs.Prelude.{◌≡◌, ℕ, List, Option, Some, Ok, Err, ◌++◌, IfErr, IfOk, OnOk};
+ghost use Rattle.std.specs.Prelude.{◌≡◌, ℕ, List, Option, Some, Ok, ◌++◌, IfErr, IfOk, OnOk};
 ghost use Rattle.ring_knowledge.specs.declared.lease.Lease.{Lease};
 ghost use Rattle.ring_knowledge.specs.Known.{nothing};
 ghost use Rattle.ownership_rules.specs.Rules.{verdict_from};
@@ -49,8 +49,8 @@ pub fn pass_rows<S: Source, B: LeaseLog + Drop, M: WordMemory + Drop>(
     let mut reader = reader;
     let mut pass = Pass::new(alloc, reader.header(), log, memory)?;
     while let Some((number, row)) = reader.next_row(source)? {
-        let one = driver_row_at(number, &row)?;
-        match pass.row(reader.header(), number, one) {
+        let row = driver_row_at(number, row)?;
+        match pass.row(reader.header(), number, &row) {
             Ok(()) => drop(row),
             Err(StepFault::Refused(refusal)) => {
                 read_on(&mut reader, source)?;
@@ -74,17 +74,15 @@ fn read_on<S: Source>(reader: &mut RowReader, source: &mut S) -> Result<(), Stre
     ensures failures { S.failed source.new ≡ told_failures (S.failed source.old) result }
 {
     while let Some((number, row)) = reader.next_row(source)? {
-        driver_row_at(number, &row)?;
-        drop(row);
+        drop(driver_row_at(number, row)?);
     }
     Ok(())
 }
 
 /// The driver's row; else the line with this number is bad.
 #[inline(always)]
-fn driver_row_at(number: u32, row: &TraceRow) -> Result<&Row, StreamFault>
-    ensures taken { IfOk result (λ one. Ok one.now ≡ at_line number (driver_row row.now)) }
-    ensures untaken { IfErr result (λ e. Err e ≡ at_line number (driver_row row.now)) }
+fn driver_row_at(number: u32, row: TraceRow) -> Result<Row, StreamFault>
+    ensures { result ≡ at_line number (driver_row row) }
 {
     match row {
         TraceRow::Plain(row) => Ok(row),

@@ -38,8 +38,8 @@ loop-pass-preserved g c =
     let row : ℕ × TraceRow = (c.in-Some.number, c.in-Some.row) in
     let on = subst (λ (o : Option (ℕ × TraceRow)). r'.ended ≡ has_ended (Ok o)) c.in-Some.is c.in_ok-number.ensures.over in
     let call = subst (λ (o : Option (ℕ × TraceRow)). IsCall (progress_of r) (progress_of r') held' held'' (ahead_of r.ahead) (ahead_of r'.ahead) (Ok o)) c.in-Some.is c.in_ok-number.ensures.answer in (
-      row_passed words holds c.args.reader held c.args.log held' held'' r r' c.loop-pass.pass c.loop-pass.invariant.0 c.in_ok-number.ensures.header row c.in_ok-one.one.now (taken_row row.0 (driver_row row.1) c.in_ok-one.one.now c.in_ok-one.ensures.taken) on call c.header-in-Some.result.now c.header-in-Some.ensures.said
-          c.row-in-Some.new.self c.in-Ok.ensures.passed c.in-Ok.ensures.logged,
+      row_passed words holds c.args.reader held c.args.log held' held'' r r' c.loop-pass.pass c.loop-pass.invariant.0 c.in_ok-number.ensures.header row c.in_ok-row.row (taken_row row.0 (driver_row row.1) c.in_ok-row.row c.in_ok-row.ensures) on call c.header-in-Some.result.now c.header-in-Some.ensures.said
+          c.row.new.self c.in-Ok.ensures.passed c.in-Ok.ensures.logged,
       c.in_ok-number.ensures.failures ∙ c.loop-pass.invariant.1,
     )
 
@@ -71,7 +71,7 @@ returns-in_err-read_on-in-Err-Refused-clause-line g c =
     let call = subst (λ (o : Option (ℕ × TraceRow)). IsCall (progress_of r) (progress_of r') held' held'' (ahead_of r.ahead) (ahead_of r'.ahead) (Ok o)) c.in-Some.is c.in_ok-number.ensures.answer in
     let p = err_from_is_err_and c.from_residual-in_err-read_on-in-Err-Refused.result c.from_residual-in_err-read_on-in-Err-Refused.ensures.1 in
     rw (p.1, p.2)
-    (bad_behind words holds c.args.reader held c.args.log held' held'' r r' c.loop-pass.pass c.loop-pass.invariant.0 c.in_ok-number.ensures.header row c.in_ok-one.one.now (taken_row row.0 (driver_row row.1) c.in_ok-one.one.now c.in_ok-one.ensures.taken) on call c.header-in-Some.result.now c.header-in-Some.ensures.said
+    (bad_behind words holds c.args.reader held c.args.log held' held'' r r' c.loop-pass.pass c.loop-pass.invariant.0 c.in_ok-number.ensures.header row c.in_ok-row.row (taken_row row.0 (driver_row row.1) c.in_ok-row.row c.in_ok-row.ensures) on call c.header-in-Some.result.now c.header-in-Some.ensures.said
     (g.S.Source.held c.read_on.new.source) c.in_err-read_on-in-Err-Refused.field-0.0 c.in_err-read_on-in-Err-Refused.ensures.line)
 
 pub returns-clause-whole : goal.returns-clause-whole
@@ -101,12 +101,12 @@ returns-in-Err-Refused-clause-refused g c =
     let on = subst (λ (o : Option (ℕ × TraceRow)). r'.ended ≡ has_ended (Ok o)) c.in-Some.is c.in_ok-number.ensures.over in
     let call = subst (λ (o : Option (ℕ × TraceRow)). IsCall (progress_of r) (progress_of r') held' held'' (ahead_of r.ahead) (ahead_of r'.ahead) (Ok o)) c.in-Some.is c.in_ok-number.ensures.answer in
     let h = c.header-in-Some.result.now in
-    let least = subst (λ (e : StepFault). IfRefused e (λ x. (past : List Row) → IsPassed words h past c.loop-pass.pass → IsLeast h (known h past) c.in_ok-one.one.now x)) c.in-Err-Refused.field-0-is c.in-Err-Refused.ensures.refused in
-    refused_so words holds c.args.reader held c.args.log held' held'' r r' c.loop-pass.pass c.loop-pass.invariant.0 c.in_ok-number.ensures.header row c.in_ok-one.one.now (taken_row row.0 (driver_row row.1) c.in_ok-one.one.now c.in_ok-one.ensures.taken) on call h c.header-in-Some.ensures.said
+    let least = subst (λ (e : StepFault). IfRefused e (λ x. (past : List Row) → IsPassed words h past c.loop-pass.pass → IsLeast h (known h past) c.in_ok-row.row x)) c.in-Err-Refused.field-0-is c.in-Err-Refused.ensures.refused in
+    refused_so words holds c.args.reader held c.args.log held' held'' r r' c.loop-pass.pass c.loop-pass.invariant.0 c.in_ok-number.ensures.header row c.in_ok-row.row (taken_row row.0 (driver_row row.1) c.in_ok-row.row c.in_ok-row.ensures) on call h c.header-in-Some.ensures.said
     (g.S.Source.held c.read_on.new.source) c.in-Err-Refused.refusal least c.in_ok-read_on-in-Err-Refused.ensures.rows
 
-pub returns-in_err-one-clause-line : goal.returns-in_err-one-clause-line
-returns-in_err-one-clause-line g c =
+pub returns-in_err-row-clause-line : goal.returns-in_err-row-clause-line
+returns-in_err-row-clause-line g c =
     let words = g.M.WordMemory.words in
     let holds = g.B.LeaseLog.holds in
     let held = g.S.Source.held c.args.source.now in
@@ -117,6 +117,6 @@ returns-in_err-one-clause-line g c =
     let row : ℕ × TraceRow = (c.in-Some.number, c.in-Some.row) in
     let on = subst (λ (o : Option (ℕ × TraceRow)). r'.ended ≡ has_ended (Ok o)) c.in-Some.is c.in_ok-number.ensures.over in
     let call = subst (λ (o : Option (ℕ × TraceRow)). IsCall (progress_of r) (progress_of r') held' held'' (ahead_of r.ahead) (ahead_of r'.ahead) (Ok o)) c.in-Some.is c.in_ok-number.ensures.answer in
-    let p = err_from_is_err_and c.from_residual-in_err-one.result c.from_residual-in_err-one.ensures.1 in
+    let p = err_from_is_err_and c.from_residual-in_err-row.result c.from_residual-in_err-row.ensures.1 in
     rw (p.1, p.2)
-    (untaken_so words holds c.args.reader held c.args.log held' held'' r r' c.loop-pass.pass c.loop-pass.invariant.0 c.in_ok-number.ensures.header row c.in_err-one.field-0.0 c.in_err-one.ensures.untaken on call)
+    (untaken_so words holds c.args.reader held c.args.log held' held'' r r' c.loop-pass.pass c.loop-pass.invariant.0 c.in_ok-number.ensures.header row c.in_err-row.field-0.0 c.in_err-row.ensures on call)

@@ -18,7 +18,7 @@ loop-number-preserved g c =
     let r = c.loop-number.reader in
     let r' = c.next_row.new.self in
     let row : ℕ × TraceRow = (c.in-Some.number, c.in-Some.row) in (
-      row_read_on c.args.reader.now (g.S.Source.held c.args.source.now) held' held'' r r' c.loop-number.invariant.0 c.in_ok-number.ensures.header row c.in_ok-driver_row_at.field-0.now (taken_row row.0 (driver_row row.1) c.in_ok-driver_row_at.field-0.now c.in_ok-driver_row_at.ensures.taken)
+      row_read_on c.args.reader.now (g.S.Source.held c.args.source.now) held' held'' r r' c.loop-number.invariant.0 c.in_ok-number.ensures.header row c.in_ok-driver_row_at.field-0 (taken_row row.0 (driver_row row.1) c.in_ok-driver_row_at.field-0 c.in_ok-driver_row_at.ensures)
           (subst (λ (o : Option (ℕ × TraceRow)). r'.ended ≡ has_ended (Ok o)) c.in-Some.is c.in_ok-number.ensures.over)
           (subst (λ (o : Option (ℕ × TraceRow)). IsCall (progress_of r) (progress_of r') held' held'' (ahead_of r.ahead) (ahead_of r'.ahead) (Ok o)) c.in-Some.is c.in_ok-number.ensures.answer),
       c.in_ok-number.ensures.failures ∙ c.loop-number.invariant.1,
@@ -62,4 +62,4 @@ returns-in_err-driver_row_at-clause-line g c =
     let on = subst (λ (o : Option (ℕ × TraceRow)). r'.ended ≡ has_ended (Ok o)) c.in-Some.is c.in_ok-number.ensures.over in
     let call = subst (λ (o : Option (ℕ × TraceRow)). IsCall (progress_of r) (progress_of r') held' held'' (ahead_of r.ahead) (ahead_of r'.ahead) (Ok o)) c.in-Some.is c.in_ok-number.ensures.answer in
     let p = err_from_is_err_and c.from_residual-in_err-driver_row_at.result c.from_residual-in_err-driver_row_at.ensures.1 in
-    rw (p.1, p.2) (untaken_read_on c.args.reader.now (g.S.Source.held c.args.source.now) held' held'' r r' c.loop-number.invariant.0 c.in_ok-number.ensures.header row c.in_err-driver_row_at.field-0.0 c.in_err-driver_row_at.ensures.untaken on call)
+    rw (p.1, p.2) (untaken_read_on c.args.reader.now (g.S.Source.held c.args.source.now) held' held'' r r' c.loop-number.invariant.0 c.in_ok-number.ensures.header row c.in_err-driver_row_at.field-0.0 c.in_err-driver_row_at.ensures on call)
