@@ -8,6 +8,7 @@ ghost use Rattle.ring_knowledge.specs.Learned.{known};
 ghost use Rattle.ownership_rules.specs.Leases.{without_end};
 ghost use Rattle.lease_book.specs.Lents.{lents};
 ghost use Rattle.trace_record.specs.Steps.{IfRefused, IsLeast};
+ghost use Rattle.trace_record.specs.WordPlaces.{IsOwnedSo, IsPlaced};
 ghost use Rattle.row_pass.specs.Passing.{IsLogged, IsPassed};
 
 use guest_memory::WordMemory;
@@ -16,8 +17,15 @@ use lease_rows::note_row;
 use ring_finder::Finder;
 use row_checks::check_row;
 use std::alloc::{AllocError, Global};
-use trace_record::{StepFault, TraceRecord};
+use trace_record::{StepFault, TraceRecord, WordPlace};
 use traces::{Header, Row};
+
+/// Where the word of a row lies that writes none.
+const NOWHERE: WordPlace = WordPlace {
+    ring: None,
+    is_lent: false,
+    giving: None,
+};
 
 /// What is known after the rows so far, and the log of their leases.
 #[derive(Drop)]
@@ -59,25 +67,35 @@ impl<B: LeaseLog + Drop, M: WordMemory + Drop> Pass<B, M> {
             IsLeast header.now (known header.now past) row.now c)) }
     {
         match row {
-            Row::Write { .. } => self.checked_row(header, number, row),
-            _ => self.checked_row(header, number, row),
+            Row::Write { .. } => {
+                let place = self.record.place(header, &self.finder, row);
+                let owned = self.record.owns(header, &self.memory, row, place);
+                self.placed_row(header, number, row, place, owned)
+            }
+            _ => self.placed_row(header, number, row, NOWHERE, false),
         }
     }
 
-    /// The same. It goes inline for writes and for other rows each by itself, which have no place.
+    /// The same of a row whose word lies here, and is the controller's or not. It goes inline for writes and for other rows each by itself.
     #[inline(always)]
-    fn checked_row(&mut self, header: &Header, number: u32, row: &Row) -> Result<(), StepFault>
+    fn placed_row(
+        &mut self,
+        header: &Header,
+        number: u32,
+        row: &Row,
+        place: WordPlace,
+        owned: bool,
+    ) -> Result<(), StepFault>
         requires headed { IsHeader header.now }
         requires so_far { (past : List Row) × IsPassed M.words header.now past self.old × (length past ≤ most_lines) }
-        ensures passed { OnOk result ((past : List Row) → IsPassed M.words header.now past self.old → IsPassed M.words header.now (row.now ∷ past) self.new) }
-        ensures logged { OnOk result ((list : List Lease) (first : ℕ) (past : List Row) → IsPassed M.words header.now past self.old →
-            number ≡ first + length past → first + length (row.now ∷ past) ≤ without_end →
+        ensures passed { OnOk result ((past : List Row) → IsPassed M.words header.now past self.old → IsPlaced header.now (known header.now past) row.now place →
+            IsOwnedSo header.now (known header.now past) row.now owned → IsPassed M.words header.now (row.now ∷ past) self.new) }
+        ensures logged { OnOk result ((list : List Lease) (first : ℕ) (past : List Row) → IsPassed M.words header.now past self.old → IsPlaced header.now (known header.now past) row.now place →
+            IsOwnedSo header.now (known header.now past) row.now owned → number ≡ first + length past → first + length (row.now ∷ past) ≤ without_end →
             IsLogged (B.holds list) header.now first past self.old → IsLogged (B.holds list) header.now first (row.now ∷ past) self.new) }
-        ensures refused { IfErr result (λ e. IfRefused e (λ c. (past : List Row) → IsPassed M.words header.now past self.old →
-            IsLeast header.now (known header.now past) row.now c)) }
+        ensures refused { IfErr result (λ e. IfRefused e (λ c. (past : List Row) → IsPassed M.words header.now past self.old → IsPlaced header.now (known header.now past) row.now place →
+            IsOwnedSo header.now (known header.now past) row.now owned → IsLeast header.now (known header.now past) row.now c)) }
     {
-        let place = self.record.place(header, &self.finder, row);
-        let owned = self.record.owns(header, &self.memory, row, place);
         note_row(
             &mut self.log,
             &mut self.ranges,

@@ -1,7 +1,7 @@
 use Rattle.std.proofs.Common.{length, refl}
 use Rattle.ring_knowledge.specs.Learned.{known}
 use Rattle.row_pass.proofs.Rows.{behind_row, clean_row, on_both, refused_too}
-use Rattle.row_pass.proofs.pass.Pass.checked_row.Goals as goal
+use Rattle.row_pass.proofs.pass.Pass.placed_row.Goals as goal
 
 pub returns-clause-passed : goal.returns-clause-passed
 returns-clause-passed g c =
@@ -9,10 +9,9 @@ returns-clause-passed g c =
     let h = c.args.header.now in
     let row = c.args.row.now in
     let before = c.args.self.now in
-    on_both c.check_row.result (λ ok reads past p.
+    on_both c.check_row.result (λ ok reads past p placed owned.
     let k = known h past in
-    let placed = c.place-place.ensures k (words before.memory) p.tracked.follows in
-    behind_row words h c.requires.headed past before row p c.check_row.new.kept (words c.check_row.new.memory) (ok k p.tracked placed (c.owns-owned.ensures k p.tracked.follows placed)) _ refl refl refl
+    behind_row words h c.requires.headed past before row p c.check_row.new.kept (words c.check_row.new.memory) (ok k p.tracked placed owned) _ refl refl refl
     (reads (length past) p.few_reads)) c.check_row.ensures.ok c.check_row.ensures.reads
 
 pub returns-clause-logged : goal.returns-clause-logged
@@ -21,10 +20,9 @@ returns-clause-logged g c =
     let h = c.args.header.now in
     let row = c.args.row.now in
     let before = c.args.self.now in
-    on_both c.check_row.result (λ ok reads list first past p number room logged.
+    on_both c.check_row.result (λ ok reads list first past p placed owned number room logged.
     let k = known h past in
-    let placed = c.place-place.ensures k (words before.memory) p.tracked.follows in
-    let step = ok k p.tracked placed (c.owns-owned.ensures k p.tracked.follows placed) in
+    let step = ok k p.tracked placed owned in
     c.in_ok-note_row.ensures.history list first past placed
     (clean_row words h c.requires.headed past before row p c.check_row.new.kept (words c.check_row.new.memory) step first c.args.number number room) logged) c.check_row.ensures.ok c.check_row.ensures.reads
 
@@ -33,7 +31,6 @@ returns-clause-refused g c =
     let words = g.M.WordMemory.words in
     let h = c.args.header.now in
     let before = c.args.self.now in
-    refused_too c.check_row.result _ _ (λ r least past p.
+    refused_too c.check_row.result _ _ (λ r least past p placed owned.
     let k = known h past in
-    let placed = c.place-place.ensures k (words before.memory) p.tracked.follows in
-    least k p.tracked placed (c.owns-owned.ensures k p.tracked.follows placed)) c.check_row.ensures.refused
+    least k p.tracked placed owned) c.check_row.ensures.refused
