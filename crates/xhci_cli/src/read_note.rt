@@ -4,12 +4,12 @@ ghost use Rattle.answers.specs.Telling.{IsNote};
 
 use crate::no_note::note_on_verdict;
 use crate::recorded::{Recorded, Text};
-use crate::stream_answers::counted_answer;
 use answers::{Answer, Asked, note_on_failure};
+use ownership_checker::{Certificate, CheckFault, check};
 use ring_knowledge::Lease;
-use row_reader::Counted;
 use std::alloc::{AllocError, Global};
 use std::io::{Read, Seek};
+use trace_reader::read_trace;
 
 /// What a person is told of an answer to the trace that an input held; the leases are those of a certificate, where one is verified. A text
 /// that was too long to be kept is read once more.
@@ -58,12 +58,26 @@ fn explained_text<R: Read + Seek + Drop>(
 
 /// Whether a text has this answer. Whether a certificate is that of its trace is left to what is told of it.
 fn has_answer(alloc: Global, text: &[u8], answer: &Answer) -> Result<bool, AllocError> {
-    match counted_answer(alloc, &mut Counted::new(text)) {
+    match answer_again(alloc, text) {
         Answer::Memory => Err(AllocError),
         again => match answer {
             Answer::Verified { .. } => Ok(true),
             _ => Ok(again == *answer),
         },
+    }
+}
+
+/// The answer to a text by itself. It is read as a trace, as what explains the answer reads it.
+fn answer_again(alloc: Global, text: &[u8]) -> Answer {
+    match read_trace(alloc, text) {
+        Ok(trace) => match check(alloc, &trace) {
+            Ok(Certificate { leases }) => Answer::Accepted {
+                leases: leases.len() as u64,
+            },
+            Err(CheckFault::Refused { row, refusal }) => Answer::Refused { row, refusal },
+            Err(CheckFault::Memory) => Answer::Memory,
+        },
+        Err(fault) => Answer::from(fault),
     }
 }
 
