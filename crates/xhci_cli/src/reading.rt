@@ -8,6 +8,9 @@ use std::io::{self, ErrorKind, Read};
 /// How many bytes are read at a time.
 const PIECE: usize = 4096;
 
+/// For how many bytes there is room at first, so that most inputs are never moved.
+const ROOM: usize = 1 << 18;
+
 /// The bytes of an input, or why it couldn't be opened or read.
 pub fn bytes_of<R: Read + Drop>(alloc: Global, input: io::Result<R>) -> io::Result<Vec<u8>>
     ensures bytes { IfOk result (λ bytes. IfSome (opened R.remaining input) (λ known. bytes.items ≡ known)) }
@@ -21,7 +24,7 @@ pub fn bytes_of<R: Read + Drop>(alloc: Global, input: io::Result<R>) -> io::Resu
 fn read_whole<R: Read>(alloc: Global, reader: &mut R) -> io::Result<Vec<u8>>
     ensures { IfOk result (λ bytes. IfSome (R.remaining reader.old) (λ known. bytes.items ≡ known)) }
 {
-    let mut bytes = Vec::new(alloc);
+    let mut bytes = Vec::with_capacity(alloc, ROOM)?;
     let mut piece = [0u8; PIECE];
     for _ in 0..u64::MAX {
         match reader.read(&mut piece) {
