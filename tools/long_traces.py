@@ -1,7 +1,8 @@
 #!/usr/bin/env python3
 """Writes a long trace that is accepted: long_traces.py KIND FILE [LINES]
 
-FILE gets about LINES lines, 1,046,000 where that is left out. KIND says what most rows are:
+FILE, standard output where it is `-`, gets about LINES lines, 1,046,000 where that is left out. Lines are written as they are made. KIND
+says what most rows are:
 
     ring       No Ops on one ring of 64 segments of 4,096 blocks, declared, given, reported, and their events read
     four       the same, in turn on four rings of 16 blocks, with a doorbell and a write of ERDP each
@@ -15,22 +16,41 @@ FILE gets about LINES lines, 1,046,000 where that is left out. KIND says what mo
     bound30    the same while 8 are unfinished, which each add 30
     moves      Set TR Dequeue commands, each past a block that was given on a ring of 64 segments
     soiled     writes to words that a controller has soiled
+    cancels    Normal TRBs, eight at a time, of which the last seven are withdrawn once the endpoint is stopped (version 3)
+    comes      No Ops on one ring after the other, 250 in all, each of which comes for an endpoint and goes with it, in the same memory (version 3)
 """
 import sys
 
 import long_replays
-from long_replays import (ADDRESS_DEVICE, COMMAND_COMPLETION, CONFIGURE_ENDPOINT, CONTEXTS, DCBAAP, ENABLE_SLOT, EVENT, FIRST_RING, NO_OP, SEGMENT, SET_TR_DEQUEUE, Ring)
+from long_replays import (ADDRESS_DEVICE, COMMAND_COMPLETION, CONFIGURE_ENDPOINT, CONTEXTS, DCBAAP, ENABLE_SLOT, EVENT, FIRST_RING, NO_OP, SEGMENT, SET_TR_DEQUEUE, STOP_ENDPOINT, Ring)
 
 DISABLE_SLOT, EVALUATE_CONTEXT = 10, 13
+NORMAL = 1 << 10
+COMING = 250  # rings: a trace may name 256
 
 
 class Run(long_replays.Run):
-    """A run with rings of some blocks, and ERDP written behind each few events."""
+    """A run with rings of some blocks, and ERDP written behind each few events. Its rows are written to a file as they come, and kept nowhere."""
 
-    def __init__(self, rings, segments, blocks, erdp_after=65536):
+    def __init__(self, file, rings, segments, blocks, erdp_after=65536, version=1):
         super().__init__(0, 0)
-        self.rings = [Ring(self, FIRST_RING + number, 0x8000_0000 + number * segments * SEGMENT, segments, blocks) for number in range(rings)]
+        self.file, self.count, self.version = file, 0, version
+        self.rings = [self.ring(number, segments, blocks, 0x8000_0000 + number * segments * SEGMENT) for number in range(rings)]
         self.erdp_after = erdp_after
+
+    def ring(self, number, segments, blocks, base):
+        return Ring(self, FIRST_RING + number, base, segments, blocks)
+
+    def row(self, line):
+        """The header stands before the first row: it has the rings that are known then."""
+        if self.count == 0:
+            declared = [ring.declaration() for ring in (self.commands, self.events, *self.rings)]
+            self.file.writelines(line + '\n' for line in (f'xtrace {self.version}', 'ctx 20', *declared))
+        self.file.write(line + '\n')
+        self.count += 1
+
+    def step(self, line):
+        """What the controller does stands in no trace."""
 
     def post(self, step, address, code, low):
         words = '%08x %08x %08x %08x' % (address & 0xffffffff, address >> 32, code << 24, low | self.events.cycle(self.events.enqueued))
@@ -54,80 +74,83 @@ class Run(long_replays.Run):
         self.failed(slot)
 
 
-def on_rings(rings, segments, blocks, lines, rung, erdp_after):
-    run = Run(rings, segments, blocks, erdp_after)
+def on_rings(file, rings, segments, blocks, lines, rung, erdp_after):
+    run = Run(file, rings, segments, blocks, erdp_after)
     run.start()
     holders = run.bind_all()
-    while len(run.rows) < lines:
+    while run.count < lines:
         for slot, index, ring in holders:
             ring.give((0, 0, 0, NO_OP | 1 << 5))
             if rung:
                 run.row('db %02x %02x' % (slot, index))
             run.report(ring.take(), slot, index)
-    return run
 
 
-def contexts(rings, segments, blocks, lines):
-    run = Run(rings, segments, blocks)
+def contexts(file, rings, segments, blocks, lines):
+    run = Run(file, rings, segments, blocks)
     run.start()
     slot = run.bind_all()[0][0]
     at = [CONTEXTS + 0x100_0000 + number * 0x1000 for number in range(64)]
     for address in at:
         run.write(address + 4, 2)
-    while len(run.rows) < lines:
+    while run.count < lines:
         for address in at:
             run.command(EVALUATE_CONTEXT, slot, address)
-    return run
 
 
-def devices(lines):
-    run = Run(0, 0, 0)
+def devices(file, lines):
+    run = Run(file, 0, 0, 0)
+    run.rings = [run.ring(number, 1, 16, 0x8000_0000 + number * SEGMENT) for number in range(31)]
+    bound = run.rings[:]
+    fresh = FreshRings(run, range(1, 32))
     run.start()
-    run.rings = [Ring(run, FIRST_RING + number, 0x8000_0000 + number * SEGMENT, 1, 16) for number in range(31)]
     # Address Device that fails takes a device context too, and binds no ring
     for slot in range(1, 32):
         run.new_slot()
-    inputs = [run.input_context(slot, [run.rings[slot - 1]], 1) for slot in range(1, 32)]
+    inputs = [run.input_context(slot, [bound[slot - 1]], 1) for slot in range(1, 32)]
     for slot in range(1, 32):
         run.command(ADDRESS_DEVICE, slot, inputs[slot - 1])
-    while len(run.rows) < lines:
+    while run.count < lines:
         for slot in range(1, 32):
             run.command(DISABLE_SLOT, slot)
             run.command(9, 0, done_slot=slot)
-            run.fails(ADDRESS_DEVICE, slot, fresh(run, slot))
-    return run
+            run.fails(ADDRESS_DEVICE, slot, fresh.context(slot))
 
 
-def fresh(run, slot):
-    """An input context for a slot that names a ring which nothing was bound to."""
-    at = CONTEXTS + 0x100_0000 + slot * 0x1000
-    if run.memory.get(at + 4) is None:
-        ring = Ring(run, FIRST_RING + 31 + slot, 0x9000_0000 + slot * SEGMENT, 1, 16)
-        run.rings.append(ring)
-        run.write(at + 4, 3)
-        run.write(at + 32 * 2 + 4, 4 << 3)
-        run.write(at + 32 * 2 + 8, ring.bases[0] & 0xffffffff | 1)
-    return at
+class FreshRings:
+    """For each of some slots a ring which nothing was bound to, and an input context that names it."""
+
+    def __init__(self, run, slots):
+        self.run, self.rings = run, {slot: run.ring(31 + slot, 1, 16, 0x9000_0000 + slot * SEGMENT) for slot in slots}
+        run.rings += self.rings.values()
+
+    def context(self, slot):
+        at = CONTEXTS + 0x100_0000 + slot * 0x1000
+        if self.run.memory.get(at + 4) is None:
+            self.run.write(at + 4, 3)
+            self.run.write(at + 32 * 2 + 4, 4 << 3)
+            self.run.write(at + 32 * 2 + 8, self.rings[slot].bases[0] & 0xffffffff | 1)
+        return at
 
 
-def devices40(lines):
-    run = Run(0, 0, 0)
-    run.start()
+def devices40(file, lines):
+    run = Run(file, 0, 0, 0)
     turns = [range(first, 41, 2) for first in (1, 2)]
-    while len(run.rows) < lines:
+    fresh = FreshRings(run, [slot for turn in turns for slot in turn])
+    run.start()
+    while run.count < lines:
         for turn in turns:
             for slot in turn:
                 run.command(ENABLE_SLOT, 0, done_slot=slot)
                 run.write(DCBAAP + 8 * slot, (CONTEXTS + slot * 0x200) & 0xffffffff)
                 run.write(DCBAAP + 8 * slot + 4, CONTEXTS >> 32)
-                run.fails(ADDRESS_DEVICE, slot, fresh(run, slot))
+                run.fails(ADDRESS_DEVICE, slot, fresh.context(slot))
             for slot in turn:
                 run.command(DISABLE_SLOT, slot)
-    return run
 
 
-def bound(commands, added, lines):
-    run = Run(1 + commands * added, 1, 16)
+def bound(file, commands, added, lines):
+    run = Run(file, 1 + commands * added, 1, 16)
     run.start()
     ring, *others = run.rings
     slot = run.new_slot()
@@ -139,55 +162,114 @@ def bound(commands, added, lines):
         unfinished.append((waiting, run.input_context(waiting, others[first:first + added], 2)))
     for waiting, context in unfinished:
         run.give_command(CONFIGURE_ENDPOINT, waiting, context)
-    while len(run.rows) < lines:
+    while run.count < lines:
         for waiting, context in unfinished:
             run.failed(waiting)
             run.give_command(CONFIGURE_ENDPOINT, waiting, context)
             ring.give((0, 0, 0, NO_OP | 1 << 5))
             run.report(ring.take(), slot, 1)
-    return run
 
 
-def moves(lines):
-    run = Run(1, 64, 4096)
+def moves(file, lines):
+    run = Run(file, 1, 64, 4096)
     run.start()
     (slot, index, ring), = run.bind_all()
     run.stop(slot, index, ring)
-    while len(run.rows) < lines:
+    while run.count < lines:
         ring.give((0, 0, 0, NO_OP | 1 << 5))
         if ring.enqueued % ring.data:
             run.command(SET_TR_DEQUEUE, slot, ring.address(ring.enqueued) | ring.cycle(ring.enqueued), index)
-    return run
 
 
-def soiled(lines):
-    run = Run(1, 1, 16)
+def soiled(file, lines):
+    run = Run(file, 1, 1, 16)
+    fresh = FreshRings(run, [1])
+    bound = run.rings[:1]
     run.start()
-    (slot, index, ring), = run.bind_all()
+    slot = run.new_slot()
+    run.command(ADDRESS_DEVICE, slot, run.input_context(slot, bound, 1))
+    run.row('db %02x 01' % slot)
     context = CONTEXTS + slot * SEGMENT
-    while len(run.rows) < lines:
+    while run.count < lines:
         run.command(DISABLE_SLOT, slot)
         for number in range(256):
             run.write(context + 4 * number, 0)
         run.command(9, 0, done_slot=slot)
-        run.fails(ADDRESS_DEVICE, slot, fresh(run, slot))
-    return run
+        run.fails(ADDRESS_DEVICE, slot, fresh.context(slot))
 
 
-KINDS = {'ring': lambda lines: on_rings(1, 64, 4096, lines, False, 65536), 'four': lambda lines: on_rings(4, 1, 16, lines, True, 1),
-         'rings': lambda lines: on_rings(250, 1, 16, lines, True, 1), 'laps': lambda lines: on_rings(1, 64, 4, lines, True, 1),
-         'contexts': lambda lines: contexts(1, 1, 4096, lines), 'areas': lambda lines: contexts(250, 64, 16, lines),
-         'devices': devices, 'devices40': devices40, 'bound': lambda lines: bound(252, 1, lines), 'bound30': lambda lines: bound(8, 30, lines), 'moves': moves, 'soiled': soiled}
+def cancels(file, lines):
+    run = Run(file, 1, 4, 16, 1, 3)
+    run.start()
+    (slot, index, ring), = run.bind_all()
+    while run.count < lines:
+        first = ring.enqueued
+        for number in range(8):
+            ring.give((number << 12, 0, 512, NORMAL | 1 << 5))
+        run.row('db %02x %02x' % (slot, index))
+        run.give_command(STOP_ENDPOINT, slot, 0, index)
+        run.commands.take()
+        run.report(ring.address(first), slot, index, 27)
+        run.post('finish', run.commands.address(run.commands.taken - 1), 1, slot << 24 | COMMAND_COMPLETION << 10)
+        run.row('db 00 00')
+        for position in range(first + 1, ring.enqueued):
+            run.row('nop %02x %016x' % (ring.ring, position))
+            run.write_block(ring.address(position), (0, 0, 0, NO_OP | ring.cycle(position)))
+        run.row('db %02x %02x' % (slot, index))
+        run.report(ring.address(ring.enqueued - 1), slot, index)
+
+
+def comes(file, lines):
+    run = Run(file, 1, 1, 16, 1, 3)
+    run.start()
+    (slot, _, _), = run.bind_all()
+    context = CONTEXTS + slot * SEGMENT + 0x8000
+    for number in range(COMING):
+        ring = run.ring(1 + number, 2, 256, 0x9000_0000)
+        run.row(ring.declaration())
+        configured(run, slot, run.input_context(slot, [ring], 3), 0)
+        run.row('db %02x 03' % slot)
+        while run.count < lines * (number + 1) // COMING:
+            ring.give((0, 0, 0, NO_OP | 1 << 5))
+            run.report(ring.take(), slot, 3)
+        configured(run, slot, context, 1 << 3)
+        run.row(f'free {ring.ring:02x}')
+        cleared(run, ring)
+
+
+def configured(run, slot, context, dropped):
+    """A Configure Endpoint, which drops these endpoints where there are some."""
+    if dropped:
+        run.write(context, dropped)
+    run.command(CONFIGURE_ENDPOINT, slot, context)
+    run.row('db 00 00')
+
+
+def cleared(run, ring):
+    """The control words of a ring that is gone, Links too, that show the Cycle bit of the first lap."""
+    for base in ring.bases:
+        for control in range(base + 12, base + 16 * ring.blocks, 16):
+            if run.memory.get(control, 0) % 2 == 1:
+                run.write(control, 0)
+
+
+KINDS = {'ring': lambda file, lines: on_rings(file, 1, 64, 4096, lines, False, 65536), 'four': lambda file, lines: on_rings(file, 4, 1, 16, lines, True, 1),
+         'rings': lambda file, lines: on_rings(file, 250, 1, 16, lines, True, 1), 'laps': lambda file, lines: on_rings(file, 1, 64, 4, lines, True, 1),
+         'contexts': lambda file, lines: contexts(file, 1, 1, 4096, lines), 'areas': lambda file, lines: contexts(file, 250, 64, 16, lines),
+         'devices': devices, 'devices40': devices40, 'bound': lambda file, lines: bound(file, 252, 1, lines),
+         'bound30': lambda file, lines: bound(file, 8, 30, lines), 'moves': moves, 'soiled': soiled, 'cancels': cancels, 'comes': comes}
 
 
 def main(words):
     if len(words) not in (2, 3) or words[0] not in KINDS:
         print(__doc__)
         return 2
-    run = KINDS[words[0]](int(words[2]) if len(words) == 3 else 1046000)
-    declared = [ring.declaration() for ring in (run.commands, run.events, *run.rings)]
-    with open(words[1], 'w') as file:
-        file.writelines(line + '\n' for line in ('xtrace 1', 'ctx 20', *declared, *run.rows))
+    lines = int(words[2]) if len(words) == 3 else 1046000
+    if words[1] == '-':
+        KINDS[words[0]](sys.stdout, lines)
+    else:
+        with open(words[1], 'w') as file:
+            KINDS[words[0]](file, lines)
     return 0
 
 

@@ -4,7 +4,7 @@ from leases import device_contexts, is_touched, open_ranges
 
 def is_bad_area(known, start, length):
     """It ends above 2^64, or touches a declared segment or a device context under lease."""
-    return (start + length > 1 << 64 or known.trace.touches_ring(start, length)
+    return (start + length > 1 << 64 or known.touches_ring(start, length)
             or any(is_touched(leased, start, length) for leased in device_contexts(known)))
 
 

@@ -11,7 +11,7 @@ class Controller:
         self.trace = trace
         self.memory = {}
         # by ring: the dequeue pointer and the Consumer Cycle State
-        self.at = {ring.number: (0, 0) for ring in trace.rings}
+        self.at = {ring.number: (0, 0) for ring in trace.ever}
         self.active = set()
         # a command was taken and isn't finished
         self.is_busy = False
@@ -50,7 +50,7 @@ class Controller:
         return looks
 
     def look_at_all(self):
-        return [look for ring in self.trace.rings for look in self.look_until_it_waits(ring)]
+        return [look for ring in self.trace.ever for look in self.look_until_it_waits(ring)]
 
     def row(self, known, row):
         """The row is made, with this known before it; an event's effect is that of its post."""
@@ -84,7 +84,7 @@ class Controller:
             if fact[0] == 'ring of' and known.ring_of(*fact[1:]):
                 self.active.discard(known.ring_of(*fact[1:]).number)
             elif fact[0] == 'floor' and fact[1] != self.trace.command_ring.number:
-                ring = self.trace.ring(fact[1])
+                ring = self.trace.ring_ever(fact[1])
                 self.at[ring.number] = ring.spot_address(value), ring.spot_cycle(value)
                 self.active.discard(ring.number)
 
@@ -113,5 +113,5 @@ def looked_at_behind(trace, histories, lazy):
             controller.row(histories[rows], trace.rows[rows])
             rows += 1
         elif step.startswith('look '):
-            controller.look(trace.ring(int(step[5:], 16)))
+            controller.look(trace.ring_ever(int(step[5:], 16)))
     return [*lazy, 'row', *controller.look_at_all()]

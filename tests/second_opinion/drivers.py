@@ -1,6 +1,7 @@
 """Traces of random drivers beside random controllers, picked by a seed.
 
-A driver makes one step after another: a command with its contexts, a descriptor, a write, a doorbell, an event, ERDP. A row that
+A driver makes one step after another: a command with its contexts, a descriptor, a write, a doorbell, an event, ERDP; in versions 2 and
+3 rings come and go besides, and descriptors are withdrawn. A row that
 breaks no rule, by the plain rules, stands in the trace. One that breaks a rule is dropped; the trace up to it is remembered.
 """
 import random
@@ -10,9 +11,9 @@ from blocks import (ADDRESS_DEVICE, CONFIGURE_ENDPOINT, COMMAND_COMPLETION, DATA
                     LINK, NORMAL, NO_OP, NO_OP_COMMAND, RESET_DEVICE, RESET_ENDPOINT, SETUP_STAGE, SET_TR_DEQUEUE, STATUS_STAGE,
                     STOP_ENDPOINT, TRANSFER_EVENT, with_cycle)
 from known import Known
-from rings import Ring, Segment
+from rings import Ring, Segment, is_shape
 from rules import least_broken
-from trace import Declare, Doorbell, Event, Register, Trace, Write
+from trace import UNJUDGED, Comes, Declare, Doorbell, Event, Goes, Register, Trace, Withdraws, Write
 
 ARRAY, TABLE, INPUT_CONTEXTS, DEVICE_CONTEXTS = 0x50000, 0x40000, 0x60000, 0x70000
 SLOTS = (1, 2)
@@ -26,7 +27,7 @@ FITTING = {
     'Running': [STOP_ENDPOINT], 'Halted': [RESET_ENDPOINT], 'Stopped': [SET_TR_DEQUEUE], 'Error': [SET_TR_DEQUEUE],
 }
 # how often a step of which a row was dropped is taken back whole
-TAKEN_BACK = 0.9
+TAKEN_BACK = 0.97
 
 
 class Dropped(Exception):
@@ -38,13 +39,14 @@ def halves(number):
 
 
 class Driver:
-    def __init__(self, seed):
+    def __init__(self, seed, unmade):
         self.pick = random.Random(seed)
+        self.unmade = unmade
         self.trace = Trace(self.pick.choice([1, 2, 3, 3]), self.pick.choice([32, 64]), self.some_rings(), 0, [])
         self.trace.first = 3 + len(self.trace.rings)
-        self.array = ARRAY if self.pick.random() < 0.9 else self.odd_address(64)
         self.before = []
         self.known = Known(self.trace)
+        self.array = ARRAY if self.pick.random() < 0.9 else self.odd_address(64)
         # (rows, rule): traces whose last row breaks a rule, and no earlier one does
         self.refused = []
 
@@ -53,11 +55,13 @@ class Driver:
             return Ring(number, kind, [Segment(base + 0x1000 * i, count) for i, count in enumerate(counts)])
         counts = lambda: [self.pick.randint(3, 6) for _ in range(self.pick.choice([1, 1, 2, 3]))]
         events = [16] * self.pick.choice([1, 1, 2])
-        transfers = [ring(number, 'xfer', 0x100000 + 0x10000 * number, counts()) for number in range(2, 12)]
+        transfers = [ring(number, 'xfer', 0x100000 + 0x10000 * number, counts()) for number in range(2, self.pick.choice([5, 8, 12]))]
         return [ring(0, 'cmd', 0x10000, counts()), ring(1, 'evt', 0x20000, events), *transfers]
 
     def make(self, row):
-        """The row comes next, if it breaks no rule."""
+        """The row comes next, if it breaks no rule, and is one that this driver makes."""
+        if isinstance(row, self.unmade):
+            raise Dropped
         broken = least_broken(self.known, row)
         if broken is not None:
             self.refused.append(([*self.trace.rows, row], broken))
@@ -78,7 +82,7 @@ class Driver:
 
     def odd_address(self, boundary):
         """Near something that may be under lease, or the end of memory."""
-        near = [TABLE, ARRAY, INPUT_CONTEXTS, DEVICE_CONTEXTS, (1 << 64) - 0x1000, *(ring.address(0) for ring in self.trace.rings)]
+        near = [TABLE, ARRAY, INPUT_CONTEXTS, DEVICE_CONTEXTS, (1 << 64) - 0x1000, *(ring.address(0) for ring in self.known.rings)]
         address = self.pick.choice(near) + self.pick.choice([0, 64, 0x800, 0xfc0]) - self.pick.choice([0, 0, 0x400, 0x800])
         return address - address % boundary
 
@@ -92,7 +96,7 @@ class Driver:
     # ---- the set-up
 
     def start(self):
-        segments = self.trace.event_segments
+        segments = self.known.event_segments
         for i, segment in enumerate(segments):
             self.write(TABLE + 16 * i, *halves(segment.base), segment.count)
         if self.trace.version == 3 and self.pick.random() < 0.3:
@@ -101,7 +105,7 @@ class Driver:
         self.make(Register('erstsz', len(segments)))
         self.make(Register('erstba', TABLE))
         self.make(Register('erdp', segments[0].base))
-        self.make(Register('crcr', self.trace.command_ring.address(0) + 1))
+        self.make(Register('crcr', self.known.command_ring.address(0) + 1))
         if self.pick.random() < 0.95:
             self.make(Register('dcbaap', self.array))
         self.make(Register('config', 8))
@@ -124,7 +128,7 @@ class Driver:
         """Gives what is declared and isn't given, the last block first, the Links before that."""
         waiting = [p for p in range(self.known.floor(ring).number, self.known.declared(ring)) if not self.known.is_given(ring, p)]
         for crossing in self.known.due_crossings(ring):
-            if crossing <= max(waiting, default=-1) + 1 and not self.known.is_crossing_given(ring, crossing):
+            if crossing <= self.known.declared(ring) and not self.known.is_crossing_given(ring, crossing):
                 self.give_link(ring, crossing)
         self.give_blocks(ring, waiting[::-1])
 
@@ -147,7 +151,7 @@ class Driver:
             self.make(Write(address + 4 * i, word))
 
     def give_some(self):
-        self.give(self.pick.choice(self.trace.driver_rings))
+        self.give(self.pick.choice(self.known.driver_rings))
 
     # ---- commands
 
@@ -155,7 +159,7 @@ class Driver:
         slot, endpoint = self.some_enabled_endpoint() if self.pick.random() < 0.5 else (self.pick.choice(SLOTS), self.some_endpoint())
         self.declare_command(self.some_kind(slot, endpoint), slot, endpoint)
         if self.pick.random() < 0.9:
-            self.give(self.trace.command_ring)
+            self.give(self.known.command_ring)
         if self.pick.random() < 0.9:
             self.make(Doorbell(0, 0))
         if self.pick.random() < 0.5:
@@ -183,7 +187,7 @@ class Driver:
             self.declare_command(self.pick.choice(FITTING[self.known.endpoint_state(slot, index)]), slot, index)
         if self.pick.random() < 0.1:
             self.declare_command(self.pick.choice(COMMANDS), slot, self.some_endpoint())
-        self.give_all(self.trace.command_ring)
+        self.give_all(self.known.command_ring)
         self.make(Doorbell(0, 0))
         for index in endpoints[:self.pick.choice([0, 1, 3, 3])]:
             if self.pick.random() < 0.5:
@@ -209,7 +213,7 @@ class Driver:
     def finish_all(self):
         """Mostly what is declared on the command ring is given, and the completions of all commands are read."""
         if self.pick.random() < 0.8:
-            self.try_step(lambda driver: driver.give_all(driver.trace.command_ring))
+            self.try_step(lambda driver: driver.give_all(driver.known.command_ring))
             self.try_step(lambda driver: driver.make(Doorbell(0, 0)))
             for _ in 2 * self.known.unfinished_positions:
                 self.try_step(lambda driver: driver.completion([1, 1, 1, 1, 1, 11]))
@@ -217,7 +221,7 @@ class Driver:
 
     def whole_command(self, kind, slot, index):
         self.declare_command(kind, slot, index)
-        self.give_all(self.trace.command_ring)
+        self.give_all(self.known.command_ring)
         self.make(Doorbell(0, 0))
         if self.pick.random() < 0.9:
             self.try_step(Driver.stopped)
@@ -248,7 +252,7 @@ class Driver:
 
     def some_target(self, slot, endpoint):
         """A pointer and a cycle state on the endpoint's ring."""
-        ring = self.known.ring_of(slot, endpoint) or self.pick.choice(self.trace.driver_rings)
+        ring = self.known.ring_of(slot, endpoint) or self.pick.choice(self.known.driver_rings)
         spots = ring.spots(self.known.floor(ring).number, self.known.declared(ring))
         spot = self.pick.choice(spots)
         return ring.spot_address(spot) | ring.spot_cycle(spot)
@@ -278,19 +282,19 @@ class Driver:
         if index == 1 and ring and self.pick.random() < 0.7:
             return self.standing(ring, self.known.floor(ring))
         if self.trace.version == 3 and self.pick.random() < 0.8:
-            left = [other for other in self.trace.rings if self.known.was_bound(other) and not self.known.endpoints_with(other)]
+            left = [other for other in self.known.rings if self.known.was_bound(other) and not self.known.endpoints_with(other)]
             ring = self.pick.choice(left) if left and (ring is None or self.pick.random() < 0.2) else ring
             if ring:
                 spots = ring.spots(self.known.floor(ring).number, self.known.ceiling(ring))
                 return self.standing(ring, self.known.floor(ring) if self.pick.random() < 0.7 else self.pick.choice(spots))
-        unused = [ring for ring in self.trace.rings if ring.kind == 'xfer' and not self.known.was_bound(ring)]
-        return self.pick.choice(unused or self.trace.driver_rings).address(0) | 1
+        unused = [ring for ring in self.known.rings if ring.kind == 'xfer' and not self.known.was_bound(ring)]
+        return self.pick.choice(unused or self.known.driver_rings).address(0) | 1
 
     # ---- descriptors, doorbells, writes
 
     def descriptor(self):
-        used = [ring for ring in self.trace.rings if ring.kind == 'xfer' and self.known.was_bound(ring)]
-        ring = self.pick.choice(used or self.trace.rings[2:]) if self.pick.random() < 0.9 else self.pick.choice(self.trace.rings)
+        used = [ring for ring in self.known.rings if ring.kind == 'xfer' and self.known.was_bound(ring)]
+        ring = self.pick.choice(used or self.known.driver_rings) if self.pick.random() < 0.9 else self.pick.choice(self.known.rings)
         self.declare_some(ring)
         if self.pick.random() < 0.8:
             self.give(ring)
@@ -307,7 +311,7 @@ class Driver:
 
     def stray_write(self):
         """A word of a block, a context, the array or the table."""
-        ring = self.pick.choice(self.trace.rings)
+        ring = self.pick.choice(self.known.rings)
         context = 0x1000 * self.pick.randrange(3)
         areas = [self.pick.choice(ring.places), self.array, TABLE, INPUT_CONTEXTS + context, DEVICE_CONTEXTS + context]
         address = self.pick.choice(areas) + 4 * self.pick.randrange(8)
@@ -322,10 +326,10 @@ class Driver:
     # ---- events
 
     def event(self, number, code, low):
-        self.make(Event((*halves(number), code << 24, low | self.trace.event_ring.cycle(self.known.reads))))
+        self.make(Event((*halves(number), code << 24, low | self.known.event_ring.cycle(self.known.reads))))
 
     def completion(self, codes=(*[1] * 9, 11)):
-        ring = self.trace.command_ring
+        ring = self.known.command_ring
         command = self.known.command_at(self.known.next_command)
         slot = command.slot if command and command.type != ENABLE_SLOT else self.pick.choice(SLOTS)
         self.event(ring.address(self.known.next_command), self.pick.choice(codes), COMMAND_COMPLETION << 10 | slot << 24)
@@ -347,22 +351,147 @@ class Driver:
     def read_on(self):
         """ERDP goes to some event position up to the next one."""
         position = self.pick.choice([self.known.reads, self.pick.randint(self.known.dequeue, self.known.reads + 1)])
-        self.make(Register('erdp', self.trace.event_ring.address(position) | self.pick.choice([0, 8])))
+        self.make(Register('erdp', self.known.event_ring.address(position) | self.pick.choice([0, 8])))
 
-    # ---- what stands at the beginning of most traces of version 3
+    # ---- descriptors that are withdrawn
+
+    def cancel(self):
+        """An endpoint is stopped while it has work, mostly; of its ring descriptors are withdrawn, and mostly No Ops put there; then it is rung, or its ring moved."""
+        self.finish_all()
+        slot, index = self.some_endpoint_with_work() if self.pick.random() < 0.9 else self.some_enabled_endpoint()
+        ring = self.known.ring_of(slot, index) or self.pick.choice(self.known.rings)
+        if self.known.endpoint_state(slot, index) == 'Running':
+            for _ in range(self.pick.randrange(4)):
+                self.try_step(lambda driver: driver.declare_some(ring))
+            self.try_step(lambda driver: driver.give_all(ring))
+            self.try_step(lambda driver: driver.make(Doorbell(slot, index)))
+            if self.pick.random() < 0.95:
+                self.try_step(lambda driver: driver.whole_command(STOP_ENDPOINT, slot, index))
+        if self.pick.random() < 0.1:
+            self.try_step(lambda driver: driver.command_beside(slot, index))
+        for _ in range(self.pick.choice([1, 1, 2, 3])):
+            self.try_step(lambda driver: driver.withdraw(ring))
+            self.try_step(lambda driver: driver.scribble_freed(ring))
+        self.go_on(slot, index, ring)
+
+    def command_beside(self, slot, index):
+        """A command that touches an endpoint stays unfinished."""
+        self.declare_command(self.pick.choice([SET_TR_DEQUEUE, SET_TR_DEQUEUE, DISABLE_SLOT, RESET_DEVICE, CONFIGURE_ENDPOINT]), slot, index)
+        self.give_all(self.known.command_ring)
+
+    def some_endpoint_with_work(self):
+        """One that runs or is stopped, where there is one, or can be made one."""
+        resting = lambda: [at for at in ((slot, index) for slot in SLOTS for index in (1, 2, 3)) if self.known.endpoint_state(*at) in ('Running', 'Stopped')]
+        if not resting():
+            self.enable_endpoints(5)
+        return self.pick.choice(resting() or [self.some_enabled_endpoint()])
+
+    def withdraw(self, ring):
+        """A descriptor, mostly one that the controller can't have come to, or in version 3 isn't known to have passed."""
+        least = self.known.ceiling(ring) if self.pick.random() < 0.6 else self.known.floor(ring).number
+        begins = [p for p in range(self.known.declared(ring)) if self.known.descriptor_length(ring, p) > 0 and not self.known.was_withdrawn(ring, p)]
+        fitting = [p for p in begins if p >= least]
+        if fitting and self.pick.random() < 0.9:
+            self.make(Withdraws(ring.number, self.pick.choice(fitting)))
+        else:
+            self.make(Withdraws(self.pick.choice([ring.number, ring.number, self.pick.randrange(14)]), self.pick.randrange(self.known.declared(ring) + 2)))
+
+    def scribble_freed(self, ring):
+        """Writes into a withdrawn block, of which any is let be; sometimes of its control word."""
+        freed = self.known.unrestored(ring)
+        for _ in range(self.pick.randrange(3) if freed else 0):
+            address = ring.address(self.pick.choice(freed)) + 4 * self.pick.choice([0, 1, 2, 3, 3, 3])
+            self.make(Write(address, self.pick.choice([0, 1, self.known.word(address) ^ 1, self.known.word(address) ^ 1, self.pick.getrandbits(32)])))
+
+    def restore(self, ring, how_often):
+        """No Ops where descriptors were withdrawn."""
+        for position in self.known.unrestored(ring):
+            if self.pick.random() < how_often:
+                self.write(ring.address(position), *with_cycle(self.known.queue(ring)[position], ring.cycle(position)))
+
+    def go_on(self, slot, index, ring):
+        """The endpoint is rung or moved, mostly with No Ops in place; what was withdrawn before it was given is mostly given first, or behind."""
+        self.try_step(lambda driver: driver.restore(ring, driver.pick.choice([1, 1, 1, 1, 0.7])))
+        if self.pick.random() < 0.5:
+            self.try_step(lambda driver: driver.give_all(ring))
+        if self.pick.random() < 0.4:
+            self.try_step(lambda driver: driver.transfer_of(slot, index, [1, 1, 13]))
+        if self.pick.random() < 0.4:
+            self.try_step(lambda driver: driver.whole_command(SET_TR_DEQUEUE, slot, index))
+        if self.pick.random() < 0.8:
+            self.try_step(lambda driver: driver.make(Doorbell(slot, index)))
+        self.try_step(lambda driver: driver.stray_freed(ring))
+
+    def stray_freed(self, ring):
+        """A write into a No Op that was put where a descriptor was withdrawn."""
+        withdrawn = [p for p in self.known.due_positions(ring) if self.known.was_withdrawn(ring, p)]
+        if withdrawn and self.pick.random() < 0.3:
+            address = ring.address(self.pick.choice(withdrawn)) + 4 * self.pick.randrange(4)
+            self.make(Write(address, self.known.word(address) ^ 1 << self.pick.randrange(32)))
+
+    # ---- rings that come and go
+
+    def ring_goes(self):
+        """A ring, mostly one that no endpoint has any more."""
+        left = [ring for ring in self.known.rings if self.known.was_bound(ring) and not self.known.endpoints_with(ring)]
+        unused = [ring for ring in self.known.rings if ring.kind == 'xfer' and not self.known.was_bound(ring)]
+        if (left or unused) and self.pick.random() < 0.8:
+            self.make(Goes(self.pick.choice(left * 3 + unused).number))
+        else:
+            self.make(Goes(self.pick.choice([*(ring.number for ring in self.known.rings), self.pick.randrange(14)])))
+
+    def ring_comes(self):
+        """A ring with a new number, mostly in memory of one that is gone, or in none's; mostly that is cleared."""
+        ring = Ring(1 + max(ring.number for ring in self.trace.ever), 'xfer', self.some_segments())
+        if not is_shape(ring) or ring.number > 255:
+            raise Dropped
+        for segment in ring.segments if self.pick.random() < 0.9 else []:
+            for control in range(segment.base + 12, segment.base + 16 * segment.count, 16):
+                if self.known.word(control) % 2 == 1 and self.pick.random() < 0.95:
+                    self.make(Write(control, self.pick.choice([0, self.known.word(control) ^ 1])))
+        self.make(Comes(ring))
+
+    def some_segments(self):
+        gone = [ring for ring in self.trace.ever if ring not in self.known.rings]
+        if gone and self.pick.random() < 0.65:
+            segments = self.pick.choice(gone[-3:]).segments
+            return segments[:self.pick.randint(1, len(segments))] if self.pick.random() < 0.3 else segments
+        if self.pick.random() < 0.5:
+            return [Segment(0x400000 + 0x10000 * self.pick.randrange(4) + 0x100 * i, self.pick.randint(3, 6)) for i in range(self.pick.choice([1, 1, 2]))]
+        area = self.some_address(self.pick.choice([INPUT_CONTEXTS, DEVICE_CONTEXTS, DEVICE_CONTEXTS, ARRAY]), 16)
+        return [Segment(area + 16 * self.pick.randrange(24), self.pick.randint(3, 20))]
+
+    def replace_ring(self):
+        """A ring goes, its endpoint dropped for it mostly, and another one comes, which is mostly bound."""
+        self.finish_all()
+        slot, index = self.some_enabled_endpoint()
+        if self.pick.random() < 0.6 and index > 1:
+            self.try_step(lambda driver: driver.whole_command(CONFIGURE_ENDPOINT, slot, index))
+        elif self.pick.random() < 0.4:
+            self.try_step(lambda driver: driver.whole_command(driver.pick.choice([RESET_DEVICE, DISABLE_SLOT]), slot, index))
+        self.try_step(Driver.ring_goes)
+        self.try_step(Driver.stray_write)
+        self.try_step(Driver.ring_comes)
+        if self.pick.random() < 0.8:
+            self.try_step(lambda driver: driver.whole_command(driver.some_kind(slot, index), slot, index))
+
+    # ---- what stands at the beginning of most traces of versions 2 and 3
 
     def prepare(self):
         """A slot with endpoints, whose rings have gone round up to twice."""
-        for _ in range(20):
+        self.enable_endpoints(20)
+        for slot, index in [(slot, index) for slot in SLOTS for index in (1, 2, 3)]:
+            ring = self.known.ring_of(slot, index)
+            for _ in range(self.pick.randrange(2 * ring.place_count) if ring else 0):
+                self.try_step(lambda driver: driver.whole_transfer(slot, index))
+
+    def enable_endpoints(self, tries):
+        for _ in range(tries):
             self.finish_all()
             slot = max(SLOTS, key=lambda number: self.known.slot_state(number) != 'Disabled')
             kind = {'Disabled': ENABLE_SLOT, 'Enabled': ADDRESS_DEVICE, 'Default': ADDRESS_DEVICE}.get(self.known.slot_state(slot), CONFIGURE_ENDPOINT)
             if any(self.known.endpoint_state(slot, index) == 'Disabled' for index in (1, 2, 3)):
                 self.try_step(lambda driver: driver.whole_command(kind, slot, 1))
-        for slot, index in [(slot, index) for slot in SLOTS for index in (1, 2, 3)]:
-            ring = self.known.ring_of(slot, index)
-            for _ in range(self.pick.randrange(2 * ring.place_count) if ring else 0):
-                self.try_step(lambda driver: driver.whole_transfer(slot, index))
 
     def whole_transfer(self, slot, index):
         ring = self.known.ring_of(slot, index)
@@ -379,14 +508,15 @@ class Driver:
             self.event(ring.address(self.known.given_count(ring) - 1), 1, TRANSFER_EVENT << 10 | slot << 24 | index << 16)
 
     def read_all(self):
-        self.make(Register('erdp', self.trace.event_ring.address(self.known.reads) | 8))
+        self.make(Register('erdp', self.known.event_ring.address(self.known.reads) | 8))
 
     # ---- all of it
 
     STEPS = [(command, 30), (descriptor, 20), (give_some, 8), (doorbell, 12), (stray_write, 4), (clear_device_context, 1),
              (completion, 25), (transfer, 30), (other_event, 1), (read_on, 8)]
-    # of version 3 besides
-    LATER_STEPS = [(suspend, 14), (bind_anew, 30)]
+    # of versions 2 and 3 besides, and of version 3
+    STEPS_OF_TWO = [(cancel, 40), (replace_ring, 16), (ring_goes, 2), (ring_comes, 6)]
+    STEPS_OF_THREE = [(suspend, 14), (bind_anew, 30)]
 
     def try_step(self, step):
         """A step one of whose rows is dropped is mostly dropped whole."""
@@ -399,9 +529,9 @@ class Driver:
 
     def drive(self, steps):
         self.try_step(Driver.start)
-        if self.trace.version == 3 and self.pick.random() < 0.8:
+        if self.trace.version > 1 and self.pick.random() < 0.8:
             self.prepare()
-        possible = self.STEPS + (self.LATER_STEPS if self.trace.version == 3 else [])
+        possible = self.STEPS + (self.STEPS_OF_TWO if self.trace.version > 1 else []) + (self.STEPS_OF_THREE if self.trace.version > 2 else [])
         for step in self.pick.choices(*zip(*possible), k=steps):
             self.try_step(step)
 
@@ -415,18 +545,29 @@ def fields_of(row):
         return ['reg', row.name, '%016x' % row.value]
     if isinstance(row, Doorbell):
         return ['db', '%02x' % row.slot, '%02x' % row.target]
+    if isinstance(row, Comes):
+        return ring_fields(row.ring)
+    if isinstance(row, Goes):
+        return ['free', '%02x' % row.ring]
+    if isinstance(row, Withdraws):
+        return ['nop', '%02x' % row.ring, '%016x' % row.position]
     return ['ev', *('%08x' % word for word in row.block)]
 
 
+def ring_fields(ring):
+    return ['ring', '%02x' % ring.number, ring.kind, *('%016x:%04x' % segment for segment in ring.segments)]
+
+
 def text_of(trace):
-    rings = [['ring', '%02x' % ring.number, ring.kind, *('%016x:%04x' % segment for segment in ring.segments)] for ring in trace.rings]
+    rings = [ring_fields(ring) for ring in trace.rings]
     lines = [['xtrace', str(trace.version)], ['ctx', '20' if trace.context_bytes == 32 else '40'], *rings, *(fields_of(row) for row in trace.rows)]
     return ''.join(' '.join(line) + '\n' for line in lines).encode()
 
 
-def driven(seed, steps, most_refused):
-    """The text of one driver's clean trace; and some texts whose last row breaks a rule, each with that rule's number."""
-    driver = Driver(seed)
+def driven(seed, steps, most_refused, unmade=UNJUDGED):
+    """The text of one driver's clean trace; and some texts whose last row breaks a rule, each with that rule's number. It makes no rows of
+    the types `unmade`."""
+    driver = Driver(seed, unmade)
     driver.drive(steps)
     # of each rule first the traces that were refused last
     by_rule = {}

@@ -37,7 +37,7 @@ def of_write(known, write):
 
 
 def of_register(known, row):
-    ring = known.trace.event_ring
+    ring = known.event_ring
     if row.name == 'erdp' and ring:
         positions = range(known.dequeue, known.dequeue + ring.place_count)
         named = [position for position in positions if ring.address(position) == aligned(row.value, 16)]
@@ -47,7 +47,7 @@ def of_register(known, row):
 
 def of_doorbell(known, row):
     if row.slot == 0:
-        yield ('held', known.trace.command_ring.number), None
+        yield ('held', known.command_ring.number), None
         return
     ring = known.ring_of(row.slot, row.target)
     if ring:
@@ -89,7 +89,7 @@ def of_completion(known, block):
         yield from of_success(known, command, slot(block))
     if command and command.type == STOP_ENDPOINT:
         yield ('stop seen', command.slot, command.endpoint), False
-    ring = known.trace.command_ring
+    ring = known.command_ring
     yield ('floor', ring.number), ring.after(known.next_command)
 
 
@@ -144,7 +144,7 @@ def placed(known, command, index, pointer, cycle, state):
 
 def bound(known, number, index, pointer, cycle):
     """A Disabled endpoint gets the ring that has the block at the pointer, from the spot on that pointer and cycle state name."""
-    ring = known.trace.ring_having(pointer)
+    ring = known.ring_having(pointer)
     if ring is not None:
         yield ('ring of', number, index), ring.number
         yield ('bound', ring.number), True

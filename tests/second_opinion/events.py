@@ -12,7 +12,7 @@ def is_in_profile(block):
 
 def may_be_taken(known):
     """The controller may have come to the next command."""
-    return known.next_command < known.ceiling(known.trace.command_ring)
+    return known.next_command < known.ceiling(known.command_ring)
 
 
 def is_possible_stop(known, ring, spot, number, index):
@@ -57,6 +57,6 @@ def can_finish(known, command, block):
 
 
 def is_impossible_completion(known, block):
-    ring = known.trace.command_ring
+    ring = known.command_ring
     return (not may_be_taken(known) or pointer(block) != ring.address(known.next_command) or code(block) == 0
             or not can_finish(known, known.command_at(known.next_command), block))

@@ -8,8 +8,9 @@ from functools import cached_property, lru_cache, wraps
 import effects
 from blocks import endpoint, pointer, slot
 from commands import command_of
-from rings import Data
-from trace import Declare, Event, Register, Write
+from blocks import NO_OP, SET_TR_DEQUEUE
+from rings import Data, RingList
+from trace import Comes, Declare, Doorbell, Event, Goes, Register, Withdraws, Write
 
 
 def kept(question):
@@ -67,9 +68,23 @@ class Memory:
 class Declared:
     """The declared descriptors of a ring, each a list of blocks, in order."""
 
-    def __init__(self, descriptors):
+    def __init__(self, descriptors, withdrawn=frozenset()):
         self.descriptors = descriptors
+        # the positions whose blocks were put there by withdrawals
+        self.withdrawn = withdrawn
         self.queue = [block for blocks in descriptors for block in blocks]
+
+    def and_one(self, blocks):
+        return Declared([*self.descriptors, blocks], self.withdrawn)
+
+    def without(self, position):
+        """The descriptor that begins at a position becomes as many No Ops."""
+        length = self.lengths.get(position, 0)
+        if length == 0:
+            return self
+        at = list(self.lengths).index(position)
+        no_ops = [((0, 0, 0, NO_OP << 10),)] * length
+        return Declared([*self.descriptors[:at], *no_ops, *self.descriptors[at + 1:]], self.withdrawn.union(range(position, position + length)))
 
     @cached_property
     def lengths(self):
@@ -80,13 +95,21 @@ class Declared:
         return {begin: len(blocks) for begin, blocks in zip(begins, self.descriptors)}
 
 
-class Known:
-    """`row` is the last row, `previous` what was known before it; both None before all rows."""
+def rings_behind(rings, row):
+    """The rings that are there behind a row."""
+    if isinstance(row, Comes):
+        return [*rings, row.ring]
+    return [ring for ring in rings if ring.number != row.ring] if isinstance(row, Goes) else rings
+
+
+class Known(RingList):
+    """`row` is the last row, `previous` what was known before it; both None before all rows. `rings` are there now."""
 
     def __init__(self, trace, previous=None, row=None):
         self.trace = trace
         self.previous = previous
         self.row = row
+        self.rings = rings_behind(previous.rings, row) if previous else trace.rings
         self.answers = {}
 
     @kept
@@ -151,6 +174,9 @@ class Known:
     def long(self, address):
         return self.word(address) + (self.word(address + 4) << 32)
 
+    def block_at(self, address):
+        return tuple(self.word(a) for a in range(address, address + 16, 4))
+
     def block_with(self, write, address):
         """The block at an address, a word of memory being written now."""
         addresses = range(address, address + 16, 4)
@@ -161,8 +187,9 @@ class Known:
     @carried(Declared([]))
     def declarations(self, declared, ring):
         row = self.row
-        is_one = isinstance(row, Declare) and row.ring == ring.number
-        return Declared([*declared.descriptors, row.blocks]) if is_one else declared
+        if isinstance(row, Declare) and row.ring == ring.number:
+            return declared.and_one(row.blocks)
+        return declared.without(row.position) if isinstance(row, Withdraws) and row.ring == ring.number else declared
 
     def queue(self, ring):
         return self.declarations(ring).queue
@@ -194,15 +221,15 @@ class Known:
 
     @kept
     def positions_written(self, write, ring):
-        """The positions that are due and whose control word a write writes now with their Cycle bit."""
-        if not ring.touches(write.address, 4):
+        """The positions that are due and whose control word a write writes now with their Cycle bit: of a ring that is there."""
+        if ring not in self.rings or not ring.touches(write.address, 4):
             return []
         return [p for p in self.due_positions(ring) if write.address == ring.address(p) + 12 and write.word % 2 == ring.cycle(p)]
 
     @kept
     def crossings_written(self, write, ring):
         """The same of Links: the cycle is that of the position before."""
-        if not ring.touches(write.address, 4):
+        if ring not in self.rings or not ring.touches(write.address, 4):
             return []
         due = [q for q in self.due_crossings(ring) if write.address == ring.link_address(q) + 12]
         return [q for q in due if write.word % 2 == ring.cycle(q - 1)]
@@ -226,6 +253,33 @@ class Known:
     def given_and_due(self, ring):
         """The positions that were given and that the controller may not have passed, in order."""
         return sorted(self.given_positions(ring).intersection(self.due_positions(ring)))
+
+    # ---- withdrawn descriptors
+
+    def was_withdrawn(self, ring, position):
+        return position in self.declarations(ring).withdrawn
+
+    @kept
+    def restored_by(self, row):
+        """The ring that a row gives back to the controller, with what was withdrawn of it: that of a doorbell, or that of the endpoint for which it gives a Set TR Dequeue."""
+        if isinstance(row, Doorbell):
+            return self.ring_of(row.slot, row.target)
+        command = self.command_given_by(row) if isinstance(row, Write) else None
+        return self.ring_of(command.slot, command.endpoint) if command is not None and command.type == SET_TR_DEQUEUE else None
+
+    @carried(frozenset())
+    def freed_positions(self, freed, ring):
+        """The positions that were given when they were withdrawn, and that weren't restored since."""
+        row, before = self.row, self.previous
+        if isinstance(row, Withdraws) and row.ring == ring.number:
+            length = before.descriptor_length(ring, row.position)
+            return freed.union(p for p in range(row.position, row.position + length) if before.is_given(ring, p))
+        return frozenset() if freed and before.restored_by(row) is ring else freed
+
+    def unrestored(self, ring):
+        """Those of them that the controller may not have passed: the driver writes them as it likes."""
+        freed = self.freed_positions(ring)
+        return sorted(freed.intersection(self.due_positions(ring))) if freed else []
 
     @kept
     def positions_given_by(self, write, ring):
@@ -268,16 +322,16 @@ class Known:
     @property
     def next_command(self):
         """The position of the command that is finished next."""
-        return self.floor(self.trace.command_ring).number
+        return self.floor(self.command_ring).number
 
     def command_at(self, position):
-        queue = self.queue(self.trace.command_ring)
+        queue = self.queue(self.command_ring)
         return command_of(queue[position]) if position < len(queue) else None
 
     @cached_property
     def unfinished_positions(self):
         """The commands that were given and whose completion wasn't read."""
-        ring = self.trace.command_ring
+        ring = self.command_ring
         return self.given_and_due(ring) if ring else []
 
     @property
@@ -288,7 +342,7 @@ class Known:
     @kept
     def command_given_by(self, write):
         """The command that a write gives; None where it gives none."""
-        ring = self.trace.command_ring
+        ring = self.command_ring
         positions = self.positions_given_by(write, ring) if ring else []
         return self.command_at(positions[0]) if positions else None
 
@@ -302,7 +356,7 @@ class Known:
 
     def ring_of(self, slot_number, index):
         """The ring of an endpoint, or None."""
-        return self.trace.ring(self.last(('ring of', slot_number, index), None))
+        return self.ring(self.last(('ring of', slot_number, index), None))
 
     def endpoints_with(self, ring):
         """The slots and indexes of the endpoints that have a ring."""

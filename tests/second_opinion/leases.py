@@ -27,8 +27,9 @@ def is_touched(leased, address, length):
 # ---- what is leased after the earlier rows
 
 def blocks_of(known, ring):
-    """The blocks that were given and that the controller may not have passed."""
-    return [Leased(0, ring.number, p, ring.address(p), 16, None) for p in known.given_and_due(ring)]
+    """The blocks that were given and that the controller may not have passed, but for those that were withdrawn and not restored."""
+    unrestored = set(known.unrestored(ring))
+    return [Leased(0, ring.number, p, ring.address(p), 16, None) for p in known.given_and_due(ring) if p not in unrestored]
 
 
 def links_of(known, ring):
@@ -36,8 +37,8 @@ def links_of(known, ring):
     return [Leased(1, ring.number, q - 1, ring.link_address(q), 16, None) for q in crossings]
 
 
-def event_segments(trace):
-    return [area(segment.base, 16 * segment.count, 'event segment') for segment in trace.event_segments]
+def event_segments(known):
+    return [area(segment.base, 16 * segment.count, 'event segment') for segment in known.event_segments]
 
 
 def segment_table(known):
@@ -45,7 +46,7 @@ def segment_table(known):
     base = known.register('erstba')
     if base is None:
         return []
-    return [area(base - base % 64, 16 * len(known.trace.event_segments), 'segment table')]
+    return [area(base - base % 64, 16 * len(known.event_segments), 'segment table')]
 
 
 def input_contexts(known):
@@ -64,11 +65,11 @@ def device_contexts(known):
 
 
 def open_ranges(known):
-    return [*event_segments(known.trace), *segment_table(known), *input_contexts(known), *slot_entries(known), *device_contexts(known)]
+    return [*event_segments(known), *segment_table(known), *input_contexts(known), *slot_entries(known), *device_contexts(known)]
 
 
 def open_leases(known):
-    rings = known.trace.driver_rings
+    rings = known.driver_rings
     blocks = [leased for ring in rings for leased in blocks_of(known, ring)]
     links = [leased for ring in rings for leased in links_of(known, ring)]
     return [*blocks, *links, *open_ranges(known)]

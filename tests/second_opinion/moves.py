@@ -15,7 +15,7 @@ def bindings_of(known, command):
 
 def rings_bound(known, command):
     """For each the transfer ring that has the block at its pointer, or None."""
-    return [known.trace.ring_having(binding.pointer) for binding in bindings_of(known, command)]
+    return [known.ring_having(binding.pointer) for binding in bindings_of(known, command)]
 
 
 def is_being_bound(known, ring):

@@ -44,15 +44,60 @@ def with_a_bit_changed(lines, i, pick):
     return lines[:i] + [line[:place] + b'%x' % digit + line[place + 1:]] + lines[i + 1:]
 
 
-CHANGES = [without_a_row, with_a_row_twice, with_two_rows_swapped, with_a_row_elsewhere, with_a_digit_changed, with_a_bit_changed]
+def rings_of(lines):
+    return [line for line in lines if line.startswith(b'ring ')]
+
+
+def with_a_ring_that_goes(lines, i, pick):
+    rings = rings_of(lines)
+    return lines[:i] + [b'free ' + pick.choice(rings).split()[1]] + lines[i:] if rings else lines
+
+
+def with_a_ring_that_comes(lines, i, pick):
+    """With the segments of another one; before a row that ring goes, mostly."""
+    rings = rings_of(lines)
+    if not rings:
+        return lines
+    _, number, _, *segments = pick.choice(rings).split()
+    comes = b' '.join([b'ring', b'%02x' % pick.randrange(256), b'xfer', *segments])
+    goes = [b'free ' + number] if pick.random() < 0.7 else []
+    return lines[:i] + [*goes, comes] + lines[i:]
+
+
+def with_a_ring_declared_later(lines, i, pick):
+    """A transfer ring of the header comes behind the first rows."""
+    rings = [line for line in rings_of(lines) if b' xfer ' in line]
+    if not rings:
+        return lines
+    ring = pick.choice(rings)
+    rest = [line for line in lines if line is not ring]
+    j = pick.randrange(2, min(i, len(rest)) + 1)
+    return rest[:j] + [ring] + rest[j:]
+
+
+def with_a_descriptor_withdrawn(lines, i, pick):
+    rings = rings_of(lines)
+    return lines[:i] + [b'nop ' + pick.choice(rings).split()[1] + b' %016x' % pick.randrange(6)] + lines[i:] if rings else lines
+
+
+def with_another_version(lines, i, pick):
+    return [b'xtrace %d' % pick.choice([1, 2, 2, 3, 3]), *lines[1:]]
+
+
+OF_ROWS = [without_a_row, with_a_row_twice, with_two_rows_swapped, with_a_row_elsewhere, with_a_digit_changed, with_a_bit_changed]
+OF_RINGS = [with_a_ring_that_goes, with_a_ring_that_comes, with_a_ring_declared_later, with_a_descriptor_withdrawn, with_another_version]
+CHANGES = OF_ROWS * 3 + OF_RINGS
 
 
 def mutated(text, pick):
-    """The text with one to three changes behind its first two lines."""
+    """The text with one to three changes; of most the first two lines stay."""
     lines = text.splitlines()
     for _ in range(pick.choice([1, 1, 2, 3])):
+        change = pick.choice(CHANGES)
         if len(lines) > 2:
-            lines = pick.choice(CHANGES)(lines, pick.randrange(2, len(lines)), pick)
+            lines = change(lines, pick.randrange(2, len(lines)), pick)
+        if change in OF_RINGS and lines[0] == b'xtrace 1' and pick.random() < 0.9:
+            lines = with_another_version(lines, 0, pick)
     return b''.join(line + b'\n' for line in lines)
 
 

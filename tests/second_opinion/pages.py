@@ -117,8 +117,8 @@ def ring_lines(known, ring, leased):
 
 
 def rings_lines(known, leased):
-    idle = [ring for ring in known.trace.driver_rings if known.declared(ring) == 0 and not known.was_bound(ring)]
-    lines = [line for ring in known.trace.rings if ring not in idle for line in ring_lines(known, ring, leased)]
+    idle = [ring for ring in known.driver_rings if known.declared(ring) == 0 and not known.was_bound(ring)]
+    lines = [line for ring in known.rings if ring not in idle for line in ring_lines(known, ring, leased)]
     if idle:
         lines.append(f'{len(idle)} ring{"s" if len(idle) > 1 else ""} with nothing declared, and no endpoint')
     return lines
@@ -142,7 +142,7 @@ def command_words(command):
 
 
 def command_lines(known, leased):
-    ring = known.trace.command_ring
+    ring = known.command_ring
     given = {what.position: line for line, what in leased if ring and what.kind == 0 and what.ring == ring.number}
     lines = [f'  TRB {p} (row {given[p]}){command_words(known.command_at(p))}' for p in known.unfinished_positions]
     return ['unfinished commands', *lines] if lines else ['unfinished commands: none']
@@ -181,7 +181,7 @@ def page(trace, row=None):
 
 def main(arguments):
     with open(arguments[0], 'rb') as file:
-        trace = read_trace(file.read())
+        trace = read_trace(file.read(), ())
     try:
         print(page(trace, int(arguments[1]) if len(arguments) > 1 else None), end='')
     except NoRow as fault:

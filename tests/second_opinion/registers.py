@@ -4,12 +4,12 @@ from blocks import aligned, bits, is_set
 
 
 def is_right_size(known, value):
-    return bits(value, 0, 16) == len(known.trace.event_segments) > 0
+    return bits(value, 0, 16) == len(known.event_segments) > 0
 
 
 def is_event_ring_named(known):
     """The last ERSTSZ and ERDP are those of the event ring, from its first block on."""
-    ring = known.trace.event_ring
+    ring = known.event_ring
     return ring is not None and is_right_size(known, known.register('erstsz')) and aligned(known.register('erdp'), 16) == ring.address(0)
 
 
@@ -26,14 +26,14 @@ def is_bad_usbcmd(known, value):
 
 def is_bad_crcr(known, value):
     """The pointer isn't the command ring's first block, RCS isn't 1, or CS or CA is."""
-    ring = known.trace.command_ring
+    ring = known.command_ring
     return ring is None or aligned(value, 64) != ring.address(0) or bits(value, 0, 3) != 1
 
 
 def is_bad_erstsz(known, value):
     """There is no event ring; before version 3 a second write, or another value than the number of its segments."""
     if known.trace.version >= 3:
-        return not known.trace.event_segments
+        return not known.event_segments
     return known.is_written('erstsz') or not is_right_size(known, value)
 
 
@@ -45,7 +45,7 @@ def lists(known, base, segments):
 
 
 def is_bad_erstba(known, value):
-    segments, base = known.trace.event_segments, aligned(value, 64)
+    segments, base = known.event_segments, aligned(value, 64)
     is_sized = known.is_written('erstsz') and is_right_size(known, known.register('erstsz'))
     is_in_turn = is_sized and not known.is_written('erstba')
     return not is_in_turn or is_bad_area(known, base, 16 * len(segments)) or not lists(known, base, segments)

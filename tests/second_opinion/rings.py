@@ -28,7 +28,7 @@ def overlap(a, length_of_a, b, length_of_b):
 
 
 class Ring:
-    """A ring of the header; kind is 'cmd', 'evt' or 'xfer'."""
+    """A ring; kind is 'cmd', 'evt' or 'xfer'."""
 
     def __init__(self, number, kind, segments):
         self.number = number
@@ -112,6 +112,40 @@ class Ring:
         """All spots from a first one on with a number up to most, in order."""
         spots = self.spots(first.number, most)
         return [spot for spot in spots if not (spot == Link(first.number) and is_data(first))]
+
+
+class RingList:
+    """What is asked of `rings`, the rings that are there."""
+
+    def ring(self, number):
+        return next((ring for ring in self.rings if ring.number == number), None)
+
+    def ring_of_kind(self, kind):
+        return next((ring for ring in self.rings if ring.kind == kind), None)
+
+    @property
+    def driver_rings(self):
+        """The command ring and the transfer rings: those on which the driver declares descriptors."""
+        return [ring for ring in self.rings if ring.kind != 'evt']
+
+    @property
+    def command_ring(self):
+        return self.ring_of_kind('cmd')
+
+    @property
+    def event_ring(self):
+        return self.ring_of_kind('evt')
+
+    @property
+    def event_segments(self):
+        return self.event_ring.segments if self.event_ring else []
+
+    def ring_having(self, address):
+        """The transfer ring that has the block at an address, or None."""
+        return next((ring for ring in self.rings if ring.kind == 'xfer' and ring.touches(address, 1)), None)
+
+    def touches_ring(self, start, length):
+        return any(ring.touches(start, length) for ring in self.rings)
 
 
 # ---- which segments make a ring

@@ -6,28 +6,31 @@ from given_commands import adds_left_out_endpoint, changes_endpoint, is_in_the_w
 from leases import device_contexts, event_segments, is_touched, open_leases
 from moves import is_bad_binding, is_bad_dequeue, is_bad_stay, is_being_bound
 from registers import is_bad_crcr, is_bad_erstba, is_bad_erstsz, is_bad_usbcmd
-from trace import Declare, Doorbell, Event, Register, Write
+from rings_that_come import flips_passed, has_stopped, is_bad_segment, is_left, may_be_withdrawn, may_go
+from trace import Comes, Declare, Doorbell, Event, Goes, Register, Withdraws, Write
 
 
 # ---- what a write gives
 
 def positions_given(known, write):
-    return [(ring, p) for ring in known.trace.driver_rings for p in known.positions_given_by(write, ring)]
+    return [(ring, p) for ring in known.driver_rings for p in known.positions_given_by(write, ring)]
 
 
 def links_given(known, write):
     """The crossings that a write gives, each with its Link as it stands then."""
-    crossings = [(ring, q) for ring in known.trace.driver_rings for q in known.crossings_given_by(write, ring)]
+    crossings = [(ring, q) for ring in known.driver_rings for q in known.crossings_given_by(write, ring)]
     return [(ring, q, known.block_with(write, ring.link_address(q))) for ring, q in crossings]
 
 
 # ---- 10 to 14: writes of blocks and Links
 
 def write_to_owned(known, row):
-    """The word is under lease. Version 3 lets it be written as it stands, but in event segments and device contexts."""
+    """The word is under lease, or it flips the Cycle bit of a withdrawn block that may have been passed. Version 3 lets a word under lease be written as it
+    stands, but in event segments and device contexts."""
     has = lambda leases: any(is_touched(leased, row.address, 4) for leased in leases)
-    is_stored_again = known.word(row.address) == row.word and not has([*event_segments(known.trace), *device_contexts(known)])
-    return has(open_leases(known)) and not (known.trace.version >= 3 and is_stored_again)
+    is_stored_again = known.word(row.address) == row.word and not has([*event_segments(known), *device_contexts(known)])
+    is_leased = has(open_leases(known)) and not (known.trace.version >= 3 and is_stored_again)
+    return is_leased or flips_passed(known, row)
 
 
 def not_as_submitted(known, row):
@@ -42,7 +45,7 @@ def not_as_submitted(known, row):
 def not_declared(known, row):
     """A declaration is for no command or transfer ring; a position is given that isn't declared."""
     if isinstance(row, Declare):
-        return known.trace.ring(row.ring) not in known.trace.driver_rings
+        return known.ring(row.ring) not in known.driver_rings
     return any(position >= known.declared(ring) for ring, position in positions_given(known, row))
 
 
@@ -66,13 +69,13 @@ def link_fault(known, row):
 
 def ring_full(known, row):
     """No place would stay free of blocks that the controller may not have passed."""
-    ring = known.trace.ring(row.ring)
+    ring = known.ring(row.ring)
     return known.declared(ring) + len(row.blocks) > ring.place_count - 1 + known.floor(ring).number
 
 
 def bad_descriptor(known, row):
     """The blocks have no form of a descriptor of this ring."""
-    is_command = known.trace.ring(row.ring).kind == 'cmd'
+    is_command = known.ring(row.ring).kind == 'cmd'
     return is_bad_command(row.blocks) if is_command else is_bad_transfer(row.blocks)
 
 
@@ -90,7 +93,7 @@ def bad_register(known, row):
 
 def bad_erdp(known, row):
     """ERDP names no event place up to the one read next; before the start another than the first, but in version 3 also none."""
-    ring = known.trace.event_ring
+    ring = known.event_ring
     if row.name != 'erdp':
         return False
     if ring is None:
@@ -138,7 +141,7 @@ def busy(known, row):
 def not_in_profile(known, row):
     """Blocks are declared, an endpoint is added, a Link is given, or an event is read that the profile leaves out."""
     if isinstance(row, Declare):
-        is_command = known.trace.ring(row.ring).kind == 'cmd'
+        is_command = known.ring(row.ring).kind == 'cmd'
         return any(is_left_out_command(block) for block in row.blocks) if is_command else is_left_out_transfer(row.blocks)
     if isinstance(row, Event):
         return type_of(row.block) == TRANSFER_EVENT and not is_in_profile(row.block)
@@ -160,7 +163,7 @@ def bad_move(known, row):
 
 def impossible_event(known, row):
     """No controller can have posted this event now."""
-    block, ring = row.block, known.trace.event_ring
+    block, ring = row.block, known.event_ring
     if not known.is_started or known.reads - known.dequeue > ring.place_count - 2:
         return True
     if cycle(block) != ring.cycle(known.reads) or type_of(block) not in EVENT_TYPES:
@@ -177,21 +180,48 @@ def after_stop(known, row):
     return known.is_stopped
 
 
+# ---- 32 to 35: descriptors that are withdrawn, rings that come and go
+
+def bad_withdraw(known, row):
+    """No endpoint that has the ring has stopped; or no descriptor may be withdrawn there."""
+    ring = known.ring(row.ring)
+    return ring is None or not has_stopped(known, ring) or not may_be_withdrawn(known, ring, row.position)
+
+
+def not_restored(known, row):
+    """A ring is started or moved before what was withdrawn of it stands there as No Ops."""
+    ring = known.restored_by(row)
+    return ring is not None and is_left(known, ring)
+
+
+def bad_free(known, row):
+    """No transfer ring that is there, or one that an endpoint has or an unfinished command binds, goes."""
+    return not may_go(known, known.ring(row.ring))
+
+
+def bad_ring(known, row):
+    """A segment of a ring that comes touches a ring that is there or what is leased, has a soiled word, or shows the first lap's Cycle bit."""
+    return any(is_bad_segment(known, segment) for segment in row.ring.segments)
+
+
 # ---- all rules, by the numbers that are printed
 
 RULES = {
     10: write_to_owned, 11: not_as_submitted, 12: not_declared, 13: not_whole, 14: link_fault, 15: ring_full, 16: bad_descriptor,
     17: bad_register, 18: bad_doorbell, 19: bad_command, 20: busy, 21: impossible_event, 22: bad_erdp, 23: not_in_profile,
-    24: after_stop, 25: bad_move,
+    24: after_stop, 25: bad_move, 32: bad_withdraw, 33: not_restored, 34: bad_free, 35: bad_ring,
 }
 
 # those of each kind of row, in ascending order: one may rest on those before it
 RULES_OF = {
     Declare: [12, 15, 16, 23],
-    Write: [10, 11, 12, 13, 14, 19, 20, 23, 25],
+    Write: [10, 11, 12, 13, 14, 19, 20, 23, 25, 33],
     Register: [17, 22],
-    Doorbell: [18],
+    Doorbell: [18, 33],
     Event: [21, 23],
+    Withdraws: [32],
+    Goes: [34],
+    Comes: [35],
 }
 
 
@@ -208,7 +238,9 @@ def least_broken(known, row):
 
 
 def all_broken(known, row):
-    """All rules that a row breaks, in ascending order. After the stop nothing else is looked at."""
+    """All rules that a row breaks, in ascending order. After the stop nothing else is looked at, nor of a declaration for no ring."""
     if after_stop(known, row):
         return [24]
+    if isinstance(row, Declare) and not_declared(known, row):
+        return [12]
     return [number for number in RULES_OF[type(row)] if RULES[number](known, row)]

@@ -1,7 +1,7 @@
 """A trace, read from its text."""
 from dataclasses import dataclass
 
-from rings import Ring, Segment, clash, is_shape
+from rings import Ring, RingList, Segment, clash, is_shape
 
 WIDE_REGISTERS = {'crcr', 'dcbaap', 'erstba', 'erdp'}
 REGISTERS = WIDE_REGISTERS | {'usbcmd', 'usbsts', 'dnctrl', 'config', 'iman', 'imod', 'erstsz'}
@@ -41,9 +41,22 @@ class Event:
 
 
 @dataclass(frozen=True)
-class RingRow:
-    """A ring goes, or a descriptor of it is withdrawn. No command judges such rows yet."""
+class Comes:
+    """A transfer ring that is there from this row on."""
+    ring: Ring
+
+
+@dataclass(frozen=True)
+class Goes:
+    """The ring with this number is there no more."""
     ring: int
+
+
+@dataclass(frozen=True)
+class Withdraws:
+    """The descriptor that begins at a position becomes No Ops."""
+    ring: int
+    position: int
 
 
 class BadLine(Exception):
@@ -59,8 +72,8 @@ class BadNumber(Exception):
     """A field is no number of its kind."""
 
 
-class Trace:
-    """A header and rows; `version` is 1, 2 or 3, `first` the number of the first row's line."""
+class Trace(RingList):
+    """A header and rows; `version` is 1, 2 or 3, `rings` those of the header, `first` the number of the first row's line."""
 
     def __init__(self, version, context_bytes, rings, first, rows):
         self.version = version
@@ -69,35 +82,13 @@ class Trace:
         self.first = first
         self.rows = rows
 
-    def ring(self, number):
-        return next((ring for ring in self.rings if ring.number == number), None)
-
-    def ring_of_kind(self, kind):
-        return next((ring for ring in self.rings if ring.kind == kind), None)
-
     @property
-    def driver_rings(self):
-        """The command ring and the transfer rings: those on which the driver declares descriptors."""
-        return [ring for ring in self.rings if ring.kind != 'evt']
+    def ever(self):
+        """All rings that are ever there, in the order of their lines."""
+        return self.rings + [row.ring for row in self.rows if isinstance(row, Comes)]
 
-    @property
-    def command_ring(self):
-        return self.ring_of_kind('cmd')
-
-    @property
-    def event_ring(self):
-        return self.ring_of_kind('evt')
-
-    @property
-    def event_segments(self):
-        return self.event_ring.segments if self.event_ring else []
-
-    def ring_having(self, address):
-        """The transfer ring that has the block at an address, or None."""
-        return next((ring for ring in self.rings if ring.kind == 'xfer' and ring.touches(address, 1)), None)
-
-    def touches_ring(self, start, length):
-        return any(ring.touches(start, length) for ring in self.rings)
+    def ring_ever(self, number):
+        return next((ring for ring in self.ever if ring.number == number), None)
 
     @property
     def device_context_bytes(self):
@@ -106,6 +97,13 @@ class Trace:
     @property
     def input_context_bytes(self):
         return 33 * self.context_bytes
+
+
+# the rows that no command judges yet
+UNJUDGED = (Withdraws,)
+
+# the rows that commands don't take yet which keep all rows of a trace: `schedule`, `replay`, `show`, and `check --show` behind its verdict
+UNKEPT = (Comes, Goes, Withdraws)
 
 
 # ---- lines
@@ -182,24 +180,24 @@ def said_by(fields):
     if word == 'ev':
         return Event(blocks_of(rest)[0])
     if word == 'free':
-        return RingRow(number(rest[0], 2))
+        return Goes(number(rest[0], 2))
     if word == 'nop':
-        number(rest[1], 16)
-        return RingRow(number(rest[0], 2))
+        return Withdraws(number(rest[0], 2), number(rest[1], 16))
     return Ring(number(rest[0], 2), rest[1], [segment_of(field) for field in rest[2:]])
 
 
 def is_bad_shape(ring, rings, is_begun):
-    """The ring's own shape, or what it shares with those before it: behind a row its ID alone."""
+    """The ring's own shape, or what it shares with those before it: behind a row its number alone, though that ring is gone."""
     return not is_shape(ring) or any(ring.number == other.number if is_begun else clash(ring, other) for other in rings)
 
 
-def read_line(line, content, is_ended, version, rings, rows):
-    """What a line behind the first two says; `rings` and `rows` are what those before it said."""
+def read_line(line, content, is_ended, version, rings, is_begun, unjudged):
+    """What a line behind the first two says; `rings` are all that those before it named, `is_begun` tells whether a row is among them. A row
+    of an `unjudged` type is 2 Row where it has a right form."""
     if len(content) > MOST_BYTES:
         raise BadLine(line, 4)
     fields = content.decode('latin-1').split(' ')
-    if not is_ended or '' in fields or not has_form(fields, version, bool(rows)):
+    if not is_ended or '' in fields or not has_form(fields, version, is_begun):
         raise BadLine(line, 2)
     try:
         said = said_by(fields)
@@ -207,14 +205,14 @@ def read_line(line, content, is_ended, version, rings, rows):
         raise BadLine(line, 3) from None
     if line > MOST_LINES or (isinstance(said, Declare) and len(said.blocks) > MOST_BLOCKS):
         raise BadLine(line, 4)
-    if isinstance(said, Ring) and is_bad_shape(said, rings, bool(rows)):
+    if isinstance(said, Ring) and is_bad_shape(said, rings, is_begun):
         raise BadLine(line, 5)
-    if isinstance(said, RingRow) or (rows and isinstance(said, Ring)):
+    if isinstance(said, unjudged):
         raise BadLine(line, 2)
     return said
 
 
-def read_trace(text):
+def read_trace(text, unjudged=UNJUDGED):
     """The trace of a text (bytes), or BadLine."""
     lines = lines_of(text)
     versions = {(b'xtrace %d' % version, True): version for version in (1, 2, 3)}
@@ -222,9 +220,14 @@ def read_trace(text):
         raise BadLine(1, 1)
     if len(lines) < 2 or lines[1] not in ((b'ctx 20', True), (b'ctx 40', True)):
         raise BadLine(2, 1)
-    rings, rows = [], []
+    named, rings, rows = [], [], []
     for line, (content, is_ended) in enumerate(lines[2:], start=3):
-        said = read_line(line, content, is_ended, versions[lines[0]], rings, rows)
-        (rings if isinstance(said, Ring) else rows).append(said)
+        said = read_line(line, content, is_ended, versions[lines[0]], named, bool(rows), unjudged)
+        if isinstance(said, Ring):
+            named.append(said)
+        if isinstance(said, Ring) and not rows:
+            rings.append(said)
+        else:
+            rows.append(Comes(said) if isinstance(said, Ring) else said)
     context_bytes = 32 if lines[1][0] == b'ctx 20' else 64
     return Trace(versions[lines[0]], context_bytes, rings, len(lines) - len(rows) + 1, rows)

@@ -12,8 +12,19 @@ class Meanings:
 
     def of_row(self, number):
         word, *fields = self.trace.row(number).split()
-        tell = {'sub': self.submission, 'w': self.write, 'reg': self.register, 'db': self.doorbell, 'ev': self.event}[word]
+        tell = {'sub': self.submission, 'w': self.write, 'reg': self.register, 'db': self.doorbell, 'ev': self.event,
+                'ring': self.coming, 'free': self.going, 'nop': self.withdrawal}[word]
         return tell(number, fields)
+
+    def coming(self, number, fields):
+        count = len(fields) - 2
+        return f'ring {fields[0]} comes, of {count} segment{"" if count == 1 else "s"}'
+
+    def going(self, number, fields):
+        return f'ring {fields[0]} goes'
+
+    def withdrawal(self, number, fields):
+        return f'withdraws the TD at TRB {int(fields[1], 16)} of ring {fields[0]}: its TRBs become No Ops'
 
     def submission(self, number, fields):
         ring, words = int(fields[0], 16), [int(field, 16) for field in fields[1:]]

@@ -45,8 +45,8 @@ class RowRings:
         word, *fields = text.split() or ['']
         if word == 'reg':
             return {'erdp': self.events, 'crcr': self.commands}.get(fields[0])
-        numbers = words_of(fields)
-        if word in ('sub', 'look'):
+        numbers = words_of(fields[:1] if word == 'ring' else fields)
+        if word in ('sub', 'look', 'ring', 'free', 'nop'):
             return {numbers[0]}
         if word in ('w', 'scrib'):
             return self.at(numbers[0]) or None

@@ -18,7 +18,7 @@ class Segment:
 
 
 class Ring:
-    """A ring of the header. The last TRB of each segment is its Link, but for an Event Ring."""
+    """A ring of the header or of a row. The last TRB of each segment is its Link, but for an Event Ring."""
 
     def __init__(self, number, kind, segments):
         self.number, self.kind = number, kind
@@ -77,6 +77,16 @@ class TraceText:
             self.rings.append(ring_of(line))
         self.first = 3 + len(self.rings)
         self.last = len(self.lines)
+        self.rings += self.later_rings()
+
+    def later_rings(self):
+        """Those that come between the rows."""
+        rings, at = [], self.text.find(b'\nring ', self.offset(self.first))
+        while at >= 0:
+            end = self.text.index(b'\n', at + 1)
+            rings.append(ring_of(self.text[at + 1:end]))
+            at = self.text.find(b'\nring ', end)
+        return rings
 
     def row(self, number):
         return self.lines[number - 1].decode()
@@ -90,7 +100,7 @@ class TraceText:
 
     @cached_property
     def segments(self):
-        """All rings' segments, by their addresses."""
+        """All rings' segments, by their addresses; of two that begin at one the later one stands last."""
         return sorted(((segment.base, ring.number, segment) for ring in self.rings for segment in ring.segments), key=lambda one: one[0])
 
     def segment_at(self, address):

@@ -20,6 +20,11 @@ class RingUse(Area):
     def __init__(self, kind, start, named, slot=0, index=0, bound=True, cycle=1):
         super().__init__(kind, start, 16, named)
         self.slot, self.index, self.bound, self.cycle = slot, index, bound, cycle
+        self.read = None  # when the driver has read the completion of the command that names it
+
+    def over(self):
+        """When no endpoint has the ring by this use any more; None where that is never."""
+        return self.ended if self.bound else self.read
 
 
 class Areas:
@@ -93,7 +98,9 @@ class Areas:
                     self.streams.append((slot, index))
                     continue
                 words = self.memory.block(context + 8, command.key)
-                self.endpoint(RingUse('xfer', blocks.target(words), command.given, slot, index, command_list.succeeded(command), words[0] & 1))
+                use = RingUse('xfer', blocks.target(words), command.given, slot, index, command_list.succeeded(command), words[0] & 1)
+                use.read = command.read
+                self.endpoint(use)
 
     def endpoint(self, use):
         """A second Address Device names a block of the ring that the endpoint has: no other ring."""

@@ -33,12 +33,12 @@ def find(items, memory):
 
 
 def fetched(items):
-    """When each block, Links aside, that held something was first fetched, by its address."""
-    first = {}
+    """When each block, Links aside, that held something was fetched, by its address."""
+    keys = {}
     for item in items:
         if isinstance(item, Fetch) and blocks.kind(item.words) not in (0, blocks.LINK):
-            first.setdefault(item.at, item.key)
-    return first
+            keys.setdefault(item.at, []).append(item.key)
+    return keys
 
 
 def passed(items):

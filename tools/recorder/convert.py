@@ -1,11 +1,12 @@
 #!/usr/bin/env python3
-"""Makes traces of a recorded log: convert.py [--blocks N] LOG OUT
+"""Makes traces of a recorded log: convert.py [--blocks N] [--format 1] LOG OUT
 
 Writes OUT.1.xtrace, OUT.1.xsched and OUT.1.notes for the first run of the controller, OUT.2.* for the second, and so on.
 """
 import argparse
 import os
 import sys
+from collections import namedtuple
 
 import commands
 import descriptors
@@ -23,6 +24,19 @@ MOST_LINES = 1 << 20
 MOST_HELD = 1 << 20  # items and stores that are held before what is needed of them is looked at
 
 
+# blocks: how many a ring has whose Link is never written, or None; version: that of the traces that are made
+Options = namedtuple('Options', 'blocks version', defaults=(None, 3))
+
+
+def add_options(parser):
+    parser.add_argument('--blocks', type=block_count, help='blocks of a ring whose Link is never written')
+    add_format(parser)
+
+
+def add_format(parser):
+    parser.add_argument('--format', type=int, choices=(1, 3), default=3, help='version of the traces: 3, in which rings come and go, or 1')
+
+
 def block_count(text):
     """The value of --blocks: a ring of fewer or more blocks can't stand in a trace."""
     if not text.isdecimal() or not LEAST_BLOCKS <= int(text) <= MOST_BLOCKS:
@@ -33,11 +47,11 @@ def block_count(text):
 class Content:
     """What is in a run: the commands that were taken, the rings, the rows before descriptors are declared."""
 
-    def __init__(self, run, memory, context_size, blocks_option):
+    def __init__(self, run, memory, context_size, options):
         written = registers.joined(run.items)
         self.commands = commands.find(run.items, memory)
         self.areas = Areas(written, self.commands, memory, context_size)
-        self.finder = Finder(self.areas, memory, commands.fetched(run.items), commands.passed(run.items), blocks_option)
+        self.finder = Finder(self.areas, memory, commands.fetched(run.items), commands.passed(run.items), options)
         self.rows = row_list.collected(run, written, self.areas, self.finder.rings, memory, self.finder.cut)
 
     def is_over(self):
@@ -51,12 +65,12 @@ class Content:
 class Trace:
     """One run: its three texts."""
 
-    def __init__(self, run, memory, context_size, blocks_option):
-        content = Content(run, memory, context_size, blocks_option)
+    def __init__(self, run, memory, context_size, options):
+        content = Content(run, memory, context_size, options)
         plain, finder = content.rows, content.finder
         producers = descriptors.follow(plain, finder.rings, content.commands)
-        rows, cut = descriptors.declared(plain, producers)
-        header = ['xtrace 1', f'ctx {context_size:02x}'] + [ring.line() for ring in finder.rings]
+        rows, cut = descriptors.declared(plain, producers, options.version)
+        header = [f'xtrace {options.version}', f'ctx {context_size:02x}'] + [ring.line() for ring in finder.rings if ring.comes is None]
         is_full = len(header) + len(rows) > MOST_LINES
         self.run_notes = run.notes
         if is_full:
@@ -84,8 +98,8 @@ def items_until(run, rows, ends_early):
 class Conversion:
     """Follows a log and makes the trace of each run of the controller when that ends, so that no more than one run is held."""
 
-    def __init__(self, blocks_option):
-        self.option = blocks_option
+    def __init__(self, options):
+        self.options = options
         self.reader, self.memory, self.splitter = LogReader(), Memory(), Splitter(self.make)
         self.made = []
         self.most = MOST_HELD
@@ -107,14 +121,14 @@ class Conversion:
         yield from self.made
 
     def make(self, run):
-        trace = Trace(run, self.memory, self.reader.context_size, self.option)
+        trace = Trace(run, self.memory, self.reader.context_size, self.options)
         self.made.append(trace)
         self.memory.prune([])
 
     def forget(self):
         """Much is held: what no area of the run so far needs is forgotten, and a run whose trace is full ends here."""
         if self.splitter.started and not self.splitter.over:
-            content = Content(self.splitter.so_far(), self.memory, self.reader.context_size, self.option)
+            content = Content(self.splitter.so_far(), self.memory, self.reader.context_size, self.options)
             self.memory.prune(content.stretches())
             if content.is_over():
                 del content
@@ -135,9 +149,9 @@ class Conversion:
         return notes
 
 
-def convert(lines, blocks_option=None, why=None):
+def convert(lines, options=Options(), why=None):
     """Yields a trace for each run of the controller; `why`: what ended the recording too early, if anything did."""
-    conversion = Conversion(blocks_option)
+    conversion = Conversion(options)
     yield from conversion.traces(lines, why)
     if not conversion.made and conversion.reader.fault:
         raise Unsupported(conversion.reader.fault)
@@ -161,14 +175,14 @@ def write(trace, out, number):
 
 def main():
     parser = argparse.ArgumentParser(description='Makes traces of a recorded log.')
-    parser.add_argument('--blocks', type=block_count, help='blocks of a ring whose Link is never written')
+    add_options(parser)
     parser.add_argument('log')
     parser.add_argument('out')
     options = parser.parse_args()
     number = 0
     try:
         with open(options.log, errors='replace') as file:
-            for number, trace in enumerate(convert(whole_lines(file), options.blocks), 1):
+            for number, trace in enumerate(convert(whole_lines(file), Options(options.blocks, options.format)), 1):
                 write(trace, options.out, number)
     except (OSError, Unsupported) as fault:
         sys.exit(f'xrecord: {fault}')

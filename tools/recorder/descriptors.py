@@ -6,16 +6,36 @@ MOST_BLOCKS = 256
 
 
 class Producer:
-    """What is known of one ring while the rows pass: the blocks that were given, by position, and the floor."""
+    """What is known of one ring while the rows pass: the blocks that were given, by position, the floor, and what was withdrawn."""
 
     def __init__(self, ring):
         self.ring, self.floor, self.given = ring, 0, {}
+        self.withdrawn, self.withdrawals = set(), []  # positions; pairs of a row number and a descriptor's first position
 
     def write(self, number, at, words):
         """A write of the control word of the block at `at`: gives its current position where the Cycle bit is that one's."""
         position = self.ring.least(at, self.floor)
         if at in self.ring.place and position not in self.given and blocks.cycle(words) == self.ring.cycle(position):
             self.given[position] = (number, words)
+
+    def changed(self, number, at):
+        """A word of the block at `at` is changed while its endpoint is stopped: where the controller has the block, its descriptor is withdrawn."""
+        position = self.ring.least(at, self.floor) if at in self.ring.place else None
+        if position not in self.given or position in self.withdrawn:
+            return
+        positions = self.descriptor_with(position)
+        if positions and positions[0] >= self.floor:
+            self.withdrawn.update(positions)
+            self.withdrawals.append((number, positions[0]))
+
+    def descriptor_with(self, position):
+        """The positions of the descriptor that has a given one; None where it wasn't given whole."""
+        first = last = position
+        while first - 1 in self.given and blocks.chained(self.given[first - 1][1]):
+            first -= 1
+        while last in self.given and blocks.chained(self.given[last][1]):
+            last += 1
+        return list(range(first, last + 1)) if last in self.given else None
 
     def passed(self, at, beyond):
         """The controller was at the block at `at`, or beyond it."""
@@ -44,38 +64,87 @@ class Producer:
         return whole, min((number for number, words in left), default=None)
 
 
-def follow(rows, rings, commands):
-    """What the rows give on each ring."""
-    producers = [Producer(ring) for ring in rings if ring.kind != 'evt']
-    owner = {at: producer for producer in producers for at in producer.ring.data + producer.ring.links}
-    by_completion = {command.read: command for command in commands if command.read}
-    memory = {}
-    for number, row in enumerate(rows):
+class Follower:
+    """Follows rows: which rings are there, which endpoints have stopped, and what is given and withdrawn on each ring."""
+
+    def __init__(self, rings, commands):
+        self.producers = [Producer(ring) for ring in rings if ring.kind != 'evt']
+        self.by_ring = {producer.ring: producer for producer in self.producers}
+        self.by_completion = {command.read: command for command in commands if command.read}
+        self.owner = {}       # by the address of a block: the producer
+        self.memory = {}
+        self.stopped = set()  # slots and DCIs
+        for producer in self.producers:
+            if producer.ring.comes is None:
+                self.come(producer)
+
+    def come(self, producer):
+        self.owner.update((at, producer) for at in producer.ring.data + producer.ring.links)
+
+    def row(self, number, row):
         if row.kind == 'w':
-            at, word = row.fields
-            memory[at] = word
-            if at % 16 == 12 and at - 12 in owner:
-                owner[at - 12].write(number, at - 12, tuple(memory.get(at - 12 + 4 * i, 0) for i in range(4)))
+            self.store(number, row)
         elif row.kind == 'ev':
-            read_event(row, owner, by_completion)
-    return producers
+            self.read_event(row)
+        elif row.kind == 'db':
+            self.stopped.discard(row.fields)
+        elif row.kind == 'ring':
+            self.come(self.by_ring[row.fields[0]])
+        elif row.kind == 'free':
+            self.owner = {at: producer for at, producer in self.owner.items() if producer.ring is not row.fields[0]}
+
+    def store(self, number, row):
+        at, word = row.fields
+        is_changed = self.memory.get(at, 0) != word
+        self.memory[at] = word
+        block = at - at % 16
+        producer = self.owner.get(block)
+        if producer and is_changed and producer.ring.is_had_by(self.stopped, row.key):
+            producer.changed(number, block)
+        if producer and at % 16 == 12:
+            producer.write(number, block, tuple(self.memory.get(block + 4 * i, 0) for i in range(4)))
+
+    def read_event(self, row):
+        words, at = row.fields, blocks.pointer(row.fields)
+        if blocks.kind(words) == blocks.TRANSFER_EVENT and at in self.owner:
+            self.owner[at].passed(at, blocks.code(words) not in blocks.STOPPED_CODES)
+        if blocks.kind(words) == blocks.COMMAND_COMPLETION and at in self.owner:
+            self.owner[at].passed(at, True)
+            command = self.by_completion.get(row.key)
+            if command and blocks.code(words) == blocks.SUCCESS:
+                self.finished(command.words)
+
+    def finished(self, words):
+        if blocks.kind(words) == blocks.SET_TR_DEQUEUE and blocks.target(words) in self.owner:
+            self.owner[blocks.target(words)].moved(blocks.target(words), words[0] & 1)
+        if blocks.kind(words) in blocks.STOPPING:
+            self.stopped.add((blocks.slot(words), blocks.endpoint(words)))
+        else:
+            self.stopped -= {(blocks.slot(words), index) for index in self.placed_by(words)}
+
+    def placed_by(self, words):
+        """The endpoints that a command's success lets go or begins anew."""
+        kind, context = blocks.kind(words), blocks.target(words)
+        if kind == blocks.DISABLE_SLOT:
+            return range(1, 32)
+        if kind == blocks.ADDRESS_DEVICE:
+            return [1]
+        if kind == blocks.RESET_DEVICE or kind == blocks.CONFIGURE_ENDPOINT and blocks.drops_all(words):
+            return range(2, 32)
+        flags = self.memory.get(context, 0) | self.memory.get(context + 4, 0) if kind == blocks.CONFIGURE_ENDPOINT else 0
+        return [index for index in range(2, 32) if flags >> index & 1]
 
 
-def read_event(row, owner, by_completion):
-    words, at = row.fields, blocks.pointer(row.fields)
-    if blocks.kind(words) == blocks.TRANSFER_EVENT and at in owner:
-        owner[at].passed(at, blocks.code(words) not in blocks.STOPPED_CODES)
-    if blocks.kind(words) == blocks.COMMAND_COMPLETION and at in owner:
-        owner[at].passed(at, True)
-        command = by_completion.get(row.key)
-        if command and blocks.kind(command.words) == blocks.SET_TR_DEQUEUE and blocks.code(words) == blocks.SUCCESS:
-            to = blocks.target(command.words)
-            if to in owner:
-                owner[to].moved(to, command.words[0] & 1)
+def follow(rows, rings, commands):
+    """What the rows give on each ring, and withdraw."""
+    follower = Follower(rings, commands)
+    for number, row in enumerate(rows):
+        follower.row(number, row)
+    return follower.producers
 
 
-def declared(rows, producers):
-    """The rows with their `sub` rows; and the number of rows that are left, fewer where a descriptor isn't whole."""
+def declared(rows, producers, version):
+    """The rows with their `sub` rows, and the `nop` rows of later versions than 1; and the number of rows that are left, fewer where a descriptor isn't whole."""
     before, cut = {}, len(rows)
     for producer in producers:
         whole, unfinished = producer.descriptors()
@@ -89,6 +158,8 @@ def declared(rows, producers):
             placed.append((due, Row(rows[due].key, 'sub', (producer.ring.number, joined))))
         for due, row in reversed(placed):
             before.setdefault(due, []).append(row)
+        for number, position in producer.withdrawals if version > 1 else []:
+            before.setdefault(number, []).append(Row(rows[number].key, 'nop', (producer.ring.number, position)))
     out = []
     for number, row in enumerate(rows[:cut]):
         out += before.get(number, []) + [row]

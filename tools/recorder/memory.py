@@ -59,6 +59,15 @@ class Memory:
         place = self.place(at, key)
         return self.entries[at][place - 1].key if place else None
 
+    def set_since(self, at, key, since):
+        """Where bit 0 of a word is 1 at `key`: when it became 1, behind `since` where that isn't None; else None."""
+        place, found = self.place(at, key), None
+        entries = self.entries.get(at, [])
+        while place > 0 and entries[place - 1].word & 1 and (since is None or entries[place - 1].key > since):
+            place -= 1
+            found = entries[place].key
+        return found
+
     def life(self, at, named, ended):
         """The entries of a word of an area: from the last one of 0 before `named` on, else from the first, to `ended` or on."""
         entries = self.entries.get(at, [])

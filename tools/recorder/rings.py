@@ -2,6 +2,7 @@
 from bisect import bisect_left
 
 import blocks
+from qemu_log import FOREVER
 
 MOST_RINGS, MOST_SEGMENTS, LEAST_BLOCKS, MOST_BLOCKS, BOUNDARY = 256, 64, 3, 4096, 0x10000
 
@@ -10,6 +11,8 @@ class Ring:
     def __init__(self, number, use):
         self.number, self.kind, self.uses = number, use.what, [use]
         self.notes = []
+        self.comes = self.goes = None  # keys, where it comes or goes between the rows
+        self.is_over = False           # another ring has its memory, or it began anew
 
     def lay(self, segments, notes=()):
         self.segments, self.notes = segments, list(notes)
@@ -27,6 +30,15 @@ class Ring:
 
     def line(self):
         return f'ring {self.number:02x} {self.kind} ' + ' '.join(f'{start:016x}:{count:04x}' for start, count in self.segments)
+
+    def over(self):
+        """When no endpoint has the ring any more, and no command that names it is unfinished; None where that is never."""
+        ends = [use.over() for use in self.uses]
+        return None if None in ends else max(ends)
+
+    def is_had_by(self, endpoints, key):
+        """Whether one of these endpoints has the ring at this time."""
+        return any((use.slot, use.index) in endpoints and use.named < key and (use.ended is None or key < use.ended) for use in self.uses)
 
     def holds(self, at):
         return any(start <= at < start + 16 * count for start, count in self.segments)
@@ -70,31 +82,36 @@ class Links:
 
 
 class Finder:
-    """Gives each ring that is named its segments; `blocks_option` is the count where a Link isn't written."""
+    """Gives each ring that is named its segments; `options.blocks` is the count where a Link isn't written. In version 1 all rings stand in
+    the header; in version 3 a transfer ring comes where it is needed, and goes where its last endpoint has let it go."""
 
-    def __init__(self, areas, memory, fetched, passed, blocks_option):
-        self.areas, self.memory, self.option = areas, memory, blocks_option
-        self.fetched = fetched  # by address, when a block was first fetched
+    def __init__(self, areas, memory, fetched, passed, options):
+        self.areas, self.memory, self.option, self.version = areas, memory, options.blocks, options.version
+        self.fetched = fetched  # by address, when a block was fetched, in order
         self.passed = passed    # by address, when a Link was first followed
         self.links = Links(memory)
         self.rings = []
         self.cut = self.why = None  # the key of the last row, where memory gets other rings than the header can say
         self.find()
+        if self.version > 1:
+            for ring in self.rings:
+                self.place_in_time(ring)
         self.notes = [note for ring in self.rings for note in ring.notes] + ([self.why] if self.cut else [])
 
     def find(self):
         transfer = [use for use in self.areas.rings if use.what == 'xfer']
         for use in [use for use in self.areas.rings if use.what != 'xfer'] + transfer:
-            ring = next((ring for ring in self.rings if self.shared(ring, use)), None)
+            ring = next((ring for ring in self.rings if not ring.is_over and self.shared(ring, use)), None)
             if ring:
                 self.see_again(ring, use)
-            elif len(self.rings) == MOST_RINGS:
-                self.end_with(use, f'the ring at {use.start:#x} is one more than the {MOST_RINGS} that a trace may have')
             else:
-                self.see_new(Ring(len(self.rings), use), use)
+                self.see_new(use)
 
-    def see_new(self, ring, use):
-        if self.laid(ring, use):
+    def see_new(self, use):
+        ring = Ring(len(self.rings), use)
+        if len(self.rings) == MOST_RINGS:
+            self.end_with(use, f'the ring at {use.start:#x} is one more than the {MOST_RINGS} that a trace may have')
+        elif self.laid(ring, use):
             self.rings.append(ring)
 
     def shared(self, ring, use):
@@ -105,12 +122,22 @@ class Finder:
     def see_again(self, ring, use):
         """A ring that is bound once more: its positions go on counting, so where it was used no row can say what a ring holds that begins anew."""
         earlier = any(other.bound and other.named < use.named for other in ring.uses)
-        was_used = earlier and any(key < use.named for at, key in self.fetched.items() if ring.holds(at))
+        was_used = earlier and any(ring.holds(at) and self.was_fetched(at, ring.uses[0].named, use.named) for at in self.fetched)
         if was_used and not self.goes_on(ring, use):
-            self.end_with(use, f'the ring at {use.start:#x} was used before and is bound anew')
+            if self.can_go(ring, use):
+                ring.is_over = True
+                self.see_new(use)
+            else:
+                self.end_with(use, f'the ring at {use.start:#x} was used before and is bound anew')
         else:
             ring.uses.append(use)
             self.laid(ring, use)
+
+    def was_fetched(self, at, since, until):
+        """Whether a block was fetched from one moment to another."""
+        keys = self.fetched.get(at, [])
+        place = bisect_left(keys, since)
+        return place < len(keys) and keys[place] < until
 
     def goes_on(self, ring, use):
         """Whether the ring is bound where it stands: the block before that place was given with the cycle that then led there."""
@@ -124,11 +151,33 @@ class Finder:
     def laid(self, ring, use):
         """Whether the ring's segments, by all its uses so far, are of no other ring."""
         segments, notes = (self.areas.segments, []) if use.what == 'evt' else self.segments_of(ring.uses)
-        if any(self.overlap(other, segments) for other in self.rings if other is not ring):
+        earlier = [other for other in self.rings if other is not ring and not other.is_over and self.overlap(other, segments)]
+        if not all(self.can_go(other, use) for other in earlier):
             self.end_with(use, f'memory of an earlier ring is used for another one at {use.start:#x}')
             return False
+        for other in earlier:
+            other.is_over = True
         ring.lay(segments, notes)
         return True
+
+    # rings that come and go
+
+    def can_go(self, ring, use):
+        """Whether a trace can say that the ring is gone before another use of its memory."""
+        over = ring.over()
+        return self.version > 1 and ring.kind == 'xfer' and over is not None and over < use.named
+
+    def place_in_time(self, ring):
+        """A ring comes before the first row that gives a block of it, or that gives the command that names it; it goes with its last endpoint."""
+        if ring.kind != 'xfer':
+            return
+        ring.goes = ring.over()
+        named = min(use.named for use in ring.uses)
+        earlier = [other.goes for other in self.rings if other.is_over and other.goes is not None and other.goes < named
+                   and self.overlap(other, ring.segments)]
+        since = max(earlier, default=None)
+        givings = [self.memory.set_since(at + 12, named, since) for start, count in ring.segments for at in range(start, start + 16 * count, 16)]
+        ring.comes = min([named] + [key for key in givings if key is not None])
 
     def end_with(self, use, why):
         self.end_at(use.named, why + ': the trace ends with the command that names it')
@@ -189,9 +238,17 @@ class Finder:
         states = set()
         for use in uses:
             life = self.memory.life(link + 12, use.named, use.ended)
-            states |= {(key, target) for key, target in self.links.states[link]
-                       if life and key >= life[0].key and not (use.ended and key >= use.ended)}
+            if life:
+                first = self.first_state(link, use, life[0].key)
+                states |= {(key, target) for key, target in self.links.states[link] if key >= first and not (use.ended and key >= use.ended)}
         return sorted(states)
+
+    def first_state(self, link, use, key):
+        """From where on a Link's states are this use's: what a ring that is gone then made of it counts only where it still stands."""
+        gone = [ring.over() for ring in self.rings if use not in ring.uses and ring.holds(link) and self.can_go(ring, use)]
+        standing = [at for at, target in self.links.states[link] if at < use.named]
+        later = [at for at in standing if gone and at > max(gone)] or standing[-1:]
+        return max([key] + later[:1]) if gone else key
 
     def bound(self, start, uses):
         """Where the next area in memory begins, at most the next 64 KB boundary."""
@@ -207,7 +264,8 @@ class Finder:
     def guess(self, start, uses, notes):
         """The count of a segment whose Link was never written."""
         end = self.bound(start, uses)
-        used = max((at - start) // 16 + 2 for at in [start, *self.fetched] if start <= at < end)
+        fetched = [at for at in self.fetched if start <= at < end and self.was_fetched(at, uses[0].named, FOREVER)]
+        used = max((at - start) // 16 + 2 for at in [start, *fetched])
         linked = self.linked_counts()
         room = min((end - start) // 16, MOST_BLOCKS)
         if self.option:

@@ -3,8 +3,9 @@ from collections import namedtuple
 
 from qemu_log import Bell, Seen, count_of
 
-# made_up: a `w` row for a word that no store was seen to leave; if_set: to be left out where the trace's memory has 0 there
-Row = namedtuple('Row', 'key kind fields made_up if_set', defaults=(False, False))
+# made_up: a `w` row for a word that no store was seen to leave; if_set: to be left out where the trace's memory has 0 there; rank: its
+# place among the rows of its key
+Row = namedtuple('Row', 'key kind fields made_up if_set rank', defaults=(False, False, 0))
 
 
 def text(row):
@@ -16,6 +17,12 @@ def text(row):
         return 'db %02x %02x' % row.fields
     if row.kind == 'ev':
         return 'ev %08x %08x %08x %08x' % row.fields
+    if row.kind == 'ring':
+        return row.fields[0].line()
+    if row.kind == 'free':
+        return f'free {row.fields[0].number:02x}'
+    if row.kind == 'nop':
+        return 'nop %02x %016x' % row.fields
     number, words = row.fields
     return f'sub {number:02x} ' + ' '.join(f'{word:08x}' for word in words)
 
@@ -39,9 +46,9 @@ def stretches(areas, rings, cut):
     """What is looked at, from when to when, and whether the controller writes there too; of a ring that is named at `cut` nothing."""
     for area in areas.fixed:
         yield area.start, area.length, area.named, area.ended, area.what.startswith('device context')
-    for use in areas.rings:
-        for ring in rings:
-            if ring.holds(use.start) and (cut is None or use.named < cut):
+    for ring in rings:
+        for use in ring.uses:
+            if cut is None or use.named < cut:
                 for start, count in ring.segments:
                     yield start, 16 * count, use.named, use.ended, ring.kind == 'evt'
 
@@ -52,9 +59,15 @@ def collected(run, registers, areas, rings, memory, cut):
     rows += [Row(item.key, 'db', (item.slot, item.target)) for item in run.items if isinstance(item, Bell)]
     rows += [Row(item.key, 'ev', item.words) for item in run.items if isinstance(item, Seen)]
     end = min(run.end, cut or run.end)
-    rows = [row for row in rows + writes(areas, rings, memory, cut) if row.key <= end]
-    rows.sort(key=lambda row: row.key)
+    rows = [row for row in coming_and_going(rings) + rows + writes(areas, rings, memory, cut) if row.key <= end]
+    rows.sort(key=lambda row: (row.key, row.rank))
     return needed(rows, [area for area in areas.fixed if area.what.startswith('device context') and area.ended])
+
+
+def coming_and_going(rings):
+    """A row directly behind the one that lets a ring go, and one directly before the first that needs a ring."""
+    rows = [Row(ring.goes, 'free', (ring,), rank=1) for ring in rings if ring.goes is not None]
+    return rows + [Row(ring.comes, 'ring', (ring,), rank=-1) for ring in rings if ring.comes is not None]
 
 
 def needed(rows, left):

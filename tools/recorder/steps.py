@@ -9,7 +9,10 @@ from qemu_log import Fetch, Post
 class Schedule:
     def __init__(self, rows, items, rings):
         self.rows = rows
-        self.owner = {at: ring for ring in rings for at in ring.data + ring.links if ring.kind != 'evt'}
+        self.owner = {}
+        for ring in rings:
+            if ring.kind != 'evt' and ring.comes is None:
+                self.come(ring)
         self.items = [item for item in items if isinstance(item, (Fetch, Post))]
         self.next = 0            # the first item whose step isn't written yet
         self.lines = []
@@ -19,6 +22,7 @@ class Schedule:
         self.fetched = self.other_words = self.not_followed = 0
         for row in rows:
             self.before(row)
+            self.follow(row)
             self.lines.append('row')
             if row.kind == 'w':
                 self.memory[row.fields[0]] = row.fields[1]
@@ -26,8 +30,18 @@ class Schedule:
 
     def before(self, row):
         """The steps before this row. A store to a register, or an event that is read, waits for all of them."""
-        if row.kind != 'sub':
+        if row.kind in ('w', 'reg', 'db', 'ev'):
             self.write_until(row.key, row.kind != 'w')
+
+    def follow(self, row):
+        """The rings that are there."""
+        if row.kind == 'ring':
+            self.come(*row.fields)
+        elif row.kind == 'free':
+            self.owner = {at: ring for at, ring in self.owner.items() if ring is not row.fields[0]}
+
+    def come(self, ring):
+        self.owner.update((at, ring) for at in ring.data + ring.links)
 
     def write_until(self, key, all_of_them):
         while self.next < len(self.items) and (key is None or self.items[self.next].key < key):

@@ -31,7 +31,7 @@ class TraceRing:
 
     def __init__(self, kind, start, cycle):
         self.kind, self.start, self.enqueue, self.cycle = kind, start, start, cycle
-        self.segments, self.held, self.index = [start], [], None
+        self.segments, self.held, self.index, self.is_gone = [start], [], None, False
 
     def what(self):
         return {COMMAND_RING: 'cmd', EVENT_RING: 'evt'}.get(self.kind, 'xfer')
@@ -51,10 +51,11 @@ def events_of(lines):
 
 
 class Follower:
-    """Makes rows of events in order. `indices`: the endpoint of each ring, by its number of allocation, as doorbells tell it."""
+    """Makes rows of events in order. `indices`: the endpoint of each ring, by its number of allocation, as doorbells tell it. In version 3
+    a ring in memory of an earlier one comes where it is made, and the earlier one goes there."""
 
-    def __init__(self, events, indices=()):
-        self.indices = dict(indices)
+    def __init__(self, events, version, indices=()):
+        self.indices, self.version = dict(indices), version
         self.rows, self.commands, self.notes = [], [], []
         self.rings, self.by_pointer, self.image, self.contexts = [], {}, {}, {}
         self.queued = self.command = self.last_held = None
@@ -98,14 +99,28 @@ class Follower:
             return self.end('a second command ring or event ring is made: another controller, or a new run')
         if len(self.rings) == MOST_RINGS:
             return self.end(f'a trace may have {MOST_RINGS} rings')
-        if any(start in other.segments for other in self.rings):
+        earlier = [other for other in self.rings if not other.is_gone and start in other.segments]
+        if earlier and self.version == 1:
             return self.end(f'memory of an earlier ring is used for another one at {start:#x}')
         if not self.rings and ring.kind != COMMAND_RING:
             raise Unsupported('the events begin after the command ring was made: enable them before xhci-pci is loaded')
+        for other in earlier:
+            self.let_go(other)
+        if earlier:
+            self.row('ring', ring)
         self.rings.append(ring)
         self.by_pointer[fields['ring']] = ring
         if ring.kind == EVENT_RING:
             self.set_up(self.rings[0], ring)
+
+    def let_go(self, ring):
+        """A ring is gone, and its memory is cleared, which no event tells: the control words that show the first lap's Cycle bit are."""
+        ring.is_gone = True
+        self.row('free', ring)
+        for start in ring.segments:
+            for at in range(start + 12, start + SEGMENT, 16):
+                if self.image.get(at, 0) & 1:
+                    self.store(at, 0)
 
     def set_up(self, command_ring, event_ring):
         """All of it is made up, but for both rings."""
@@ -209,7 +224,7 @@ class Follower:
         return told
 
     def number_at(self, start):
-        return next((number for number, ring in enumerate(self.rings) if ring.start == start), None)
+        return next((number for number, ring in enumerate(self.rings) if ring.start == start and not ring.is_gone), None)
 
     # doorbells and events
 
@@ -236,20 +251,27 @@ class Follower:
 class Tracepoints:
     """The rows and rings of one run, made of the text of its events."""
 
-    def __init__(self, lines):
+    def __init__(self, lines, version):
         events = list(events_of(lines))
         if not any(name == 'xhci_queue_trb' and 'field3' in fields for name, fields in events):
             raise Unsupported('no xhci_queue_trb with its fields: set options/fields to 1 before the events are enabled')
-        first = Follower(events)
+        first = Follower(events, version)
         indices = {number: ring.index for number, ring in enumerate(first.rings) if ring.index}
-        self.follower = Follower(events, indices)
+        self.follower = Follower(events, version, indices)
         if not self.follower.started:
             raise Unsupported('the events begin after the rings of commands and events were made: enable them before xhci-pci is loaded')
         self.size, self.commands = self.follower.size, self.follower.commands
         self.rings = [self.laid(ring) for ring in self.follower.rings]
         for number, ring in enumerate(self.rings):
             ring.number = number
-        self.rows = self.with_table()
+        self.rows = [self.of_ring(row) if row.kind in ('ring', 'free') else row for row in self.with_table()]
+
+    def of_ring(self, row):
+        """A row by which a ring comes or goes, with the ring as it is in the trace."""
+        ring = self.rings[self.follower.rings.index(row.fields[0])]
+        if row.kind == 'ring':
+            ring.comes = row.key
+        return row._replace(fields=(ring,))
 
     def laid(self, ring):
         laid = Ring(0, RingUse(ring.what(), ring.start, 0))
@@ -268,15 +290,15 @@ class Tracepoints:
         return rows[:place] + made + rows[place + 1:]
 
 
-def converted(lines):
+def converted(lines, version=3):
     """The texts of the trace and of its notes, and a line on it."""
-    run = Tracepoints(lines)
+    run = Tracepoints(lines, version)
     plain = [row._replace(key=number) for number, row in enumerate(run.rows)]
     moved = {row.key: number for number, row in enumerate(run.rows) if row.kind == 'ev'}
     commands = [command._replace(read=moved[command.read]) for command in run.commands]
     producers = descriptors.follow(plain, run.rings, commands)
-    rows, cut = descriptors.declared(plain, producers)
-    header = ['xtrace 1', f'ctx {run.size:02x}'] + [ring.line() for ring in run.rings]
+    rows, cut = descriptors.declared(plain, producers, version)
+    header = [f'xtrace {version}', f'ctx {run.size:02x}'] + [ring.line() for ring in run.rings if ring.comes is None]
     text = [row_list.text(row) for row in rows]
     notes = [NOT_JUDGED] + run.follower.notes
     if cut < len(plain):

@@ -1,5 +1,5 @@
 -- The leases that stand before the first row begin, one by one
-use Rattle.certificate_log.proofs.CitedWords.{◌≡◌, ◌+◌, ◌<◌, ◌≤◌, ◌%◌, ◌∷◌, ◌++◌, ◌∙◌, ℕ, zero, suc, false, List, [], length, map, arith, sym, ap, refl, inl, inr, subst, get_or, take, take_all, get_or-map, length-map, take_more, place_count, link_of, Header, shape_of, Lease, nothing, Leased, Block, Link, Range, Use, EventSegment, open_leases, as_lease, without_end, IsIn, IndexTables, index_at, Lent, begun_at, in_turn, lease_of, lents, share_a_place, with_begun, first_are_ranges, IsRange, FollowedList, agree, IsOnly, BlockPlace, LinkPlace, RingPlace, has_place, is_open_of, number_at, Begins, FollowsList}
+use Rattle.certificate_log.proofs.CitedWords.{◌≡◌, ◌+◌, ◌<◌, ◌≤◌, ◌∷◌, ◌++◌, ◌∙◌, ℕ, zero, suc, false, List, [], length, map, arith, sym, ap, refl, inl, inr, subst, get_or, take, take_all, get_or-map, length-map, take_more, Header, Lease, nothing, Leased, Block, Link, Range, Use, EventSegment, open_leases, as_lease, without_end, IsIn, IndexTables, index_at, Lent, begun_at, in_turn, lease_of, lents, with_begun, first_are_ranges, IsRange, FollowedList, agree, IsOnly, BlockPlace, LinkPlace, RingPlace, has_place, is_open_of, number_at, Begins, FollowsList}
 use Rattle.certificate_log.proofs.Following.{goes_on}
 use Rattle.certificate_log.proofs.Standing.{range_none}
 use Rattle.certificate_log.proofs.Tables.{range_numbered}

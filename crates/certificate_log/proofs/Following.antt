@@ -1,5 +1,5 @@
 -- The list is followed when a lease begins, and when one ends
-use Rattle.certificate_log.proofs.CitedWords.{◌≡◌, ◌≢◌, ◌+◌, ◌-◌, ◌==◌, ◌&&◌, ◌||◌, ◌∷◌, ◌++◌, ◌∙◌, ℕ, suc, Bool, true, false, not, List, [], filter, length, map, slice_get, arith, sym, ap, refl, inl, inr, subst, list_any, cases_Bool, and_parts, false≢true, length-map, Header, Lease, Leased, same_leased, as_lease, without_end, leased_is, IndexTables, AllUnended, Lent, begun_at, ended_where, is_unended, share_a_place, with_begun, all_ended, FollowedList, agree, begins_as, test_of, FindsPlaces, IsCrossed, IsOnly, IsOnlyAt, RingPlace, has_place, is_open_of, number_at, Begins, Ends, FollowsList, KnowsOpen}
+use Rattle.certificate_log.proofs.CitedWords.{◌≡◌, ◌≢◌, ◌+◌, ◌==◌, ◌&&◌, ◌||◌, ◌∷◌, ◌++◌, ◌∙◌, ℕ, suc, Bool, true, false, not, List, [], filter, length, map, slice_get, arith, sym, ap, refl, inl, inr, subst, list_any, cases_Bool, and_parts, false≢true, length-map, Header, Lease, Leased, same_leased, as_lease, without_end, leased_is, IndexTables, AllUnended, Lent, begun_at, ended_where, is_unended, share_a_place, with_begun, all_ended, FollowedList, agree, begins_as, test_of, FindsPlaces, IsCrossed, IsOnly, IsOnlyAt, RingPlace, has_place, is_open_of, number_at, Begins, Ends, FollowsList, KnowsOpen}
 use Rattle.certificate_log.proofs.Agreement.{agree_begun, agree_unended, begun_is_unended}
 use Rattle.certificate_log.proofs.Ending.{agree_ended, never_ends, none_ends, none_there, one_fewer, open_alike}
 use Rattle.certificate_log.proofs.OpenPlaces.{first_one, none_less, only_alike, only_more}

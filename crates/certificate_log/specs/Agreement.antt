@@ -1,5 +1,5 @@
 -- A list of leases agrees with what was and is lent so far
-use Rattle.std.specs.Prelude.{ℕ, ◌==◌, ◌&&◌, ◌||◌, Bool, true, false, List, [], ◌∷◌, Option, Some, None}
+use Rattle.std.specs.Prelude.{◌==◌, ◌&&◌, ◌||◌, Bool, true, false, List, [], ◌∷◌, Option, Some, None}
 use Rattle.ring_knowledge.specs.declared.lease.Lease.{Lease}
 use Rattle.ownership_rules.specs.Leases.{without_end}
 use Rattle.lease_book.specs.Lents.{Lent, is_unended, lease_of}

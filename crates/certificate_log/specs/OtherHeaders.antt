@@ -1,5 +1,5 @@
 -- Of a header with other rings the log of a certificate holds the same, where the ring of each lease that isn't over has the same shape
-use Rattle.std.specs.Prelude.{◌≡◌, ◌+◌, ◌%◌, ◌==◌, ◌&&◌, ◌||◌, ◌∷◌, ℕ, zero, suc, Bool, true, false, List, []}
+use Rattle.std.specs.Prelude.{◌≡◌, ◌+◌, ◌%◌, ◌==◌, ◌&&◌, ◌∷◌, ℕ, zero, suc, Bool, true, false, List, []}
 use Rattle.std.specs.List.{list_any}
 use Rattle.std.proofs.Common.{subst, sym, ap, refl}
 use Rattle.std.proofs.lemmas.Bool.{or_from, or_parts}
@@ -12,7 +12,7 @@ use Rattle.lease_book.specs.Books.{AllUnended}
 use Rattle.lease_book.specs.Lents.{Lent, is_unended}
 use Rattle.lease_book.specs.OtherShapes.{AreShapedAlike, IsShapedAlike, both_told}
 use Rattle.certificate_log.specs.declared.certificate_log.CertificateLog.{CertificateLog}
-use Rattle.certificate_log.specs.Following.{FollowsList, KnowsOpen}
+use Rattle.certificate_log.specs.Following.{KnowsOpen}
 use Rattle.certificate_log.specs.Logs.{FollowsCertificate}
 use Rattle.certificate_log.specs.OpenPlaces.{BlockPlace, IsCrossed, IsOnly, IsOnlyAt, LinkPlace, RingPlace, has_place, is_open_of}
 

@@ -1,12 +1,10 @@
-ghost use Rattle.std.specs.Prelude.{◌≡◌, ◌≢◌, ◌+◌, ◌≤◌, ℕ, [], ◌∷◌, true, false, List, length, map, reverse, IfOk};
-ghost use Rattle.segments.specs.Places.{is_crossing};
+ghost use Rattle.std.specs.Prelude.{◌≡◌, ◌≢◌, ℕ, [], true, false, List, Some, map, IfOk};
+ghost use Rattle.segments.specs.Places.{link_crossed};
 ghost use Rattle.traces.specs.declared.header.Header.{Header as HeaderValue};
-ghost use Rattle.traces.specs.declared.row.Row.{Row};
 ghost use Rattle.traces.specs.Header.{shape_of};
 ghost use Rattle.ring_knowledge.specs.declared.lease.Lease.{Lease as LeaseValue};
-ghost use Rattle.ownership_rules.specs.OpenLeases.{Block, Link, same_leased};
-ghost use Rattle.ownership_rules.specs.Leases.{leases, without_end};
-ghost use Rattle.lease_book.specs.Lents.{Lent, ended_where, lents};
+ghost use Rattle.ownership_rules.specs.OpenLeases.{Link, same_leased};
+ghost use Rattle.lease_book.specs.Lents.{Lent, ended_where, lease_of, lents};
 
 use crate::followed::FollowedList;
 use lease_book::{IndexTables, LeaseLog, block_lease, link_lease, opening_leases, range_lease};
@@ -47,36 +45,20 @@ impl<'a> CertificateLog<'a> {
         })
     }
 
-    /// The list that it follows is the leases of the rows so far.
+    /// The list that it follows is that of what was and is lent.
     pub fn is_whole(&self) -> bool
-        ensures yes { (list : List LeaseValue) (h : HeaderValue) (first : ℕ) (past : List Row) → first + length past ≤ without_end →
-            FollowsCertificate list h (lents h first past) self.now → result ≡ true → list ≡ leases h first (reverse past) }
-        ensures no { (list : List LeaseValue) (h : HeaderValue) (first : ℕ) (past : List Row) → first + length past ≤ without_end →
-            FollowsCertificate list h (lents h first past) self.now → result ≡ false → list ≢ leases h first (reverse past) }
+        ensures yes { (list : List LeaseValue) (h : HeaderValue) (ts : List Lent) → FollowsCertificate list h ts self.now → result ≡ true → list ≡ map lease_of ts }
+        ensures no { (list : List LeaseValue) (h : HeaderValue) (ts : List Lent) → FollowsCertificate list h ts self.now → result ≡ false → list ≢ map lease_of ts }
     {
         self.list.is_whole()
     }
 
-    /// The lease of a block ends at a row, if it is open.
-    fn end_block(&mut self, row: u32, ring: &Ring, position: u64)
-        ensures { (list : List LeaseValue) (h : HeaderValue) (ts : List Lent) → shape_of h ring.now.id ≡ ring.now.shape → FollowsCertificate list h ts self.old →
-            FollowsCertificate list h (map (ended_where (same_leased (Block ring.now.id position)) row) ts) self.new }
-    {
-        let place = (position % u64::from(ring.shape.places())) as u32;
-        let number = self.blocks.get(ring.id, place);
-        let lease = block_lease(row, ring.id, position);
-        if number > 0 && self.list.end(number - 1, row, lease) {
-            self.blocks.clear(ring.id, place);
-        }
-    }
-
-    /// The lease of a Link ends at a row, if it is open; the Link is crossed on the way to a position.
-    fn end_link(&mut self, row: u32, ring: &Ring, crossing: u64)
-        requires { is_crossing ring.now.shape crossing ≡ true }
+    /// The lease of a segment's Link ends at a row, if it is open; the Link is crossed on the way to a position.
+    fn end_link(&mut self, row: u32, ring: &Ring, crossing: u64, segment: u32)
+        requires { link_crossed ring.now.shape crossing ≡ Some segment }
         ensures { (list : List LeaseValue) (h : HeaderValue) (ts : List Lent) → shape_of h ring.now.id ≡ ring.now.shape → FollowsCertificate list h ts self.old →
             FollowsCertificate list h (map (ended_where (same_leased (Link ring.now.id crossing)) row) ts) self.new }
     {
-        let segment = ring.shape.crossing(crossing).unwrap_or(0);
         let number = self.links.get(ring.id, segment);
         let lease = link_lease(row, ring.id, crossing);
         if number > 0 && self.list.end(number - 1, row, lease) {
@@ -93,6 +75,7 @@ impl LeaseLog for CertificateLog<'_> {
 
     ghost other_rings = { followed_alike };
 
+    #[inline(always)]
     fn begin_block(&mut self, row: u32, ring: &Ring, position: u64) -> Result<(), AllocError> {
         self.list.begin(block_lease(row, ring.id, position))?;
         let place = (position % u64::from(ring.shape.places())) as u32;
@@ -100,6 +83,7 @@ impl LeaseLog for CertificateLog<'_> {
         Ok(())
     }
 
+    #[inline(always)]
     fn begin_link(&mut self, row: u32, ring: &Ring, crossing: u64) -> Result<(), AllocError> {
         self.list.begin(link_lease(row, ring.id, crossing))?;
         let segment = ring.shape.crossing(crossing).unwrap_or(0);
@@ -112,12 +96,21 @@ impl LeaseLog for CertificateLog<'_> {
         Ok(())
     }
 
+    fn end_block(&mut self, row: u32, ring: &Ring, position: u64) {
+        let place = (position % u64::from(ring.shape.places())) as u32;
+        let number = self.blocks.get(ring.id, place);
+        let lease = block_lease(row, ring.id, position);
+        if number > 0 && self.list.end(number - 1, row, lease) {
+            self.blocks.clear(ring.id, place);
+        }
+    }
+
     #[inline(always)]
     fn end_passed(&mut self, row: u32, ring: &Ring, from: u64, to: u64) {
         for number in from..to {
             self.end_block(row, ring, number);
-            if ring.shape.crossing(number).is_some() {
-                self.end_link(row, ring, number);
+            if let Some(segment) = ring.shape.crossing(number) {
+                self.end_link(row, ring, number, segment);
             }
         }
     }

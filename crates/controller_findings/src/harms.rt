@@ -1,10 +1,14 @@
 //! What is found of a replay that ends in harm: the TRB that the controller took last, and which of its words were not submitted.
+ghost use Rattle.traces.specs.Header.{IsHeader};
+
 use controller_model::Seen;
 use ring_knowledge::RingRecord;
-use row_history::{Case, known_after, last_write, line_of, ring_known, submission, word_at};
+use row_history::{
+    Case, declared_now, known_after, last_write, line_of, ring_known, submission, word_at,
+};
 use segments::Place;
 use std::alloc::{AllocError, Global};
-use traces::{Ring, Trace};
+use traces::{Header, Ring, TraceRow};
 use trb::Block;
 use world_state::Harm;
 
@@ -16,26 +20,29 @@ struct Taken {
     words: Block,
 }
 
-/// Notes on the TRB that the controller took last, where the harm lies in what it took.
+/// Notes on the TRB that the controller took last, where the harm lies in what it took, beside the rows of a trace from the line `first` on.
 pub fn notes_on_harm(
     alloc: Global,
-    trace: &Trace,
+    header: &Header,
+    first: u32,
+    rows: &[TraceRow],
     harm: Harm,
     seen: &[Seen],
-) -> Result<Vec<String>, AllocError> {
+) -> Result<Vec<String>, AllocError>
+    requires { IsHeader header.now }
+{
     let mut notes = Vec::new(alloc);
     let Some(taken) = harmful_take(harm, seen) else {
         return Ok(notes);
     };
-    let rows = trace.rows.as_slice();
     let made = rows_made(seen).min(rows.len());
-    let known = known_after(alloc, &trace.header, &rows[..made])?;
+    let behind = known_after(alloc, header, &rows[..made])?;
     let case = Case {
         alloc,
-        header: &trace.header,
-        first: trace.first,
+        header: &behind.header,
+        first,
         before: &rows[..made],
-        known: &known,
+        known: &behind.known,
     };
     note_take(&case, &mut notes, taken, harm)?;
     Ok(notes)
@@ -117,20 +124,24 @@ fn note_other_words(
     position: u64,
 ) -> Result<(), AllocError> {
     let (Some(block), Some(td)) = (
-        known.declared(position),
+        declared_now(case, ring.id, known, position),
         submission(case, ring.id, position),
     ) else {
         return Ok(());
     };
     let wanted = block.with_cycle(ring.shape.cycle(position));
-    let line = line_of(case.first, td.row);
+    let (verb, row) = match td.withdrawn {
+        Some(row) => ("is a withdrawn TRB's", row),
+        None => ("was submitted", td.row),
+    };
+    let line = line_of(case.first, row);
     for (index, (want, have)) in wanted.w.iter().zip(taken.words.w.iter()).enumerate() {
         if *want != *have {
             let address = taken.at.saturating_add(4 * (index as u64 % 4));
             let (want, have) = (*want, *have);
             let origin = origin_of(case, address, have)?;
             let note = format!(in case.alloc;
-                "word {index} is {have:08x}{origin}, and {want:08x} was submitted (row {line})"
+                "word {index} is {have:08x}{origin}, and {want:08x} {verb} (row {line})"
             )?;
             notes.push(note)?;
         }

@@ -3,24 +3,24 @@ use crate::harms::rows_made;
 use controller_model::Seen;
 use row_history::{line_of, start, stop};
 use std::alloc::{AllocError, Global};
-use traces::{Row, Trace};
+use traces::{Row, TraceRow};
 
-/// Notes on where a replay stands that can't go on.
+/// Notes on where a replay stands that can't go on, beside the rows of a trace from the line `first` on.
 pub fn notes_on_stuck(
     alloc: Global,
-    trace: &Trace,
+    first: u32,
+    rows: &[TraceRow],
     seen: &[Seen],
 ) -> Result<Vec<String>, AllocError> {
     let mut notes = Vec::new(alloc);
-    let rows = trace.rows.as_slice();
     let made = rows_made(seen).min(rows.len());
-    notes.push(next_row(alloc, trace.first, rows.get(made), made)?)?;
+    notes.push(next_row(alloc, first, rows.get(made), made)?)?;
     let before = &rows[..made];
     if start(before).is_none() {
         notes.push(String::from_str(alloc, "the controller isn't started yet")?)?;
     }
     if let Some(index) = stop(before) {
-        let line = line_of(trace.first, index);
+        let line = line_of(first, index);
         let note = format!(in alloc;
             "the controller stopped with row {line}: behind that only rows are possible"
         )?;
@@ -33,12 +33,12 @@ pub fn notes_on_stuck(
 fn next_row(
     alloc: Global,
     first: u32,
-    row: Option<&Row>,
+    row: Option<&TraceRow>,
     made: usize,
 ) -> Result<String, AllocError> {
     let line = line_of(first, made);
     match row {
-        Some(Row::Read { event }) => {
+        Some(TraceRow::Plain(Row::Read { event })) => {
             let [w0, w1, w2, w3] = event.w;
             format!(in alloc;
                 "its next row is row {line}, which reads the event {w0:08x} {w1:08x} {w2:08x} {w3:08x}"

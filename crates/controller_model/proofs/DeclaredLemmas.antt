@@ -1,5 +1,5 @@
 -- What is declared by position once one more descriptor is declared
-use Rattle.controller_model.proofs.Words.{◌≡◌, ◌+◌, ◌-◌, ◌<◌, ◌==◌, ◌||◌, ◌++◌, ◌∷◌, ◌∙◌, ℕ, zero, suc, [], List, Option, Some, None, length, true, false, refl, sym, ap, arith, inl, inr, slice_get, option_map, length-append, append_assoc, subst, take, get_or, eq-eqb, ne_eqb, length-take-le, cases_lt, cases_eq, slice_get_within, take_at_read, Block, DeclaredBlock, declared_at, is_border, Declared, Declarations, Declares, as_declared, entries, blocks_of}
+use Rattle.controller_model.proofs.Words.{◌≡◌, ◌+◌, ◌-◌, ◌<◌, ◌==◌, ◌||◌, ◌++◌, ◌∷◌, ◌∙◌, ℕ, zero, suc, [], List, Option, Some, None, length, true, false, refl, sym, ap, arith, inl, inr, slice_get, option_map, length-append, append_assoc, subst, take, get_or, eq-eqb, ne_eqb, length-take-le, cases_lt, cases_eq, All-push, slice_get_within, take_at_read, Block, DeclaredBlock, declared_at, is_border, Declared, Declarations, Declares, as_declared, entries, blocks_of}
 use Rattle.controller_model.proofs.Borders.{is_border-append, is_border-past, is_border-end}
 
 slice_get-left : {X : Type 0} (xs ys : List X) (p : ℕ) → p < length xs → slice_get (xs ++ ys) p ≡ slice_get xs p
@@ -111,6 +111,7 @@ declares_more d e queue bs lengths some made old = record {
         subst P same (behind_old d.blocks.items bs queue lengths (p - length queue) old.many old.whole)
   ]);
   many = ap length made ∙ length-append d.blocks.items (entries 0 (length bs - 1) bs) ∙ (λ i. old.many i + length-entries 0 (length bs - 1) bs i) ∙ sym (length-append queue bs);
+  some = All-push (λ n. 0 < n) lengths (length bs) old.some some;
   whole = blocks_of-append lengths (length bs) ∙ ap (λ n. n + length bs) old.whole ∙ sym (length-append queue bs);
 }
 

@@ -29,7 +29,7 @@ rings_off h w s i rings nothing f = record {
         pointer = old.pointer;
         cycle = old.cycle;
         active = old.active;
-        known = old.known;
+        harms = old.harms;
         holder = subst P (sym (put_pair_map (is_ring r) w.ring_of s i None)) (holder_still had x.holder s i (nothing r) old.holder);
       };
 }
@@ -52,7 +52,7 @@ disabled_below h rows words before k w s p q same first f = record {
           pointer = old.pointer;
           cycle = old.cycle;
           active = ap (λ b. w.is_active r && not b) (any_same_in _ _ 1 31 (λ i low high. ap (λ b. b && is_ring r (w.ring_of s i)) (sym (same i (omega arith))))) ∙ old.active;
-          known = old.known;
+          harms = old.harms;
           holder = record {
             each = λ t j one. ap (λ b. is_ring r (if t == s && b then None else w.ring_of t j)) (sym (same j one.index_below)) ∙ old.holder.each t j one;
             is_one = old.holder.is_one;
@@ -67,7 +67,7 @@ disabled_below h rows words before k w s p q same first f = record {
           ap (λ b. if t == s && b then None else w.ring_of t j) (sym (same j below)) ∙ old.1,
         );
     no_more = λ t j many. still (t == s && q j) (w.ring_of t j) (first.endpoints.no_more t j many);
-    known = λ t j r has. first.endpoints.known t j r (had (t == s && q j) (w.ring_of t j) r has);
+    low = λ t j r has. first.endpoints.low t j r (had (t == s && q j) (w.ring_of t j) r has);
   };
   events = f.events;
   under_way = f.under_way;

@@ -1,5 +1,5 @@
 -- One endpoint is changed, and what a doorbell does
-use Rattle.controller_model.proofs.Words.{◌≡◌, ◌≢◌, ◌+◌, ◌*◌, ◌<◌, ◌==◌, ◌&&◌, ◌||◌, ◌∙◌, IsSome, ℕ, ap, sym, subst, refl, true, false, Bool, List, Option, Some, None, length, slice_get, get_or, set, inl, inr, arith, eq-eqb, ne_eqb, cases_eq, cond-true, cond-false, put_pair, EndpointState, Running, is_running, is_stopped, Header, ring_with, World, activated, endpoint_bell, Endpoint, FollowsEndpoints}
+use Rattle.controller_model.proofs.Words.{◌≡◌, ◌≢◌, ◌+◌, ◌*◌, ◌<◌, ◌==◌, ◌&&◌, ◌||◌, ◌∙◌, ℕ, ap, sym, subst, refl, true, false, Bool, List, Option, Some, None, length, slice_get, get_or, set, inl, inr, arith, eq-eqb, ne_eqb, cases_eq, cond-true, cond-false, put_pair, EndpointState, Running, is_running, is_stopped, Header, World, activated, endpoint_bell, Endpoint, FollowsEndpoints}
 use Rattle.controller_model.proofs.RingLemmas.{read_at, slice_get-set_same, slice_get-set_other}
 
 pub put_pair_same : {A : Type 0} (f : ℕ → ℕ → A) (s i : ℕ) (x : A) → put_pair f s i x s i ≡ x
@@ -16,10 +16,10 @@ put_pair_index f s i t j x apart = cond-false (t == s && j == i) x (f t j) (ap (
     and_false false = refl
 
 -- the state of an endpoint is replaced
-pub endpoints_state : (h : Header) (endpoints : List Endpoint) (state : ℕ → ℕ → EndpointState) (ring_of : ℕ → ℕ → Option ℕ) (n s i : ℕ) (x new : Endpoint) →
+pub endpoints_state : (endpoints : List Endpoint) (state : ℕ → ℕ → EndpointState) (ring_of : ℕ → ℕ → Option ℕ) (n s i : ℕ) (x new : Endpoint) →
     n ≡ s * 32 + i → s < 256 → i < 32 → length endpoints ≡ 256 * 32 → x ≡ get_or endpoints n x → new.ring ≡ x.ring →
-    FollowsEndpoints h endpoints state ring_of → FollowsEndpoints h (set endpoints n new) (put_pair state s i new.state) ring_of
-endpoints_state h endpoints state ring_of n s i x new index slot below many value kept f = record {
+    FollowsEndpoints endpoints state ring_of → FollowsEndpoints (set endpoints n new) (put_pair state s i new.state) ring_of
+endpoints_state endpoints state ring_of n s i x new index slot below many value kept f = record {
   each = λ t j y within at. elim (cases_eq t s) [
     | inr apart ↦
         let old = f.each t j y within (sym (slice_get-set_other endpoints n (t * 32 + j) new (λ e. apart (omega arith))) ∙ at) in
@@ -39,14 +39,14 @@ endpoints_state h endpoints state ring_of n s i x new index slot below many valu
     ]
   ];
   no_more = f.no_more;
-  known = f.known;
+  low = f.low;
 }
 
 -- the state of an endpoint and its ring are replaced
-pub endpoints_set : (h : Header) (endpoints : List Endpoint) (state : ℕ → ℕ → EndpointState) (ring_of : ℕ → ℕ → Option ℕ) (n s i : ℕ) (new : Endpoint) →
-    n ≡ s * 32 + i → i < 32 → ((r : ℕ) → new.ring ≡ Some r → (r < 256) × IsSome (ring_with h r)) →
-    FollowsEndpoints h endpoints state ring_of → FollowsEndpoints h (set endpoints n new) (put_pair state s i new.state) (put_pair ring_of s i new.ring)
-endpoints_set h endpoints state ring_of n s i new index below ring f = record {
+pub endpoints_set : (endpoints : List Endpoint) (state : ℕ → ℕ → EndpointState) (ring_of : ℕ → ℕ → Option ℕ) (n s i : ℕ) (new : Endpoint) →
+    n ≡ s * 32 + i → i < 32 → ((r : ℕ) → new.ring ≡ Some r → r < 256) →
+    FollowsEndpoints endpoints state ring_of → FollowsEndpoints (set endpoints n new) (put_pair state s i new.state) (put_pair ring_of s i new.ring)
+endpoints_set endpoints state ring_of n s i new index below ring f = record {
   each = λ t j y within at. elim (cases_eq t s) [
     | inr apart ↦
         let old = f.each t j y within (sym (slice_get-set_other endpoints n (t * 32 + j) new (λ e. apart (omega arith))) ∙ at) in
@@ -65,10 +65,10 @@ endpoints_set h endpoints state ring_of n s i new index below ring f = record {
     ]
   ];
   no_more = λ t j many. put_pair_index ring_of s i t j new.ring (λ e. omega arith) ∙ f.no_more t j many;
-  known = λ t j r has. elim (cases_eq t s) [
-    | inr apart ↦ f.known t j r (sym (put_pair_slot ring_of s i t j new.ring apart) ∙ has)
+  low = λ t j r has. elim (cases_eq t s) [
+    | inr apart ↦ f.low t j r (sym (put_pair_slot ring_of s i t j new.ring apart) ∙ has)
     | inl same ↦ elim (cases_eq j i) [
-      | inr apart ↦ f.known t j r (sym (put_pair_index ring_of s i t j new.ring apart) ∙ has)
+      | inr apart ↦ f.low t j r (sym (put_pair_index ring_of s i t j new.ring apart) ∙ has)
       | inl here ↦ ring r (sym (put_pair_same ring_of s i new.ring) ∙ (λ k. put_pair ring_of s i new.ring (sym same k) (sym here k)) ∙ has)
     ]
   ];

@@ -1,5 +1,5 @@
 -- One more thing that happens on a ring
-use Rattle.controller_model.proofs.Words.{◌≡◌, ◌+◌, ◌-◌, ◌<◌, ◌≤◌, ◌==◌, ◌||◌, ◌++◌, if◌then◌else◌, ◌∷◌, ◌∙◌, ℕ, suc, not, [], List, Option, length, drop, true, false, refl, sym, ap, arith, length-append, inl, inr, eq-eqb, ne_eqb, slice_index_or, drop-append-le, drop_all, false≢true, cases_eq, cond-true, cond-false, Block, Shape, address_of, cycle_of, DeclaredBlock, RingEvent, Took, Placed, takes_of, next_take, was_placed, first_at, is_as_declared, is_right_place, is_out_of_order, has_other_words, is_end, is_inside_descriptor, Header, is_last, History, Keeps}
+use Rattle.controller_model.proofs.Words.{◌≡◌, ◌+◌, ◌-◌, ◌<◌, ◌≤◌, ◌==◌, ◌||◌, ◌++◌, if◌then◌else◌, ◌∷◌, ◌∙◌, ℕ, suc, not, [], List, Option, length, drop, true, false, refl, sym, ap, arith, length-append, inl, inr, eq-eqb, ne_eqb, slice_index_or, drop-append-le, drop_all, false≢true, cases_eq, cond-true, cond-false, Block, Shape, address_of, cycle_of, DeclaredBlock, RingEvent, Took, Placed, takes_of, next_take, was_placed, first_at, is_as_declared, is_right_place, is_out_of_order, has_other_words, is_end, is_inside_descriptor, Header, is_last, History, Keeps, ShowsHarms}
 
 -- a bit by a test
 pub as_bit : (shape : Shape) (p : ℕ) → (if cycle_of shape p == 1 then 1 else 0) ≡ cycle_of shape p
@@ -13,32 +13,42 @@ drop-more : {X : Type 0} (n : ℕ) (xs ys : List X) → n ≤ length xs → drop
 drop-more n xs ys h = drop-append-le n xs ys h
 
 -- a take: what it says of its position, and what is kept after it
-pub record Takes (shape : Shape) (h after : History) (a : ℕ) (b : Block) (d : Option DeclaredBlock) : Type 0 where
+pub record Takes (h after : History) (a : ℕ) (d : Option DeclaredBlock) : Type 0 where
   pub next : after.next ≡ h.next + 1
   pub placed : after.was_placed ≡ false
   pub inside : after.is_inside ≡ not (is_end d)
-  pub order : after.out_of_order ≡ (not (is_right_place h.was_placed d) || not (address_of shape h.next == a) || h.out_of_order)
-  pub words : after.other_words ≡ (not (is_as_declared shape d h.next b) || h.other_words)
   pub unreported : after.unreported.items ≡ h.unreported.items ++ a ∷ []
 
 pub keeps_took : (shape : Shape) (events : List RingEvent) (reported : ℕ) (h after : History) (a : ℕ) (b : Block) (d : Option DeclaredBlock) →
-    Takes shape h after a b d → Keeps shape events reported h → Keeps shape (Took a b d ∷ events) reported after
-unfolding next_take was_placed is_inside_descriptor is_out_of_order has_other_words takes_of
+    Takes h after a d → Keeps shape events reported h → Keeps shape (Took a b d ∷ events) reported after
+unfolding next_take was_placed is_inside_descriptor takes_of
 keeps_took shape events reported h after a b d t k = record {
   next = ap (λ n. n + 1) k.next ∙ sym t.next;
   placed = sym t.placed;
   inside = sym t.inside;
-  order = (λ i. not (is_right_place (k.placed i) d) || not (address_of shape (k.next i) == a) || k.order i) ∙ sym t.order;
-  words = (λ i. not (is_as_declared shape d (k.next i) b) || k.words i) ∙ sym t.words;
   unreported = drop-more reported (takes_of events) (a ∷ []) k.few ∙ ap (λ xs. xs ++ a ∷ []) k.unreported ∙ sym t.unreported;
   few = omega (arith, k.few, length-append (takes_of events) (a ∷ []));
 }
 
-pub keeps_nothing : (shape : Shape) (h : History) → h.next ≡ 0 → h.was_placed ≡ false → h.is_inside ≡ false → h.out_of_order ≡ false → h.other_words ≡ false →
-    h.unreported.items ≡ [] → Keeps shape [] 0 h
-unfolding next_take was_placed is_inside_descriptor is_out_of_order has_other_words takes_of
-keeps_nothing shape h next placed inside order words unreported =
-    record { next = sym next; placed = sym placed; inside = sym inside; order = sym order; words = sym words; unreported = sym unreported; few = omega arith }
+-- and the harms of its takes
+pub shows_took : (shape : Shape) (events : List RingEvent) (reported : ℕ) (h after : History) (a : ℕ) (b : Block) (d : Option DeclaredBlock) →
+    after.out_of_order ≡ (not (is_right_place h.was_placed d) || not (address_of shape h.next == a) || h.out_of_order) →
+    after.other_words ≡ (not (is_as_declared shape d h.next b) || h.other_words) →
+    Keeps shape events reported h → ShowsHarms shape events h → ShowsHarms shape (Took a b d ∷ events) after
+unfolding is_out_of_order has_other_words
+shows_took shape events reported h after a b d order words k s = record {
+  order = (λ i. not (is_right_place (k.placed i) d) || not (address_of shape (k.next i) == a) || s.order i) ∙ sym order;
+  words = (λ i. not (is_as_declared shape d (k.next i) b) || s.words i) ∙ sym words;
+}
+
+pub keeps_nothing : (shape : Shape) (h : History) → h.next ≡ 0 → h.was_placed ≡ false → h.is_inside ≡ false → h.unreported.items ≡ [] → Keeps shape [] 0 h
+unfolding next_take was_placed is_inside_descriptor takes_of
+keeps_nothing shape h next placed inside unreported =
+    record { next = sym next; placed = sym placed; inside = sym inside; unreported = sym unreported; few = omega arith }
+
+pub shows_nothing : (shape : Shape) (h : History) → h.out_of_order ≡ false → h.other_words ≡ false → ShowsHarms shape [] h
+unfolding is_out_of_order has_other_words
+shows_nothing shape h order words = record { order = sym order; words = sym words }
 
 -- the same, but for the takes that weren't reported
 pub record KeepsRest (h after : History) : Type 0 where
@@ -49,18 +59,21 @@ pub record KeepsRest (h after : History) : Type 0 where
   pub words : after.other_words ≡ h.other_words
 
 pub keeps_placed : (shape : Shape) (events : List RingEvent) (reported a : ℕ) (h after : History) → after.next ≡ first_at shape a h.next → after.was_placed ≡ true →
-    after.is_inside ≡ false → after.out_of_order ≡ h.out_of_order → after.other_words ≡ h.other_words → after.unreported.items ≡ [] →
+    after.is_inside ≡ false → after.unreported.items ≡ [] →
     Keeps shape events reported h → Keeps shape (Placed a ∷ events) (length (takes_of events)) after
-unfolding next_take was_placed is_inside_descriptor is_out_of_order has_other_words takes_of
-keeps_placed shape events reported a h after next placed inside order words none k = record {
+unfolding next_take was_placed is_inside_descriptor takes_of
+keeps_placed shape events reported a h after next placed inside none k = record {
   next = ap (λ n. first_at shape a n) k.next ∙ sym next;
   placed = sym placed;
   inside = sym inside;
-  order = k.order ∙ sym order;
-  words = k.words ∙ sym words;
   unreported = drop_all (length (takes_of events)) (takes_of events) (omega arith) ∙ sym none;
   few = omega arith;
 }
+
+pub shows_placed : (shape : Shape) (events : List RingEvent) (a : ℕ) (h after : History) → after.out_of_order ≡ h.out_of_order → after.other_words ≡ h.other_words →
+    ShowsHarms shape events h → ShowsHarms shape (Placed a ∷ events) after
+unfolding is_out_of_order has_other_words
+shows_placed shape events a h after order words s = record { order = s.order ∙ sym order; words = s.words ∙ sym words }
 
 pub is_last-none : (h : Header) (a n : ℕ) (xs : List ℕ) → n ≡ length xs → (0 < n → false ≡ true) → false ≡ is_last h a xs
 unfolding is_last

@@ -1,14 +1,17 @@
 pub mod WorkedReplays
 pub mod WorkedShowing
+pub mod WorkedScenes
 pub mod HeldLemmas
 pub mod Borders
 pub mod DeclaredLemmas
+pub mod WithdrawLemmas
 pub mod HistoryLemmas
 pub mod FirstFound
 pub mod NamedPlaces
 pub mod RowLemmas
 pub mod RingLemmas
 pub mod RingSteps
+pub mod RingRowLemmas
 pub mod LookLemmas
 pub mod LookBranches
 pub mod SlotLemmas
@@ -40,4 +43,6 @@ pub mod CommandLemmas
 pub mod SuccessLemmas
 pub mod FinishLemmas
 pub mod StepLemmas
+pub mod PlainRows
+pub mod PlainScenes
 pub mod Words

@@ -1,5 +1,5 @@
 -- Which positions an address names
-use Rattle.controller_model.proofs.Words.{◌≡◌, ◌+◌, ◌*◌, ◌%◌, ◌<◌, ◌≤◌, ◌==◌, ◌&&◌, ◌∙◌, ◌⊎◌, ℕ, true, Some, None, is_some, sym, ap, subst, arith, inl, inr, eqb-true, cases_lt, false≢true, or_cases, and_parts, Data, Link, Shape, address_of, place_count, is_crossing, link_crossed, link_address, link_target, place_at, IsShape, cases_option, same_in_lap, place_at-address_of, place_at-link_address, is_place}
+use Rattle.controller_model.proofs.Words.{◌≡◌, ◌+◌, ◌*◌, ◌%◌, ◌<◌, ◌≤◌, ◌==◌, ◌&&◌, ◌∙◌, ◌⊎◌, ℕ, true, Some, None, is_some, sym, ap, arith, inl, inr, eqb-true, cases_lt, false≢true, or_cases, and_parts, Data, Link, Shape, address_of, place_count, is_crossing, link_crossed, link_address, place_at, IsShape, cases_option, same_in_lap, place_at-address_of, place_at-link_address, is_place}
 
 -- the first word of a position's block
 pub at_block : (shape : Shape) → IsShape shape → (a p : ℕ) → address_of shape p ≡ a → place_at shape a ≡ Some (Data (p % place_count shape) 0)

@@ -1,69 +1,75 @@
 -- The rows that are left, and how one of them is made
-use Rattle.controller_model.proofs.Words.{◌≡◌, ◌+◌, ◌∙◌, ◌∷◌, ℕ, zero, suc, List, [], drop, slice_get, Option, Some, None, Ok, Err, ap, sym, subst, refl, arith, drop-drop, Header, Row, World, Kept, row_done, next_row, Seen, StepFault, NotPossible, Spent, Memory, Follows, IsStep}
+use Rattle.controller_model.proofs.Words.{◌≡◌, ◌≢◌, ◌∙◌, ◌∷◌, List, [], slice_get, Option, Some, None, Ok, Err, Result, option_map, ap, sym, subst, refl, Header, Step, NextRow, Look, Report, Finish, Other, Scribble, World, counted, made, stepped, Seen, StepFault, NotPossible, Spent, Memory, IsStep}
+use Rattle.std.specs.Prelude.{OnOk}
+use Rattle.traces.specs.declared.trace_row.TraceRow.{TraceRow}
+use Rattle.controller_model.specs.RingRows.{header_after, row_made}
+use Rattle.controller_model.specs.Scenes.{Scene, row_next, step_made}
 
-nothing_left : {X : Type 0} (xs : List X) (n : ℕ) → slice_get xs n ≡ None → drop n xs ≡ []
-nothing_left [] zero e = refl
-nothing_left [] (suc n) e = refl
-nothing_left (x ∷ xs) zero e = absurd (cc)
-nothing_left (x ∷ xs) (suc n) e = nothing_left xs n e
+pub nothing_left : {X : Type 0} (xs : List X) → slice_get xs 0 ≡ None → xs ≡ []
+nothing_left [] e = refl
+nothing_left (x ∷ xs) e = absurd (cc)
 
-one_left : {X : Type 0} (xs : List X) (n : ℕ) (x : X) → slice_get xs n ≡ Some x → drop n xs ≡ x ∷ drop n (drop 1 xs)
-one_left [] n x e = absurd (cc)
-one_left (y ∷ xs) zero x e = cc
-one_left (y ∷ []) (suc n) x e = absurd (cc)
-one_left (y ∷ z ∷ xs) (suc n) x e = one_left (z ∷ xs) n x e
+pub first_left : {X : Type 0} (xs : List X) (x : X) → slice_get xs 0 ≡ Some x → (rest : List X) × (xs ≡ x ∷ rest)
+first_left [] x e = absurd (cc)
+first_left (y ∷ ys) x e = (ys, cc)
 
--- the world without the row that is made
-abbrev pub behind : World → List Row → ℕ → World
-behind w rows n = record w { rows = drop n (drop 1 rows) }
+-- what holds anyhow holds of a success
+pub on_ok : {A E : Type 0} (r : Result A E) (P : Type 0) → P → OnOk r P
+on_ok (Ok a) P holds = holds
+on_ok (Err e) P holds = tt
 
-module _ (h : Header) (rows : List Row) (words : ℕ → ℕ) (k : Kept) (w : World) (f : Follows h rows words k w) where
-  pub no_row : slice_get rows k.progress.next_row ≡ None → next_row h w w.rows ≡ None
-  unfolding next_row
-  no_row e = ap (λ left. next_row h w left) (f.progress.rows ∙ nothing_left rows k.progress.next_row e)
+-- a step leads to more than a world
+pub step_mapped : {X Y : Type 0} (r : Result Seen StepFault) (o : Option X) (g : X → Y) (shown : Seen) (P : X → Type 0) (Q : Y → Type 0) → ((x : X) → P x → Q (g x)) →
+    IsStep r o shown P → IsStep r (option_map g o) shown Q
+step_mapped (Ok seen) None g shown P Q more step = absurd step
+step_mapped (Ok seen) (Some x) g shown P Q more step = (step.0, more x step.1)
+step_mapped (Err NotPossible) None g shown P Q more step = tt
+step_mapped (Err NotPossible) (Some x) g shown P Q more step = absurd step
+step_mapped (Err Memory) o g shown P Q more step = tt
+step_mapped (Err Spent) o g shown P Q more step = absurd step
 
-  pub this_row : (row : Row) → slice_get rows k.progress.next_row ≡ Some row → next_row h w w.rows ≡ row_done h (behind w rows k.progress.next_row) row
-  unfolding next_row
-  this_row row e = ap (λ left. next_row h w left) (f.progress.rows ∙ one_left rows k.progress.next_row row e)
+-- the same step by another name
+pub step_same : {X : Type 0} (r : Result Seen StepFault) (o v : Option X) (shown told : Seen) (P : X → Type 0) → o ≡ v → shown ≡ told → IsStep r v told P → IsStep r o shown P
+step_same {X = X} r o v shown told P same is step =
+    let R : Option X → Type 0 = λ u. IsStep r u shown P in
+    let S : Seen → Type 0 = λ z. IsStep r v z P in
+    subst R (sym same) (subst S (sym is) step)
 
-  -- beside the rows from the second on, the same is kept of the world without this row
-  pub follows_behind : Follows h (drop 1 rows) words k (behind w rows k.progress.next_row)
-  follows_behind = record {
-    progress = record { rows = refl; steps = f.progress.steps; started = f.progress.started; stopped = f.progress.stopped };
-    registers = f.registers;
-    held = f.held;
-    beyond = f.beyond;
-    rings = f.rings;
-    slots = f.slots;
-    endpoints = f.endpoints;
-    events = f.events;
-    under_way = f.under_way;
-    looked = f.looked;
-  }
+pub step_none : {X : Type 0} (o : Option X) (shown : Seen) (P : X → Type 0) → o ≡ None → IsStep (Err NotPossible) o shown P
+step_none {X = X} o shown P none =
+    let R : Option X → Type 0 = λ u. IsStep (Err NotPossible) u shown P in
+    subst R (sym none) tt
 
-pub left_after : (rows left : List Row) (n m : ℕ) → m ≡ n + 1 → left ≡ drop n (drop 1 rows) → left ≡ drop m rows
-left_after rows left n m next e = e ∙ drop-drop n 1 rows ∙ ap (λ k. drop k rows) more
-  where
-    more : 1 + n ≡ m
-    more = omega arith
+-- where a step failed nothing is said of what comes of it
+pub step_failed : {X Y : Type 0} (fault : StepFault) (o : Option X) (g : X → Y) (shown : Seen) (P : X → Type 0) (Q : Y → Type 0) →
+    IsStep (Err fault) o shown P → IsStep (Err fault) (option_map g o) shown Q
+step_failed NotPossible None g shown P Q step = tt
+step_failed NotPossible (Some x) g shown P Q step = absurd step
+step_failed Memory o g shown P Q step = tt
+step_failed Spent o g shown P Q step = absurd step
 
--- what hinders a step tells nothing of the world after it
-pub step_failed : (fault : StepFault) (o v : Option World) (shown : Seen) (P Q : World → Type 0) → o ≡ v → IsStep (Err fault) v shown P → IsStep (Err fault) o shown Q
-step_failed fault o v shown P Q same made =
-    let R : Option World → Type 0 = λ u. IsStep (Err fault) u shown Q in
-    subst R (sym same) (weaker fault v made)
-  where
-    weaker : (e : StepFault) (u : Option World) → IsStep (Err e) u shown P → IsStep (Err e) u shown Q
-    weaker NotPossible None made' = tt
-    weaker NotPossible (Some x) made' = absurd made'
-    weaker Memory u made' = tt
-    weaker Spent u made' = absurd made'
+-- the scene behind a row
+abbrev pub scene_behind : Scene → TraceRow → List TraceRow → World → Scene
+scene_behind x row rest w = record { header = header_after x.header row; rows = rest; world = counted x.header w }
 
-pub step_seen : (seen : Seen) (o v : Option World) (shown : Seen) (P Q : World → Type 0) → o ≡ v → ((u : World) → P u → Q u) → IsStep (Ok seen) v shown P → IsStep (Ok seen) o shown Q
-step_seen seen o v shown P Q same more made =
-    let R : Option World → Type 0 = λ u. IsStep (Ok seen) u shown Q in
-    subst R (sym same) (onward v made)
-  where
-    onward : (u : Option World) → IsStep (Ok seen) u shown P → IsStep (Ok seen) u shown Q
-    onward None made' = absurd made'
-    onward (Some x) made' = (made'.0, more x made'.1)
+pub row_next_is : (x : Scene) (h : Header) (row : TraceRow) (rest : List TraceRow) → x.header ≡ h → x.rows ≡ row ∷ rest →
+    row_next x x.rows ≡ option_map (scene_behind x row rest) (row_made h x.world row)
+row_next_is x h row rest same left = ap (λ rows. row_next x rows) left ∙ ap (λ k. option_map (scene_behind x row rest) (row_made k x.world row)) same
+
+-- the scene behind a step of the controller
+abbrev pub scene_with : Scene → World → Scene
+scene_with x w = record { header = x.header; rows = x.rows; world = w }
+
+twice : (x : Scene) (o : Option World) →
+    option_map (λ w. let z : Scene = record { header = x.header; rows = x.rows; world = counted x.header w } in z) o ≡ option_map (scene_with x) (option_map (counted x.header) o)
+twice x None = refl
+twice x (Some w) = refl
+
+pub step_made_is : (x : Scene) (s : Step) → s ≢ NextRow → step_made x s ≡ option_map (scene_with x) (stepped x.header x.world s)
+unfolding stepped
+step_made_is x NextRow other = absurd (other refl)
+step_made_is x (Look r) other = twice x (made x.header x.world (Look r))
+step_made_is x (Report b) other = twice x (made x.header x.world (Report b))
+step_made_is x (Finish b) other = twice x (made x.header x.world (Finish b))
+step_made_is x (Other b) other = twice x (made x.header x.world (Other b))
+step_made_is x (Scribble a n) other = twice x (made x.header x.world (Scribble a n))

@@ -1,5 +1,5 @@
 -- Lists of which all elements are alike
-use Rattle.std.proofs.Common.{◌≡◌, ℕ, zero, suc, List, [], ◌∷◌, All, Some, None, slice_get, replicate, subst}
+use Rattle.std.proofs.Common.{◌≡◌, ℕ, zero, suc, List, All, Some, slice_get, replicate, subst}
 use Rattle.std.proofs.lemmas.Option.{slice_get_within, get_or_from_slice_get}
 
 pub all_at : {X : Type 0} (P : X → Type 0) (xs : List X) (i : ℕ) (x : X) → All P xs → slice_get xs i ≡ Some x → P x

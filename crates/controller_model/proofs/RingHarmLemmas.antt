@@ -1,7 +1,9 @@
 -- What a step at one ring does to the rings' harms
-use Rattle.controller_model.proofs.Words.{◌≡◌, ◌≢◌, ◌==◌, ◌&&◌, ◌||◌, ◌∙◌, if◌then◌else◌, ◌∷◌, ◌+◌, ◌%◌, ℕ, is_some, not, Bool, true, false, List, [], Option, Some, None, option_map, ap, sym, subst, refl, inl, inr, IsSome, find, eq-eqb, ne_eqb, arith, nat_lt, list_any, cases_Bool, cases_eq, cond-false, cond-true, Block, block_at, cycle, kind, is_link, Header, Ring, Look, NextRow, command_id, ring_with, shape_of, some_ring, World, has_other_words, is_inside_descriptor, is_out_of_order, waits, RingHarms, command_begun, crossed, looked, looked_at, seen_by_look, taken, taken_on, counted, made, stepped, while_running, put, bits, same_words, Row, Sub, Write, Read, event_at, stored, declared, event_read, next_row, row_done, RingHeld, ring_held, ChangesOnly, HasRingHarms}
+use Rattle.controller_model.proofs.Words.{◌≡◌, ◌≢◌, ◌==◌, ◌&&◌, ◌||◌, ◌∙◌, if◌then◌else◌, ◌∷◌, ◌+◌, ◌%◌, ℕ, is_some, not, Bool, true, false, List, [], Option, Some, None, option_map, ap, sym, subst, refl, inl, inr, IsSome, find, eq-eqb, ne_eqb, arith, nat_lt, list_any, cases_Bool, cases_eq, cond-false, cond-true, Block, block_at, cycle, kind, is_link, Header, Ring, Look, command_id, ring_with, shape_of, some_ring, World, has_other_words, is_inside_descriptor, is_out_of_order, waits, RingHarms, command_begun, crossed, looked, looked_at, seen_by_look, taken, taken_on, counted, made, stepped, while_running, put, bits, same_words, Row, Sub, Write, Read, event_at, stored, declared, event_read, row_done, same_Some, RingHeld, ring_held, ChangesOnly, HasRingHarms}
+use Rattle.traces.specs.declared.trace_row.TraceRow.{TraceRow}
+use Rattle.traces.specs.declared.trace_row.TraceRow.TheVariants.{Plain}
+use Rattle.controller_model.specs.Scenes.{Scene, row_next, step_made}
 use Rattle.controller_model.proofs.RingLemmas.{put_other}
-use Rattle.controller_model.proofs.NextRowLemmas.{behind}
 use Rattle.controller_model.proofs.LookBranches.{looked_active, looked_inactive, waits as look_waits, crosses, refuses, takes, taken_transfer, taken_command}
 use Rattle.controller_model.proofs.RingSteps.{crossed_other, taken_other}
 
@@ -47,6 +49,20 @@ module _ (p q : ℕ → Bool) (r : ℕ) (x : Bool) (others : (n : ℕ) → n ≢
             ∙ ap (λ b. b || list_any (λ ring. q ring.id) ys) (sym (elsewhere y.id apart (first_false (p y.id) _ none)))
       ]
 
+-- a test that changes at a ring alone that isn't there
+any_elsewhere : (p q : ℕ → Bool) (r : ℕ) → ((n : ℕ) → n ≢ r → q n ≡ p n) → (rings : List Ring) → find (λ ring. ring.id == r) rings ≡ None →
+    list_any (λ ring. q ring.id) rings ≡ list_any (λ ring. p ring.id) rings
+any_elsewhere p q r others [] none = refl
+any_elsewhere p q r others (y ∷ ys) none =
+    elim (cases_eq y.id r) [
+      | inl same ↦
+          let found : Some y ≡ None = sym (cond-true (y.id == r) (Some y) (find (λ ring. ring.id == r) ys) (eq-eqb y.id r same)) ∙ none in
+          absurd (cc)
+      | inr apart ↦
+          let rest = sym (cond-false (y.id == r) (Some y) (find (λ ring. ring.id == r) ys) (ne_eqb y.id r apart)) ∙ none in
+          (λ i. others y.id apart i || any_elsewhere p q r others ys rest i)
+    ]
+
 -- whether an active ring waits inside a descriptor, by what the world has of it
 abbrev waits_so : (ℕ → ℕ) → RingHeld → Bool
 waits_so m x = (x.is_active && not (cycle (block_at m x.pointer) == x.cycle)) && is_inside_descriptor x.events
@@ -64,6 +80,37 @@ harms_of_changed h w v r x y f no_order no_words no_wait only known order words 
   waiting = any_only (λ q. waits_so w.memory (ring_held w q)) (λ q. waits_so v.memory (ring_held v q)) r y.waits_inside
       (λ q apart i. waits_so (only.memory i) (only.others q apart i)) waiting h.rings (sym f.waiting ∙ no_wait) known;
 }
+
+-- the harms are the same where that ring isn't there
+pub harms_of_gone : (h : Header) (w v : World) (r : ℕ) (x : RingHarms) → HasRingHarms h w x → ChangesOnly r w v → ring_with h r ≡ None → HasRingHarms h v x
+unfolding some_ring waits
+harms_of_gone h w v r x f only gone = record {
+  order = f.order ∙ sym (any_elsewhere (λ q. is_out_of_order (shape_of h q) (w.events q)) (λ q. is_out_of_order (shape_of h q) (v.events q)) r
+      (λ q apart. ap (λ held. is_out_of_order (shape_of h q) held.events) (only.others q apart)) h.rings gone);
+  words = f.words ∙ sym (any_elsewhere (λ q. has_other_words (shape_of h q) (w.events q)) (λ q. has_other_words (shape_of h q) (v.events q)) r
+      (λ q apart. ap (λ held. has_other_words (shape_of h q) held.events) (only.others q apart)) h.rings gone);
+  waiting = f.waiting ∙ sym (any_elsewhere (λ q. waits_so w.memory (ring_held w q)) (λ q. waits_so v.memory (ring_held v q)) r
+      (λ q apart i. waits_so (only.memory i) (only.others q apart i)) h.rings gone);
+}
+
+-- one ring alone was looked at, of which the harms are asked where it is there; there was no harm, and none is found
+pub no_harms_after : (h : Header) (w v : World) (r : ℕ) (x y : RingHarms) (o : Option Ring) → ring_with h r ≡ o → HasRingHarms h w x →
+    (x.out_of_order || (x.other_words || x.waits_inside)) ≡ false → (y.out_of_order || (y.other_words || y.waits_inside)) ≡ false → ChangesOnly r w v →
+    (IsSome (ring_with h r) → y.out_of_order ≡ is_out_of_order (shape_of h r) (v.events r)) →
+    (IsSome (ring_with h r) → y.other_words ≡ has_other_words (shape_of h r) (v.events r)) →
+    y.waits_inside ≡ (waits v r && is_inside_descriptor (v.events r)) → HasRingHarms h v x
+no_harms_after h w v r x y None gone f none found only order words waiting = harms_of_gone h w v r x f only gone
+no_harms_after h w v r x y (Some ring) at f none found only order words waiting =
+    let known : IsSome (ring_with h r) = let P : Option Ring → Type 0 = λ o. IsSome o in subst P (sym at) refl in
+    let first = first_false x.out_of_order (x.other_words || x.waits_inside) none in
+    let rest = second_false x.out_of_order (x.other_words || x.waits_inside) none in
+    let second = first_false x.other_words x.waits_inside rest in
+    let third = second_false x.other_words x.waits_inside rest in
+    let later = second_false y.out_of_order (y.other_words || y.waits_inside) found in
+    harms_of_changed h w v r x x f first second third only known
+    (first ∙ sym (first_false y.out_of_order (y.other_words || y.waits_inside) found) ∙ order known)
+    (second ∙ sym (first_false y.other_words y.waits_inside later) ∙ words known)
+    (third ∙ sym (second_false y.other_words y.waits_inside later) ∙ waiting)
 
 -- a step at ring r that leaves it active
 abbrev pub IsAt : ℕ → World → World → Type 0
@@ -184,10 +231,28 @@ unfolding counted waits
 counted_harms h u x f = record { order = f.order; words = f.words; waiting = f.waiting }
 
 -- a row that keeps the harms does so as a step
-pub row_harms : (h : Header) (w v : World) (rows : List Row) (n : ℕ) (row : Row) (x : RingHarms) → next_row h w w.rows ≡ row_done h (behind w rows n) row →
-    ((u : World) → row_done h (behind w rows n) row ≡ Some u → HasRingHarms h (behind w rows n) x → HasRingHarms h u x) → stepped h w NextRow ≡ Some v →
-    HasRingHarms h w x → HasRingHarms h v x
-unfolding stepped made waits
-row_harms h w v rows n row x this keeps e f =
-    counts h (λ u. HasRingHarms h u x) (λ u g. counted_harms h u x g) false (next_row h w w.rows) v
-    (λ u done. keeps u (sym this ∙ done) (record { order = f.order; words = f.words; waiting = f.waiting })) e
+pub row_harms : (x y : Scene) (row : Row) (rest : List TraceRow) (harms : RingHarms) → x.rows ≡ Plain row ∷ rest → row_next x x.rows ≡ Some y →
+    ((u : World) → row_done x.header x.world row ≡ Some u → HasRingHarms x.header u harms) → HasRingHarms y.header y.world harms
+row_harms x y row rest harms left e keeps = onward (row_done x.header x.world row) keeps (sym (ap (λ rows. row_next x rows) left) ∙ e)
+  where
+    behind : World → Scene
+    behind w = record { header = x.header; rows = rest; world = counted x.header w }
+
+    onward : (o : Option World) → ((u : World) → o ≡ Some u → HasRingHarms x.header u harms) → option_map behind o ≡ Some y → HasRingHarms y.header y.world harms
+    onward None each made = absurd (cc)
+    onward (Some u) each made =
+        let same : behind u ≡ y = same_Some (behind u) y made in
+        subst (λ (z : Scene). HasRingHarms z.header z.world harms) same (counted_harms x.header u harms (each u refl))
+
+-- what a step of the controller leads to
+pub came_from : (x : Scene) (o : Option World) (y : Scene) →
+    option_map (λ w. let z : Scene = record { header = x.header; rows = x.rows; world = counted x.header w } in z) o ≡ Some y →
+    (y.header ≡ x.header) × (option_map (counted x.header) o ≡ Some y.world)
+came_from x None y e = absurd (cc)
+came_from x (Some w) y e =
+    let same : ◌≡◌ {A = Scene} (record { header = x.header; rows = x.rows; world = counted x.header w }) y = same_Some _ y e in
+    (ap (λ (z : Scene). z.header) (sym same), ap (λ (z : Scene). Some z.world) same)
+
+pub look_came : (x y : Scene) (r : ℕ) → step_made x (Look r) ≡ Some y → (y.header ≡ x.header) × (stepped x.header x.world (Look r) ≡ Some y.world)
+unfolding stepped
+look_came x y r e = came_from x (made x.header x.world (Look r)) y e

@@ -1,5 +1,5 @@
 -- Which harms a world has
-use Rattle.controller_model.proofs.Words.{◌≡◌, ◌+◌, ◌-◌, ◌*◌, ◌/◌, ◌==◌, ◌&&◌, ◌||◌, ◌<◌, ◌≤◌, ◌∙◌, ◌∷◌, ℕ, zero, suc, List, get_or, length, take, Bool, true, false, not, Option, Some, None, find, option_map, ap, sym, refl, arith, [], nat_lt, nat_le, option_and_then, lt-ltb, list_any, range_with_len, list_any_more, Block, Evt, block_at, cycle, Shape, place_count, Command, command_of, named_context, input_context_bytes, Header, Row, event_ring, event_shape, event_size, shape_of, shape_or, some_ring, World, Harm, TakenOutOfOrder, TakenOtherWords, WaitsInsideDescriptor, LooksOutside, PostsOverUnread, InputContextChanged, harm_of, harms, waits, is_inside_descriptor, is_out_of_order, has_other_words, has_changed_context, is_context_changed, is_changed_since, RingState, Kept, Pending, changed_at, written_at, Follows, FollowsRing, ring_held, under_way_of}
+use Rattle.controller_model.proofs.Words.{◌≡◌, ◌≢◌, IsSome, Ring, inl, inr, cases_eq, eq-eqb, ne_eqb, cond-true, cond-false, subst, ◌+◌, ◌-◌, ◌*◌, ◌/◌, ◌==◌, ◌&&◌, ◌||◌, ◌<◌, ◌≤◌, ◌∙◌, ◌∷◌, ℕ, zero, suc, List, get_or, length, take, Bool, true, false, not, Option, Some, None, find, option_map, ap, sym, refl, arith, [], nat_lt, nat_le, option_and_then, lt-ltb, list_any, range_with_len, list_any_more, Block, Evt, block_at, cycle, Shape, place_count, Command, command_of, named_context, input_context_bytes, Header, event_ring, event_shape, event_size, shape_of, shape_or, some_ring, World, Harm, TakenOutOfOrder, TakenOtherWords, WaitsInsideDescriptor, LooksOutside, PostsOverUnread, InputContextChanged, harm_of, harms, waits, is_inside_descriptor, is_out_of_order, has_other_words, has_changed_context, is_context_changed, is_changed_since, RingState, Pending, FollowsRing, ring_held, under_way_of}
 
 -- one more element of a list, as at a step of a loop
 pub any_more : {X : Type 0} (p : X → Bool) (xs : List X) (i : ℕ) (x : X) (a b : Bool) → i < length xs → x ≡ get_or xs i x → a ≡ list_any p (take i xs) → b ≡ p x →
@@ -96,3 +96,17 @@ take_past [] zero l = refl
 take_past [] (suc n) l = refl
 take_past (x ∷ xs) zero l = absurd (omega arith)
 take_past (x ∷ xs) (suc n) l = ap (λ ys. x ∷ ys) (take_past xs n (omega arith))
+
+-- a ring that a list has is found by its ID
+found_first : (x y : Ring) (ys : List Ring) → (y.id ≢ x.id → IsSome (find (λ r. r.id == x.id) ys)) → IsSome (find (λ r. r.id == x.id) (y ∷ ys))
+found_first x y ys later =
+    let P : Option Ring → Type 0 = λ o. IsSome o in
+    elim (cases_eq y.id x.id) [
+      | inl same ↦ subst P (sym (cond-true (y.id == x.id) (Some y) (find (λ r. r.id == x.id) ys) (eq-eqb y.id x.id same))) refl
+      | inr apart ↦ subst P (sym (cond-false (y.id == x.id) (Some y) (find (λ r. r.id == x.id) ys) (ne_eqb y.id x.id apart))) (later apart)
+    ]
+
+pub listed : (rings : List Ring) (i : ℕ) (x : Ring) → i < length rings → x ≡ get_or rings i x → IsSome (find (λ r. r.id == x.id) rings)
+listed [] i x inside at = absurd (omega arith)
+listed (y ∷ ys) zero x inside at = found_first x y ys (λ apart. absurd (apart (ap (λ (r : Ring). r.id) (sym at))))
+listed (y ∷ ys) (suc i) x inside at = found_first x y ys (λ apart. listed ys i x (omega arith) at)

@@ -1,5 +1,5 @@
 -- Which definition a step goes by
-use Rattle.controller_model.proofs.Words.{◌≡◌, ◌≢◌, ◌+◌, ◌∙◌, ℕ, Bool, true, false, Option, Some, None, Ok, Err, option_map, ap, sym, subst, refl, cond-true, cond-false, Header, Step, NextRow, Look, Report, Finish, Other, Scribble, World, Seen, StepFault, NotPossible, Spent, Memory, counted, made, stepped, while_running, IsStep}
+use Rattle.controller_model.proofs.Words.{◌≡◌, ◌≢◌, true, false, Option, Some, None, Ok, Err, option_map, refl, cond-true, cond-false, Header, Step, NextRow, Look, Report, Finish, Other, Scribble, World, Seen, StepFault, NotPossible, Spent, Memory, counted, made, stepped, while_running, IsStep}
 
 module _ (h : Header) (w : World) where
   pub running : (o : Option World) → w.stopped ≡ false → while_running h w o ≡ o
@@ -41,7 +41,7 @@ step_uncounted h w s fault shown P Q made_so = onward fault (made h w s) made_so
     onward Memory o m = tt
     onward Spent o m = absurd m
 
--- of the world that a step leads to something else holds
-pub step_more : (o : Option World) (seen shown : Seen) (P Q : World → Type 0) → ((v : World) → o ≡ Some v → P v → Q v) → IsStep (Ok seen) o shown P → IsStep (Ok seen) o shown Q
+-- of what a step leads to something else holds
+pub step_more : {X : Type 0} (o : Option X) (seen shown : Seen) (P Q : X → Type 0) → ((v : X) → o ≡ Some v → P v → Q v) → IsStep (Ok seen) o shown P → IsStep (Ok seen) o shown Q
 step_more None seen shown P Q more step = absurd step
 step_more (Some v) seen shown P Q more step = (step.0, more v refl step.1)

@@ -18,9 +18,9 @@ pub use Rattle.controller_model.specs.Completions.{IsPart, completed, completed_
 pub use Rattle.controller_model.specs.Declarations.{Declares, as_declared, blocks_of, entries}
 unfoldable pub use Rattle.controller_model.specs.DriverRows.{activated, bell_row, declared, endpoint_bell, event_read, next_row, register_row, row_done, run_or_stop, started_with, valued, with_dequeue}
 unfoldable pub use Rattle.controller_model.specs.Finishes.{ended, ended_with, finished, finished_as, passes_end, succeeded}
-pub use Rattle.controller_model.specs.Following.{Follows, FollowsEndpoints, FollowsHolder, FollowsRegisters, FollowsRing, FollowsRings, FollowsSlots, GoesOn, HasRoom, IsChange, IsEndpoint, IsStep, IsWell, KeepsRun, RingHeld, addressed, bound, freed, is_endpoint, is_holder, is_it, is_other, may_get, named_by, noted, places_from, pointed, released, ring_held, taken_held, told, turned_off, under_way_of}
+pub use Rattle.controller_model.specs.Following.{Follows, FollowsEndpoints, FollowsHolder, FollowsRegisters, FollowsRing, FollowsRings, FollowsSlots, GoesOn, HasRoom, IsChange, IsEndpoint, IsStep, IsWell, KeepsRun, RingHeld, addressed, bound, freed, is_endpoint, is_holder, is_it, is_other, may_get, named_by, noted, noted_held, places_from, pointed, released, ring_held, taken_held, told, turned_off, under_way_of}
 pub use Rattle.controller_model.specs.Held.{Held, changed_at, held, held_block, held_by, held_stored, written_at}
-pub use Rattle.controller_model.specs.Histories.{Keeps}
+pub use Rattle.controller_model.specs.Histories.{Keeps, ShowsHarms}
 unfoldable pub use Rattle.controller_model.specs.Looks.{command_begun, crossed, looked, looked_at, may_scribble, seen_by_look, taken, taken_on}
 unfoldable pub use Rattle.controller_model.specs.OnLiterals.{model_on_literals}
 unfoldable pub use Rattle.controller_model.specs.Posts.{can_post, is_last, is_stop_under_way, other_posted, posted, report_code, report_error, report_stop, report_success, reported, reported_on, stopped_with, with_reported, with_stopped}

@@ -1,5 +1,5 @@
 -- How what the program keeps stands for the world
-use Rattle.std.specs.Prelude.{◌≡◌, ℕ, ◌+◌, ◌*◌, ◌%◌, ◌<◌, ◌≤◌, ◌^◌, if◌then◌else◌, Bool, true, List, ◌∷◌, Option, Some, None, IsSome, drop, slice_get, option_map}
+use Rattle.std.specs.Prelude.{◌≡◌, ℕ, ◌+◌, ◌*◌, ◌%◌, ◌<◌, ◌≤◌, ◌^◌, if◌then◌else◌, Bool, true, List, ◌∷◌, Option, Some, None, IsSome, slice_get, option_map}
 use Rattle.std.specs.Prelude.{◌==◌, ◌&&◌, not, length, map, filter, ◌-◌, nat_le, false, Result, Ok, Err}
 use Rattle.commands.specs.declared.command.Command.{Command}
 use Rattle.commands.specs.declared.command.Command.TheVariants.{AddressDevice, ConfigureEndpoint, ResetEndpoint, StopEndpoint, SetTrDequeue}
@@ -41,7 +41,7 @@ use Rattle.controller_model.specs.Posts.{report_code}
 use Rattle.controller_model.specs.Bindings.{is_had_by_another}
 use Rattle.controller_model.specs.Held.{held, held_by}
 use Rattle.controller_model.specs.Declarations.{Declares}
-use Rattle.controller_model.specs.Histories.{Keeps}
+use Rattle.controller_model.specs.Histories.{Keeps, ShowsHarms}
 
 -- what the world has of one ring
 pub record RingHeld : Type 0 where
@@ -78,12 +78,12 @@ abbrev pub is_holder : Option Holder → ℕ → ℕ → Bool
 is_holder None s i = false
 is_holder (Some e) s i = s == e.slot && i == e.index
 
--- a ring whose block is taken
+-- a ring of which it is noted that its block is taken, and where the pointer moves on too
+abbrev pub noted_held : Shape → RingHeld → Block → RingHeld
+noted_held shape held b = record held { events = Took held.pointer b (declared_at held.queue held.lengths (next_take shape held.events)) ∷ held.events }
+
 abbrev pub taken_held : Shape → RingHeld → Block → RingHeld
-taken_held shape held b = record held {
-  events = Took held.pointer b (declared_at held.queue held.lengths (next_take shape held.events)) ∷ held.events;
-  pointer = (held.pointer + 16) % 2 ^ 64;
-}
+taken_held shape held b = record (noted_held shape held b) { pointer = (held.pointer + 16) % 2 ^ 64 }
 
 -- the endpoint that has a ring, if one has it
 pub record FollowsHolder (had_by : ℕ → ℕ → Bool) (o : Option Holder) : Type 0 where
@@ -93,18 +93,18 @@ pub record FollowsHolder (had_by : ℕ → ℕ → Bool) (o : Option Holder) : T
 pub record FollowsRing (h : Header) (r : ℕ) (held : RingHeld) (x : RingState) : Type 0 where
   pub declared : Declares x.declared held.queue held.lengths
   pub history : Keeps (shape_of h r) held.events held.reported x.history
+  -- nobody asks for the harms of a ring that isn't there
+  pub harms : IsSome (ring_with h r) → ShowsHarms (shape_of h r) held.events x.history
   pub pointer : held.pointer ≡ x.pointer
   pub cycle : held.cycle ≡ (if x.cycle then 1 else 0)
   pub active : held.is_active ≡ x.is_active
-  -- an active ring is one of the header
-  pub known : x.is_active ≡ true → IsSome (ring_with h r)
   pub holder : FollowsHolder held.had_by x.holder
 
 pub record FollowsRings (h : Header) (held : ℕ → RingHeld) (rings : List RingState) : Type 0 where
   pub each : (r : ℕ) (x : RingState) → slice_get rings r ≡ Some x → FollowsRing h r (held r) x
 
 pub record FollowsProgress (all : List Row) (p : Progress) (left : List Row) (count : ℕ) (start stop : Bool) : Type 0 where
-  pub rows : left ≡ drop p.next_row all
+  pub rows : left ≡ all
   pub steps : count ≡ p.steps
   pub started : start ≡ p.started
   pub stopped : stop ≡ p.stopped
@@ -117,11 +117,11 @@ pub record FollowsRegisters (k : Registers) (register : Register → Option ℕ)
 pub record FollowsSlots (slots : List Slot) (state : ℕ → SlotState) (scribbles : ℕ → Bool) : Type 0 where
   pub each : (s : ℕ) (x : Slot) → slice_get slots s ≡ Some x → (state s ≡ x.state) × (scribbles s ≡ x.scribbles)
 
-pub record FollowsEndpoints (h : Header) (endpoints : List Endpoint) (state : ℕ → ℕ → EndpointState) (ring_of : ℕ → ℕ → Option ℕ) : Type 0 where
+pub record FollowsEndpoints (endpoints : List Endpoint) (state : ℕ → ℕ → EndpointState) (ring_of : ℕ → ℕ → Option ℕ) : Type 0 where
   pub each : (s i : ℕ) (x : Endpoint) → i < 32 → slice_get endpoints (s * 32 + i) ≡ Some x → (state s i ≡ x.state) × (ring_of s i ≡ x.ring)
-  -- there are no other endpoints, and a ring that one has is one of the header
+  -- there are no other endpoints
   pub no_more : (s i : ℕ) → 32 ≤ i → ring_of s i ≡ None
-  pub known : (s i r : ℕ) → ring_of s i ≡ Some r → (r < 256) × IsSome (ring_with h r)
+  pub low : (s i r : ℕ) → ring_of s i ≡ Some r → r < 256
 
 pub record FollowsEvents (e : Events) (post read at : ℕ) : Type 0 where
   pub posted : post ≡ e.posted
@@ -140,14 +140,14 @@ pub record Follows (h : Header) (rows : List Row) (words : ℕ → ℕ) (k : Kep
   pub beyond : (a : ℕ) → 2 ^ 64 ≤ a → words a ≡ 0
   pub rings : FollowsRings h (ring_held w) k.rings.items
   pub slots : FollowsSlots k.slots.items w.slot_state w.scribbles
-  pub endpoints : FollowsEndpoints h k.endpoints.items w.endpoint_state w.ring_of
+  pub endpoints : FollowsEndpoints k.endpoints.items w.endpoint_state w.ring_of
   pub events : FollowsEvents k.events w.posted w.reads w.dequeue
   pub under_way : w.under_way ≡ option_map under_way_of k.under_way
   pub looked : w.looked_outside ≡ k.looked_outside
 
--- an answer to a step that the definitions allow as told: it leads to a world of which P holds, and shows this; want of memory may
--- come at any step, and tells nothing
-abbrev pub IsStep : Result Seen StepFault → Option World → Seen → (World → Type 0) → Type 0
+-- an answer to a step that the definitions allow as told: it leads to a world, or a scene, of which P holds, and shows this; want of memory
+-- may come at any step, and tells nothing
+abbrev pub IsStep : {X : Type 0} → Result Seen StepFault → Option X → Seen → (X → Type 0) → Type 0
 IsStep (Ok seen) None shown P = ⊥
 IsStep (Ok seen) (Some w) shown P = (seen ≡ shown) × P w
 IsStep (Err NotPossible) None shown P = Unit {0}

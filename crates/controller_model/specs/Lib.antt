@@ -5,6 +5,8 @@ pub mod Bindings
 pub mod Finishes
 pub mod Steps
 pub mod Showing
+pub mod RingRows
+pub mod Scenes
 pub mod OnLiterals
 pub mod Watches
 pub mod Held

@@ -1,13 +1,14 @@
 -- What is kept of the rings' harms from step to step
-use Rattle.std.specs.Prelude.{◌≡◌, ◌≢◌, ℕ, ◌&&◌, List}
+use Rattle.std.specs.Prelude.{◌≡◌, ◌≢◌, ℕ, ◌&&◌, List, []}
 use Rattle.traces.specs.declared.header.Header.{Header}
-use Rattle.traces.specs.declared.row.Row.{Row}
+use Rattle.traces.specs.declared.trace_row.TraceRow.{TraceRow}
 use Rattle.controller_model.specs.declared.kept.Kept.{Kept}
 use Rattle.traces.specs.Header.{shape_of, some_ring}
 use Rattle.world_state.specs.World.{World}
 use Rattle.world_state.specs.Harms.{has_other_words, is_inside_descriptor, is_out_of_order, waits}
 use Rattle.controller_model.specs.declared.safety.RingHarms.{RingHarms}
 use Rattle.controller_model.specs.Following.{Follows, ring_held}
+use Rattle.controller_model.specs.Scenes.{Scene}
 
 -- these are the harms that some ring shows
 pub record HasRingHarms (h : Header) (w : World) (x : RingHarms) : Type 0 where
@@ -20,7 +21,13 @@ pub record ChangesOnly (r : ℕ) (w v : World) : Type 0 where
   pub memory : v.memory ≡ w.memory
   pub others : (q : ℕ) → q ≢ r → ring_held v q ≡ ring_held w q
 
--- what is kept stands for a world, the harms of its rings too
-pub record IsFollowed (h : Header) (rows : List Row) (words : ℕ → ℕ) (k : Kept) (x : RingHarms) (w : World) : Type 0 where
-  pub follows : Follows h rows words k w
-  pub rings : HasRingHarms h w x
+-- what is kept stands for a scene with these rings, and these rows still to come
+pub record FollowsScene (h : Header) (rows : List TraceRow) (words : ℕ → ℕ) (k : Kept) (x : Scene) : Type 0 where
+  pub header : x.header ≡ h
+  pub left : x.rows ≡ rows
+  pub follows : Follows h [] words k x.world
+
+-- and the harms of its rings too
+pub record IsFollowed (h : Header) (rows : List TraceRow) (words : ℕ → ℕ) (k : Kept) (harms : RingHarms) (x : Scene) : Type 0 where
+  pub follows : FollowsScene h rows words k x
+  pub rings : HasRingHarms x.header x.world harms

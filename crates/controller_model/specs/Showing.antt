@@ -22,6 +22,11 @@ look_shows w r b =
     else if is_link (kind b) then seen.Crossed
     else seen.Took r (w.pointer_of r) b
 
+-- what the replay of a schedule answers
+pub record Replay : Type 0 where
+  pub seen : List Seen
+  pub ending : Ending
+
 module _ (h : Header) where
   -- what a step shows, where it is possible
   unfoldable pub shows : World → Step → Seen
@@ -41,11 +46,6 @@ module _ (h : Header) where
   seen_from (Some w) [] = []
   seen_from (Some w) (s ∷ steps) =
       if is_some (harm_of h w) then [] else option_to_list (seen_by w s) ++ seen_from (stepped h w s) steps
-
-  -- what the replay of a schedule beside these rows answers
-  pub record Replay : Type 0 where
-    pub seen : List Seen
-    pub ending : Ending h
 
   unfoldable pub replayed : List Row → List Step → Replay
   replayed rows steps = record { seen = seen_from (Some (opening rows)) steps; ending = ending_of h rows steps }

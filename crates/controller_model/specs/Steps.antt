@@ -17,6 +17,16 @@ use Rattle.controller_model.specs.Looks as looks
 use Rattle.controller_model.specs.Posts as posts
 use Rattle.controller_model.specs.Finishes as finishes
 
+-- how the replay of a schedule ends: without harm, at a step that isn't possible, or at the first harm, told after its step
+pub data Ending : Type 0 where
+  NoHarm : Ending
+  NotPossible : (step : ℕ) → Ending
+  Harmful : (step : ℕ) (harm : Harm) → Ending
+
+unfoldable pub judged : ℕ → Option Harm → Ending → Ending
+judged n None later = later
+judged n (Some kind) later = Harmful n kind
+
 module _ (h : Header) where
   -- the word belongs to the device context that DCBAA names for a slot, and the controller may write that
   unfoldable pub is_scribbled : World → ℕ → ℕ → Bool
@@ -49,16 +59,6 @@ module _ (h : Header) where
   unfoldable pub reached : List Row → List Step → Option World
   reached rows [] = Some (opening rows)
   reached rows (s ∷ older) = option_and_then (λ w. stepped w s) (reached rows older)
-
-  -- how the replay of a schedule ends: without harm, at a step that isn't possible, or at the first harm, told after its step
-  pub data Ending : Type 0 where
-    NoHarm : Ending
-    NotPossible : (step : ℕ) → Ending
-    Harmful : (step : ℕ) (harm : Harm) → Ending
-
-  unfoldable pub judged : ℕ → Option Harm → Ending → Ending
-  judged n None later = later
-  judged n (Some kind) later = Harmful n kind
 
   unfoldable pub ending_from : ℕ → Option World → List Step → Ending
   ending_from n None steps = NotPossible n

@@ -1,5 +1,5 @@
 -- What is kept of words that are watched
-use Rattle.std.specs.Prelude.{◌≡◌, ℕ, ◌+◌, ◌-◌, ◌*◌, ◌/◌, ◌==◌, ◌&&◌, ◌||◌, Bool, nat_le, nat_lt}
+use Rattle.std.specs.Prelude.{ℕ, ◌+◌, ◌-◌, ◌*◌, ◌/◌, ◌==◌, ◌&&◌, ◌||◌, Bool, nat_le, nat_lt}
 use Rattle.std.specs.List.{list_any, range_with_len}
 
 -- one of so many words from an address on was changed after the control word of a block was last written

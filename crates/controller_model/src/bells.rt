@@ -1,8 +1,7 @@
-ghost use Rattle.std.specs.Prelude.{◌≡◌, ℕ, ◌+◌, ◌*◌, ◌<◌, ◌||◌, ◌&&◌, ◌==◌, List, Option, Some, None, true, is_some, if◌then◌else◌};
+ghost use Rattle.std.specs.Prelude.{◌≡◌, ℕ, ◌+◌, ◌*◌, ◌<◌, ◌||◌, ◌&&◌, ◌==◌, List, Option, Some, None, if◌then◌else◌};
 ghost use Rattle.commands.specs.States.{is_running, is_stopped};
 ghost use Rattle.traces.specs.declared.header.Header.{Header as HeaderValue};
 ghost use Rattle.traces.specs.declared.row.Row.{Row as RowValue};
-ghost use Rattle.traces.specs.Header.{ring_with};
 ghost use Rattle.world_state.specs.World.{World};
 ghost use Rattle.controller_model.specs.DriverRows.{activated, endpoint_bell, bell_row};
 ghost use Rattle.controller_model.specs.Following.{Follows};
@@ -15,7 +14,7 @@ use traces::Header;
 
 /// The controller may look at a ring from now on.
 fn activate(kept: &mut Kept, ring: u8)
-    ensures { (h : HeaderValue) (rows : List RowValue) (words : ℕ → ℕ) (w : World) → is_some (ring_with h ring) ≡ true → Follows h rows words kept.old w →
+    ensures { (h : HeaderValue) (rows : List RowValue) (words : ℕ → ℕ) (w : World) → Follows h rows words kept.old w →
         Follows h rows words kept.new (activated h w ring) }
 {
     let state = &mut kept.rings[usize::from(ring)];

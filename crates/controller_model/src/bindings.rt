@@ -88,7 +88,7 @@ fn bind(
 ) -> Result<(), AllocError>
     requires index { index < 32 }
     requires aligned { pointer % 16 ≡ 0 }
-    ensures change { OnOk result ((h : HeaderValue) (rows : List Row) (words : ℕ → ℕ) (w : World) → shape.now ≡ shape_of h ring → IsSome (ring_with h ring) →
+    ensures change { OnOk result ((h : HeaderValue) (rows : List Row) (words : ℕ → ℕ) (w : World) → shape.now ≡ shape_of h ring →
         w.ring_of slot index ≡ None → is_had_by_another w slot index ring ≡ false → Follows h rows words kept.old w →
         Follows h rows words kept.new (bound w slot index ring pointer cycle state)) }
     ensures rest { KeepsRun kept.old kept.new }

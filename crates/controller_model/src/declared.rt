@@ -1,7 +1,7 @@
 ghost use Rattle.std.specs.Prelude.{◌≡◌, ℕ, ◌+◌, ◌∷◌, [], ◌<◌, ◌++◌, length, sum, List, OnOk, OnErr, slice_get, option_map};
-ghost use Rattle.segments.specs.Descriptors.{declared_at};
+ghost use Rattle.segments.specs.Descriptors.{declared_at, length_from, no_ops, split_at};
 ghost use Rattle.trb.specs.declared.block.Block.{Block};
-ghost use Rattle.controller_model.specs.Declarations.{Declares, as_declared};
+ghost use Rattle.controller_model.specs.Declarations.{Declares, as_declared, withdrawn_from};
 
 use std::alloc::{AllocError, Global};
 use trb::Block;
@@ -13,6 +13,15 @@ pub struct Declared {
     pub(crate) begins: bool,
     pub(crate) ends: bool,
 }
+
+/// A No Op, a descriptor of its own (xHCI 6.4.1.4.1).
+const NO_OP: Declared = Declared {
+    block: Block {
+        w: [0, 0, 0, 0x2000],
+    },
+    begins: true,
+    ends: true,
+};
 
 /// The blocks that the driver declared on a ring, by position.
 #[derive(Drop)]
@@ -36,6 +45,39 @@ impl Declarations {
             option_map as_declared result ≡ declared_at queue lengths position }
     {
         self.blocks.get(usize::try_from(position).ok()?).copied()
+    }
+
+    /// Nothing is declared any more.
+    pub(crate) fn clear(&mut self)
+        ensures { Declares self.new [] [] }
+    {
+        self.blocks.clear();
+    }
+
+    /// The descriptor that begins at a position becomes No Ops, each a descriptor of one block.
+    pub(crate) fn withdraw(&mut self, position: u64)
+        ensures { (queue : List Block) (lengths : List ℕ) → Declares self.old queue lengths →
+            Declares self.new (no_ops queue position (length_from lengths 0 position)) (split_at lengths 0 position) }
+    {
+        let first = position as usize;
+        match self.blocks.get(first) {
+            None => {}
+            Some(declared) if declared.begins => self.withdraw_from(first),
+            Some(_) => {}
+        }
+    }
+
+    /// The blocks from one on become No Ops, up to the next that ends a descriptor, each a descriptor of one block.
+    fn withdraw_from(&mut self, first: usize)
+        ensures { self.new.blocks.items ≡ withdrawn_from self.old.blocks.items first }
+    {
+        for place in first..self.blocks.len() {
+            let ends = self.blocks[place].ends;
+            self.blocks[place] = NO_OP;
+            if ends {
+                return;
+            }
+        }
     }
 
     /// Declares the blocks of one descriptor. Want of memory may leave a part of them.

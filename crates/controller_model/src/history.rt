@@ -1,5 +1,6 @@
 ghost use Rattle.std.specs.Prelude.{◌≡◌, ℕ, ◌+◌, ◌-◌, ◌==◌, ◌∷◌, ◌&&◌, ◌%◌, ◌^◌, [], List, Option, Some, None, length, OnOk, IsTrue, IfSome, true, false, ◌≤◌, ◌<◌, option_map, position};
 ghost use Rattle.trb.specs.Block.{same_words};
+ghost use Rattle.trb.specs.declared.block.Block.{Block};
 ghost use Rattle.segments.specs.ShapeValue.{Shape};
 ghost use Rattle.segments.specs.Places.{address_of, is_crossing, link_address, place_count};
 ghost use Rattle.traces.specs.declared.header.Header.{Header};
@@ -8,7 +9,7 @@ ghost use Rattle.world_state.specs.Takes.{takes_of, first_at, is_as_declared, is
 ghost use Rattle.world_state.specs.Harms.{is_end, is_right_place};
 ghost use Rattle.controller_model.specs.Posts.{is_last};
 ghost use Rattle.controller_model.specs.Declarations.{as_declared};
-ghost use Rattle.controller_model.specs.Histories.{Keeps};
+ghost use Rattle.controller_model.specs.Histories.{Keeps, ShowsHarms};
 
 use crate::declared::Declared;
 use segments::{Place, RingShape};
@@ -156,7 +157,8 @@ fn is_as_declared(
 impl History {
     /// Nothing happened.
     pub(crate) fn new(alloc: Global) -> History
-        ensures { (shape : Shape) → Keeps shape [] 0 result }
+        ensures keeps { (shape : Shape) → Keeps shape [] 0 result }
+        ensures harms { (shape : Shape) → ShowsHarms shape [] result }
     {
         History {
             next: 0,
@@ -166,6 +168,19 @@ impl History {
             other_words: false,
             unreported: VecDeque::new(alloc),
         }
+    }
+
+    /// Nothing happened after all.
+    pub(crate) fn clear(&mut self)
+        ensures keeps { (shape : Shape) → Keeps shape [] 0 self.new }
+        ensures harms { (shape : Shape) → ShowsHarms shape [] self.new }
+    {
+        self.next = 0;
+        self.was_placed = false;
+        self.is_inside = false;
+        self.out_of_order = false;
+        self.other_words = false;
+        self.unreported.clear();
     }
 
     /// The position of the next take.
@@ -204,16 +219,33 @@ impl History {
         block: &Block,
         declared: Option<Declared>,
     ) -> Result<(), AllocError>
-        ensures { OnOk result ((events : List RingEvent) (reported : ℕ) → Keeps shape.now events reported self.old →
+        ensures keeps { OnOk result ((events : List RingEvent) (reported : ℕ) → Keeps shape.now events reported self.old →
             Keeps shape.now (Took address block.now (option_map as_declared declared) ∷ events) reported self.new) }
+        ensures harms { OnOk result ((events : List RingEvent) (reported : ℕ) → Keeps shape.now events reported self.old → ShowsHarms shape.now events self.old →
+            ShowsHarms shape.now (Took address block.now (option_map as_declared declared) ∷ events) self.new) }
     {
         let is_right = is_right_place(self.was_placed, declared);
         let is_there = shape.address(self.next) == address;
         let is_same = is_as_declared(shape, declared, self.next, block);
-        let next = self.next.checked_add(1).ok_or(AllocError)?;
-        self.unreported.push_back(address)?;
+        self.take_anywhere(address, declared)?;
         self.out_of_order = !is_right | !is_there | self.out_of_order;
         self.other_words = !is_same | self.other_words;
+        Ok(())
+    }
+
+    /// A block is taken, wherever the ring's places are; which harm that is isn't asked.
+    pub(crate) fn take_anywhere(
+        &mut self,
+        address: u64,
+        declared: Option<Declared>,
+    ) -> Result<(), AllocError>
+        ensures keeps { OnOk result ((shape : Shape) (events : List RingEvent) (reported : ℕ) (block : Block) → Keeps shape events reported self.old →
+            Keeps shape (Took address block (option_map as_declared declared) ∷ events) reported self.new) }
+        ensures order { self.new.out_of_order ≡ self.old.out_of_order }
+        ensures words { self.new.other_words ≡ self.old.other_words }
+    {
+        let next = self.next.checked_add(1).ok_or(AllocError)?;
+        self.unreported.push_back(address)?;
         self.is_inside = !is_end(declared);
         self.was_placed = false;
         self.next = next;
@@ -222,8 +254,9 @@ impl History {
 
     /// The pointer is set to an address, with a shape that has a block there; all takes count as reported.
     pub(crate) fn place(&mut self, shape: &RingShape, address: u64) -> Result<(), AllocError>
-        ensures { OnOk result ((events : List RingEvent) (reported : ℕ) → Keeps shape.now events reported self.old →
+        ensures keeps { OnOk result ((events : List RingEvent) (reported : ℕ) → Keeps shape.now events reported self.old →
             Keeps shape.now (Placed address ∷ events) (length (takes_of events)) self.new) }
+        ensures harms { OnOk result ((events : List RingEvent) → ShowsHarms shape.now events self.old → ShowsHarms shape.now (Placed address ∷ events) self.new) }
     {
         self.next
             .checked_add(u64::from(shape.places()))
@@ -247,8 +280,9 @@ impl History {
 
     /// So many takes more are reported, the oldest first.
     pub(crate) fn report_first(&mut self, count: usize)
-        ensures { (shape : Shape) (events : List RingEvent) (reported : ℕ) → count ≤ length self.old.unreported.items →
+        ensures keeps { (shape : Shape) (events : List RingEvent) (reported : ℕ) → count ≤ length self.old.unreported.items →
             Keeps shape events reported self.old → Keeps shape events (reported + count) self.new }
+        ensures harms { (shape : Shape) (events : List RingEvent) → ShowsHarms shape events self.old → ShowsHarms shape events self.new }
     {
         for _ in 0..count {
             let _ = self.unreported.pop_front();

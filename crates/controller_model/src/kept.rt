@@ -9,8 +9,6 @@ use trb::Block;
 /// How far a run is.
 #[derive(Clone, Copy, Debug)]
 pub struct Progress {
-    /// The number of the next row, from 0.
-    pub(crate) next_row: usize,
     /// How many steps were made.
     pub(crate) steps: u64,
     pub(crate) started: bool,

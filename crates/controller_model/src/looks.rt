@@ -8,7 +8,7 @@ ghost use Rattle.trb.specs.Block.{aligned, pointer};
 ghost use Rattle.trb.specs.Bits.{is_set};
 ghost use Rattle.trb.specs.Block.{block_at, word, kind, cycle as cycle_bit};
 ghost use Rattle.world_state.specs.World.{World, Took};
-ghost use Rattle.controller_model.specs.Following.{Follows, IsStep, RingHeld, FollowsRing, addressed, is_it, taken_held};
+ghost use Rattle.controller_model.specs.Following.{Follows, IsStep, RingHeld, FollowsRing, addressed, is_it, noted_held, taken_held};
 ghost use Rattle.controller_model.specs.Showing.{look_shows};
 ghost use Rattle.commands.specs.Command.{command_of};
 ghost use Rattle.contexts.specs.Contexts.{input_context_bytes};
@@ -79,13 +79,28 @@ fn toggles(link: &Block) -> bool
     link.w[3] / 2 % 2 == 1
 }
 
-/// The block at the pointer is taken, with what is declared at its position now, and the pointer moves on by 16.
-fn take(state: &mut RingState, shape: &RingShape, block: &Block) -> Result<(), AllocError>
-    ensures { OnOk result ((h : HeaderValue) (r : ℕ) (held : RingHeld) → shape.now ≡ shape_of h r → FollowsRing h r held state.old →
-        FollowsRing h r (taken_held (shape_of h r) held block.now) state.new) }
+/// It is noted that the block at the pointer is taken, with what is declared at its position now; of a ring that isn't there
+/// without its harms.
+fn note_take(state: &mut RingState, there: Option<&Ring>, block: &Block) -> Result<(), AllocError>
+    ensures { OnOk result ((h : HeaderValue) (r : ℕ) (held : RingHeld) → option_copied there.entry ≡ ring_with h r → FollowsRing h r held state.old →
+        FollowsRing h r (noted_held (shape_of h r) held block.now) state.new) }
 {
     let declared = state.declared.at(state.history.next());
-    state.history.take(shape, state.pointer, block, declared)?;
+    match there {
+        Some(ring) => state
+            .history
+            .take(&ring.shape, state.pointer, block, declared)?,
+        None => state.history.take_anywhere(state.pointer, declared)?,
+    }
+    Ok(())
+}
+
+/// The block at the pointer is taken, and the pointer moves on by 16.
+fn take(state: &mut RingState, there: Option<&Ring>, block: &Block) -> Result<(), AllocError>
+    ensures { OnOk result ((h : HeaderValue) (r : ℕ) (held : RingHeld) → option_copied there.entry ≡ ring_with h r → FollowsRing h r held state.old →
+        FollowsRing h r (taken_held (shape_of h r) held block.now) state.new) }
+{
+    note_take(state, there, block)?;
     state.pointer = state.pointer.wrapping_add(16);
     Ok(())
 }
@@ -100,22 +115,33 @@ fn cross_on(kept: &mut Kept, ring: u8, link: &Block)
 }
 
 /// The controller takes the block at a ring's pointer.
-fn take_on(kept: &mut Kept, shape: &RingShape, ring: u8, block: &Block) -> Result<(), AllocError>
-    ensures { OnOk result ((h : HeaderValue) (rows : List RowValue) (words : ℕ → ℕ) (w : World) → shape.now ≡ shape_of h ring →
+fn take_on(kept: &mut Kept, there: Option<&Ring>, ring: u8, block: &Block) -> Result<(), AllocError>
+    ensures { OnOk result ((h : HeaderValue) (rows : List RowValue) (words : ℕ → ℕ) (w : World) → option_copied there.entry ≡ ring_with h ring →
         Follows h rows words kept.old w → Follows h rows words kept.new (taken_on h w ring block.now)) }
 {
     let state = &mut kept.rings[usize::from(ring)];
-    take(state, shape, block)?;
+    take(state, there, block)?;
     Ok(())
 }
 
+/// Whether an address on a 16-byte boundary is one of a ring's; it is none of one that isn't there.
+fn is_of(there: Option<&Ring>, address: u64) -> bool
+    requires { address % 16 ≡ 0 }
+    ensures { (h : HeaderValue) (r : ℕ) → option_copied there.entry ≡ ring_with h r → result ≡ is_inside (shape_of h r) address }
+{
+    match there {
+        None => false,
+        Some(ring) => is_inside(&ring.shape, address),
+    }
+}
+
 /// A look is noted where it is outside the ring's segments.
-fn note_look(kept: &mut Kept, shape: &RingShape, ring: u8, pointer: u64)
+fn note_look(kept: &mut Kept, there: Option<&Ring>, ring: u8, pointer: u64)
     requires { pointer % 16 ≡ 0 }
-    ensures { (h : HeaderValue) (rows : List RowValue) (words : ℕ → ℕ) (w : World) → shape.now ≡ shape_of h ring → w.pointer_of ring ≡ pointer →
+    ensures { (h : HeaderValue) (rows : List RowValue) (words : ℕ → ℕ) (w : World) → option_copied there.entry ≡ ring_with h ring → w.pointer_of ring ≡ pointer →
         Follows h rows words kept.old w → Follows h rows words kept.new (seen_by_look h w ring) }
 {
-    let is_inside = is_inside(shape, pointer);
+    let is_inside = is_of(there, pointer);
     kept.looked_outside = kept.looked_outside | !is_inside;
 }
 
@@ -217,16 +243,16 @@ fn begin(kept: &mut Kept, address: u64, block: &Block)
 /// The controller takes the block at a ring's pointer; one of the command ring is then under way.
 fn take_block(
     header: &Header,
-    shape: &RingShape,
+    there: Option<&Ring>,
     kept: &mut Kept,
     ring: u8,
     pointer: u64,
     block: &Block,
 ) -> Result<(), AllocError>
-    ensures { OnOk result ((rows : List RowValue) (words : ℕ → ℕ) (w : World) → shape.now ≡ shape_of header.now ring → w.pointer_of ring ≡ pointer →
+    ensures { OnOk result ((rows : List RowValue) (words : ℕ → ℕ) (w : World) → option_copied there.entry ≡ ring_with header.now ring → w.pointer_of ring ≡ pointer →
         Follows header.now rows words kept.old w → Follows header.now rows words kept.new (taken header.now w ring block.now)) }
 {
-    take_on(kept, shape, ring, block)?;
+    take_on(kept, there, ring, block)?;
     if is_command_ring(header, ring) {
         begin(kept, pointer, block);
         watch_context(header, kept, pointer, block);
@@ -245,7 +271,7 @@ fn is_busy(header: &Header, kept: &Kept, ring: u8) -> bool
 /// A look at a block (xHCI 4.9.2): it waits, follows a Link or takes the block.
 fn look_at(
     header: &Header,
-    shape: &RingShape,
+    there: Option<&Ring>,
     kept: &mut Kept,
     ring: u8,
     pointer: u64,
@@ -253,25 +279,25 @@ fn look_at(
     block: &Block,
 ) -> Result<Seen, StepFault>
     requires { pointer % 16 ≡ 0 }
-    ensures step { (rows : List RowValue) (words : ℕ → ℕ) (w : World) → shape.now ≡ shape_of header.now ring → w.pointer_of ring ≡ pointer →
+    ensures step { (rows : List RowValue) (words : ℕ → ℕ) (w : World) → option_copied there.entry ≡ ring_with header.now ring → w.pointer_of ring ≡ pointer →
         w.cycle_state ring ≡ (if cycle then 1 else 0) → Follows header.now rows words kept.old w →
         IsStep result (looked_at header.now w ring block.now) (look_shows w ring block.now) (Follows header.now rows words kept.new) }
     ensures refused { result ≡ Err StepFault.NotPossible → kept.new ≡ kept.old }
 {
     if !agrees(block, cycle) {
-        note_look(kept, shape, ring, pointer);
+        note_look(kept, there, ring, pointer);
         return Ok(Seen::Waited);
     }
     if is_link(block) {
-        note_look(kept, shape, ring, pointer);
+        note_look(kept, there, ring, pointer);
         cross_on(kept, ring, block);
         return Ok(Seen::Crossed);
     }
     if is_busy(header, kept, ring) {
         return Err(StepFault::NotPossible);
     }
-    note_look(kept, shape, ring, pointer);
-    take_block(header, shape, kept, ring, pointer, block)?;
+    note_look(kept, there, ring, pointer);
+    take_block(header, there, kept, ring, pointer, block)?;
     Ok(Seen::Took {
         ring,
         at: pointer,
@@ -296,10 +322,7 @@ pub(crate) fn look<M: WordMemory>(
     }
     let pointer = state.pointer;
     let cycle = state.cycle;
-    let shape = match ring_with(header, ring) {
-        None => return Err(StepFault::NotPossible),
-        Some(ring) => &ring.shape,
-    };
+    let there = ring_with(header, ring);
     let block = block_at(memory, pointer);
-    look_at(header, shape, kept, ring, pointer, cycle, &block)
+    look_at(header, there, kept, ring, pointer, cycle, &block)
 }

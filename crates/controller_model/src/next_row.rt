@@ -1,9 +1,13 @@
-ghost use Rattle.std.specs.Prelude.{◌≡◌, ℕ, ◌+◌, Err, List};
+ghost use Rattle.std.specs.Prelude.{◌≡◌, ℕ, ◌+◌, Err, List, OnOk};
 ghost use Rattle.traces.specs.Rows.{FitsLine, IsRow};
 ghost use Rattle.traces.specs.declared.row.Row.{Row as RowValue};
 ghost use Rattle.world_state.specs.World.{World};
 ghost use Rattle.controller_model.specs.declared.seen.Seen.TheVariants.{Row as RowSeen};
-ghost use Rattle.controller_model.specs.DriverRows.{row_done, next_row};
+ghost use Rattle.controller_model.specs.DriverRows.{row_done};
+ghost use Rattle.controller_model.specs.RingHarms.{FollowsScene};
+ghost use Rattle.controller_model.specs.RingRows.{header_after, row_made};
+ghost use Rattle.traces.specs.TraceRows.{IsTraceRow};
+ghost use Rattle.controller_model.specs.Scenes.{Scene, row_next};
 ghost use Rattle.controller_model.specs.Following.{Follows, IsStep};
 
 use crate::bells::ring_bell;
@@ -11,10 +15,13 @@ use crate::fault::StepFault;
 use crate::kept::Kept;
 use crate::posts::read_event;
 use crate::registers::write_register;
+use crate::ring_rows::{add_ring, remove_ring, withdraw};
 use crate::rows::{declare, write};
+use crate::rows_left::RowsLeft;
 use crate::seen::Seen;
+use crate::steps::count;
 use guest_memory::WordMemory;
-use traces::{Header, Row, Trace};
+use traces::{Header, Row, TraceRow};
 
 /// The driver does what a row says.
 fn make_row<M: WordMemory>(
@@ -41,25 +48,54 @@ fn make_row<M: WordMemory>(
     Ok(Seen::Row)
 }
 
-/// The next row of the trace is made, if there is one.
+/// What a row does to the rings that are there, to memory and to the controller.
+fn make_trace_row<M: WordMemory>(
+    header: &mut Header,
+    memory: &mut M,
+    kept: &mut Kept,
+    row: &TraceRow,
+    step: u64,
+) -> Result<Seen, StepFault>
+    requires number { step ≡ kept.old.progress.steps + 1 }
+    requires row { IsTraceRow row.now }
+    ensures header { OnOk result (header.new ≡ header_after header.old row.now) }
+    ensures step { (rows : List RowValue) (w : World) → Follows header.old rows (M.words memory.old) kept.old w →
+        IsStep result (row_made header.old w row.now) RowSeen (Follows header.new rows (M.words memory.new) kept.new) }
+    ensures refused { result ≡ Err StepFault.NotPossible → kept.new ≡ kept.old }
+    ensures memory { result ≡ Err StepFault.NotPossible → M.words memory.new ≡ M.words memory.old }
+    ensures rings { result ≡ Err StepFault.NotPossible → header.new ≡ header.old }
+{
+    match row {
+        TraceRow::Plain(row) => return make_row(header, memory, kept, row, step),
+        TraceRow::Comes(ring) => add_ring(header, kept, ring.as_ring())?,
+        TraceRow::Goes(id) => remove_ring(header, kept, *id),
+        TraceRow::Withdraws { ring, position } => withdraw(kept, *ring, *position),
+    }
+    Ok(Seen::Row)
+}
+
+/// The next row is made, if there is one.
 pub(crate) fn next_row<M: WordMemory>(
-    trace: &Trace,
+    header: &mut Header,
+    left: &mut RowsLeft,
     memory: &mut M,
     kept: &mut Kept,
     step: u64,
 ) -> Result<Seen, StepFault>
     requires { step ≡ kept.old.progress.steps + 1 }
-    ensures step { (w : World) → Follows trace.now.header trace.now.rows (M.words memory.old) kept.old w →
-        IsStep result (next_row trace.now.header w w.rows) RowSeen (Follows trace.now.header trace.now.rows (M.words memory.new) kept.new) }
+    ensures step { (x : Scene) → FollowsScene header.old left.old (M.words memory.old) kept.old x →
+        IsStep result (row_next x x.rows) RowSeen (FollowsScene header.new left.new (M.words memory.new) kept.new) }
     ensures refused { result ≡ Err StepFault.NotPossible → kept.new ≡ kept.old }
     ensures memory { result ≡ Err StepFault.NotPossible → M.words memory.new ≡ M.words memory.old }
+    ensures rings { result ≡ Err StepFault.NotPossible → header.new ≡ header.old }
+    ensures left { result ≡ Err StepFault.NotPossible → left.new ≡ left.old }
 {
-    let row = match trace.rows.as_slice().get(kept.progress.next_row) {
+    let row = match left.first() {
         None => return Err(StepFault::NotPossible),
         Some(row) => row,
     };
-    let seen = make_row(&trace.header, memory, kept, row, step)?;
-    let next = kept.progress.next_row.checked_add(1);
-    kept.progress.next_row = next.ok_or(StepFault::Memory)?;
+    let seen = make_trace_row(header, memory, kept, row, step)?;
+    left.pass();
+    count(kept)?;
     Ok(seen)
 }

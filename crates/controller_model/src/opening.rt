@@ -19,7 +19,6 @@ pub(crate) fn opening(alloc: Global) -> Result<Kept, AllocError>
 {
     Ok(Kept {
         progress: Progress {
-            next_row: 0,
             steps: 0,
             started: false,
             stopped: false,

@@ -1,4 +1,4 @@
-ghost use Rattle.std.specs.Prelude.{◌≡◌, ℕ, ◌&&◌, ◌==◌, ◌-◌, ◌<◌, ◌%◌, if◌then◌else◌, List, Option, Some, true, not, nat_le, nat_lt};
+ghost use Rattle.std.specs.Prelude.{◌≡◌, ℕ, ◌&&◌, ◌==◌, ◌-◌, ◌<◌, ◌%◌, if◌then◌else◌, List, ◌||◌, IsSome, Option, Some, true, not, nat_le, nat_lt};
 ghost use Rattle.trb.specs.Block.{block_at, cycle as cycle_bit};
 ghost use Rattle.traces.specs.declared.header.Header.{Header as HeaderValue};
 ghost use Rattle.traces.specs.declared.row.Row.{Row as RowValue};
@@ -8,15 +8,20 @@ ghost use Rattle.world_state.specs.Harms.{harm_of, has_changed_context, has_othe
 ghost use Rattle.traces.specs.declared.step.Step.TheVariants.{Look};
 ghost use Rattle.controller_model.specs.DriverRows.{row_done};
 ghost use Rattle.controller_model.specs.Steps.{stepped};
+ghost use Rattle.controller_model.specs.Scenes.{Scene, step_made};
+ghost use Rattle.traces.specs.declared.trace_row.TraceRow.{TraceRow as TraceRowValue};
+ghost use Rattle.controller_model.specs.declared.kept.Kept.{Kept as KeptValue};
+ghost use Rattle.traces.specs.Header.{ring_with};
 ghost use Rattle.controller_model.specs.Following.{Follows, FollowsRing, ring_held};
-ghost use Rattle.controller_model.specs.RingHarms.{HasRingHarms};
+ghost use Rattle.controller_model.specs.RingHarms.{FollowsScene, HasRingHarms};
 
 use crate::kept::{Kept, RingState};
 use crate::looks::{command_of, input_words};
 use crate::memory::word_at;
 use crate::posts::event_ring;
+use crate::rows_left::RowsLeft;
 use guest_memory::WordMemory;
-use traces::{Header, Row, Step, Trace};
+use traces::{Header, Row, Step, TraceRow};
 use world_state::Harm;
 
 /// Which harms the takes and the waiting of some ring show.
@@ -105,9 +110,9 @@ fn has_changed_context(header: &Header, kept: &Kept) -> bool
 
 /// The harms of one ring.
 fn harms_at<M: WordMemory>(memory: &M, state: &RingState) -> RingHarms
-    ensures order { (h : HeaderValue) (r : ℕ) (w : World) → FollowsRing h r (ring_held w r) state.now →
+    ensures order { (h : HeaderValue) (r : ℕ) (w : World) → FollowsRing h r (ring_held w r) state.now → IsSome (ring_with h r) →
         result.out_of_order ≡ is_out_of_order (shape_of h r) (w.events r) }
-    ensures words { (h : HeaderValue) (r : ℕ) (w : World) → FollowsRing h r (ring_held w r) state.now →
+    ensures words { (h : HeaderValue) (r : ℕ) (w : World) → FollowsRing h r (ring_held w r) state.now → IsSome (ring_with h r) →
         result.other_words ≡ has_other_words (shape_of h r) (w.events r) }
     ensures waits { (h : HeaderValue) (r : ℕ) (w : World) → FollowsRing h r (ring_held w r) state.now → M.words memory.now ≡ w.memory →
         result.waits_inside ≡ (waits w r && is_inside_descriptor (w.events r)) }
@@ -119,7 +124,15 @@ fn harms_at<M: WordMemory>(memory: &M, state: &RingState) -> RingHarms
     }
 }
 
-/// The harms of all rings after a look at one of them. Where there was no harm before, that one decides.
+/// Whether there is one of these harms.
+fn is_any(harms: RingHarms) -> bool
+    ensures { result ≡ (harms.out_of_order || (harms.other_words || harms.waits_inside)) }
+{
+    harms.out_of_order || harms.other_words || harms.waits_inside
+}
+
+/// The harms of all rings after a look at one of them, which may be gone. Where there was no harm before and that ring shows none, there
+/// is none.
 fn harms_after_look<M: WordMemory>(
     header: &Header,
     memory: &M,
@@ -130,10 +143,13 @@ fn harms_after_look<M: WordMemory>(
     ensures { (rows : List RowValue) (w v : World) → HasRingHarms header.now w before → stepped header.now w (Look ring) ≡ Some v →
         Follows header.now rows (M.words memory.now) kept.now v → HasRingHarms header.now v result }
 {
-    if before.out_of_order || before.other_words || before.waits_inside {
+    if is_any(before) {
         return ring_harms(header, memory, kept);
     }
-    harms_at(memory, &kept.rings[usize::from(ring)])
+    if is_any(harms_at(memory, &kept.rings[usize::from(ring)])) {
+        return ring_harms(header, memory, kept);
+    }
+    before
 }
 
 /// The harms of all rings after a step.
@@ -144,8 +160,8 @@ pub(crate) fn harms_after<M: WordMemory>(
     before: RingHarms,
     step: &Step,
 ) -> RingHarms
-    ensures { (rows : List RowValue) (w v : World) → HasRingHarms header.now w before → stepped header.now w step.now ≡ Some v →
-        Follows header.now rows (M.words memory.now) kept.now v → HasRingHarms header.now v result }
+    ensures { (rows : List TraceRowValue) (x y : Scene) → HasRingHarms x.header x.world before → step_made x step.now ≡ Some y →
+        FollowsScene header.now rows (M.words memory.now) kept.now y → HasRingHarms y.header y.world result }
 {
     match step {
         Step::Look { ring } => harms_after_look(header, memory, kept, before, *ring),
@@ -168,14 +184,14 @@ fn keeps_harms<M: WordMemory>(memory: &M, row: &Row) -> bool
 }
 
 /// Whether the next step surely leaves the rings' harms as they are.
-pub(crate) fn is_quiet<M: WordMemory>(trace: &Trace, memory: &M, kept: &Kept, step: &Step) -> bool
-    ensures { (w v : World) (x : RingHarms) → Follows trace.now.header trace.now.rows (M.words memory.now) kept.now w → result ≡ true →
-        stepped trace.now.header w step.now ≡ Some v → HasRingHarms trace.now.header w x → HasRingHarms trace.now.header v x }
+pub(crate) fn is_quiet<M: WordMemory>(left: &RowsLeft, memory: &M, step: &Step) -> bool
+    ensures { (h : HeaderValue) (k : KeptValue) (x y : Scene) (harms : RingHarms) → FollowsScene h left.now (M.words memory.now) k x → result ≡ true →
+        step_made x step.now ≡ Some y → HasRingHarms x.header x.world harms → HasRingHarms y.header y.world harms }
 {
     match step {
-        Step::NextRow => match trace.rows.as_slice().get(kept.progress.next_row) {
-            None => false,
-            Some(row) => keeps_harms(memory, row),
+        Step::NextRow => match left.first() {
+            Some(TraceRow::Plain(row)) => keeps_harms(memory, row),
+            _ => false,
         },
         _ => false,
     }

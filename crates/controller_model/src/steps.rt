@@ -1,10 +1,13 @@
-ghost use Rattle.std.specs.Prelude.{◌≡◌, ℕ, ◌+◌, ◌^◌, ◌<◌, Err, List, OnOk, true};
+ghost use Rattle.std.specs.Prelude.{◌≡◌, ◌≢◌, ℕ, ◌+◌, Err, List, OnOk};
+ghost use Rattle.traces.specs.declared.step.Step.TheVariants.{NextRow};
 ghost use Rattle.traces.specs.declared.header.Header.{Header as HeaderValue};
 ghost use Rattle.traces.specs.declared.row.Row.{Row as RowValue};
 ghost use Rattle.world_state.specs.World.{World};
 ghost use Rattle.controller_model.specs.Showing.{shows};
 ghost use Rattle.controller_model.specs.Steps.{counted, made, stepped};
 ghost use Rattle.controller_model.specs.Following.{Follows, IsStep};
+ghost use Rattle.controller_model.specs.RingHarms.{FollowsScene};
+ghost use Rattle.controller_model.specs.Scenes.{Scene, step_made};
 
 use crate::fault::StepFault;
 use crate::finishes::finish;
@@ -13,14 +16,15 @@ use crate::looks::look;
 use crate::next_row::next_row;
 use crate::posts::post_other;
 use crate::reports::report;
+use crate::rows_left::RowsLeft;
 use crate::scribbles::scribble;
 use crate::seen::Seen;
 use guest_memory::WordMemory;
 use std::alloc::AllocError;
-use traces::{Step, Trace};
+use traces::{Header, Step};
 
 /// One more step was made.
-fn count(kept: &mut Kept) -> Result<(), AllocError>
+pub(crate) fn count(kept: &mut Kept) -> Result<(), AllocError>
     ensures { OnOk result ((h : HeaderValue) (rows : List RowValue) (words : ℕ → ℕ) (w : World) → Follows h rows words kept.old w →
         Follows h rows words kept.new (counted h w)) }
 {
@@ -29,46 +33,25 @@ fn count(kept: &mut Kept) -> Result<(), AllocError>
     Ok(())
 }
 
-/// A step after the stop: only rows are possible.
-fn make_stopped<M: WordMemory>(
-    trace: &Trace,
-    memory: &mut M,
-    kept: &mut Kept,
-    step: &Step,
-    number: u64,
-) -> Result<Seen, StepFault>
-    requires { number ≡ kept.old.progress.steps + 1 }
-    ensures step { (w : World) → w.stopped ≡ true → Follows trace.now.header trace.now.rows (M.words memory.old) kept.old w →
-        IsStep result (made trace.now.header w step.now) (shows trace.now.header w step.now) (Follows trace.now.header trace.now.rows (M.words memory.new) kept.new) }
-    ensures refused { result ≡ Err StepFault.NotPossible → kept.new ≡ kept.old }
-    ensures memory { result ≡ Err StepFault.NotPossible → M.words memory.new ≡ M.words memory.old }
-{
-    match step {
-        Step::NextRow => next_row(trace, memory, kept, number),
-        _ => Err(StepFault::NotPossible),
-    }
-}
-
-/// A step that isn't counted yet.
+/// A step of the controller that isn't counted yet. After the stop none is possible.
 fn make<M: WordMemory>(
-    trace: &Trace,
+    header: &Header,
     memory: &mut M,
     kept: &mut Kept,
     step: &Step,
     number: u64,
 ) -> Result<Seen, StepFault>
     requires { number ≡ kept.old.progress.steps + 1 }
-    ensures step { (w : World) → Follows trace.now.header trace.now.rows (M.words memory.old) kept.old w →
-        IsStep result (made trace.now.header w step.now) (shows trace.now.header w step.now) (Follows trace.now.header trace.now.rows (M.words memory.new) kept.new) }
+    ensures step { (rows : List RowValue) (w : World) → step.now ≢ NextRow → Follows header.now rows (M.words memory.old) kept.old w →
+        IsStep result (made header.now w step.now) (shows header.now w step.now) (Follows header.now rows (M.words memory.new) kept.new) }
     ensures refused { result ≡ Err StepFault.NotPossible → kept.new ≡ kept.old }
     ensures memory { result ≡ Err StepFault.NotPossible → M.words memory.new ≡ M.words memory.old }
 {
     if kept.progress.stopped {
-        return make_stopped(trace, memory, kept, step, number);
+        return Err(StepFault::NotPossible);
     }
-    let header = &trace.header;
     match step {
-        Step::NextRow => next_row(trace, memory, kept, number),
+        Step::NextRow => Err(StepFault::NotPossible),
         Step::Look { ring } => look(header, memory, kept, *ring),
         Step::Report { event } => report(header, memory, kept, event, number),
         Step::Finish { event } => finish(header, memory, kept, event, number),
@@ -77,20 +60,43 @@ fn make<M: WordMemory>(
     }
 }
 
+/// A step of the controller.
+fn make_counted<M: WordMemory>(
+    header: &Header,
+    memory: &mut M,
+    kept: &mut Kept,
+    step: &Step,
+    number: u64,
+) -> Result<Seen, StepFault>
+    requires { number ≡ kept.old.progress.steps + 1 }
+    ensures step { (rows : List RowValue) (w : World) → step.now ≢ NextRow → Follows header.now rows (M.words memory.old) kept.old w →
+        IsStep result (stepped header.now w step.now) (shows header.now w step.now) (Follows header.now rows (M.words memory.new) kept.new) }
+    ensures refused { result ≡ Err StepFault.NotPossible → kept.new ≡ kept.old }
+    ensures memory { result ≡ Err StepFault.NotPossible → M.words memory.new ≡ M.words memory.old }
+{
+    let seen = make(header, memory, kept, step, number)?;
+    count(kept)?;
+    Ok(seen)
+}
+
 /// Makes one step.
 pub(crate) fn make_step<M: WordMemory>(
-    trace: &Trace,
+    header: &mut Header,
+    left: &mut RowsLeft,
     memory: &mut M,
     kept: &mut Kept,
     step: &Step,
 ) -> Result<Seen, StepFault>
-    ensures step { (w : World) → Follows trace.now.header trace.now.rows (M.words memory.old) kept.old w →
-        IsStep result (stepped trace.now.header w step.now) (shows trace.now.header w step.now) (Follows trace.now.header trace.now.rows (M.words memory.new) kept.new) }
+    ensures step { (x : Scene) → FollowsScene header.old left.old (M.words memory.old) kept.old x →
+        IsStep result (step_made x step.now) (shows x.header x.world step.now) (FollowsScene header.new left.new (M.words memory.new) kept.new) }
     ensures refused { result ≡ Err StepFault.NotPossible → kept.new ≡ kept.old }
     ensures memory { result ≡ Err StepFault.NotPossible → M.words memory.new ≡ M.words memory.old }
+    ensures rings { result ≡ Err StepFault.NotPossible → header.new ≡ header.old }
+    ensures left { result ≡ Err StepFault.NotPossible → left.new ≡ left.old }
 {
     let number = kept.progress.steps.checked_add(1).ok_or(AllocError)?;
-    let seen = make(trace, memory, kept, step, number)?;
-    count(kept)?;
-    Ok(seen)
+    match step {
+        Step::NextRow => next_row(header, left, memory, kept, number),
+        _ => make_counted(header, memory, kept, step, number),
+    }
 }

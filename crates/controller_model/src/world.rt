@@ -1,26 +1,29 @@
 ghost use Rattle.std.specs.Prelude.{◌≡◌, Err};
-ghost use Rattle.world_state.specs.World.{World as WorldValue};
-ghost use Rattle.controller_model.specs.Steps.{stepped};
+ghost use Rattle.controller_model.specs.Scenes.{Scene, step_made};
 ghost use Rattle.controller_model.specs.Showing.{shows};
-ghost use Rattle.controller_model.specs.Following.{Follows, IsStep};
-ghost use Rattle.controller_model.specs.RingHarms.{HasRingHarms, IsFollowed};
+ghost use Rattle.controller_model.specs.Following.{IsStep};
+ghost use Rattle.controller_model.specs.RingHarms.{IsFollowed};
 
 use crate::fault::StepFault;
+use crate::headers::copy_header;
 use crate::kept::Kept;
 use crate::opening::opening;
+use crate::rows_left::RowsLeft;
 use crate::safety::{RingHarms, harm_of, harms_after, is_quiet, ring_harms};
 use crate::seen::Seen;
 use crate::steps::make_step;
 use guest_memory::WordMemory;
 use std::alloc::{AllocError, Global};
-use traces::{Step, Trace};
+use traces::{Header, Step, TraceRow};
 use world_state::Harm;
 
-/// A run of the controller's model beside a trace: how the steps so far left memory and the controller. Contracts say
-/// which world of the definitions it stands for.
+/// A run of the controller's model beside the rows of a trace: how the steps so far left the rings that are there, memory and the
+/// controller. Contracts say which scene of the definitions it stands for.
 #[derive(Drop)]
 pub struct World<'t, M: WordMemory> {
-    trace: &'t Trace,
+    /// The rings that are there.
+    header: Header,
+    left: RowsLeft<'t>,
     memory: M,
     kept: Kept,
     /// The harms of the rings, as the steps so far left them.
@@ -30,49 +33,58 @@ pub struct World<'t, M: WordMemory> {
 
 /// Makes one step, and follows the harms of the rings.
 fn make_followed<M: WordMemory>(
-    trace: &Trace,
+    header: &mut Header,
+    left: &mut RowsLeft,
     memory: &mut M,
     kept: &mut Kept,
     rings: &mut RingHarms,
     step: &Step,
 ) -> Result<Seen, StepFault>
-    ensures step { (w : WorldValue) → Follows trace.now.header trace.now.rows (M.words memory.old) kept.old w → HasRingHarms trace.now.header w rings.old →
-        IsStep result (stepped trace.now.header w step.now) (shows trace.now.header w step.now)
-        (IsFollowed trace.now.header trace.now.rows (M.words memory.new) kept.new rings.new) }
+    ensures step { (x : Scene) → IsFollowed header.old left.old (M.words memory.old) kept.old rings.old x →
+        IsStep result (step_made x step.now) (shows x.header x.world step.now)
+        (IsFollowed header.new left.new (M.words memory.new) kept.new rings.new) }
     ensures refused { result ≡ Err StepFault.NotPossible → kept.new ≡ kept.old }
     ensures memory { result ≡ Err StepFault.NotPossible → M.words memory.new ≡ M.words memory.old }
+    ensures header { result ≡ Err StepFault.NotPossible → header.new ≡ header.old }
+    ensures left { result ≡ Err StepFault.NotPossible → left.new ≡ left.old }
     ensures rings { result ≡ Err StepFault.NotPossible → rings.new ≡ rings.old }
 {
-    let is_quiet = is_quiet(trace, memory, kept, step);
-    let seen = make_step(trace, memory, kept, step)?;
+    let is_quiet = is_quiet(left, memory, step);
+    let seen = make_step(header, left, memory, kept, step)?;
     if !is_quiet {
-        *rings = harms_after(&trace.header, memory, kept, *rings, step);
+        *rings = harms_after(header, memory, kept, *rings, step);
     }
     Ok(seen)
 }
 
 impl<'t, M: WordMemory + Drop> World<'t, M> {
-    ghost use Rattle.std.specs.Prelude.{◌≡◌, ℕ, Err, IfOk};
+    ghost use Rattle.std.specs.Prelude.{◌≡◌, ℕ, All, Err, IfOk};
     ghost use Rattle.std.specs.Result.{result_err};
-    ghost use Rattle.std.specs.Prelude.{List};
-    ghost use Rattle.traces.specs.declared.header.Header.{Header};
-    ghost use Rattle.traces.specs.declared.row.Row.{Row};
-    ghost use Rattle.world_state.specs.World.{World as WorldValue, opening};
     ghost use Rattle.world_state.specs.Harms.{harm_of};
-    ghost use Rattle.controller_model.specs.Steps.{stepped};
+    ghost use Rattle.controller_model.specs.Scenes.{Scene, scene_before, step_made};
     ghost use Rattle.controller_model.specs.Showing.{shows};
     ghost use Rattle.controller_model.specs.Following.{IsStep};
+    ghost use Rattle.traces.specs.TraceRows.{IsTraceRow};
     ghost use Rattle.controller_model.specs.Worlds.{IsSpent, StandsFor};
 
-    /// The world before the first row, in memory in which no word was written.
-    pub fn new(alloc: Global, trace: &'t Trace, memory: M) -> Result<World<'t, M>, AllocError>
-        requires { (a : ℕ) → M.words memory a ≡ 0 }
-        ensures { IfOk result (λ v. StandsFor M.words trace.now.header trace.now.rows v (opening trace.now.rows)) }
+    /// The world before the first of these rows, in memory in which no word was written. The header is copied: it lists the rings that
+    /// are there from row to row.
+    pub fn new(
+        alloc: Global,
+        header: &Header,
+        rows: &'t [TraceRow],
+        memory: M,
+    ) -> Result<World<'t, M>, AllocError>
+        requires zero { (a : ℕ) → M.words memory a ≡ 0 }
+        requires fits { All IsTraceRow rows.now }
+        ensures { IfOk result (λ v. StandsFor M.words v (scene_before header.now rows.now)) }
     {
+        let header = copy_header(alloc, header)?;
         let kept = opening(alloc)?;
-        let rings = ring_harms(&trace.header, &memory, &kept);
+        let rings = ring_harms(&header, &memory, &kept);
         Ok(World {
-            trace,
+            header,
+            left: RowsLeft::new(rows),
             memory,
             kept,
             rings,
@@ -83,10 +95,9 @@ impl<'t, M: WordMemory + Drop> World<'t, M> {
     /// Makes one step, where a controller may make it; what it shows. A step that isn't possible changes nothing; after want
     /// of memory, and after a count that would pass 2^64, the world is spent, and makes no step any more.
     pub fn step(&mut self, step: &Step) -> Result<Seen, StepFault>
-        ensures step { (h : Header) (rows : List Row) (w : WorldValue) → StandsFor M.words h rows self.old w →
-            IsStep result (stepped h w step.now) (shows h w step.now) (StandsFor M.words h rows self.new) }
-        ensures refused { (h : Header) (rows : List Row) (w : WorldValue) → StandsFor M.words h rows self.old w →
-            result ≡ Err StepFault.NotPossible → StandsFor M.words h rows self.new w }
+        ensures step { (x : Scene) → StandsFor M.words self.old x →
+            IsStep result (step_made x step.now) (shows x.header x.world step.now) (StandsFor M.words self.new) }
+        ensures refused { (x : Scene) → StandsFor M.words self.old x → result ≡ Err StepFault.NotPossible → StandsFor M.words self.new x }
         ensures memory { result ≡ Err StepFault.Memory → IsSpent self.new }
         ensures spent { IsSpent self.old → result ≡ Err StepFault.Spent }
         ensures stays { IsSpent self.old → IsSpent self.new }
@@ -95,7 +106,8 @@ impl<'t, M: WordMemory + Drop> World<'t, M> {
             return Err(StepFault::Spent);
         }
         match make_followed(
-            self.trace,
+            &mut self.header,
+            &mut self.left,
             &mut self.memory,
             &mut self.kept,
             &mut self.rings,
@@ -110,11 +122,11 @@ impl<'t, M: WordMemory + Drop> World<'t, M> {
         }
     }
 
-    /// The least harm, where the world has any.
+    /// The least harm, where the world has any, by the rings that are there.
     pub fn safe(&self) -> Result<(), Harm>
-        ensures { (h : Header) (rows : List Row) (w : WorldValue) → StandsFor M.words h rows self.now w → result_err result ≡ harm_of h w }
+        ensures { (x : Scene) → StandsFor M.words self.now x → result_err result ≡ harm_of x.header x.world }
     {
-        match harm_of(&self.trace.header, &self.kept, self.rings) {
+        match harm_of(&self.header, &self.kept, self.rings) {
             None => Ok(()),
             Some(harm) => Err(harm),
         }

@@ -1,5 +1,5 @@
 -- The endpoints that have a ring are counted
-use Rattle.device_record.proofs.Words.{◌≡◌, ◌+◌, ◌*◌, ◌<◌, ◌≤◌, ◌==◌, ◌∙◌, ◌∷◌, if◌then◌else◌, ℕ, zero, suc, Bool, true, false, List, [], Option, Some, None, All, ap, sym, refl, arith, inl, inr, length, get_or, nat_lt, replicate, slice_index_or, sum_by, sum_by-le, cases_lt, lt-ltb, le-ltb, cond-true, cond-false, none-some, Known, DeviceRecord, FollowsDevices, endpoint_at, sum_by-cons, cases_Bool, eq-eqb, eqb-true, false≢true, Endpoint, fresh_endpoint}
+use Rattle.device_record.proofs.Words.{◌≡◌, ◌+◌, ◌*◌, ◌<◌, ◌≤◌, ◌∙◌, ◌∷◌, if◌then◌else◌, ℕ, suc, Bool, true, false, List, [], Option, Some, None, ap, sym, refl, arith, inl, inr, length, get_or, nat_lt, replicate, slice_index_or, sum_by, sum_by-le, cases_lt, lt-ltb, le-ltb, cond-true, cond-false, none-some, Known, DeviceRecord, FollowsDevices, endpoint_at, sum_by-cons, cases_Bool, eq-eqb, eqb-true, false≢true, Endpoint, fresh_endpoint}
 use Rattle.std.specs.Prelude.{◌/◌, ◌%◌}
 use Rattle.std.proofs.lemmas.List.{get_or_past}
 use Rattle.std.proofs.lemmas.List.Folds.{sum_by-replicate}
@@ -16,7 +16,7 @@ at_most_one : (b : Bool) → (if b then 1 else 0) ≤ 1
 at_most_one true = omega arith
 at_most_one false = omega arith
 
-is_same : (r : ℕ) (o : Option ℕ) → o ≡ Some r → is_ring r o ≡ true
+pub is_same : (r : ℕ) (o : Option ℕ) → o ≡ Some r → is_ring r o ≡ true
 is_same r o same = ap (is_ring r) same ∙ eq-eqb r r refl
 
 -- one that has the ring counts
@@ -24,7 +24,7 @@ sum_at : (r : ℕ) (xs : List Endpoint) (n : ℕ) (d : Endpoint) → n < length 
 sum_at r xs n d below is =
     omega (arith, get_or-le-sum_by (λ (e : Endpoint). one_of r e.ring) xs n d below, one_if (is_ring r (get_or xs n d).ring) (is_same r (get_or xs n d).ring is))
 
-named : (r : ℕ) (o : Option ℕ) → is_ring r o ≡ true → o ≡ Some r
+pub named : (r : ℕ) (o : Option ℕ) → is_ring r o ≡ true → o ≡ Some r
 named r None is = absurd (false≢true is)
 named r (Some q) is = ap (λ n. Some n) (eqb-true q r is)
 
@@ -48,9 +48,9 @@ module _ (es : List Endpoint) (hs : Holders) (all : AreCounted es hs) where
   leaves None n d below is = tt
   leaves (Some r) n d below is = λ fits. omega (arith, all r fits, sum_at r es n d below is)
 
-  pub takes : (left : Holders) (before o : Option ℕ) → ((r : ℕ) → count_of left r + one_of r before ≡ count_of hs r) → length es ≡ 256 * 32 → HasRoom left o
-  takes left before None after many = tt
-  takes left before (Some r) after many = λ fits. omega (arith, after r, all r fits, few r es, many)
+  pub takes : (o : Option ℕ) → length es ≡ 256 * 32 → HasRoom hs o
+  takes None many = tt
+  takes (Some r) many = λ fits. omega (arith, all r fits, few r es, many)
 
 -- before the first row no ring has an endpoint
 none_fresh : (n r : ℕ) → sum_by (λ (e : Endpoint). one_of r e.ring) (replicate n fresh_endpoint) ≡ 0
@@ -61,6 +61,27 @@ fresh_counted es hs n none zeros = λ r fits.
     ap (λ xs. slice_index_or xs r 0) zeros ∙ alike 256 r 0 ∙ sym (ap (λ xs. sum_by (λ (e : Endpoint). one_of r e.ring) xs) none ∙ none_fresh n r)
 
 -- ---- whether an endpoint has a ring
+
+module _ (k : Known) (d : DeviceRecord) (f : FollowsDevices k d) (r : ℕ) where
+  none_beyond : (o : Option ℕ) → o ≡ None → o ≡ Some r → ⊥
+  none_beyond o none some = none-some r (sym none ∙ some)
+
+  -- an endpoint that has the ring is kept so
+  pub read_at : (s i : ℕ) → k.ring_of s i ≡ Some r → (i < 32) × (s * 32 + i < length d.endpoints.items) × ((get_or d.endpoints.items (s * 32 + i) fresh_endpoint).ring ≡ Some r)
+  read_at s i has =
+      let here : (endpoint_at d.endpoints.items s i).ring ≡ Some r = sym (f.ring_of s i) ∙ has in
+      elim (cases_lt i 32) [
+        | inr far ↦
+            absurd (none_beyond (endpoint_at d.endpoints.items s i).ring
+            (ap (λ (e : Endpoint). e.ring) (cond-false (nat_lt i 32) (slice_index_or d.endpoints.items (s * 32 + i) fresh_endpoint) fresh_endpoint (le-ltb i 32 far))) here)
+        | inl low ↦
+            let read : (slice_index_or d.endpoints.items (s * 32 + i) fresh_endpoint).ring ≡ Some r =
+            sym (ap (λ (e : Endpoint). e.ring) (cond-true (nat_lt i 32) (slice_index_or d.endpoints.items (s * 32 + i) fresh_endpoint) fresh_endpoint (lt-ltb i 32 low))) ∙ here in
+            elim (cases_lt (s * 32 + i) (length d.endpoints.items)) [
+              | inl within ↦ (low, within, read)
+              | inr outside ↦ absurd (none_beyond (slice_index_or d.endpoints.items (s * 32 + i) fresh_endpoint).ring (ap (λ (e : Endpoint). e.ring) (get_or_past d.endpoints.items (s * 32 + i) fresh_endpoint outside)) read)
+            ]
+      ]
 
 module _ (k : Known) (d : DeviceRecord) (f : FollowsDevices k d) (r : ℕ) (fits : r < 256) where
   counted : count_of d.holders r ≡ sum_by (λ (e : Endpoint). one_of r e.ring) d.endpoints.items
@@ -82,21 +103,7 @@ module _ (k : Known) (d : DeviceRecord) (f : FollowsDevices k d) (r : ℕ) (fits
             ∙ there.2 fresh_endpoint;
       }
 
-  none_beyond : (o : Option ℕ) → o ≡ None → o ≡ Some r → ⊥
-  none_beyond o none some = none-some r (sym none ∙ some)
-
   pub none_has : (0 < count_of d.holders r → ⊥) → (s i : ℕ) → k.ring_of s i ≡ Some r → ⊥
   none_has none s i has =
-      let here : (endpoint_at d.endpoints.items s i).ring ≡ Some r = sym (f.ring_of s i) ∙ has in
-      elim (cases_lt i 32) [
-        | inr far ↦
-            none_beyond (endpoint_at d.endpoints.items s i).ring
-            (ap (λ (e : Endpoint). e.ring) (cond-false (nat_lt i 32) (slice_index_or d.endpoints.items (s * 32 + i) fresh_endpoint) fresh_endpoint (le-ltb i 32 far))) here
-        | inl low ↦
-            let read : (slice_index_or d.endpoints.items (s * 32 + i) fresh_endpoint).ring ≡ Some r =
-            sym (ap (λ (e : Endpoint). e.ring) (cond-true (nat_lt i 32) (slice_index_or d.endpoints.items (s * 32 + i) fresh_endpoint) fresh_endpoint (lt-ltb i 32 low))) ∙ here in
-            elim (cases_lt (s * 32 + i) (length d.endpoints.items)) [
-              | inl within ↦ none (omega (arith, counted, sum_at r d.endpoints.items (s * 32 + i) fresh_endpoint within read))
-              | inr outside ↦ none_beyond (slice_index_or d.endpoints.items (s * 32 + i) fresh_endpoint).ring (ap (λ (e : Endpoint). e.ring) (get_or_past d.endpoints.items (s * 32 + i) fresh_endpoint outside)) read
-            ]
-      ]
+      let at = read_at k d f r s i has in
+      none (omega (arith, counted, sum_at r d.endpoints.items (s * 32 + i) fresh_endpoint at.1 at.2))

@@ -2,6 +2,7 @@ pub mod Fields
 pub mod Steps
 pub mod NewRecord
 pub mod HolderCounts
+pub mod HolderPlaces
 pub mod Bells
 pub mod TransferEvents
 pub mod Moves

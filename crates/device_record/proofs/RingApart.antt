@@ -1,5 +1,5 @@
 -- What an event does to endpoints and their rings leaves a ring as it is that no endpoint has and that none gets
-use Rattle.device_record.proofs.Words.{◌≡◌, ◌∙◌, if◌then◌else◌, ◌≢◌, ℕ, Bool, true, false, [], Option, Some, None, ap, sym, refl, none-some, Spot, number, Reaches, Holds, Header, ring_having, Known, on_ring, set_to, moved_to}
+use Rattle.device_record.proofs.Words.{◌≡◌, ◌∙◌, if◌then◌else◌, ◌≢◌, ℕ, Bool, true, false, Option, Some, None, ap, sym, refl, none-some, Spot, number, Reaches, Holds, Header, ring_having, Known, on_ring, set_to, moved_to}
 use Rattle.device_record.proofs.UnfinishedSame.{ring_elsewhere}
 
 module _ (h : Header) (q : ℕ) where

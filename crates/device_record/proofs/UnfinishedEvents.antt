@@ -1,5 +1,5 @@
 -- The unfinished commands behind an event
-use Rattle.device_record.proofs.Words.{◌≡◌, ℕ, ap, refl, Block, BlockKind, TransferEvent, CommandCompletion, Header, command_id, Known, unfinished, transfer_read, event_read}
+use Rattle.device_record.proofs.Words.{◌≡◌, ℕ, refl, Block, BlockKind, TransferEvent, CommandCompletion, Header, command_id, Known, unfinished, transfer_read, event_read}
 use Rattle.device_record.proofs.RingApart.{NoEndpointHas}
 use Rattle.device_record.proofs.TransfersApart.{transfer_apart}
 use Rattle.device_record.proofs.UnfinishedSame.{same_blocks, unfinished_same}

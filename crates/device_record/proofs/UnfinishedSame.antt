@@ -1,5 +1,5 @@
 -- Where the command ring is as it was but for what holds it, the same commands are unfinished
-use Rattle.device_record.proofs.Words.{◌≡◌, ◌==◌, ◌<◌, ◌&&◌, ◌||◌, ◌∙◌, if◌then◌else◌, ◌≢◌, ◌++◌, ℕ, not, true, List, [], Option, Some, None, ap, sym, subst, refl, inl, inr, filter, option_and_then, slice_get, eq-eqb, ne_eqb, filter_map, cases_eq, cond-true, cond-false, cond_both, Block, RingView, RingChange, Declares, Opens, changed, declared, due_positions, slice_get-append, command_of, Header, Register, Usbcmd, Sub, Reg, Bell, shape_of, command_id, run_bit, reset_bit, Known, on_ring, command_at, unfinished_positions, unfinished, run_or_stop, valued, register_written, endpoint_rung, rung, learned}
+use Rattle.device_record.proofs.Words.{◌≡◌, ◌==◌, ◌<◌, ◌&&◌, ◌||◌, ◌∙◌, if◌then◌else◌, ◌≢◌, ◌++◌, ℕ, not, true, List, Option, Some, None, ap, sym, subst, refl, inl, inr, filter, option_and_then, slice_get, eq-eqb, ne_eqb, filter_map, cases_eq, cond-true, cond-false, cond_both, Block, RingView, RingChange, Declares, Opens, changed, declared, due_positions, slice_get-append, command_of, Header, Register, Usbcmd, Sub, Reg, Bell, shape_of, command_id, run_bit, reset_bit, Known, on_ring, command_at, unfinished_positions, unfinished, run_or_stop, valued, register_written, endpoint_rung, rung, learned}
 use Rattle.device_record.proofs.Inserted.{mapped_same}
 
 -- what is declared, given and passed of a ring

@@ -2,7 +2,7 @@ ghost use Rattle.std.specs.Prelude.{◌≡◌, ℕ, ◌*◌, ◌<◌, IfOk, None
 ghost use Rattle.commands.specs.declared.state.SlotState.TheVariants.{Disabled};
 ghost use Rattle.commands.specs.declared.state.EndpointState.TheVariants.{Disabled as Off};
 ghost use Rattle.ring_knowledge.specs.Known.{nothing};
-ghost use Rattle.device_record.specs.Holders.{AreCounted};
+ghost use Rattle.device_record.specs.Holders.{AreCounted, AreSummed};
 
 use crate::holders::Holders;
 use commands::{EndpointState, SlotState};
@@ -36,12 +36,13 @@ pub struct DeviceRecord {
     pub(crate) endpoints: Vec<Endpoint>,
     /// By ring ID: an endpoint was bound to it.
     pub(crate) bound: Vec<bool>,
-    /// By ring ID: how many endpoints have it.
+    /// By ring ID: which endpoints have it.
     pub(crate) holders: Holders,
     ghost slots_many: { length slots.items ≡ 256 },
     ghost endpoints_many: { length endpoints.items ≡ 256 * 32 },
     ghost bound_many: { length bound.items ≡ 256 },
     ghost counted: { AreCounted endpoints.items holders },
+    ghost summed: { AreSummed endpoints.items holders },
 }
 
 impl DeviceRecord {
@@ -90,8 +91,8 @@ impl DeviceRecord {
         ensures { IsWithEndpoint self.old self.new slot index kept }
     {
         let number = usize::from(slot) * 32 + usize::from(index);
-        self.holders.leave(self.endpoints[number].ring);
-        self.holders.take(kept.ring);
+        self.holders
+            .pass_on(self.endpoints[number].ring, kept.ring, number);
         self.endpoints[number] = kept;
     }
 

@@ -1,6 +1,6 @@
-ghost use Rattle.std.specs.Prelude.{◌≡◌, ◌≢◌, ℕ, Some, true, false};
+ghost use Rattle.std.specs.Prelude.{◌≡◌, ◌≢◌, ◌<◌, ℕ, Some, true, false, IfNone, IfSome};
 ghost use Rattle.ring_knowledge.specs.Known.{Known};
-ghost use Rattle.device_record.specs.Holders.{HasEndpoint};
+ghost use Rattle.device_record.specs.Holders.{HasEndpoint, HasOneHolder};
 
 use crate::kept::DeviceRecord;
 use commands::{EndpointState, SlotState};
@@ -63,5 +63,24 @@ impl DeviceRecord {
         ensures none { result ≡ false → (k : Known) → FollowsDevices k self.now → (s i : ℕ) → k.ring_of s i ≢ Some ring }
     {
         self.holders.has(ring)
+    }
+
+    /// The endpoint that has the ring, by its slot and index: none where no endpoint has it. None may be told where several have it.
+    pub fn holder(&self, ring: u8) -> Option<(u8, u8)>
+        ensures within { IfSome result (λ e. e.1 < 32) }
+        ensures some { IfSome result (λ e. (k : Known) → FollowsDevices k self.now → k.ring_of e.0 e.1 ≡ Some ring) }
+        ensures none { IfNone result ((k : Known) → FollowsDevices k self.now → HasOneHolder k ring → (s i : ℕ) → k.ring_of s i ≢ Some ring) }
+    {
+        let number = self.holders.number(ring);
+        if number >= 256 * 32 {
+            return None;
+        }
+        let slot = (number / 32) as u8;
+        let index = (number % 32) as u8;
+        if self.endpoint(slot, index).ring == Some(ring) {
+            Some((slot, index))
+        } else {
+            None
+        }
     }
 }

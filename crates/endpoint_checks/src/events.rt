@@ -33,6 +33,7 @@ pub fn is_no_event(t: &TraceRecord, event: Block) -> bool
 
 /// Whether the event ring has no room for one more event, or the event has another Cycle bit than that of its place, or a type
 /// that is no event's.
+#[inline(always)]
 fn is_misplaced(events: &EventPlace, event: Block) -> bool
     ensures { result ≡ (nat_lt (place_count events.now.shape - 2) (events.now.counts.reads - events.now.counts.dequeue)
         || not (cycle event == cycle_of events.now.shape events.now.counts.reads) || not (is_event (kind event))) }

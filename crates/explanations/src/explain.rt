@@ -1,23 +1,25 @@
 //! The diagnostic of a refused row, by the rule that it breaks.
 ghost use Rattle.std.specs.Prelude.{◌≡◌, IfOk, IsOk, string_bytes};
 ghost use Rattle.diagnostics.specs.Layout.{IsToldOf};
-ghost use Rattle.trace_reader.specs.DriverRows.{driver_trace_of};
+ghost use Rattle.trace_reader.specs.Reading.{trace_of};
 
+use crate::reading::{TextRows, rows_of};
 use command_findings::{
     after_stop, bad_command, bad_doorbell, bad_erdp, bad_register, busy, not_in_profile,
 };
+use commands::Command;
 use controller_findings::impossible_event;
 use diagnostics::{Diagnostic, Matter, quote};
+use guest_memory::Addr;
 use move_findings::bad_move;
 use ownership_rules::Refusal;
 use ring_findings::{
-    bad_descriptor, bad_free, bad_ring, link_fault, never_submitted, not_as_submitted,
-    not_declared, not_whole, ring_full, write_to_owned,
+    GoingOn, bad_descriptor, bad_free, bad_ring, bad_withdraw, link_fault, never_submitted,
+    not_as_submitted, not_declared, not_restored, not_whole, ring_full, write_to_owned,
 };
-use row_history::{Case, Finding, general_head, known_after, line_of, why_refused};
+use row_history::{Case, Finding, command_at, general_head, known_after, line_of, why_refused};
 use std::alloc::{AllocError, Global};
-use trace_reader::{ReadFault, read_trace};
-use traces::{Ring, Row, Trace};
+use traces::{Row, TraceRow};
 
 /// What is told of a refused row of a text, which is read again; nothing where the text is no trace.
 pub fn explain_refused(
@@ -27,12 +29,11 @@ pub fn explain_refused(
     row: u32,
     refusal: Refusal,
 ) -> Result<String, AllocError>
-    ensures { IsOk (driver_trace_of text.now) → IfOk result (λ told. IsToldOf path.now (Matter.Rule refusal) row (string_bytes told)) }
+    ensures { IsOk (trace_of text.now) → IfOk result (λ told. IsToldOf path.now (Matter.Rule refusal) row (string_bytes told)) }
 {
-    match read_trace(alloc, text) {
-        Ok(trace) => explain_row(alloc, path, text, &trace, row, refusal),
-        Err(ReadFault::Memory) => Err(AllocError),
-        Err(ReadFault::Line { .. }) => Ok(String::new(alloc)),
+    match rows_of(alloc, text)? {
+        Some(trace) => explain_row(alloc, path, text, &trace, row, refusal),
+        None => Ok(String::new(alloc)),
     }
 }
 
@@ -41,7 +42,7 @@ fn explain_row(
     alloc: Global,
     path: &str,
     text: &[u8],
-    trace: &Trace,
+    trace: &TextRows,
     row: u32,
     refusal: Refusal,
 ) -> Result<String, AllocError>
@@ -55,7 +56,7 @@ fn explain_row(
 pub fn diagnostic_of(
     alloc: Global,
     text: &[u8],
-    trace: &Trace,
+    trace: &TextRows,
     row: u32,
     refusal: Refusal,
 ) -> Result<Diagnostic, AllocError>
@@ -64,57 +65,19 @@ pub fn diagnostic_of(
 {
     let rows = trace.rows.as_slice();
     let index = (row.saturating_sub(trace.first) as usize).min(rows.len());
-    let known = known_after(alloc, &trace.header, &rows[..index])?;
+    let behind = known_after(alloc, &trace.header, &rows[..index])?;
     let case = Case {
         alloc,
-        header: &trace.header,
+        header: &behind.header,
         first: trace.first,
         before: &rows[..index],
-        known: &known,
+        known: &behind.known,
     };
     let finding = match rows.get(index) {
         Some(refused) => finding_of(&case, refused, refusal)?,
         None => general(&case, refusal)?,
     };
     diagnosed(&case, text, row, refusal, finding)
-}
-
-/// The diagnostic of a row that breaks a rule, by which the ring with this ID goes. The case has the rings that are there before it.
-pub fn diagnostic_of_going(
-    case: &Case,
-    text: &[u8],
-    row: u32,
-    id: u8,
-    refusal: Refusal,
-) -> Result<Diagnostic, AllocError>
-    ensures rule { IfOk result (λ diagnostic. diagnostic.matter ≡ Matter.Rule refusal) }
-    ensures row { IfOk result (λ diagnostic. diagnostic.refused.line ≡ row) }
-{
-    let finding = match refusal {
-        Refusal::BadFree => bad_free(case, id)?,
-        Refusal::AfterStop => after_stop(case)?,
-        _ => general(case, refusal)?,
-    };
-    diagnosed(case, text, row, refusal, finding)
-}
-
-/// The diagnostic of a row that breaks a rule, by which a ring comes. The case has the rings that are there before it.
-pub fn diagnostic_of_coming(
-    case: &Case,
-    text: &[u8],
-    row: u32,
-    ring: &Ring,
-    refusal: Refusal,
-) -> Result<Diagnostic, AllocError>
-    ensures rule { IfOk result (λ diagnostic. diagnostic.matter ≡ Matter.Rule refusal) }
-    ensures row { IfOk result (λ diagnostic. diagnostic.refused.line ≡ row) }
-{
-    let finding = match refusal {
-        Refusal::BadRing => bad_ring(case, ring)?,
-        Refusal::AfterStop => after_stop(case)?,
-        _ => general(case, refusal)?,
-    };
-    diagnosed(case, text, row, refusal, finding)
 }
 
 /// The diagnostic of a row of which this was found.
@@ -151,7 +114,21 @@ fn diagnosed(
 }
 
 /// What is found of a row that breaks a rule.
-fn finding_of(case: &Case, row: &Row, refusal: Refusal) -> Result<Finding, AllocError> {
+fn finding_of(case: &Case, row: &TraceRow, refusal: Refusal) -> Result<Finding, AllocError> {
+    match (refusal, row) {
+        (Refusal::AfterStop, _) => after_stop(case),
+        (_, TraceRow::Plain(row)) => found_of_driver(case, row, refusal),
+        (Refusal::BadRing, TraceRow::Comes(ring)) => bad_ring(case, ring.as_ring()),
+        (Refusal::BadFree, TraceRow::Goes(id)) => bad_free(case, *id),
+        (Refusal::BadWithdraw, TraceRow::Withdraws { ring, position }) => {
+            bad_withdraw(case, *ring, *position)
+        }
+        _ => general(case, refusal),
+    }
+}
+
+/// What is found of what the driver did, or of an event that it read, where that breaks a rule.
+fn found_of_driver(case: &Case, row: &Row, refusal: Refusal) -> Result<Finding, AllocError> {
     match (refusal, row) {
         (Refusal::WriteToOwned, Row::Write { at, word }) => write_to_owned(case, at.get(), *word),
         (Refusal::NotDeclared, Row::Sub { ring, .. }) => not_declared(case, *ring),
@@ -169,23 +146,65 @@ fn finding_of(case: &Case, row: &Row, refusal: Refusal) -> Result<Finding, Alloc
         (Refusal::BadDoorbell, Row::Bell { slot, target }) => bad_doorbell(case, *slot, *target),
         (Refusal::ImpossibleEvent, Row::Read { event }) => impossible_event(case, *event),
         (Refusal::NotInProfile, row) => not_in_profile(case, row),
-        (Refusal::AfterStop, _) => after_stop(case),
+        (Refusal::NotRestored, Row::Bell { slot, target }) => {
+            let found = bell_unrestored(case, *slot, *target)?;
+            found_or_general(case, refusal, found)
+        }
         (_, Row::Write { at, word }) => {
-            let found = match refusal {
-                Refusal::BadMove => bad_move(case, at.get(), *word)?,
-                Refusal::NotAsSubmitted => not_as_submitted(case, *at, *word)?,
-                Refusal::NotDeclared => never_submitted(case, *at, *word)?,
-                Refusal::NotWhole => not_whole(case, *at, *word)?,
-                Refusal::BadCommand => bad_command(case, at.get(), *word)?,
-                Refusal::Busy => busy(case, *at, *word)?,
-                _ => None,
-            };
-            match found {
-                Some(finding) => Ok(finding),
-                None => general(case, refusal),
-            }
+            let found = found_of_write(case, *at, *word, refusal)?;
+            found_or_general(case, refusal, found)
         }
         _ => general(case, refusal),
+    }
+}
+
+/// What is found of a write, by which rings and commands are looked at.
+fn found_of_write(
+    case: &Case,
+    at: Addr,
+    word: u32,
+    refusal: Refusal,
+) -> Result<Option<Finding>, AllocError> {
+    match refusal {
+        Refusal::BadMove => bad_move(case, at.get(), word),
+        Refusal::NotAsSubmitted => not_as_submitted(case, at, word),
+        Refusal::NotDeclared => never_submitted(case, at, word),
+        Refusal::NotWhole => not_whole(case, at, word),
+        Refusal::BadCommand => bad_command(case, at.get(), word),
+        Refusal::Busy => busy(case, at, word),
+        Refusal::NotRestored => move_unrestored(case, at.get(), word),
+        _ => Ok(None),
+    }
+}
+
+/// A doorbell that lets a ring go on before its withdrawn TDs are No Ops.
+fn bell_unrestored(case: &Case, slot: u8, target: u8) -> Result<Option<Finding>, AllocError> {
+    match case.known.devices.ring_of(slot, target) {
+        Some(id) => not_restored(case, id, GoingOn::Bell { slot, target }),
+        None => Ok(None),
+    }
+}
+
+/// A Set TR Dequeue Pointer that moves a ring before its withdrawn TDs are No Ops.
+fn move_unrestored(case: &Case, address: u64, word: u32) -> Result<Option<Finding>, AllocError> {
+    let Some(Command::SetTrDequeue { slot, endpoint, .. }) = command_at(case, address, word) else {
+        return Ok(None);
+    };
+    match case.known.devices.ring_of(slot, endpoint) {
+        Some(id) => not_restored(case, id, GoingOn::Move),
+        None => Ok(None),
+    }
+}
+
+/// What was found, or else what is said of every row that breaks the rule.
+fn found_or_general(
+    case: &Case,
+    refusal: Refusal,
+    found: Option<Finding>,
+) -> Result<Finding, AllocError> {
+    match found {
+        Some(finding) => Ok(finding),
+        None => general(case, refusal),
     }
 }
 

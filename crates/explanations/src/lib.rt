@@ -4,6 +4,8 @@
 
 mod explain;
 mod plans;
+mod reading;
 
-pub use explain::{diagnostic_of, diagnostic_of_coming, diagnostic_of_going, explain_refused};
+pub use explain::{diagnostic_of, explain_refused};
 pub use plans::{diagnostic_of_plan, explain_unfollowed};
+pub use reading::{TextRows, rows_of};

@@ -1,12 +1,11 @@
-ghost use Rattle.std.specs.Prelude.{◌≡◌, ◌+◌, ◌≤◌, ℕ, [], true, List, length, map, reverse, slice_get, slice_set, IfOk};
+ghost use Rattle.std.specs.Prelude.{◌≡◌, ℕ, [], true, List, map, slice_get, slice_set, IfOk};
 ghost use Rattle.segments.specs.Places.{is_crossing};
 ghost use Rattle.traces.specs.declared.header.Header.{Header};
-ghost use Rattle.traces.specs.declared.row.Row.{Row};
 ghost use Rattle.traces.specs.Header.{shape_of};
 ghost use Rattle.ownership_rules.specs.OpenLeases.{Block, Link, Range, Use, same_leased};
-ghost use Rattle.ownership_rules.specs.Leases.{as_lease, leases, without_end};
+ghost use Rattle.ownership_rules.specs.Leases.{as_lease, without_end};
 ghost use Rattle.lease_book.specs.Endings.{ended_at, is_open_as};
-ghost use Rattle.lease_book.specs.Lents.{Lent, ended_where};
+ghost use Rattle.lease_book.specs.Lents.{Lent, ended_where, lease_of};
 
 use crate::indexes::IndexTables;
 use crate::lease_log::LeaseLog;
@@ -52,21 +51,6 @@ impl LeaseBook {
         })
     }
 
-    /// The lease of a block ends at a row, if it is open.
-    fn end_block(&mut self, row: u32, ring: &Ring, position: u64)
-        ensures { (h : Header) (ts : List Lent) → shape_of h ring.now.id ≡ ring.now.shape → HoldsLents h ts self.old →
-            HoldsLents h (map (ended_where (same_leased (Block ring.now.id position)) row) ts) self.new }
-    {
-        let place = (position % u64::from(ring.shape.places())) as u32;
-        let index = self.blocks.get(ring.id, place);
-        end_at(
-            &mut self.leases,
-            index,
-            row,
-            block_lease(row, ring.id, position),
-        );
-    }
-
     /// The lease of a Link ends at a row, if it is open; the Link is crossed on the way to a position.
     fn end_link(&mut self, row: u32, ring: &Ring, crossing: u64)
         requires { is_crossing ring.now.shape crossing ≡ true }
@@ -85,8 +69,7 @@ impl LeaseBook {
 
     /// The leases, in their order.
     pub fn into_leases(self) -> Vec<Lease>
-        ensures { (h : Header) (first : ℕ) (past : List Row) → first + length past ≤ without_end → FollowsLeases h first past self →
-            result.items ≡ leases h first (reverse past) }
+        ensures { (h : Header) (ts : List Lent) → HoldsLents h ts self → result.items ≡ map lease_of ts }
     {
         self.leases
     }
@@ -119,6 +102,17 @@ impl LeaseLog for LeaseBook {
     fn begin_range(&mut self, row: u32, bytes: u32, address: u64) -> Result<(), AllocError> {
         self.leases.push(range_lease(row, bytes, address))?;
         Ok(())
+    }
+
+    fn end_block(&mut self, row: u32, ring: &Ring, position: u64) {
+        let place = (position % u64::from(ring.shape.places())) as u32;
+        let index = self.blocks.get(ring.id, place);
+        end_at(
+            &mut self.leases,
+            index,
+            row,
+            block_lease(row, ring.id, position),
+        );
     }
 
     fn end_passed(&mut self, row: u32, ring: &Ring, from: u64, to: u64) {

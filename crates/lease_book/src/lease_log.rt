@@ -32,6 +32,11 @@ pub trait LeaseLog {
         ensures { OnOk result ((list : List Lease) (h : Header) (ts : List Lent) (purpose : Use) → holds list h ts self.old →
             holds list h (with_begun row ts (Range bytes address purpose ∷ [])) self.new) };
 
+    /// The lease of a block ends at a row, if it is open.
+    fn end_block(&mut self, row: u32, ring: &Ring, position: u64)
+        ensures { (list : List Lease) (h : Header) (ts : List Lent) → shape_of h ring.now.id ≡ ring.now.shape → holds list h ts self.old →
+            holds list h (map (ended_where (same_leased (Block ring.now.id position)) row) ts) self.new };
+
     /// The leases of the blocks and Links of a ring that the controller's dequeue pointer passes end at a row, those that are open.
     fn end_passed(&mut self, row: u32, ring: &Ring, from: u64, to: u64)
         ensures { (list : List Lease) (h : Header) (ts : List Lent) → shape_of h ring.now.id ≡ ring.now.shape → from ≤ to → holds list h ts self.old →

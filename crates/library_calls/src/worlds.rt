@@ -2,7 +2,7 @@ ghost use Rattle.std.specs.Prelude.{◌≡◌, IfOk, IsTrue, length};
 ghost use Rattle.traces.specs.Header.{IsHeader};
 
 use contexts::ContextSize;
-use controller_model::{Seen, StepFault, World};
+use controller_model::{Seen, StepFault, World, plain_rows};
 use guest_memory::{Addr, PageMemory, WordMemory};
 use segments::RingShape;
 use std::alloc::{AllocError, Global};
@@ -56,7 +56,8 @@ fn one_write(alloc: Global) -> Result<Trace, Fail> {
 fn makes_a_row_and_no_more(rt: HostRuntime) -> Result<(), Fail> {
     let alloc = rt.alloc();
     let trace = one_write(alloc)?;
-    let mut world = World::new(alloc, &trace, PageMemory::new(alloc))?;
+    let rows = plain_rows(alloc, trace.rows.as_slice())?;
+    let mut world = World::new(alloc, &trace.header, &rows, PageMemory::new(alloc))?;
     assert_eq!(rt;
         world.step(&Step::Look { ring: 2 }),
         Err(StepFault::NotPossible)
@@ -71,7 +72,8 @@ fn makes_a_row_and_no_more(rt: HostRuntime) -> Result<(), Fail> {
 fn is_spent_after_want_of_memory(rt: HostRuntime) -> Result<(), Fail> {
     let alloc = rt.alloc();
     let trace = one_write(alloc)?;
-    let mut world = World::new(alloc, &trace, Refusing { word: 0 })?;
+    let rows = plain_rows(alloc, trace.rows.as_slice())?;
+    let mut world = World::new(alloc, &trace.header, &rows, Refusing { word: 0 })?;
     assert_eq!(rt; world.step(&Step::NextRow), Err(StepFault::Memory));
     assert_eq!(rt; world.step(&Step::NextRow), Err(StepFault::Spent));
     assert_eq!(rt; world.step(&Step::Look { ring: 2 }), Err(StepFault::Spent));

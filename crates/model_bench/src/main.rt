@@ -2,14 +2,12 @@
 //! controller looks at each ring behind each row, as often as it may; printed is each TRB that it takes, and the first harm.
 #![tactic(auto)]
 
-ghost use Rattle.std.specs.Prelude.{◌≡◌, ℕ, IfErr, List, Some};
-ghost use Rattle.traces.specs.declared.header.Header.{Header};
-ghost use Rattle.traces.specs.declared.row.Row.{Row};
-ghost use Rattle.world_state.specs.World.{World as WorldValue};
+ghost use Rattle.std.specs.Prelude.{◌≡◌, IfErr, Some};
 ghost use Rattle.world_state.specs.Harms.{harm_of};
+ghost use Rattle.controller_model.specs.Scenes.{Scene};
 ghost use Rattle.controller_model.specs.Worlds.{StandsFor};
 
-use controller_model::{Seen, World};
+use controller_model::{Seen, World, plain_rows};
 use guest_memory::{PageMemory, WordMemory};
 use std::io::{self, Read};
 use trace_reader::read_trace;
@@ -25,7 +23,7 @@ fn look<M: WordMemory + Drop>(
     world: &mut World<'_, M>,
     ring: u8,
 ) -> Result<Option<(u64, Block)>, Harm>
-    ensures harmful { IfErr result (λ harm. (h : Header) (rows : List Row) (w : WorldValue) → StandsFor M.words h rows world.new w → harm_of h w ≡ Some harm) }
+    ensures harmful { IfErr result (λ harm. (x : Scene) → StandsFor M.words world.new x → harm_of x.header x.world ≡ Some harm) }
 {
     let seen = world.step(&Step::Look { ring });
     world.safe()?;
@@ -57,7 +55,9 @@ fn look_around<M: WordMemory + Drop>(
 
 /// Makes the rows, and looks at the rings behind each.
 fn run(rt: &HostRuntime, trace: &Trace) -> io::Result<()> {
-    let mut world = World::new(rt.alloc(), trace, PageMemory::new(rt.alloc()))?;
+    let rows = plain_rows(rt.alloc(), trace.rows.as_slice())?;
+    let memory = PageMemory::new(rt.alloc());
+    let mut world = World::new(rt.alloc(), &trace.header, &rows, memory)?;
     for (index, _) in trace.rows.as_slice().iter().enumerate() {
         let line = u64::from(trace.first).saturating_add(index as u64);
         if world.step(&Step::NextRow).is_err() {

@@ -1,22 +1,14 @@
 -- What the check of a trace answers that is read row by row
-use Rattle.std.specs.Prelude.{ℕ, List, Result, Ok, Err}
-use Rattle.traces.specs.declared.trace.Trace.{Trace}
+use Rattle.std.specs.Prelude.{ℕ, Result, Ok, Err}
 use Rattle.trace_reader.specs.declared.fault.LineFault.{LineFault}
-use Rattle.ring_knowledge.specs.declared.lease.Lease.{Lease}
 use Rattle.ownership_rules.specs.declared.refusal.Refusal.{Refusal}
 use Rattle.row_reader.specs.Answers.{told_failures}
-use Rattle.row_checks.specs.Accepted.{IsAccepted, IsHarmless}
-use Rattle.ownership_checker.specs.Walks.{WalksRead}
 use Rattle.ownership_checker.specs.declared.fault.StreamCheckFault.{StreamCheckFault}
 use Rattle.ownership_checker.specs.declared.fault.StreamCheckFault.TheVariants.{Refused, Unread}
-pub use Rattle.row_reader.specs.Streams.{IfBadLine, IsBadLine, OfStream, OfTrace}
-
--- a trace is accepted with these leases; a walk after any of its rows reads what was declared; and no run of the controller's model beside
--- its rows does harm
-pub record IsSound (trace : Trace) (leases : List Lease) : Type 0 where
-  pub accepted : IsAccepted trace.header trace.rows trace.first leases
-  pub walk : WalksRead trace.header trace.rows
-  pub harmless : IsHarmless trace.header trace.rows
+pub use Rattle.row_reader.specs.Streams.{IfBadLine, OfStream}
+pub use Rattle.ring_pass.specs.Accepted.{IsAccepted as IsAcceptedText, IsSound}
+pub use Rattle.ring_pass.specs.Reading.{IsBadLine, OfTrace}
+pub use Rattle.ring_pass.specs.Rules.{ring_verdict}
 
 -- a refused row, by its number
 abbrev pub IfRefusedIn : StreamCheckFault → (ℕ → Refusal → Type 0) → Type 0

@@ -48,6 +48,8 @@ impl LeaseLog for LeaseCount {
         self.add_one()
     }
 
+    fn end_block(&mut self, _row: u32, _ring: &Ring, _position: u64) {}
+
     fn end_passed(&mut self, _row: u32, _ring: &Ring, _from: u64, _to: u64) {}
 
     fn end_range(&mut self, _index: usize, _row: u32, _bytes: u32, _address: u64) {}

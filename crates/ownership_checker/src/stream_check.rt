@@ -1,17 +1,17 @@
 //! The check of a trace whose rows are read one by one.
 ghost use Rattle.std.specs.Prelude.{◌≡◌, ℕ, List, Some, length, IfErr, IfOk};
 ghost use Rattle.ring_knowledge.specs.declared.lease.Lease.{Lease};
-ghost use Rattle.ring_knowledge.specs.Known.{nothing};
-ghost use Rattle.ownership_rules.specs.Rules.{verdict_from};
-ghost use Rattle.row_reader.specs.Streams.{IsBadLine, OfTrace};
-ghost use Rattle.ownership_checker.specs.Streams.{IfBadLineIn, IfRefusedIn, IsSound, told_in_check};
+ghost use Rattle.ring_pass.specs.Accepted.{IsSound};
+ghost use Rattle.ring_pass.specs.Reading.{IsBadLine, OfTrace};
+ghost use Rattle.ring_pass.specs.Rules.{ring_verdict};
+ghost use Rattle.ownership_checker.specs.Streams.{IfBadLineIn, IfRefusedIn, told_in_check};
 
 use crate::certificate::Certificate;
 use crate::fault::StreamCheckFault;
 use crate::lease_count::LeaseCount;
 use guest_memory::WordMemory;
 use lease_book::{LeaseBook, LeaseLog};
-use row_pass::{Passed, pass_rows};
+use ring_pass::{Passed, pass_rows};
 use row_reader::{RowReader, Source};
 use std::alloc::Global;
 
@@ -26,7 +26,7 @@ pub fn check_stream<S: Source, M: WordMemory + Drop>(
     requires zero { (a : ℕ) → M.words memory a ≡ 0 }
     ensures accepted { IfOk result (λ certificate. OfTrace (S.held source.old) (S.held source.new) (λ trace. IsSound trace certificate.leases.items)) }
     ensures refused { IfErr result (λ e. IfRefusedIn e (λ row c. OfTrace (S.held source.old) (S.held source.new) (λ trace.
-        verdict_from trace.header nothing trace.first trace.rows ≡ Some (row, c)))) }
+        ring_verdict trace.header trace.first trace.rows ≡ Some (row, c)))) }
     ensures line { IfErr result (λ e. IfBadLineIn e (IsBadLine (S.held source.old) (S.held source.new))) }
     ensures failures { S.failed source.new ≡ told_in_check (S.failed source.old) result }
 {
@@ -49,7 +49,7 @@ pub fn count_stream<S: Source, M: WordMemory + Drop>(
     requires zero { (a : ℕ) → M.words memory a ≡ 0 }
     ensures accepted { IfOk result (λ count. OfTrace (S.held source.old) (S.held source.new) (λ trace. (leases : List Lease) × IsSound trace leases × (count ≡ length leases))) }
     ensures refused { IfErr result (λ e. IfRefusedIn e (λ row c. OfTrace (S.held source.old) (S.held source.new) (λ trace.
-        verdict_from trace.header nothing trace.first trace.rows ≡ Some (row, c)))) }
+        ring_verdict trace.header trace.first trace.rows ≡ Some (row, c)))) }
     ensures line { IfErr result (λ e. IfBadLineIn e (IsBadLine (S.held source.old) (S.held source.new))) }
     ensures failures { S.failed source.new ≡ told_in_check (S.failed source.old) result }
 {

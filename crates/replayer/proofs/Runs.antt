@@ -1,24 +1,23 @@
 -- What a replay answers from a world on
 use Rattle.std.proofs.Common.{◌≡◌, ◌+◌, ◌<◌, ◌≤◌, ◌++◌, ◌∙◌, ◌∷◌, ℕ, zero, suc, List, [], drop, get_or, length, Option, Some, None, Ok, Err, is_some, ap, sym, subst, refl, arith, option_map, option_to_list}
 use Rattle.std.proofs.lemmas.Bool.{cond-true, cond-false}
-use Rattle.traces.specs.declared.header.Header.{Header}
 use Rattle.traces.specs.declared.step.Step.{Step}
-use Rattle.world_state.specs.World.{World}
 use Rattle.world_state.specs.declared.harm.Harm.{Harm}
 use Rattle.world_state.specs.Harms.{harm_of}
 use Rattle.controller_model.specs.declared.seen.Seen.{Seen}
 use Rattle.controller_model.specs.declared.fault.StepFault.{StepFault}
 use Rattle.controller_model.specs.declared.fault.StepFault.TheVariants.{NotPossible}
-use Rattle.controller_model.specs.Steps.{stepped, judged, ending_from, Ending, NoHarm, NotPossible as NotPossibleAt, Harmful as HarmfulAt}
-use Rattle.controller_model.specs.Showing.{shows, seen_by, seen_from}
+use Rattle.controller_model.specs.Steps.{judged, NoHarm, NotPossible as NotPossibleAt, Harmful as HarmfulAt}
+use Rattle.controller_model.specs.Showing.{shows}
+use Rattle.controller_model.specs.Scenes.{Scene, scene_ending_from, scene_seen_by, scene_seen_from, step_made}
 use Rattle.controller_model.specs.Following.{IsStep}
 
 -- what a step that was made tells, and one that wasn't possible
-pub step_goes : (o : Option World) (seen shown : Seen) (P : World → Type 0) → IsStep (Ok seen) o shown P → (v : World) × (o ≡ Some v) × (seen ≡ shown) × P v
+pub step_goes : {X : Type 0} (o : Option X) (seen shown : Seen) (P : X → Type 0) → IsStep (Ok seen) o shown P → (v : X) × (o ≡ Some v) × (seen ≡ shown) × P v
 step_goes None seen shown P made = absurd made
 step_goes (Some v) seen shown P made = (v, refl, made.0, made.1)
 
-pub step_sticks : (o : Option World) (shown : Seen) (P : World → Type 0) → IsStep (Err NotPossible) o shown P → o ≡ None
+pub step_sticks : {X : Type 0} (o : Option X) (shown : Seen) (P : X → Type 0) → IsStep (Err NotPossible) o shown P → o ≡ None
 step_sticks None shown P made = refl
 step_sticks (Some v) shown P made = absurd made
 
@@ -43,38 +42,38 @@ pub nothing_more : {X : Type 0} (xs : List X) → xs ++ [] ≡ xs
 nothing_more [] = refl
 nothing_more (x ∷ xs) = ap (λ ys. x ∷ ys) (nothing_more xs)
 
-module _ (h : Header) (w : World) (n : ℕ) where
-  pub harmful_seen : (k : Harm) (rest : List Step) → harm_of h w ≡ Some k → seen_from h (Some w) rest ≡ []
-  unfolding seen_from
+module _ (x : Scene) (n : ℕ) where
+  pub harmful_seen : (k : Harm) (rest : List Step) → harm_of x.header x.world ≡ Some k → scene_seen_from (Some x) rest ≡ []
+  unfolding scene_seen_from
   harmful_seen k [] e = refl
-  harmful_seen k (s ∷ rest) e = cond-true (is_some (harm_of h w)) [] _ (ap (λ o. is_some o) e)
+  harmful_seen k (s ∷ rest) e = cond-true (is_some (harm_of x.header x.world)) [] _ (ap (λ o. is_some o) e)
 
-  pub harmful_ends : (k : Harm) (rest : List Step) → harm_of h w ≡ Some k → ending_from h n (Some w) rest ≡ HarmfulAt n k
-  unfolding ending_from judged
-  harmful_ends k [] e = ap (λ o. judged h n o NoHarm) e
-  harmful_ends k (s ∷ rest) e = ap (λ o. judged h n o (ending_from h (n + 1) (stepped h w s) rest)) e
+  pub harmful_ends : (k : Harm) (rest : List Step) → harm_of x.header x.world ≡ Some k → scene_ending_from n (Some x) rest ≡ HarmfulAt n k
+  unfolding scene_ending_from judged
+  harmful_ends k [] e = ap (λ o. judged n o NoHarm) e
+  harmful_ends k (s ∷ rest) e = ap (λ o. judged n o (scene_ending_from (n + 1) (step_made x s) rest)) e
 
-  pub safe_ends : harm_of h w ≡ None → ending_from h n (Some w) [] ≡ NoHarm
-  unfolding ending_from judged
-  safe_ends e = ap (λ o. judged h n o NoHarm) e
+  pub safe_ends : harm_of x.header x.world ≡ None → scene_ending_from n (Some x) [] ≡ NoHarm
+  unfolding scene_ending_from judged
+  safe_ends e = ap (λ o. judged n o NoHarm) e
 
-  module _ (s : Step) (rest : List Step) (safe : harm_of h w ≡ None) where
-    pub stuck_seen : stepped h w s ≡ None → seen_from h (Some w) (s ∷ rest) ≡ []
-    unfolding seen_from seen_by
+  module _ (s : Step) (rest : List Step) (safe : harm_of x.header x.world ≡ None) where
+    pub stuck_seen : step_made x s ≡ None → scene_seen_from (Some x) (s ∷ rest) ≡ []
+    unfolding scene_seen_from scene_seen_by
     stuck_seen e =
-        cond-false (is_some (harm_of h w)) [] _ (ap (λ o. is_some o) safe)
-        ∙ ap (λ o. option_to_list (option_map (λ v. shows h w s) o) ++ seen_from h o rest) e
+        cond-false (is_some (harm_of x.header x.world)) [] _ (ap (λ o. is_some o) safe)
+        ∙ ap (λ o. option_to_list (option_map (λ v. shows x.header x.world s) o) ++ scene_seen_from o rest) e
 
-    pub stuck_ends : stepped h w s ≡ None → ending_from h n (Some w) (s ∷ rest) ≡ NotPossibleAt (n + 1)
-    unfolding ending_from judged
-    stuck_ends e = ap (λ o. judged h n o (ending_from h (n + 1) (stepped h w s) rest)) safe ∙ ap (λ o. ending_from h (n + 1) o rest) e
+    pub stuck_ends : step_made x s ≡ None → scene_ending_from n (Some x) (s ∷ rest) ≡ NotPossibleAt (n + 1)
+    unfolding scene_ending_from judged
+    stuck_ends e = ap (λ o. judged n o (scene_ending_from (n + 1) (step_made x s) rest)) safe ∙ ap (λ o. scene_ending_from (n + 1) o rest) e
 
-    pub goes_seen : (v : World) → stepped h w s ≡ Some v → seen_from h (Some w) (s ∷ rest) ≡ shows h w s ∷ seen_from h (Some v) rest
-    unfolding seen_from seen_by
+    pub goes_seen : (v : Scene) → step_made x s ≡ Some v → scene_seen_from (Some x) (s ∷ rest) ≡ shows x.header x.world s ∷ scene_seen_from (Some v) rest
+    unfolding scene_seen_from scene_seen_by
     goes_seen v e =
-        cond-false (is_some (harm_of h w)) [] _ (ap (λ o. is_some o) safe)
-        ∙ ap (λ o. option_to_list (option_map (λ u. shows h w s) o) ++ seen_from h o rest) e
+        cond-false (is_some (harm_of x.header x.world)) [] _ (ap (λ o. is_some o) safe)
+        ∙ ap (λ o. option_to_list (option_map (λ u. shows x.header x.world s) o) ++ scene_seen_from o rest) e
 
-    pub goes_ends : (v : World) → stepped h w s ≡ Some v → ending_from h n (Some w) (s ∷ rest) ≡ ending_from h (n + 1) (Some v) rest
-    unfolding ending_from judged
-    goes_ends v e = ap (λ o. judged h n o (ending_from h (n + 1) (stepped h w s) rest)) safe ∙ ap (λ o. ending_from h (n + 1) o rest) e
+    pub goes_ends : (v : Scene) → step_made x s ≡ Some v → scene_ending_from n (Some x) (s ∷ rest) ≡ scene_ending_from (n + 1) (Some v) rest
+    unfolding scene_ending_from judged
+    goes_ends v e = ap (λ o. judged n o (scene_ending_from (n + 1) (step_made x s) rest)) safe ∙ ap (λ o. scene_ending_from (n + 1) o rest) e

@@ -105,11 +105,11 @@ row_off h k row kept = sym (stopped_still h k (ring_restored h k row)) ∙ (clea
 
 module _ (h : Header) (is : IsHeader h) where
   -- what holds behind rows that break no rule
-  record Keeps (past : List TraceRow) : Type 0 where
+  pub record Keeps (past : List TraceRow) : Type 0 where
     pub headed : IsHeader (header_now h past)
     pub keeps : DriverKeeps (header_now h past) (known_now h past)
 
-  now_keeps : (past : List TraceRow) → All FitsFields past → AreKept h past → (known_now h past).stopped ≡ false → Keeps past
+  pub now_keeps : (past : List TraceRow) → All FitsFields past → AreKept h past → (known_now h past).stopped ≡ false → Keeps past
   now_keeps [] are kept on = record { headed = is; keeps = nothing_kept h is }
   now_keeps (Plain row ∷ past) are kept on =
       let g : Header = header_now h past in

@@ -1,6 +1,5 @@
--- Rings that come and go. A header lists the rings that are there now: one that comes is listed too, one that goes is listed no more, and
--- nothing is known of it any more: xHCI 4.9
-use Rattle.std.specs.Prelude.{◌≡◌, ℕ, ◌+◌, ◌*◌, ◌%◌, ◌<◌, ◌==◌, ◌||◌, Bool, not, [], ◌∷◌, ◌++◌, filter, is_some}
+-- Rings that come and go, as a driver keeps them. Of a ring that isn't there any more nothing is known: xHCI 4.9
+use Rattle.std.specs.Prelude.{◌≡◌, ℕ, ◌+◌, ◌*◌, ◌%◌, ◌<◌, ◌==◌, ◌||◌, Bool, not, is_some}
 use Rattle.std.specs.List.{list_any, range_with_len}
 use Rattle.guest_memory.specs.Memory.{put}
 use Rattle.trb.specs.declared.ring_kind.RingKind.TheVariants.{Xfer}
@@ -10,24 +9,14 @@ use Rattle.segments.specs.Shape.{IsShape}
 use Rattle.traces.specs.declared.header.Header.{Header}
 use Rattle.traces.specs.declared.ring.Ring.{Ring}
 use Rattle.traces.specs.Header.{is_ring, ring_with, touches_ring}
-use Rattle.world_state.specs.World.{World}
 use Rattle.ring_knowledge.specs.Known.{Known}
 use Rattle.ownership_rules.specs.Areas.{is_in_range_lease, is_soiled}
 use Rattle.ownership_rules.specs.Moves.{is_being_bound}
 use Rattle.safety.specs.EndpointsKeep.{is_transfer_ring}
-
-unfoldable pub with_ring : Header → Ring → Header
-with_ring h r = record h { rings = h.rings ++ r ∷ [] }
-
-unfoldable pub without_ring : Header → ℕ → Header
-without_ring h id = record h { rings = filter (λ r. not (r.id == id)) h.rings }
+unfoldable pub use Rattle.controller_model.specs.RingRows.{emptied, with_ring, without_ring}
 
 unfoldable pub forgotten : Known → ℕ → Known
 forgotten k id = record k { ring = put k.ring id new_ring }
-
--- nor of what the world did on it
-unfoldable pub emptied : World → ℕ → World
-emptied w id = record w { queue = put w.queue id []; lengths = put w.lengths id []; events = put w.events id []; reported = put w.reported id 0 }
 
 -- a ring that may come, by its line alone
 pub record IsComing (r : Ring) : Type 0 where

@@ -2,8 +2,6 @@
 -- free then, its words are the driver's again. Until the ring is started or moved the driver puts the No Ops there: xHCI 4.6.9, 4.6.10
 use Rattle.std.specs.Prelude.{ℕ, ◌==◌, ◌&&◌, ◌||◌, Bool, false, not, Option, None, Some}
 use Rattle.std.specs.List.{list_any, range_with_len}
-use Rattle.guest_memory.specs.Memory.{put}
-use Rattle.segments.specs.Descriptors.{length_from, no_ops, split_at}
 use Rattle.segments.specs.Givings.{descriptor_length, flips_passed, is_not_restored}
 use Rattle.segments.specs.RingView.{Restores}
 use Rattle.commands.specs.declared.command.Command.{Command}
@@ -13,18 +11,11 @@ use Rattle.traces.specs.declared.header.Header.{Header}
 use Rattle.traces.specs.declared.row.Row.{Row}
 use Rattle.traces.specs.declared.row.Row.TheVariants.{Write, Bell}
 use Rattle.traces.specs.Header.{driver_rings, is_ring, shape_of}
-use Rattle.world_state.specs.World.{World}
 use Rattle.ring_knowledge.specs.Known.{Known}
 use Rattle.ring_knowledge.specs.Rings.{on_ring}
 use Rattle.ring_knowledge.specs.Writes.{command_given}
 use Rattle.ownership_rules.specs.Doorbells.{is_touched}
-
--- what the world has declared there is the same; what was taken before stays what was declared then
-unfoldable pub without_descriptor : World → ℕ → ℕ → World
-without_descriptor w r p = record w {
-  queue = put w.queue r (no_ops (w.queue r) p (length_from (w.lengths r) 0 p));
-  lengths = put w.lengths r (split_at (w.lengths r) 0 p);
-}
+unfoldable pub use Rattle.controller_model.specs.RingRows.{without_descriptor}
 
 -- the ring that a command moves
 unfoldable pub ring_moved : Known → Option Command → Option ℕ

@@ -4,3 +4,6 @@ pub mod OtherRecords
 pub mod Lists
 pub mod Came
 pub mod Went
+pub mod AtRest
+pub mod OneRing
+pub mod Withdrawn

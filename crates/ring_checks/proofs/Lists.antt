@@ -1,5 +1,5 @@
 -- Lists with one more at the end, or one taken out
-use Rattle.std.proofs.Common.{◌≡◌, ◌≢◌, ◌<◌, ◌∷◌, ◌++◌, ◌∙◌, ◌⊎◌, ℕ, zero, suc, Bool, true, false, List, [], Some, filter, length, slice_get, arith, refl, sym, ap, inl, inr}
+use Rattle.std.proofs.Common.{◌≡◌, ◌≢◌, ◌<◌, ◌∷◌, ◌++◌, ◌∙◌, ◌⊎◌, ℕ, zero, suc, Bool, true, false, List, [], Some, filter, get_or, length, set, slice_get, arith, refl, sym, ap, inl, inr}
 use Rattle.std.specs.List.{remove}
 use Rattle.std.proofs.lemmas.Bool.{cond-false, cond-true}
 use Rattle.std.proofs.lemmas.Option.{none-some, same_Some, slice_get_within}
@@ -60,3 +60,20 @@ kept_others keep (z ∷ zs) zero x at goes others =
 kept_others keep (z ∷ zs) (suc n) x at goes others =
     cond-true (keep z) (z ∷ filter keep zs) (filter keep zs) (others 0 z refl (λ same. omega (arith, same)))
     ∙ ap (λ ys. z ∷ ys) (kept_others keep zs n x at goes (λ i y here other. others (suc i) y here (λ same. other (omega (arith, same)))))
+
+-- in a list with a new element at n
+pub at_set : {X : Type 0} (xs : List X) (n i : ℕ) (y x : X) → slice_get (set xs n y) i ≡ Some x → ((i ≡ n) × (y ≡ x)) ⊎ ((i ≢ n) × (slice_get xs i ≡ Some x))
+at_set [] n i y x e = absurd (none-some x e)
+at_set (z ∷ xs) zero zero y x e = inl (refl, same_Some y x e)
+at_set (z ∷ xs) zero (suc i) y x e = inr ((λ same. omega (arith, same)), e)
+at_set (z ∷ xs) (suc n) zero y x e = inr ((λ same. omega (arith, same)), e)
+at_set (z ∷ xs) (suc n) (suc i) y x e = elim (at_set xs n i y x e) [
+  | inl here ↦ inl (ap suc here.0, here.1)
+  | inr there ↦ inr ((λ same. there.0 (omega (arith, same))), there.1)
+]
+
+-- what stands at a place is read there
+pub read_there : {X : Type 0} (xs : List X) (n : ℕ) (d x : X) → slice_get xs n ≡ Some x → get_or xs n d ≡ x
+read_there [] n d x e = absurd (none-some x e)
+read_there (y ∷ ys) zero d x e = same_Some y x e
+read_there (y ∷ ys) (suc n) d x e = read_there ys n d x e

@@ -1,1 +1,2 @@
 pub mod RingSteps
+pub mod Withdrawing

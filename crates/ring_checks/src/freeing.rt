@@ -1,4 +1,4 @@
-ghost use Rattle.std.specs.Prelude.{◌≡◌, ℕ, true, false, IfNone, IfSome};
+ghost use Rattle.std.specs.Prelude.{◌≡◌, ◌<◌, ℕ, true, false, length, IfNone, IfSome};
 ghost use Rattle.traces.specs.Header.{IsHeader, ring_with};
 ghost use Rattle.ring_knowledge.specs.Known.{Known};
 ghost use Rattle.ring_finder.specs.Finding.{IsFinder};
@@ -40,9 +40,10 @@ pub(crate) fn free_ring(
 }
 
 /// The number of the transfer ring with this ID.
-fn transfer_ring(header: &Header, finder: &Finder, id: u8) -> Option<usize>
+pub(crate) fn transfer_ring(header: &Header, finder: &Finder, id: u8) -> Option<usize>
     requires headed { IsHeader header.now }
     requires found { IsFinder header.now.rings finder.now }
+    ensures within { IfSome result (λ n. n < length header.now.rings) }
     ensures there { IfSome result (IsTransferAt header.now id) }
     ensures none { IfNone result (is_transfer_ring (ring_with header.now id) ≡ false) }
 {

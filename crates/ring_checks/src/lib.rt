@@ -6,6 +6,11 @@ mod first_lap;
 mod freeing;
 mod going;
 mod new_rings;
+mod restoring;
+mod stopped;
+mod withdrawing;
 
 pub use coming::check_coming;
 pub use going::check_going;
+pub use restoring::restore_ring;
+pub use withdrawing::check_withdrawing;

@@ -1,12 +1,14 @@
 //! Writes of memory: to what the controller owns, of TRBs that weren't submitted, and of Link TRBs.
+use crate::restorings::flips_withdrawn;
+use commands::EndpointState;
 use ring_knowledge::RingRecord;
 use row_history::{
-    Case, Finding, last_event, last_write, line_of, note_unchanged, ring_known, trb_at,
-    write_to_area,
+    Case, Finding, endpoint_with, going, last_event, last_write, line_of, note_unchanged,
+    ring_known, submission, trb_at, write_to_area,
 };
 use segments::Place;
 use std::alloc::AllocError;
-use traces::{Ring, Row};
+use traces::{Ring, Row, TraceRow};
 use trb::{Block, BlockKind, RingKind};
 
 /// A write to memory that the controller owns.
@@ -48,6 +50,9 @@ fn write_to_ring(
     word: u32,
 ) -> Result<Finding, AllocError> {
     let (kind, is_link) = (ring.shape.kind(), matches!(place, Place::Link { .. }));
+    if let Some(finding) = flips_withdrawn(case, ring, address, word)? {
+        return Ok(finding);
+    }
     let head = if is_link {
         "write to a Link TRB that the controller owns"
     } else {
@@ -66,8 +71,56 @@ fn write_to_ring(
     if !note_unchanged(case, &mut finding, address, word)? {
         finding.help(case.alloc, instead(kind, is_link))?;
         note_early(case, &mut finding, ring, place)?;
+        if !is_link {
+            help_to_withdraw(case, &mut finding, ring, address)?;
+        }
     }
     Ok(finding)
+}
+
+/// Of a TRB that a Stopped endpoint's driver may withdraw: says by which row.
+fn help_to_withdraw(
+    case: &Case,
+    finding: &mut Finding,
+    ring: &Ring,
+    address: u64,
+) -> Result<(), AllocError> {
+    let (Some(had), Some((_, known))) = (
+        endpoint_with(&case.known.devices, ring.id),
+        ring_known(case, ring.id),
+    ) else {
+        return Ok(());
+    };
+    let state = case.known.devices.endpoint_state(had.slot, had.endpoint);
+    if !case.header.version.has_ring_rows() || state != EndpointState::Stopped {
+        return Ok(());
+    }
+    let Some(first) = withdrawable(case, ring, known, address) else {
+        return Ok(());
+    };
+    let id = ring.id;
+    let help = format!(in case.alloc;
+        "where the driver takes the TD back, log `nop {id:02x} {first:016x}` before its first write; its TRBs become No Ops (xHCI 4.6.9)"
+    )?;
+    finding.help(case.alloc, help.as_str())
+}
+
+/// The first position of the TD that has the TRB at an address, where it may be withdrawn by its place.
+fn withdrawable(case: &Case, ring: &Ring, known: &RingRecord, address: u64) -> Option<u64> {
+    let floor = known.floor_number();
+    let least = if case.header.version.is_three() {
+        floor
+    } else {
+        known.ceiling()
+    };
+    let end = floor.saturating_add(u64::from(ring.shape.places()));
+    let position = (floor..end).find(|position| ring.shape.address(*position) == address & !15)?;
+    let td = submission(case, ring.id, position)?;
+    if td.first >= least && td.withdrawn.is_none() {
+        Some(td.first)
+    } else {
+        None
+    }
 }
 
 /// Which word of a ring that the controller owns is written.
@@ -122,9 +175,9 @@ fn note_stopped(case: &Case, finding: &mut Finding, base: u64) -> Result<(), All
 }
 
 /// Whether a row reads a Stopped event.
-fn reads_stop(row: Option<&Row>) -> bool {
+fn reads_stop(row: Option<&TraceRow>) -> bool {
     match row {
-        Some(Row::Read { event }) => matches!(event.code(), 26..=28),
+        Some(TraceRow::Plain(Row::Read { event })) => matches!(event.code(), 26..=28),
         _ => false,
     }
 }
@@ -193,10 +246,20 @@ pub fn not_declared(case: &Case, id: u8) -> Result<Finding, AllocError> {
             here = format!(in case.alloc; "ring {id:02x} is the Event Ring, which takes no TDs")?;
         }
     }
+    let gone = going(case.before, id);
+    if gone.is_some() {
+        here = format!(in case.alloc; "ring {id:02x} is not there any more")?;
+    }
     let mut finding = Finding::new(case.alloc, "a TD for a ring that takes none", here.as_str())?;
+    finding.mark(case.alloc, gone, "this row took the ring away")?;
     let rings = driver_rings(case)?;
     finding.note(rings)?;
-    finding.help(case.alloc, "name a `cmd` or `xfer` ring of the header")?;
+    let help = if case.header.version.has_ring_rows() {
+        "name a `cmd` or `xfer` ring that is there"
+    } else {
+        "name a `cmd` or `xfer` ring of the header"
+    };
+    finding.help(case.alloc, help)?;
     Ok(finding)
 }
 

@@ -2,8 +2,8 @@
 use commands::Command;
 use row_history::{
     Case, Endpoint, Finding, SoiledWord, Unfinished, all_unfinished, binds_ring, command_name,
-    endpoint_state_name, endpoint_with, is_in_area, last_write, line_of, note_area, ring_with,
-    shown_first_lap, soiled_word, unfinished_on,
+    endpoint_state_name, endpoint_with, going, is_in_area, last_write, line_of, note_area,
+    ring_with, shown_first_lap, soiled_word, unfinished_on,
 };
 use segments::Segment;
 use std::alloc::AllocError;
@@ -28,7 +28,7 @@ enum NoFree {
 
 /// What a ring is, in the standard's words.
 #[derive(Clone, Copy)]
-struct Named(RingKind);
+pub(crate) struct Named(pub RingKind);
 
 impl fmt::Display for Named {
     fn fmt<W: fmt::Write>(&self, f: &mut fmt::Formatter<W>) -> fmt::Result {
@@ -46,10 +46,17 @@ pub fn bad_free(case: &Case, id: u8) -> Result<Finding, AllocError> {
     let here = freed_here(case, id, cause)?;
     let mut finding = Finding::new(case.alloc, free_head(cause), here.as_str())?;
     match cause {
-        NoFree::Unknown => finding.help(
-            case.alloc,
-            "name a Transfer Ring that is there; a ring goes once",
-        )?,
+        NoFree::Unknown => {
+            finding.mark(
+                case.alloc,
+                going(case.before, id),
+                "this row took the ring away",
+            )?;
+            finding.help(
+                case.alloc,
+                "name a Transfer Ring that is there; a ring goes once",
+            )?;
+        }
         NoFree::Stays(_) => finding.help(
             case.alloc,
             "leave the row out: the Command Ring and the Event Ring stay as long as the controller runs",

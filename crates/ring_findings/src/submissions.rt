@@ -2,8 +2,8 @@
 use guest_memory::Addr;
 use ring_knowledge::RingRecord;
 use row_history::{
-    Case, Finding, NOT_JUDGED, Submitted, is_handed_over, last_write, line_of, position_given,
-    ring_at, submission, trb_at, type_name,
+    Case, Finding, NOT_JUDGED, Submitted, declared_now, is_handed_over, last_write, line_of,
+    position_given, ring_at, submission, trb_at, type_name,
 };
 use std::alloc::AllocError;
 use traces::Ring;
@@ -20,28 +20,56 @@ pub fn not_as_submitted(case: &Case, at: Addr, word: u32) -> Result<Option<Findi
     let Some(position) = position_given(ring, known, at, word) else {
         return Ok(None);
     };
-    let Some(wanted) = known.declared(position) else {
+    let Some(wanted) = declared_now(case, ring.id, known, position) else {
         return Ok(None);
     };
     let wanted = wanted.with_cycle(ring.shape.cycle(position));
     let found = trb_at(case, at.get(), word);
     let [w0, w1, w2, w3] = found.w;
     let here = format!(in case.alloc; "in memory: {w0:08x} {w1:08x} {w2:08x} {w3:08x}")?;
+    let base = at.get() & !15;
+    let td = submission(case, ring.id, position);
+    if let Some(
+        Submitted {
+            withdrawn: Some(row),
+            ..
+        },
+    ) = td
+    {
+        let mut finding = no_no_op(case, here.as_str(), row)?;
+        note_words(case, &mut finding, base, wanted, found, "a No Op has")?;
+        return Ok(Some(finding));
+    }
     let mut finding = Finding::new(
         case.alloc,
         "the TRB handed to the controller is not the one that was submitted",
         here.as_str(),
     )?;
-    if let Some(td) = submission(case, ring.id, position) {
+    if let Some(td) = td {
         let label = submitted_words(case, td, position, wanted)?;
         finding.mark(case.alloc, Some(td.row), label.as_str())?;
     }
-    note_words(case, &mut finding, at.get() & !15, wanted, found)?;
+    note_words(case, &mut finding, base, wanted, found, "submitted")?;
     finding.help(
         case.alloc,
         "write all four words of a TRB, the one with its Cycle bit last, and log in `sub` what you mean to write",
     )?;
     Ok(Some(finding))
+}
+
+/// A TRB that is handed over as another than the No Op that it is since a row withdrew it.
+fn no_no_op(case: &Case, here: &str, row: usize) -> Result<Finding, AllocError> {
+    let mut finding = Finding::new(
+        case.alloc,
+        "a withdrawn TRB is handed to the controller that is no No Op",
+        here,
+    )?;
+    finding.mark(case.alloc, Some(row), "this row withdrew the TD")?;
+    finding.help(
+        case.alloc,
+        "write 00000000 to its words 0 to 2, and 00002000 with its Cycle bit to its word 3",
+    )?;
+    Ok(finding)
 }
 
 /// The words with which a TRB of a TD was submitted.
@@ -73,6 +101,7 @@ fn note_words(
     base: u64,
     wanted: Block,
     found: Block,
+    whose: &str,
 ) -> Result<(), AllocError> {
     for (index, (want, have)) in wanted.w.iter().zip(found.w.iter()).enumerate() {
         if *want != *have {
@@ -82,21 +111,21 @@ fn note_words(
                     let line = line_of(case.first, row);
                     if index == 3 {
                         format!(in case.alloc;
-                            "word 3 differs: submitted {want:08x}, written {have:08x}"
+                            "word 3 differs: {whose} {want:08x}, written {have:08x}"
                         )?
                     } else {
                         format!(in case.alloc;
-                            "word {index} differs: submitted {want:08x}, in memory {have:08x} (row {line})"
+                            "word {index} differs: {whose} {want:08x}, in memory {have:08x} (row {line})"
                         )?
                     }
                 }
                 None => if index == 3 {
                     format!(in case.alloc;
-                        "word 3 differs: submitted {want:08x}, written {have:08x}"
+                        "word 3 differs: {whose} {want:08x}, written {have:08x}"
                     )?
                 } else {
                     format!(in case.alloc;
-                        "word {index} differs: submitted {want:08x}, never written: memory counts as 0"
+                        "word {index} differs: {whose} {want:08x}, never written: memory counts as 0"
                     )?
                 },
             };

@@ -1,5 +1,5 @@
 -- A record with one descriptor more follows what is declared with it
-use Rattle.ring_knowledge.proofs.Words.{◌≡◌, ◌+◌, ◌-◌, ◌<◌, ◌≤◌, ◌∷◌, ◌++◌, ◌∙◌, ◌==◌, ℕ, suc, zero, List, [], true, false, refl, ap, sym, arith, length, set, inl, inr, length-append, not, sum, slice_index, replicate, nat_le, take, ltb-false, lt-ltb, le-ltb, le-leb, sum_by-cons, cases_eq, cases_lt, lt-leb, nat_tests, common_steps, Block, Shape, place_count, place_count_pos, RingView, Declares, changed, declared, floor_number, length_from, has_no_room, RingRecord, ArePositive, FollowsMarks}
+use Rattle.ring_knowledge.proofs.Words.{◌≡◌, ◌+◌, ◌-◌, ◌<◌, ◌≤◌, ◌∷◌, ◌++◌, ◌∙◌, ◌==◌, ℕ, suc, zero, List, [], true, false, refl, ap, sym, arith, length, set, inl, inr, length-append, not, sum, slice_index, replicate, nat_le, take, ltb-false, lt-ltb, le-ltb, le-leb, sum_by-cons, cases_eq, cases_lt, lt-leb, nat_tests, common_steps, Block, Shape, place_count, place_count_pos, RingView, Declares, changed, declared, floor_number, length_from, has_no_room, RingRecord, ArePositive, FollowsMarks, contains, nat_cmp}
 
 pub sum-cons : (d : ℕ) (ds : List ℕ) → sum (d ∷ ds) ≡ d + sum ds
 sum-cons d ds = sum_by-cons (λ x. x) d ds
@@ -101,9 +101,9 @@ module _ (shape : Shape) (v : RingView) (r : RingRecord) (follows : FollowsMarks
   -- the record with the blocks and their length
   pub declared_marks : has_no_room shape v (length blocks) ≡ false → 0 < length blocks → (n : RingRecord) → n.blocks.items ≡ r.blocks.items ++ blocks
       → n.lengths.items ≡ r.lengths.items ++ (length blocks ∷ replicate (length blocks - 1) 0)
-      → n.given.items ≡ r.given.items → n.crossed.items ≡ r.crossed.items → n.floor ≡ r.floor → n.held ≡ r.held
+      → n.given.items ≡ r.given.items → n.crossed.items ≡ r.crossed.items → n.floor ≡ r.floor → n.held ≡ r.held → n.withdrawn ≡ r.withdrawn → n.free ≡ r.free
       → FollowsMarks shape (changed shape v (Declares blocks)) n
-  declared_marks fits some n more lengths given crossed floor held =
+  declared_marks fits some n more lengths given crossed floor held withdrawn free =
       let many : length n.blocks.items ≡ length r.blocks.items + length blocks = ap length more ∙ length-append r.blocks.items blocks in
       let long : length n.lengths.items ≡ length r.lengths.items + length blocks =
       ap length lengths ∙ length-append r.lengths.items (length blocks ∷ replicate (length blocks - 1) 0) ∙ grind (arith, common_steps, some) in
@@ -124,7 +124,10 @@ module _ (shape : Shape) (v : RingView) (r : RingRecord) (follows : FollowsMarks
         given = rw given follows.given;
         segments = rw crossed follows.segments;
         crossed = rw crossed follows.crossed;
-        restored = follows.restored;
+        withdrawn = λ p. follows.withdrawn p ∙ ap (λ s. contains nat_cmp s p) (sym withdrawn);
+        free = λ p. follows.free p ∙ ap (λ s. contains nat_cmp s p) (sym free);
+        free_withdrawn = follows.free_withdrawn;
+        free_given = follows.free_given;
       }
 
 -- the lengths as the code makes them

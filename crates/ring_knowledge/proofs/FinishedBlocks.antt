@@ -1,5 +1,5 @@
 -- The spot behind a finished block is reached, and nothing is given a lap ahead of the floor
-use Rattle.ring_knowledge.proofs.Words.{◌≡◌, ◌<◌, ◌≤◌, ℕ, true, ap, arith, and_parts, Shape, RingView, is_way_given, is_step_given, given_count, are_ways_given, given_below}
+use Rattle.ring_knowledge.proofs.Words.{◌≡◌, ◌<◌, ◌≤◌, ℕ, true, arith, and_parts, Shape, RingView, is_way_given, is_step_given, given_count, are_ways_given, given_below}
 use Rattle.ring_knowledge.proofs.Ranges.{all_from}
 
 step_parts : (shape : Shape) (v : RingView) (q : ℕ) → is_step_given shape v q ≡ true → (v.given q ≡ true) × (is_way_given shape v q ≡ true)

@@ -21,4 +21,8 @@ pub mod StopSpots
 pub mod Borders
 pub mod MoveTests
 pub mod PassedBlocks
+pub mod FreeNumbers
+pub mod Withdrawn
+pub mod Declared
+pub mod FlippedWords
 pub mod Words

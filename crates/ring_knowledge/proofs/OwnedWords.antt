@@ -1,19 +1,9 @@
 -- Which words of a ring its controller may own, by the place of the address
-use Rattle.ring_knowledge.proofs.Words.{leased_where_restored, ◌≡◌, ◌+◌, ◌/◌, ◌%◌, ◌<◌, ◌≤◌, ◌∷◌, ◌∙◌, ◌&&◌, ◌||◌, ℕ, List, [], Bool, true, false, Some, None, refl, ap, sym, arith, length, slice_index, get_or, cond, nat_lt, filter, lt-ltb, ltb-true, list_any, range_with_len, and_parts, and_from, Place, AtData, AtLink, Shape, place_count, address_of, links, link_crossed, is_crossing, link_address, overlap, place_at, RingView, floor_number, due_positions, due_crossings, leased_positions, leased_crossings, link_of, place_count_pos, place_below, address_aligned, address_of-first, address_of-mod, link_aligned, crosses, crossed_link, crossing_positive, is_crossing-from, link_address_is, place_at-data, place_at-link, place_at-Data, place_at-Link, RingRecord, is_noted, FollowsMarks, least_crossing}
+use Rattle.ring_knowledge.proofs.Words.{◌≡◌, ◌+◌, ◌/◌, ◌%◌, ◌<◌, ◌≤◌, ◌∙◌, ◌&&◌, ◌||◌, ℕ, Bool, true, false, Some, None, refl, ap, sym, arith, length, slice_index, get_or, nat_lt, lt-ltb, ltb-true, list_any, range_with_len, and_parts, and_from, Place, AtData, AtLink, Shape, place_count, address_of, links, link_crossed, is_crossing, link_address, overlap, place_at, RingView, floor_number, due_positions, due_crossings, leased_positions, leased_crossings, is_handed_over, contains, nat_cmp, not, link_of, place_count_pos, place_below, address_aligned, address_of-first, address_of-mod, link_aligned, crosses, crossed_link, crossing_positive, is_crossing-from, link_address_is, place_at-data, place_at-link, place_at-Data, place_at-Link, RingRecord, is_noted, FollowsMarks, least_crossing}
 use Rattle.ring_knowledge.proofs.Noted.{noted_due, noted_within, false_unless, or_false}
-use Rattle.ring_knowledge.proofs.Ranges.{any_none, any_only}
+use Rattle.ring_knowledge.proofs.Ranges.{any_filtered, any_none, any_only}
 use Rattle.ring_knowledge.proofs.DueNumbers.{IsDue, link_of-crossed, due_number, same_due, due_crossing, same_due_crossing}
 use Rattle.ring_knowledge.proofs.DueWrites.{data_no_link}
-
--- a test of what passes another test
-any_filtered : (f g : ℕ → Bool) (xs : List ℕ) → list_any f (filter g xs) ≡ list_any (λ x. g x && f x) xs
-any_filtered f g [] = refl
-any_filtered f g (x ∷ xs) = by_test (g x) (any_filtered f g xs)
-  where
-    by_test : (b : Bool) → list_any f (filter g xs) ≡ list_any (λ y. g y && f y) xs →
-        list_any f (cond b (x ∷ filter g xs) (filter g xs)) ≡ ((b && f x) || list_any (λ y. g y && f y) xs)
-    by_test true e = ap (λ c. f x || c) e
-    by_test false e = e
 
 -- a word and a block with a byte in common: the word is one of the block's
 word_inside : (a b : ℕ) → a % 4 ≡ 0 → b % 16 ≡ 0 → a < b + 16 → b < a + 4 → b ≤ a
@@ -54,11 +44,9 @@ module _ (shape : Shape) (v : RingView) (r : RingRecord) (follows : FollowsMarks
       place_at-link shape follows.allowed j a inside word low (omega (arith, at))
 
   positions_are : list_any (λ p. overlap a 4 (address_of shape p) 16) (leased_positions shape v)
-      ≡ list_any (λ p. v.given p && overlap a 4 (address_of shape p) 16) (range_with_len (floor_number v) (place_count shape))
-  unfolding due_positions
-  positions_are =
-      ap (λ ps. list_any (λ p. overlap a 4 (address_of shape p) 16) ps) (leased_where_restored shape v follows.restored)
-      ∙ any_filtered (λ p. overlap a 4 (address_of shape p) 16) v.given (range_with_len (floor_number v) (place_count shape))
+      ≡ list_any (λ p. is_handed_over v p && overlap a 4 (address_of shape p) 16) (range_with_len (floor_number v) (place_count shape))
+  unfolding leased_positions due_positions
+  positions_are = any_filtered (λ p. overlap a 4 (address_of shape p) 16) (is_handed_over v) (range_with_len (floor_number v) (place_count shape))
 
   crossings_are : list_any (λ q. overlap a 4 (link_address shape q) 16) (leased_crossings shape v)
       ≡ list_any (λ q. (is_crossing shape q && v.crossed q) && overlap a 4 (link_address shape q) 16) (range_with_len (floor_number v) (place_count shape + 1))
@@ -68,9 +56,9 @@ module _ (shape : Shape) (v : RingView) (r : RingRecord) (follows : FollowsMarks
   no_positions : ((j w : ℕ) → place_at shape a ≡ Some (AtData j w) → ⊥) → list_any (λ p. overlap a 4 (address_of shape p) 16) (leased_positions shape v) ≡ false
   no_positions never =
       positions_are
-      ∙ any_none (λ p. v.given p && overlap a 4 (address_of shape p) 16) (floor_number v) (place_count shape)
-      (λ p low high. false_unless (v.given p && overlap a 4 (address_of shape p) 16)
-      (λ h. never (p % place_count shape) (a % 16 / 4) (of_place p (and_parts (v.given p) (overlap a 4 (address_of shape p) 16) h).1)))
+      ∙ any_none (λ p. is_handed_over v p && overlap a 4 (address_of shape p) 16) (floor_number v) (place_count shape)
+      (λ p low high. false_unless (is_handed_over v p && overlap a 4 (address_of shape p) 16)
+      (λ h. never (p % place_count shape) (a % 16 / 4) (of_place p (and_parts (is_handed_over v p) (overlap a 4 (address_of shape p) 16) h).1)))
 
   no_crossings : ((j w : ℕ) → place_at shape a ≡ Some (AtLink j w) → ⊥) → list_any (λ q. overlap a 4 (link_address shape q) 16) (leased_crossings shape v) ≡ false
   no_crossings never =
@@ -82,34 +70,49 @@ module _ (shape : Shape) (v : RingView) (r : RingRecord) (follows : FollowsMarks
       let found = crossed_link shape q (and_parts (is_crossing shape q) (v.crossed q) parts.0).0 in
       never found.0 (a % 16 / 4) (of_link q found.0 found.1 parts.1)))
 
-  -- at a word of a data place: its mark
-  pub owned_data : (i w : ℕ) → place_at shape a ≡ Some (AtData i w) → get_or r.given.items i false
+  -- the words of a data place are its due position's
+  owned_due : (i w p : ℕ) → place_at shape a ≡ Some (AtData i w) → IsDue (floor_number v) (place_count shape) i p → is_handed_over v p
       ≡ (list_any (λ p. overlap a 4 (address_of shape p) 16) (leased_positions shape v) || list_any (λ q. overlap a 4 (link_address shape q) 16) (leased_crossings shape v))
-  owned_data i w at =
+  owned_due i w p at due =
       let where_ = place_at-Data shape follows.allowed a i w at in
-      let found = due_number (floor_number v) (place_count shape) i where_.0 in
-      let p : ℕ = found.0 in
-      let due : IsDue (floor_number v) (place_count shape) i p = found.1 in
       let same = address_of-mod shape follows.allowed p in
       let rest = ap (λ n. address_of shape n) due.rest_is in
       let here : overlap a 4 (address_of shape p) 16 ≡ true =
       and_from (nat_lt a (address_of shape p + 16)) (nat_lt (address_of shape p) (a + 4)) (lt-ltb a (address_of shape p + 16) (omega (arith, where_.1, where_.2))) (lt-ltb (address_of shape p) (a + 4) (omega (arith, where_.2))) in
-      let given : v.given p ≡ get_or r.given.items i false =
-      follows.given p ∙ noted_due (floor_number v) (place_count shape) r.given.items (p % place_count shape) p due.from due.within ∙ ap (λ n. get_or r.given.items n false) due.rest_is in
-      let only : list_any (λ n. overlap a 4 (address_of shape n) 16) (leased_positions shape v) ≡ get_or r.given.items i false =
+      let only : list_any (λ n. overlap a 4 (address_of shape n) 16) (leased_positions shape v) ≡ is_handed_over v p =
       positions_are
-      ∙ any_only (λ n. v.given n && overlap a 4 (address_of shape n) 16) (floor_number v) (place_count shape) p due.from due.within
-      (λ n low high other. false_unless (v.given n && overlap a 4 (address_of shape n) 16)
+      ∙ any_only (λ n. is_handed_over v n && overlap a 4 (address_of shape n) 16) (floor_number v) (place_count shape) p due.from due.within
+      (λ n low high other. false_unless (is_handed_over v n && overlap a 4 (address_of shape n) 16)
       (λ h. other (same_due (floor_number v) (place_count shape) n p (place_count_pos shape follows.allowed) low high due.from due.within
-      (data_is (n % place_count shape) (a % 16 / 4) i w (sym (of_place n (and_parts (v.given n) (overlap a 4 (address_of shape n) 16) h).1) ∙ at) ∙ sym due.rest_is))))
-      ∙ ap (λ b. v.given p && b) here ∙ and_true (v.given p) ∙ given in
+      (data_is (n % place_count shape) (a % 16 / 4) i w (sym (of_place n (and_parts (is_handed_over v n) (overlap a 4 (address_of shape n) 16) h).1) ∙ at) ∙ sym due.rest_is))))
+      ∙ ap (λ b. is_handed_over v p && b) here ∙ and_true (is_handed_over v p) in
       let none = no_crossings (λ j u e. data_no_link i w j u (sym at ∙ e)) in
       sym (ap (λ b. b || list_any (λ q. overlap a 4 (link_address shape q) 16) (leased_crossings shape v)) only
-      ∙ ap (λ b. get_or r.given.items i false || b) none ∙ or_false (get_or r.given.items i false))
+      ∙ ap (λ b. is_handed_over v p || b) none ∙ or_false (is_handed_over v p))
     where
       and_true : (b : Bool) → (b && true) ≡ b
       and_true true = refl
       and_true false = refl
+
+  -- it is given as its place's mark says
+  given_here : (i p : ℕ) → IsDue (floor_number v) (place_count shape) i p → v.given p ≡ get_or r.given.items i false
+  given_here i p due =
+      follows.given p ∙ noted_due (floor_number v) (place_count shape) r.given.items (p % place_count shape) p due.from due.within ∙ ap (λ n. get_or r.given.items n false) due.rest_is
+
+  -- where its mark is set, they are owned unless it is free
+  pub owned_data : (i w : ℕ) (kept : Bool) → place_at shape a ≡ Some (AtData i w) → get_or r.given.items i false ≡ true →
+      ((p : ℕ) → IsDue (floor_number v) (place_count shape) i p → kept ≡ not (contains nat_cmp r.free p)) → kept
+      ≡ (list_any (λ p. overlap a 4 (address_of shape p) 16) (leased_positions shape v) || list_any (λ q. overlap a 4 (link_address shape q) 16) (leased_crossings shape v))
+  owned_data i w kept at marked is =
+      let found = due_number (floor_number v) (place_count shape) i (place_at-Data shape follows.allowed a i w at).0 in
+      is found.0 found.1 ∙ sym (ap (λ b. b && not (v.free found.0)) (given_here i found.0 found.1 ∙ marked) ∙ ap not (follows.free found.0)) ∙ owned_due i w found.0 at found.1
+
+  -- else they aren't
+  pub unowned_data : (i w : ℕ) → place_at shape a ≡ Some (AtData i w) → get_or r.given.items i false ≡ false → false
+      ≡ (list_any (λ p. overlap a 4 (address_of shape p) 16) (leased_positions shape v) || list_any (λ q. overlap a 4 (link_address shape q) 16) (leased_crossings shape v))
+  unowned_data i w at clear =
+      let found = due_number (floor_number v) (place_count shape) i (place_at-Data shape follows.allowed a i w at).0 in
+      sym (ap (λ b. b && not (v.free found.0)) (given_here i found.0 found.1 ∙ clear)) ∙ owned_due i w found.0 at found.1
 
   -- at a word of a Link: its mark
   pub owned_link : (j w : ℕ) → place_at shape a ≡ Some (AtLink j w) → get_or r.crossed.items j false

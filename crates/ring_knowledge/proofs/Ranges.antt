@@ -1,5 +1,5 @@
 -- Tests over a run of numbers of which at most one passes
-use Rattle.ring_knowledge.proofs.Words.{◌≡◌, ◌≢◌, ◌+◌, ◌<◌, ◌≤◌, ◌∷◌, ◌∙◌, ◌||◌, ◌&&◌, ℕ, suc, zero, [], Bool, true, false, refl, ap, sym, arith, inl, inr, cond, filter, range_with_len, list_any, list_all, cases_eq}
+use Rattle.ring_knowledge.proofs.Words.{◌≡◌, ◌≢◌, ◌+◌, ◌<◌, ◌≤◌, ◌∷◌, ◌∙◌, ◌||◌, ◌&&◌, ℕ, suc, zero, List, [], Bool, true, false, refl, ap, sym, arith, inl, inr, cond, filter, range_with_len, list_any, list_all, cases_eq}
 
 -- no number passes
 pub any_none : (f : ℕ → Bool) (a n : ℕ) → ((p : ℕ) → a ≤ p → p < a + n → f p ≡ false) → list_any f (range_with_len a n) ≡ false
@@ -70,3 +70,45 @@ all_each f a (suc n) h p l u =
     and_right : (x y : Bool) → (x && y) ≡ true → y ≡ true
     and_right true y e = e
     and_right false y e = absurd (cc)
+
+-- where none passes, each number doesn't
+pub none_each : (f : ℕ → Bool) (a n : ℕ) → list_any f (range_with_len a n) ≡ false → (p : ℕ) → a ≤ p → p < a + n → f p ≡ false
+none_each f a zero h p l u = absurd (omega arith)
+none_each f a (suc n) h p l u =
+    let parts = or_parts (f a) (list_any f (range_with_len (a + 1) n)) h in
+    elim (cases_eq a p) [
+      | inl same ↦ ap f (sym same) ∙ parts.0
+      | inr other ↦ none_each f (a + 1) n parts.1 p (omega arith) (omega arith)
+    ]
+  where
+    or_parts : (x y : Bool) → (x || y) ≡ false → (x ≡ false) × (y ≡ false)
+    or_parts false y e = (refl, e)
+    or_parts true y e = absurd (cc)
+
+-- a test of what passes another test
+pub any_filtered : (f g : ℕ → Bool) (xs : List ℕ) → list_any f (filter g xs) ≡ list_any (λ x. g x && f x) xs
+any_filtered f g [] = refl
+any_filtered f g (x ∷ xs) = by_test (g x) (any_filtered f g xs)
+  where
+    by_test : (b : Bool) → list_any f (filter g xs) ≡ list_any (λ y. g y && f y) xs →
+        list_any f (cond b (x ∷ filter g xs) (filter g xs)) ≡ ((b && f x) || list_any (λ y. g y && f y) xs)
+    by_test true e = ap (λ c. f x || c) e
+    by_test false e = e
+
+-- a number passes
+pub any_at : (f : ℕ → Bool) (a n p : ℕ) → a ≤ p → p < a + n → f p ≡ true → list_any f (range_with_len a n) ≡ true
+any_at f a zero p l u h = absurd (omega arith)
+any_at f a (suc n) p l u h =
+    elim (cases_eq a p) [
+      | inl same ↦ ap (λ b. b || list_any f (range_with_len (a + 1) n)) (ap f same ∙ h)
+      | inr other ↦ ap (λ b. f a || b) (any_at f (a + 1) n p (omega arith) (omega arith) h) ∙ or_true (f a)
+    ]
+  where
+    or_true : (b : Bool) → (b || true) ≡ true
+    or_true true = refl
+    or_true false = refl
+
+-- tests that say the same
+pub any_same : (f g : ℕ → Bool) (xs : List ℕ) → ((p : ℕ) → f p ≡ g p) → list_any f xs ≡ list_any g xs
+any_same f g [] same = refl
+any_same f g (x ∷ xs) same = ap (λ b. b || list_any f xs) (same x) ∙ ap (λ b. g x || b) (any_same f g xs same)

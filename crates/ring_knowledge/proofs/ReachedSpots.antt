@@ -1,5 +1,5 @@
 -- A record whose floor has moved on: the marks of what the controller has passed are cleared
-use Rattle.ring_knowledge.proofs.Words.{◌≡◌, ◌+◌, ◌-◌, ◌%◌, ◌<◌, ◌≤◌, ◌∙◌, ◌&&◌, ◌||◌, ℕ, List, Bool, true, false, Some, ap, sym, arith, inl, inr, length, not, max, cases_lt, cases_Bool, and_parts, false≢true, add-mod_right, Spot, Data, Link, Shape, place_count, link_crossed, is_crossing, number, RingView, Reaches, changed, floor_number, is_way_given, is_reached, are_given, are_ways_given, link_of, place_count_pos, crossed_link, crossing_positive, is_crossing-from, link_crossed-lap, RingRecord, AreCleared, is_noted, FollowsMarks, least_crossing}
+use Rattle.ring_knowledge.proofs.Words.{◌≡◌, ◌+◌, ◌-◌, ◌%◌, ◌<◌, ◌≤◌, ◌∙◌, ◌&&◌, ◌||◌, ℕ, List, Bool, true, false, Some, ap, sym, arith, inl, inr, length, not, max, cases_lt, cases_Bool, and_parts, false≢true, add-mod_right, Spot, Data, Link, Shape, place_count, link_crossed, is_crossing, number, RingView, Reaches, changed, floor_number, is_way_given, is_reached, are_given, are_ways_given, link_of, place_count_pos, crossed_link, crossing_positive, is_crossing-from, link_crossed-lap, RingRecord, AreCleared, is_noted, FollowsMarks, least_crossing, contains, nat_cmp}
 use Rattle.ring_knowledge.proofs.Ranges.{all_each}
 use Rattle.ring_knowledge.proofs.Noted.{noted_below, noted_due, noted_past}
 use Rattle.ring_knowledge.proofs.DueNumbers.{same_due, same_due_crossing, link_of-crossed}
@@ -32,6 +32,8 @@ pub record HasFloor (r n : RingRecord) (spot : Spot) : Type 0 where
   pub lengths : n.lengths.items ≡ r.lengths.items
   pub floor : n.floor ≡ spot
   pub held : n.held ≡ r.held
+  pub withdrawn : n.withdrawn ≡ r.withdrawn
+  pub free : n.free ≡ r.free
 
 module _ (shape : Shape) (v : RingView) (r : RingRecord) (follows : FollowsMarks shape v r) (spot : Spot) (later : floor_number v ≤ number spot) (reached : is_reached shape v spot ≡ true) where
   -- a position's note with the new floor and marks
@@ -130,5 +132,8 @@ module _ (shape : Shape) (v : RingView) (r : RingRecord) (follows : FollowsMarks
     given = given_now n.given.items given;
     segments = omega (arith, follows.segments, crossed.as_many);
     crossed = crossed_now n.crossed.items crossed;
-    restored = follows.restored;
+    withdrawn = λ p. follows.withdrawn p ∙ ap (λ s. contains nat_cmp s p) (sym has.withdrawn);
+    free = λ p. follows.free p ∙ ap (λ s. contains nat_cmp s p) (sym has.free);
+    free_withdrawn = follows.free_withdrawn;
+    free_given = follows.free_given;
   }

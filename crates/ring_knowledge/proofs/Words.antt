@@ -13,7 +13,7 @@ pub use Rattle.ring_knowledge.specs.declared.ring_record.RingRecord.{RingRecord}
 pub use Rattle.segments.proofs.Blocks.{before, before-next, segment_at}
 pub use Rattle.segments.proofs.Crossings.{Crosses, crossed_link, crosses, crosses-from, crossing_positive, end_in_lap, end_is, is_crossing-from, link_address_is, link_crossed-lap, same_crossing, same_crossing_at}
 pub use Rattle.segments.proofs.DataPlaces.{block_is, link_aligned, link_is}
-pub use Rattle.segments.proofs.DueLists.{crossing_given, crossing_given_is, leased_where_restored, position_given, position_given_is}
+pub use Rattle.segments.proofs.DueLists.{crossing_given, crossing_given_is, position_given, position_given_is}
 pub use Rattle.segments.proofs.GivenCount.{given_below}
 pub use Rattle.segments.proofs.Giving.{gives_is}
 pub use Rattle.segments.proofs.MoveTargets.{between}
@@ -23,8 +23,8 @@ pub use Rattle.segments.proofs.PlaceAtLemmas.{place_at-Data, place_at-Link, plac
 pub use Rattle.segments.proofs.Positions.{address_aligned, address_of-first, address_of-mod, place_below, place_count_pos, same_in_lap, same_position}
 pub use Rattle.segments.proofs.Search.{cases_option}
 pub use Rattle.segments.proofs.SpotOrder.{after_is, data_not_link, rank_least, rank_most, same_spot}
-pub use Rattle.segments.proofs.Words.{All-head, All-tail, All-weaker, Block, Cmd, Declares, Evt, Holds, IsShape, IsSpot, Opens, Reaches, RingKind, RingView, Shape, Writes, Xfer, add-mod_right, address_of, after, and_from, and_parts, cases_Bool, cases_eq, cases_lt, changed, cond-false, cond-true, cycle_of, data_count, data_places, declared, div-add-mod', ends, false_from_ne_true, false≢true, flat_map, floor_number, gives, gives_crossing, is_crossing, is_crossing_due, is_due, is_spot, length-map, link_address, link_crossed, links, links_of, list_all, list_any, mod-lt, mod-mul-add, named_spot, nat_tests, new_ring, none-some, number, or_cases, or_left, or_right, overlap, place_at, place_count, range_with_len, rank, spot_address, spot_cycle, sum_by-cons}
-unfoldable pub use Rattle.segments.proofs.Words.{are_given, are_ways_given, ceiling, crossings_given, descriptor_length, due_crossings, due_positions, first_not_given, given_count, has_no_room, is_border, is_move, is_not_whole, is_reached, is_step_given, is_stop_spot, is_target, is_way_given, leased_crossings, leased_positions, length_from, link_of, may_move_to, named, positions_given, spots_between, stopped_number, target}
+pub use Rattle.segments.proofs.Words.{All-head, All-tail, All-weaker, Block, Cmd, Declares, Evt, Holds, Restores, Withdraws, no_op, is_in, IsShape, IsSpot, Opens, Reaches, RingKind, RingView, Shape, Writes, Xfer, add-mod_right, address_of, after, and_from, and_parts, cases_Bool, cases_eq, cases_lt, changed, cond-false, cond-true, cycle_of, data_count, data_places, declared, div-add-mod', ends, false_from_ne_true, false≢true, flat_map, floor_number, gives, gives_crossing, is_crossing, is_crossing_due, is_due, is_handed_over, is_spot, length-map, link_address, link_crossed, links, links_of, list_all, list_any, mod-lt, mod-mul-add, named_spot, nat_tests, new_ring, none-some, number, or_cases, or_left, or_right, overlap, place_at, place_count, range_with_len, rank, spot_address, spot_cycle, sum_by-cons}
+unfoldable pub use Rattle.segments.proofs.Words.{no_ops, split_at, are_given, are_ways_given, ceiling, crossings_given, descriptor_length, due_crossings, due_positions, first_not_given, given_count, has_no_room, is_border, is_move, is_not_whole, is_not_restored, is_declared_as, flips_passed, unrestored, is_reached, is_step_given, is_stop_spot, is_target, is_way_given, leased_crossings, leased_positions, length_from, link_of, may_move_to, named, positions_given, spots_between, stopped_number, target}
 unfoldable pub use Rattle.segments.specs.Ceiling.{is_open}
 pub use Rattle.segments.specs.declared.place.Place.{Place}
 pub use Rattle.segments.specs.declared.place.Place.TheVariants.{Data as AtData, Link as AtLink}
@@ -35,6 +35,9 @@ pub use Rattle.std.proofs.Common.{All, Bool, Contains, IfSome, List, None, Optio
 pub use Rattle.std.proofs.Math.ListN.{length-set}
 pub use Rattle.std.proofs.lemmas.Bool.{eqb-false, lt-leb}
 pub use Rattle.std.proofs.lemmas.Grind.{common_steps}
+pub use Rattle.std.specs.BTreeSet.{contains}
+pub use Rattle.std.specs.BTreeMap.{is_at}
+pub use Rattle.std.specs.Ordering.{nat_cmp}
 pub use Rattle.std.specs.Prelude.{unwrap_or}
 pub use Rattle.traces.specs.Register.{ordinal, reset_bit, run_bit, with_register}
 pub use Rattle.traces.specs.declared.header.Header.{Header}

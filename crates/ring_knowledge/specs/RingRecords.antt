@@ -1,9 +1,10 @@
 -- What a record of one command or transfer ring holds, in terms of what is known of the ring
 use Rattle.std.specs.Prelude.{◌≡◌, ℕ, ◌+◌, ◌<◌, ◌≤◌, ◌%◌, ◌==◌, ◌&&◌, Bool, true, false, List, [], ◌∷◌, length, slice_index, sum, max, Option, Some, None}
+use Rattle.std.specs.BTreeSet.{contains}
+use Rattle.std.specs.Ordering.{nat_cmp}
 use Rattle.segments.specs.Shape.{IsShape}
 use Rattle.segments.specs.ShapeValue.{Shape}
 use Rattle.segments.specs.Places.{place_count, links, is_crossing}
-use Rattle.segments.specs.RingKeeps.{IsRestored}
 use Rattle.segments.specs.RingView.{RingView, floor_number}
 use Rattle.segments.specs.Ceiling.{is_step_given}
 use Rattle.segments.specs.Descriptors.{length_from}
@@ -38,7 +39,7 @@ ArePositive (n ∷ ns) = (0 < n) × ArePositive ns
 abbrev pub least_crossing : RingView → ℕ
 least_crossing v = max (floor_number v) 1
 
--- the record holds what is declared and given, the floor, and where the ring is held; nothing of the ring is free
+-- the record holds what is declared, given and withdrawn, the floor, and where the ring is held
 pub record FollowsMarks (shape : Shape) (v : RingView) (r : RingRecord) : Type 0 where
   pub allowed : IsShape shape
   pub queue : v.queue ≡ r.blocks.items
@@ -56,7 +57,11 @@ pub record FollowsMarks (shape : Shape) (v : RingView) (r : RingRecord) : Type 0
   pub given : (p : ℕ) → v.given p ≡ is_noted (floor_number v) (place_count shape) r.given.items (p % place_count shape) p
   pub segments : length (links shape) ≤ length r.crossed.items
   pub crossed : (q : ℕ) → v.crossed q ≡ (is_crossing shape q && is_noted (least_crossing v) (place_count shape) r.crossed.items (link_of shape q) q)
-  pub restored : IsRestored v
+  -- what was withdrawn, and what of it is free: it was given
+  pub withdrawn : (p : ℕ) → v.withdrawn p ≡ contains nat_cmp r.withdrawn p
+  pub free : (p : ℕ) → v.free p ≡ contains nat_cmp r.free p
+  pub free_withdrawn : (p : ℕ) → v.free p ≡ true → v.withdrawn p ≡ true
+  pub free_given : (p : ℕ) → v.free p ≡ true → v.given p ≡ true
 
 -- the record holds what is known of the ring: also how much is given without a gap
 pub record FollowsRing (shape : Shape) (v : RingView) (r : RingRecord) : Type 0 where

@@ -14,11 +14,13 @@ ghost use Rattle.ring_knowledge.specs.Marks.{AreCleared, is_noted};
 mod changes;
 mod moves;
 mod spots;
+mod withdrawals;
 
 use guest_memory::Addr;
 pub use moves::is_data_below;
 use segments::{Place, RingShape, Spot};
 use std::alloc::{AllocError, Global};
+use std::collections::BTreeSet;
 use trb::Block;
 
 /// What a write gives of one ring (xHCI 4.9.2).
@@ -51,6 +53,10 @@ pub struct RingRecord {
     given: Vec<bool>,
     /// By segment: the due crossing of its Link is given.
     crossed: Vec<bool>,
+    /// The positions that hold a No Op in place of a block that was withdrawn.
+    withdrawn: BTreeSet<u64>,
+    /// Those of them that were given before and aren't restored yet: their words are the driver's.
+    free: BTreeSet<u64>,
     floor: Spot,
     held: Option<u64>,
     /// The least number at which the position, or the crossing to it, isn't given.
@@ -72,6 +78,8 @@ impl RingRecord {
             lengths: Vec::new(alloc),
             given: vec![in alloc; false; places]?,
             crossed: vec![in alloc; false; segments]?,
+            withdrawn: BTreeSet::new(alloc),
+            free: BTreeSet::new(alloc),
             floor: Spot::Data(0),
             held: Some(0),
             count: 0,
@@ -148,7 +156,7 @@ impl RingRecord {
             Some(Place::Data { place, word: index }) => {
                 if is_marked(&self.given, place as usize) {
                     return WordStanding {
-                        is_lent: true,
+                        is_lent: self.is_kept(shape, place),
                         giving: None,
                     };
                 }

@@ -5,4 +5,11 @@ pub mod OpenBehind
 pub mod LentBehind
 pub mod WithinALap
 pub mod HeldBehind
+pub mod Filtered
+pub mod OpenFree
+pub mod TwoSteps
+pub mod LentFree
+pub mod MovingRings
+pub mod FoundFree
+pub mod FreeRows
 pub mod Examples

@@ -7,11 +7,11 @@ use Rattle.segments.specs.Places.{is_crossing}
 use Rattle.ownership_rules.specs.OpenLeases.{Leased, Block, Link}
 use Rattle.ring_leases.specs.RingLents.{is_of_ring}
 
-filter_none : {X : Type 0} (p : X → Bool) (xs : List X) → ((x : X) → p x ≡ false) → filter p xs ≡ []
+pub filter_none : {X : Type 0} (p : X → Bool) (xs : List X) → ((x : X) → p x ≡ false) → filter p xs ≡ []
 filter_none p [] none = refl
 filter_none p (x ∷ xs) none = rw (none x) (filter_none p xs none)
 
-filter_all : {X : Type 0} (p : X → Bool) (xs : List X) → ((x : X) → IsIn x xs → p x ≡ true) → filter p xs ≡ xs
+pub filter_all : {X : Type 0} (p : X → Bool) (xs : List X) → ((x : X) → IsIn x xs → p x ≡ true) → filter p xs ≡ xs
 filter_all p [] all = refl
 filter_all p (x ∷ xs) all = rw (all x (inl refl)) (ap (λ l. x ∷ l) (filter_all p xs (λ y at. all y (inr at))))
 

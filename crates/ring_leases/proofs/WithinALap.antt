@@ -56,7 +56,7 @@ module _ (h : Header) (k : Known) (id : ℕ) where
       ]
 
 -- each ring has the shape of its ID
-among : (q : Ring) (rs : List Ring) → IsIn q rs → IsAmong q rs
+pub among : (q : Ring) (rs : List Ring) → IsIn q rs → IsAmong q rs
 among q [] at = absurd at
 among q (x ∷ rest) at = elim at [ inl here ↦ inl (sym here) | inr later ↦ inr (among q rest later) ]
 

@@ -1,1 +1,2 @@
 pub mod RingLents
+pub mod Moving

@@ -1,6 +1,7 @@
--- The leases of a history in which rings come and go: at each row those begin that are newly open behind it, and those end that aren't open
--- any more, by the rings that are there before the row and behind it
-use Rattle.std.specs.Prelude.{ℕ, ◌+◌, ◌==◌, Bool, false, List, [], ◌∷◌, length}
+-- The leases of a history in which rings come and go, and descriptors are withdrawn: at each row those begin that are newly open behind it, and
+-- those end that aren't open any more, by the rings that are there before the row and behind it
+use Rattle.std.specs.Prelude.{ℕ, ◌+◌, ◌==◌, ◌&&◌, Bool, false, List, [], ◌∷◌, length}
+use Rattle.segments.specs.Places.{is_in}
 use Rattle.traces.specs.declared.header.Header.{Header}
 use Rattle.ownership_rules.specs.OpenLeases.{Leased, Block, Link, Range, open_leases}
 use Rattle.lease_book.specs.Lents.{Lent, in_turn, passed_on, with_begun}
@@ -12,6 +13,18 @@ abbrev pub is_of_ring : ℕ → Leased → Bool
 is_of_ring r (Block s p) = s == r
 is_of_ring r (Link s q) = s == r
 is_of_ring r (Range n a e) = false
+
+-- the lease of one of the n blocks of a ring from a position on
+abbrev pub is_withdrawn : ℕ → ℕ → ℕ → Leased → Bool
+is_withdrawn r p n (Block s q) = s == r && is_in q p n
+is_withdrawn r p n (Link s q) = false
+is_withdrawn r p n (Range m a e) = false
+
+-- the lease of a block of a ring whose words were the driver's
+abbrev pub is_freed : (ℕ → Bool) → ℕ → Leased → Bool
+is_freed free r (Block s p) = s == r && free p
+is_freed free r (Link s q) = false
+is_freed free r (Range m a e) = false
 
 module _ (h : Header) where
   -- the leases that are open behind the rows so far, the newest first

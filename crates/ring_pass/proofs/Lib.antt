@@ -3,5 +3,7 @@ pub mod Verdicts
 pub mod Histories
 pub mod Steps
 pub mod Logged
+pub mod Walks
+pub mod RowsTaken
 pub mod RowsFit
 pub mod RowsRead

@@ -1,6 +1,6 @@
 -- How far the rows of a trace were read and passed, between which rings come and go, and what that says of the whole text
 use Rattle.std.proofs.Common.{◌≡◌, ℕ, ◌+◌, ◌-◌, ◌<◌, ◌≤◌, List, [], ◌∷◌, ◌++◌, ◌∙◌, true, false, Option, Some, None, Result, Ok, Err, All, refl, ap, sym, subst, arith, length, append-nil, append_assoc, add-zero}
-use Rattle.std.specs.Prelude.{reverse}
+use Rattle.std.specs.Prelude.{IfErr, IfOk, reverse}
 use Rattle.safety.proofs.Words.{All-cons, All-nil}
 use Rattle.traces.specs.Limits.{most_lines}
 use Rattle.traces.specs.declared.header.Header.{Header}
@@ -23,12 +23,15 @@ use Rattle.ring_changes.specs.Histories.{FitsFields, header_now, known_now}
 use Rattle.ring_leases.specs.RingLents.{ring_lents}
 use Rattle.ring_pass.specs.Clean.{IsLeastOfRow}
 use Rattle.ring_pass.specs.Passing.{DoNoHarm, IsRingLogged, IsRingPassed}
-use Rattle.ring_pass.specs.Reading.{Begins, IsWholeLog, OfRingTrace, with_rows}
+use Rattle.ring_pass.specs.Reading.{Begins, IfRefusedRow, IsWholeLog, OfTrace, with_rows}
 use Rattle.ring_pass.specs.RingRows.{at_line, ring_row}
 use Rattle.ring_pass.specs.Rules.{ring_verdict}
 use Rattle.ring_pass.specs.declared.pass.RingPass.{RingPass}
+use Rattle.ring_pass.specs.declared.reading.Passed.{Passed}
+use Rattle.ring_pass.specs.declared.reading.Passed.TheVariants.{Whole, Refused}
 use Rattle.ring_pass.proofs.RowsFit.{row_fits}
-use Rattle.ring_pass.proofs.Verdicts.{one_more, reversed_more, reversed_twice, row_refused}
+use Rattle.ring_pass.proofs.Verdicts.{none_refused, one_more, reversed_more, reversed_twice, row_refused}
+use Rattle.ring_pass.proofs.Walks.{walks}
 
 -- a call between two readers answered so
 abbrev pub Gives : Option (List ℕ) → Option (List ℕ) → RowReader → RowReader → Result (Option (ℕ × TraceRow)) StreamFault → Type 0
@@ -74,6 +77,16 @@ taken number (Err fault) row is = cc is
 untaken : (number : ℕ) (o : Result TraceRow LineFault) (e : StreamFault) → Err e ≡ at_line number o → (fault : LineFault) × (e ≡ Line number fault) × (o ≡ Err fault)
 untaken number (Ok row) e is = cc is
 untaken number (Err fault) e is = (fault, cc is, refl)
+
+-- what a pass comes to that ends at a row
+pub ended_refused : {B : Type 0} (r : Result (Passed B) StreamFault) (P Q : ℕ → Refusal → Type 0) → ((row : ℕ) (c : Refusal) → P row c → Q row c) → IfOk r (λ p. IfRefusedRow p P) → IfOk r (λ p. IfRefusedRow p Q)
+ended_refused (Ok (Whole log)) P Q f so = tt
+ended_refused (Ok (Refused row c)) P Q f so = f row c so
+ended_refused (Err e) P Q f so = tt
+
+pub ended_bad : {B : Type 0} (r : Result (Passed B) StreamFault) (P Q : ℕ → LineFault → Type 0) → ((e : StreamFault) → IfBadLine e P → IfBadLine e Q) → IfErr r (λ e. IfBadLine e P) → IfErr r (λ e. IfBadLine e Q)
+ended_bad (Ok passed) P Q f so = tt
+ended_bad (Err e) P Q f so = f e so
 
 -- so many rows were read and passed
 pub record IsUnderway {B M : Type 0} (words : M → ℕ → ℕ) (holds : List Lease → Header → List Lent → B → Type 0) (start : RowReader) (held held' : Option (List ℕ)) (log : B) (reader : RowReader)
@@ -138,7 +151,7 @@ module _ {B M : Type 0} (words : M → ℕ → ℕ) (holds : List Lease → Head
       pub refused_so : (last : Option (List ℕ)) (c : Refusal) → ((h : Header) (past : List TraceRow) → IsRingPassed words h past pass → IsLeastOfRow (header_now h past) (known_now h past) one c) →
           ((before : Option (List ℕ)) (first : ℕ) (done : List TraceRow) → HasRead ring_row before held'' first done r' →
           (more : List TraceRow) × OfStream before last (λ text. text_taken ring_row text ≡ Ok (with_rows r' first (done ++ more)))) →
-          (before : Option (List ℕ)) → IsOpened before held (Ok start) → OfRingTrace before last (λ trace. ring_verdict trace.header trace.first trace.rows ≡ Some (row.0, c))
+          (before : Option (List ℕ)) → IsOpened before held (Ok start) → OfTrace before last (λ trace. ring_verdict trace.header trace.first trace.rows ≡ Some (row.0, c))
       refused_so last c least rest before opened =
           let first = start.lines + 1 in
           let read = rest before first (reverse (one ∷ u.past)) (read_so before opened) in
@@ -177,14 +190,15 @@ module _ {B M : Type 0} (words : M → ℕ → ℕ) (holds : List Lease → Head
     pub whole_so : IsOver held' held'' r r' → (r.ended ≡ true → held'' ≡ held') →
         (kept : B) → ((h : Header) (past : List TraceRow) → IsRingPassed words h past pass → All FitsFields past → DoNoHarm h (reverse past)) →
         ((list : List Lease) (h : Header) (first : ℕ) (past : List TraceRow) → IsRingLogged (holds list) h first past pass → holds list (header_now h past) (ring_lents h first past) kept) →
-        (before : Option (List ℕ)) (list : List Lease) → IsOpened before held (Ok start) → Begins (holds list) start log → OfRingTrace before held'' (λ trace. IsWholeLog (holds list) trace kept)
+        (before : Option (List ℕ)) (list : List Lease) → IsOpened before held (Ok start) → Begins (holds list) start log → OfTrace before held'' (λ trace. IsWholeLog (holds list) trace kept)
     whole_so last still kept harmless keeps before list opened begins =
         let first = start.lines + 1 in (
           with_rows start first (reverse u.past),
           subst (λ (h : Header). OfStream before held'' (λ text. text_taken ring_row text ≡ Ok (record { header = h; first = first; rows = reverse u.past }))) u.headed
               (end_read ring_row before held' held'' first (reverse u.past) r r' last.headed (u.read before opened) last.over last.call still),
           record {
-            clean = rw (reversed_twice u.past) u.passed.clean;
+            verdict = none_refused start.header first u.past u.passed.clean;
+            walk = walks start.header u.passed.opening u.past u.fitting u.passed.clean;
             harmless = harmless start.header u.past u.passed u.fitting;
             kept = rw (reversed_twice u.past) (keeps list start.header first u.past (u.logged list begins));
           },

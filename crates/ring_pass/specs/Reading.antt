@@ -1,32 +1,40 @@
 -- What a pass over the rows of a trace comes to, between which rings come and go
-use Rattle.std.specs.Prelude.{◌≡◌, ℕ, List, [], Option, Ok, reverse}
+use Rattle.std.specs.Prelude.{◌≡◌, ℕ, List, [], Option, None, Ok, reverse}
 use Rattle.traces.specs.declared.header.Header.{Header}
 use Rattle.traces.specs.declared.trace_row.TraceRow.{TraceRow}
 use Rattle.trace_reader.specs.DriverRows.{text_taken}
 use Rattle.trace_reader.specs.Reading.{TraceText}
-use Rattle.row_reader.specs.Streams.{OfStream}
+use Rattle.trace_reader.specs.declared.fault.LineFault.{LineFault}
+use Rattle.row_reader.specs.Streams.{IsBadTaken, OfStream}
 use Rattle.row_reader.specs.declared.reader.RowReader.{RowReader}
 use Rattle.ownership_rules.specs.declared.refusal.Refusal.{Refusal}
 use Rattle.lease_book.specs.Lents.{Lent, lents}
 use Rattle.ring_changes.specs.Histories.{header_now}
 use Rattle.ring_leases.specs.RingLents.{ring_lents}
-use Rattle.ring_pass.specs.Clean.{AreClean}
+use Rattle.ring_pass.specs.Accepted.{WalksRead}
 use Rattle.ring_pass.specs.Passing.{DoNoHarm}
 use Rattle.ring_pass.specs.RingRows.{ring_row}
+use Rattle.ring_pass.specs.Rules.{ring_verdict}
 use Rattle.ring_pass.specs.declared.reading.Passed.{Passed}
 use Rattle.ring_pass.specs.declared.reading.Passed.TheVariants.{Whole, Refused}
 
 -- so it is of a trace that this text says, in which no descriptor is withdrawn
-abbrev pub OfRingTrace : Option (List ℕ) → Option (List ℕ) → (TraceText → Type 0) → Type 0
-OfRingTrace held held' P = (trace : TraceText) × OfStream held held' (λ text. text_taken ring_row text ≡ Ok trace) × P trace
+abbrev pub OfTrace : Option (List ℕ) → Option (List ℕ) → (TraceText → Type 0) → Type 0
+OfTrace held held' P = (trace : TraceText) × OfStream held held' (λ text. text_taken ring_row text ≡ Ok trace) × P trace
+
+-- this is the first bad line of this text, and its least fault; a row by which a descriptor is withdrawn is one
+abbrev pub IsBadLine : Option (List ℕ) → Option (List ℕ) → ℕ → LineFault → Type 0
+IsBadLine held held' line fault = IsBadTaken ring_row held held' line fault
 
 -- the log keeps the leases that stand before the first row
 abbrev pub Begins : {B : Type 0} → (Header → List Lent → B → Type 0) → RowReader → B → Type 0
 Begins Holds reader log = (first : ℕ) → Holds reader.header (lents reader.header first []) log
 
--- no row of the trace breaks a rule, no run beside them does harm, and the log keeps their leases
+-- no row of the trace breaks a rule, a walk behind any of them reads what was declared, no run beside them does harm, and the log keeps their
+-- leases
 pub record IsWholeLog {B : Type 0} (Holds : Header → List Lent → B → Type 0) (trace : TraceText) (log : B) : Type 0 where
-  pub clean : AreClean trace.header (reverse trace.rows)
+  pub verdict : ring_verdict trace.header trace.first trace.rows ≡ None
+  pub walk : WalksRead trace.header trace.rows
   pub harmless : DoNoHarm trace.header trace.rows
   pub kept : Holds (header_now trace.header (reverse trace.rows)) (ring_lents trace.header trace.first (reverse trace.rows)) log
 

@@ -17,6 +17,7 @@ ghost use Rattle.ring_leases.specs.RingLents.{is_of_ring, ring_lents};
 ghost use Rattle.trace_record.specs.FollowsTrace.{FollowsTrace};
 ghost use Rattle.ring_changes.specs.Histories.{FitsFields, header_now, known_now};
 ghost use Rattle.trace_record.specs.Steps.{IfRefused};
+ghost use Rattle.trace_record.specs.WordPlaces.{IsOwnedSo, IsPlaced};
 ghost use Rattle.ring_pass.specs.Clean.{IsLeastOfRow};
 ghost use Rattle.ring_pass.specs.Passing.{DoNoHarm, IsRingLogged, IsRingPassed};
 
@@ -29,8 +30,15 @@ use ring_finder::Finder;
 use ring_leases::note_going;
 use row_checks::check_row;
 use std::alloc::{AllocError, Global};
-use trace_record::{StepFault, TraceRecord};
+use trace_record::{StepFault, TraceRecord, WordPlace};
 use traces::{Header, Ring, Row, TraceRow};
+
+/// Where the word of a row lies that writes none.
+const NOWHERE: WordPlace = WordPlace {
+    ring: None,
+    is_lent: false,
+    giving: None,
+};
 
 /// What is known after the rows so far, the rings that are there, and the log of the leases.
 #[derive(Drop)]
@@ -71,6 +79,7 @@ impl<B: LeaseLog + Drop, M: WordMemory + Drop> RingPass<B, M> {
     }
 
     /// Checks a row, and notes it and its leases. Descriptors aren't withdrawn here: a row that does breaks a rule.
+    #[inline(always)]
     pub fn row(&mut self, number: u32, row: TraceRow) -> Result<(), StepFault>
         requires so_far { (h : Header) × (past : List TraceRow) × IsRingPassed M.words h past self.old × (length past ≤ most_lines) }
         requires fits { FitsFields row }
@@ -101,6 +110,7 @@ impl<B: LeaseLog + Drop, M: WordMemory + Drop> RingPass<B, M> {
     }
 
     /// Checks what the driver did, or an event that it read, and notes it and its leases.
+    #[inline(always)]
     pub fn driver_row(&mut self, number: u32, row: &Row) -> Result<(), StepFault>
         requires so_far { (h : Header) × (past : List TraceRow) × IsRingPassed M.words h past self.old × (length past ≤ most_lines) }
         ensures passed { OnOk result ((h : Header) (past : List TraceRow) → IsRingPassed M.words h past self.old → IsRingPassed M.words h (Plain row.now ∷ past) self.new) }
@@ -110,8 +120,36 @@ impl<B: LeaseLog + Drop, M: WordMemory + Drop> RingPass<B, M> {
         ensures refused { IfErr result (λ e. IfRefused e (λ c. (h : Header) (past : List TraceRow) → IsRingPassed M.words h past self.old →
             IsLeastOfRow (header_now h past) (known_now h past) (Plain row.now) c)) }
     {
-        let place = self.record.place(&self.header, &self.finder, row);
-        let owned = self.record.owns(&self.header, &self.memory, row, place);
+        match row {
+            Row::Write { .. } => {
+                let place = self.record.place(&self.header, &self.finder, row);
+                let owned = self.record.owns(&self.header, &self.memory, row, place);
+                self.placed_row(number, row, place, owned)
+            }
+            _ => self.placed_row(number, row, NOWHERE, false),
+        }
+    }
+
+    /// The same of a row whose word lies here, and is the controller's or not. It goes inline for writes and for other rows each by itself.
+    #[inline(always)]
+    fn placed_row(
+        &mut self,
+        number: u32,
+        row: &Row,
+        place: WordPlace,
+        owned: bool,
+    ) -> Result<(), StepFault>
+        requires so_far { (h : Header) × (past : List TraceRow) × IsRingPassed M.words h past self.old × (length past ≤ most_lines) }
+        ensures passed { OnOk result ((h : Header) (past : List TraceRow) → IsRingPassed M.words h past self.old → IsPlaced self.old.header (known_now h past) row.now place →
+            IsOwnedSo self.old.header (known_now h past) row.now owned → IsRingPassed M.words h (Plain row.now ∷ past) self.new) }
+        ensures logged { OnOk result ((list : List Lease) (h : Header) (first : ℕ) (past : List TraceRow) → IsRingPassed M.words h past self.old →
+            IsPlaced self.old.header (known_now h past) row.now place → IsOwnedSo self.old.header (known_now h past) row.now owned →
+            number ≡ first + length past → first + length past < without_end →
+            IsRingLogged (B.holds list) h first past self.old → IsRingLogged (B.holds list) h first (Plain row.now ∷ past) self.new) }
+        ensures refused { IfErr result (λ e. IfRefused e (λ c. (h : Header) (past : List TraceRow) → IsRingPassed M.words h past self.old →
+            IsPlaced self.old.header (known_now h past) row.now place → IsOwnedSo self.old.header (known_now h past) row.now owned →
+            IsLeastOfRow (header_now h past) (known_now h past) (Plain row.now) c)) }
+    {
         note_row(
             &mut self.log,
             &mut self.ranges,
@@ -135,6 +173,7 @@ impl<B: LeaseLog + Drop, M: WordMemory + Drop> RingPass<B, M> {
     }
 
     /// Checks a transfer ring that comes, and takes it up. No lease begins or ends (xHCI 4.9).
+    #[inline(never)]
     pub fn ring_comes(&mut self, ring: Ring) -> Result<(), StepFault>
         requires so_far { (h : Header) × (past : List TraceRow) × IsRingPassed M.words h past self.old }
         requires transfers { ring.shape.kind ≡ Xfer }
@@ -160,6 +199,7 @@ impl<B: LeaseLog + Drop, M: WordMemory + Drop> RingPass<B, M> {
     }
 
     /// Checks a ring that goes, ends the leases of its blocks and Links, and forgets it (xHCI 4.9).
+    #[inline(never)]
     pub fn ring_goes(&mut self, number: u32, id: u8) -> Result<(), StepFault>
         requires so_far { (h : Header) × (past : List TraceRow) × IsRingPassed M.words h past self.old }
         ensures passed { OnOk result ((h : Header) (past : List TraceRow) → IsRingPassed M.words h past self.old → IsRingPassed M.words h (Goes id ∷ past) self.new) }

@@ -1,11 +1,14 @@
+ghost use Rattle.trace_record.specs.declared.fault.StepFault.TheVariants.{Refused};
 ghost use Rattle.std.specs.Prelude.{◌≡◌, ℕ, List, Option, Some, Ok, ◌++◌, IfErr, IfOk, OnOk};
 ghost use Rattle.traces.specs.declared.trace_row.TraceRow.{TraceRow};
 ghost use Rattle.ring_knowledge.specs.declared.lease.Lease.{Lease};
 ghost use Rattle.row_reader.specs.Answers.{told_failures};
 ghost use Rattle.row_reader.specs.ReaderState.{IsOpened};
-ghost use Rattle.row_reader.specs.Streams.{HasRead, IfBadLine, IsBadTaken, OfStream};
+ghost use Rattle.trace_reader.specs.declared.fault.LineFault.TheVariants.{Row as BadRow};
+ghost use Rattle.row_reader.specs.declared.fault.StreamFault.TheVariants.{Line};
+ghost use Rattle.row_reader.specs.Streams.{HasRead, IfBadLine, OfStream};
 ghost use Rattle.trace_reader.specs.DriverRows.{text_taken};
-ghost use Rattle.ring_pass.specs.Reading.{Begins, IfRefusedRow, IfWhole, IsWholeLog, OfRingTrace, with_rows};
+ghost use Rattle.ring_pass.specs.Reading.{Begins, IfRefusedRow, IfWhole, IsBadLine, IsWholeLog, OfTrace, with_rows};
 ghost use Rattle.ring_pass.specs.RingRows.{at_line, ring_row};
 ghost use Rattle.ring_pass.specs.Rules.{ring_verdict};
 
@@ -41,31 +44,62 @@ pub fn pass_rows<S: Source, B: LeaseLog + Drop, M: WordMemory + Drop>(
 ) -> Result<Passed<B>, StreamFault>
     requires zero { (a : ℕ) → M.words memory a ≡ 0 }
     ensures whole { IfOk result (λ passed. IfWhole passed (λ kept. (held : Option (List ℕ)) (list : List Lease) → IsOpened held (S.held source.old) (Ok reader) →
-        Begins (B.holds list) reader log → OfRingTrace held (S.held source.new) (λ trace. IsWholeLog (B.holds list) trace kept))) }
+        Begins (B.holds list) reader log → OfTrace held (S.held source.new) (λ trace. IsWholeLog (B.holds list) trace kept))) }
     ensures refused { IfOk result (λ passed. IfRefusedRow passed (λ row c. (held : Option (List ℕ)) → IsOpened held (S.held source.old) (Ok reader) →
-        OfRingTrace held (S.held source.new) (λ trace. ring_verdict trace.header trace.first trace.rows ≡ Some (row, c)))) }
+        OfTrace held (S.held source.new) (λ trace. ring_verdict trace.header trace.first trace.rows ≡ Some (row, c)))) }
     ensures line { IfErr result (λ e. IfBadLine e (λ line fault. (held : Option (List ℕ)) → IsOpened held (S.held source.old) (Ok reader) →
-        IsBadTaken ring_row held (S.held source.new) line fault)) }
+        IsBadLine held (S.held source.new) line fault)) }
     ensures failures { S.failed source.new ≡ told_failures (S.failed source.old) result }
 {
     let mut reader = reader;
     let header = copy_header(alloc, reader.header())?;
     let mut pass = RingPass::new(alloc, header, log, memory)?;
     while let Some((number, row)) = reader.next_row(source)? {
-        let row = ring_row_at(number, row)?;
-        match pass.row(number, row) {
-            Ok(()) => {}
-            Err(StepFault::Refused(refusal)) => {
-                read_on(&mut reader, source)?;
-                return Ok(Passed::Refused {
-                    row: number,
-                    refusal,
-                });
-            }
-            Err(StepFault::Memory) => return Err(StreamFault::Memory),
+        match row {
+            TraceRow::Plain(row) => match pass.driver_row(number, &row) {
+                Ok(()) => drop(row),
+                Err(fault) => return ended_at(&mut reader, source, number, fault),
+            },
+            TraceRow::Comes(ring) => match pass.ring_comes(ring.into_ring()) {
+                Ok(()) => {}
+                Err(fault) => return ended_at(&mut reader, source, number, fault),
+            },
+            TraceRow::Goes(id) => match pass.ring_goes(number, id) {
+                Ok(()) => {}
+                Err(fault) => return ended_at(&mut reader, source, number, fault),
+            },
+            TraceRow::Withdraws { .. } => return Err(bad_row(number)),
         }
     }
     Ok(Passed::Whole(pass.into_log()))
+}
+
+/// What a pass comes to that ends at the row with this number: it is refused, unless a line behind it is bad; or memory was wanted.
+#[inline(never)]
+fn ended_at<S: Source, B: Drop>(
+    reader: &mut RowReader,
+    source: &mut S,
+    number: u32,
+    fault: StepFault,
+) -> Result<Passed<B>, StreamFault>
+    ensures whole { IfOk result (λ passed. IfWhole passed (λ kept. ⊥)) }
+    ensures refused { IfOk result (λ passed. IfRefusedRow passed (λ row c. (row ≡ number) × (fault ≡ Refused c) ×
+        ((held : Option (List ℕ)) (first : ℕ) (done : List TraceRow) → HasRead ring_row held (S.held source.old) first done reader.old →
+        (more : List TraceRow) × OfStream held (S.held source.new) (λ text. text_taken ring_row text ≡ Ok (with_rows reader.old first (done ++ more)))))) }
+    ensures line { IfErr result (λ e. IfBadLine e (λ line fault. (held : Option (List ℕ)) (first : ℕ) (done : List TraceRow) → HasRead ring_row held (S.held source.old) first done reader.old →
+        IsBadLine held (S.held source.new) line fault)) }
+    ensures failures { S.failed source.new ≡ told_failures (S.failed source.old) result }
+{
+    match fault {
+        StepFault::Refused(refusal) => {
+            read_on(reader, source)?;
+            Ok(Passed::Refused {
+                row: number,
+                refusal,
+            })
+        }
+        StepFault::Memory => Err(StreamFault::Memory),
+    }
 }
 
 /// Reads the rows that are left, for a bad line among theirs.
@@ -73,7 +107,7 @@ fn read_on<S: Source>(reader: &mut RowReader, source: &mut S) -> Result<(), Stre
     ensures rows { OnOk result ((held : Option (List ℕ)) (first : ℕ) (done : List TraceRow) → HasRead ring_row held (S.held source.old) first done reader.old →
         (more : List TraceRow) × OfStream held (S.held source.new) (λ text. text_taken ring_row text ≡ Ok (with_rows reader.old first (done ++ more)))) }
     ensures line { IfErr result (λ e. IfBadLine e (λ line fault. (held : Option (List ℕ)) (first : ℕ) (done : List TraceRow) → HasRead ring_row held (S.held source.old) first done reader.old →
-        IsBadTaken ring_row held (S.held source.new) line fault)) }
+        IsBadLine held (S.held source.new) line fault)) }
     ensures failures { S.failed source.new ≡ told_failures (S.failed source.old) result }
 {
     while let Some((number, row)) = reader.next_row(source)? {
@@ -87,12 +121,19 @@ fn ring_row_at(number: u32, row: TraceRow) -> Result<TraceRow, StreamFault>
     ensures { result ≡ at_line number (ring_row row) }
 {
     match row {
-        TraceRow::Withdraws { .. } => Err(StreamFault::Line {
-            line: number,
-            fault: LineFault::Row,
-        }),
+        TraceRow::Withdraws { .. } => Err(bad_row(number)),
         TraceRow::Plain(row) => Ok(TraceRow::Plain(row)),
         TraceRow::Comes(ring) => Ok(TraceRow::Comes(ring)),
         TraceRow::Goes(id) => Ok(TraceRow::Goes(id)),
+    }
+}
+
+/// The line with this number is bad: a descriptor is withdrawn there.
+fn bad_row(number: u32) -> StreamFault
+    ensures { result ≡ Line number BadRow }
+{
+    StreamFault::Line {
+        line: number,
+        fault: LineFault::Row,
     }
 }

@@ -3,17 +3,18 @@ use crate::known::Known;
 use crate::words::{command_name, endpoint_state_name};
 use ring_knowledge::RingRecord;
 use std::alloc::{AllocError, Global};
-use traces::{Header, Ring, Row};
+use traces::{Header, Ring, TraceRow};
 
 /// A refused row and what stands before it.
 #[derive(Clone, Copy)]
 pub struct Case<'a> {
     pub alloc: Global,
+    /// The rings that are there.
     pub header: &'a Header,
     /// The line of the first row.
     pub first: u32,
     /// The rows before the refused one.
-    pub before: &'a [Row],
+    pub before: &'a [TraceRow],
     /// What is known behind them.
     pub known: &'a Known,
 }

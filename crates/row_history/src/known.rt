@@ -1,8 +1,11 @@
 //! What is known before the refused row: memory, rings, slots and endpoints, as the rows tell of them.
-ghost use Rattle.std.specs.Prelude.{◌≡◌, ◌<◌, ◌%◌};
+ghost use Rattle.std.specs.Prelude.{◌≡◌, ◌<◌, ◌%◌, OnOk};
 ghost use Rattle.traces.specs.Header.{IsHeader};
 ghost use Rattle.ring_finder.specs.Finding.{IsFinder};
 
+use crate::live_rings::{add_ring, clashes_with_one, copy_header, remove_ring};
+use crate::positions::is_handed_over;
+use crate::ring_past::RingPast;
 use commands::{Command, EndpointState};
 use contexts::{EndpointContext, InputContext};
 use device_record::{DeviceRecord, Named};
@@ -10,7 +13,7 @@ use guest_memory::{Addr, PageMemory, WordMemory};
 use ring_finder::Finder;
 use ring_knowledge::{RingGiving, RingRecord};
 use std::alloc::{AllocError, Global};
-use traces::{Header, Register, Row};
+use traces::{Header, Register, Ring, Row, TraceRow};
 use trb::{Block, BlockKind};
 
 /// That an endpoint got a ring.
@@ -44,12 +47,23 @@ pub struct Taking {
     pub row: usize,
 }
 
+/// That a Stop Endpoint succeeded.
+#[derive(Clone, Copy)]
+pub struct Stopping {
+    pub slot: u8,
+    pub endpoint: u8,
+    /// The index of the row that read its completion.
+    pub row: usize,
+}
+
 /// What is known after some rows.
 #[derive(Drop)]
 pub struct Known {
     pub memory: PageMemory,
     /// In the order of the header.
     pub rings: Vec<RingRecord>,
+    /// In the order of the header.
+    pub pasts: Vec<RingPast>,
     pub devices: DeviceRecord,
     /// In the order of their rows.
     pub bindings: Vec<Binding>,
@@ -57,37 +71,166 @@ pub struct Known {
     pub droppings: Vec<Dropping>,
     /// In the order of their rows.
     pub takings: Vec<Taking>,
+    /// In the order of their rows.
+    pub stops: Vec<Stopping>,
     /// Where the DCBAA lies, once DCBAAP was written.
     pub array: Option<u64>,
 }
 
-/// What is known after these rows.
-pub fn known_after(alloc: Global, header: &Header, rows: &[Row]) -> Result<Known, AllocError>
+/// Which rings are there after some rows, and what is known.
+#[derive(Drop)]
+pub struct Behind {
+    pub header: Header,
+    pub known: Known,
+}
+
+/// What is known after these rows, and of which rings.
+pub fn known_after(alloc: Global, header: &Header, rows: &[TraceRow]) -> Result<Behind, AllocError>
     requires { IsHeader header.now }
 {
-    let finder = Finder::new(alloc, header)?;
-    let mut rings = Vec::new(alloc);
-    for ring in header.rings.as_slice() {
-        rings.push(RingRecord::new(alloc, &ring.shape)?)?;
-    }
-    let mut known = Known {
-        memory: PageMemory::new(alloc),
-        rings,
-        devices: DeviceRecord::new(alloc)?,
-        bindings: Vec::new(alloc),
-        droppings: Vec::new(alloc),
-        takings: Vec::new(alloc),
-        array: None,
-    };
+    let mut header = copy_header(alloc, header)?;
+    let mut finder = Finder::new(alloc, &header)?;
+    let mut known = Known::new(alloc, &header)?;
     for (index, row) in rows.iter().enumerate() {
-        known.learn(header, &finder, index, row)?;
+        known.learn(alloc, &mut header, &mut finder, index, row)?;
     }
-    Ok(known)
+    Ok(Behind { header, known })
 }
 
 impl Known {
+    /// Before the first row.
+    fn new(alloc: Global, header: &Header) -> Result<Known, AllocError> {
+        let mut rings = Vec::new(alloc);
+        let mut pasts = Vec::new(alloc);
+        for ring in header.rings.as_slice() {
+            rings.push(RingRecord::new(alloc, &ring.shape)?)?;
+            pasts.push(RingPast::new(alloc))?;
+        }
+        Ok(Known {
+            memory: PageMemory::new(alloc),
+            rings,
+            pasts,
+            devices: DeviceRecord::new(alloc)?,
+            bindings: Vec::new(alloc),
+            droppings: Vec::new(alloc),
+            takings: Vec::new(alloc),
+            stops: Vec::new(alloc),
+            array: None,
+        })
+    }
+
     /// Notes one more row.
     fn learn(
+        &mut self,
+        alloc: Global,
+        header: &mut Header,
+        finder: &mut Finder,
+        index: usize,
+        row: &TraceRow,
+    ) -> Result<(), AllocError>
+        requires headed { IsHeader header.now }
+        requires found { IsFinder header.now.rings finder.now }
+        ensures headed { OnOk result (IsHeader header.new) }
+        ensures found { OnOk result (IsFinder header.new.rings finder.new) }
+    {
+        match row {
+            TraceRow::Plain(row) => self.learn_row(header, finder, index, row),
+            TraceRow::Comes(ring) => self.learn_coming(alloc, header, finder, ring.as_ring()),
+            TraceRow::Goes(id) => self.learn_going(alloc, header, finder, *id),
+            TraceRow::Withdraws { ring, position } => {
+                self.learn_withdrawn(header, finder, index, *ring, *position)
+            }
+        }
+    }
+
+    /// A ring comes.
+    fn learn_coming(
+        &mut self,
+        alloc: Global,
+        header: &mut Header,
+        finder: &mut Finder,
+        ring: &Ring,
+    ) -> Result<(), AllocError>
+        requires headed { IsHeader header.now }
+        requires found { IsFinder header.now.rings finder.now }
+        ensures headed { OnOk result (IsHeader header.new) }
+        ensures found { OnOk result (IsFinder header.new.rings finder.new) }
+    {
+        if clashes_with_one(header.rings.as_slice(), ring) {
+            return Ok(());
+        }
+        self.rings.push(RingRecord::new(alloc, &ring.shape)?)?;
+        self.pasts.push(RingPast::new(alloc))?;
+        add_ring(alloc, header, finder, ring)
+    }
+
+    /// A ring goes.
+    fn learn_going(
+        &mut self,
+        alloc: Global,
+        header: &mut Header,
+        finder: &mut Finder,
+        id: u8,
+    ) -> Result<(), AllocError>
+        requires headed { IsHeader header.now }
+        requires found { IsFinder header.now.rings finder.now }
+        ensures headed { OnOk result (IsHeader header.new) }
+        ensures found { OnOk result (IsFinder header.new.rings finder.new) }
+    {
+        let Some(number) = finder.ring_named(id) else {
+            return Ok(());
+        };
+        if number >= self.rings.len()
+            || number >= self.pasts.len()
+            || number >= header.rings.as_slice().len()
+        {
+            return Ok(());
+        }
+        self.rings.remove(number);
+        self.pasts.remove(number);
+        remove_ring(alloc, header, finder, number)
+    }
+
+    /// A TD is withdrawn: what was handed over of it is the driver's until the ring is started or moved.
+    fn learn_withdrawn(
+        &mut self,
+        header: &Header,
+        finder: &Finder,
+        row: usize,
+        id: u8,
+        position: u64,
+    ) -> Result<(), AllocError> {
+        let Some(number) = finder.ring_named(id) else {
+            return Ok(());
+        };
+        if let (Some(ring), Some(known), Some(past)) = (
+            header.rings.as_slice().get(number),
+            self.rings.get(number),
+            self.pasts.get_mut(number),
+        ) {
+            if let Some(td) = past.td_with(position) {
+                past.withdraw(row, position);
+                for own in td.first..td.first.saturating_add(td.count) {
+                    if is_handed_over(ring, known, own) {
+                        past.set_free(row, own)?;
+                    }
+                }
+            }
+        }
+        Ok(())
+    }
+
+    /// The ring with this ID is started or moved.
+    fn restore(&mut self, finder: &Finder, id: u8) {
+        if let Some(number) = finder.ring_named(id) {
+            if let Some(past) = self.pasts.get_mut(number) {
+                past.restore();
+            }
+        }
+    }
+
+    /// What the driver did, or an event that it read.
+    fn learn_row(
         &mut self,
         header: &Header,
         finder: &Finder,
@@ -98,7 +241,9 @@ impl Known {
         requires found { IsFinder header.now.rings finder.now }
     {
         match row {
-            Row::Sub { ring, blocks } => self.learn_declared(finder, *ring, blocks.as_slice()),
+            Row::Sub { ring, blocks } => {
+                self.learn_declared(finder, index, *ring, blocks.as_slice())
+            }
             Row::Write { at, word } => self.learn_word(header, finder, index, *at, *word),
             Row::Reg { register, value } => {
                 if *register == Register::Dcbaap {
@@ -111,10 +256,7 @@ impl Known {
                 Ok(())
             }
             Row::Read { event } => match event.kind() {
-                BlockKind::TransferEvent => {
-                    self.learn_transfer(header, finder, *event);
-                    Ok(())
-                }
+                BlockKind::TransferEvent => self.learn_transfer(header, finder, index, *event),
                 BlockKind::CommandCompletion => self.learn_completion(
                     header, finder, index, *event,
                 ),
@@ -127,6 +269,7 @@ impl Known {
     fn learn_declared(
         &mut self,
         finder: &Finder,
+        row: usize,
         id: u8,
         blocks: &[Block],
     ) -> Result<(), AllocError> {
@@ -136,10 +279,14 @@ impl Known {
         if blocks.is_empty() || blocks.len() > 256 {
             return Ok(());
         }
-        match self.rings.get_mut(number) {
-            Some(known) => known.declare(blocks),
-            None => Ok(()),
+        if let (Some(known), Some(past)) = (
+            self.rings.get_mut(number),
+            self.pasts.get_mut(number),
+        ) {
+            past.submit(row, blocks.len())?;
+            known.declare(blocks)?;
         }
+        Ok(())
     }
 
     /// A word was written.
@@ -171,7 +318,7 @@ impl Known {
         }
         match given {
             Some(block) => if finder.commands == Some(number) {
-                self.learn_command(header, row, block)
+                self.learn_command(header, finder, row, block)
             } else {
                 Ok(())
             },
@@ -179,24 +326,33 @@ impl Known {
         }
     }
 
-    /// A command was given: the first Address Device of a slot takes its Device Context.
+    /// A command was given: the first Address Device of a slot takes its Device Context, and Set TR Dequeue Pointer moves a ring.
     fn learn_command(
         &mut self,
         header: &Header,
+        finder: &Finder,
         row: usize,
         block: Block,
     ) -> Result<(), AllocError> {
-        if let Ok(Command::AddressDevice { slot, .. }) = Command::read(&block) {
-            if self.devices.device(slot).is_none() {
-                let address = self.device_named(slot);
-                self.devices.take_device(slot, address);
-                self.takings.push(Taking {
-                    slot,
-                    from: address,
-                    bytes: 32 * header.context_size.bytes(),
-                    row,
-                })?;
+        match Command::read(&block) {
+            Ok(Command::AddressDevice { slot, .. }) => {
+                if self.devices.device(slot).is_none() {
+                    let address = self.device_named(slot);
+                    self.devices.take_device(slot, address);
+                    self.takings.push(Taking {
+                        slot,
+                        from: address,
+                        bytes: 32 * header.context_size.bytes(),
+                        row,
+                    })?;
+                }
             }
+            Ok(Command::SetTrDequeue { slot, endpoint, .. }) => {
+                if let Some(id) = self.devices.ring_of(slot, endpoint) {
+                    self.restore(finder, id);
+                }
+            }
+            _ => {}
         }
         Ok(())
     }
@@ -245,25 +401,36 @@ impl Known {
             }
         };
         if let Some(number) = number {
-            if let Some(known) = self.rings.get_mut(number) {
+            if let (Some(known), Some(past)) = (
+                self.rings.get_mut(number),
+                self.pasts.get_mut(number),
+            ) {
                 known.open();
+                past.restore();
             }
         }
         self.devices.ring_bell(slot, target);
     }
 
     /// A Transfer Event was read.
-    fn learn_transfer(&mut self, header: &Header, finder: &Finder, event: Block) {
+    fn learn_transfer(
+        &mut self,
+        header: &Header,
+        finder: &Finder,
+        row: usize,
+        event: Block,
+    ) -> Result<(), AllocError> {
         let (slot, endpoint, code) = (event.slot(), event.endpoint(), event.code());
         let Some(id) = self.devices.ring_of(slot, endpoint) else {
-            return;
+            return Ok(());
         };
         let Some(number) = finder.ring_named(id) else {
-            return;
+            return Ok(());
         };
-        if let (Some(ring), Some(known)) = (
+        if let (Some(ring), Some(known), Some(past)) = (
             header.rings.as_slice().get(number),
             self.rings.get_mut(number),
+            self.pasts.get_mut(number),
         ) {
             if let Some(spot) = known.named(&ring.shape, event.pointer()) {
                 match code {
@@ -273,10 +440,12 @@ impl Known {
                     _ => {}
                 }
             }
+            past.note_passed(row, known.floor_number())?;
         }
         if endpoint < 32 {
             self.devices.read_transfer(code, slot, endpoint);
         }
+        Ok(())
     }
 
     /// A Command Completion Event was read: the next command has come to its end.
@@ -380,7 +549,14 @@ impl Known {
                     self.devices.reset(slot, endpoint);
                 }
             }
-            Command::StopEndpoint { slot, endpoint } => self.learn_stop(finder, slot, endpoint),
+            Command::StopEndpoint { slot, endpoint } => {
+                self.stops.push(Stopping {
+                    slot,
+                    endpoint,
+                    row,
+                })?;
+                self.learn_stop(finder, slot, endpoint);
+            }
             Command::SetTrDequeue {
                 slot,
                 endpoint,
@@ -429,6 +605,17 @@ impl Known {
         for bound in &self.bindings {
             if bound.ring == ring && bound.slot == slot && bound.endpoint == endpoint {
                 last = Some(bound.row);
+            }
+        }
+        last
+    }
+
+    /// The row by which a Stop Endpoint of an endpoint succeeded last.
+    pub fn stopped_by(&self, slot: u8, endpoint: u8) -> Option<usize> {
+        let mut last = None;
+        for stopped in &self.stops {
+            if stopped.slot == slot && stopped.endpoint == endpoint {
+                last = Some(stopped.row);
             }
         }
         last
@@ -537,7 +724,7 @@ impl Known {
             self.devices.ring_of(slot, endpoint)
         };
         if let Some(id) = id {
-            self.set_ring(header, finder, id, pointer, cycle);
+            self.set_ring(header, finder, row, id, pointer, cycle)?;
             if is_new {
                 self.bindings.push(Binding {
                     ring: id,
@@ -554,18 +741,29 @@ impl Known {
     }
 
     /// The pointer of a ring is moved.
-    fn set_ring(&mut self, header: &Header, finder: &Finder, id: u8, pointer: u64, cycle: bool) {
+    fn set_ring(
+        &mut self,
+        header: &Header,
+        finder: &Finder,
+        row: usize,
+        id: u8,
+        pointer: u64,
+        cycle: bool,
+    ) -> Result<(), AllocError> {
         let Some(number) = finder.ring_named(id) else {
-            return;
+            return Ok(());
         };
-        if let (Some(ring), Some(known)) = (
+        if let (Some(ring), Some(known), Some(past)) = (
             header.rings.as_slice().get(number),
             self.rings.get_mut(number),
+            self.pasts.get_mut(number),
         ) {
             if let Some(spot) = known.target(&ring.shape, pointer, cycle) {
                 known.set_to(&ring.shape, spot);
             }
+            past.note_passed(row, known.floor_number())?;
         }
+        Ok(())
     }
 
     /// The word at an address; 0 where none can be.

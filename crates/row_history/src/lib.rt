@@ -6,7 +6,9 @@ mod areas;
 mod event_places;
 mod finding;
 mod known;
+mod live_rings;
 mod positions;
+mod ring_past;
 mod rings;
 mod rows;
 mod soiled;
@@ -16,17 +18,18 @@ mod words;
 pub use areas::{Beside, clash, is_in_area, note_area, note_unchanged, write_to_area};
 pub use event_places::given_back;
 pub use finding::{Case, Finding, Mark, line_of, note_dropped, ring_at, ring_known};
-pub use known::{Binding, Dropping, Known, Taking, known_after};
-pub use positions::{Submitted, is_handed_over, position_given, submission};
+pub use known::{Behind, Binding, Dropping, Known, Stopping, Taking, known_after};
+pub use positions::{NO_OP, declared_now, is_handed_over, past_of, position_given, submission};
+pub use ring_past::{FreeTrb, RingPast, Submitted};
 pub use rings::{Endpoint, endpoint_with, shown_first_lap};
 pub use rows::{
-    last_event, last_halt, last_read, last_register, last_write, reads, register_value, start,
-    stop, word_at,
+    going, last_bell, last_event, last_halt, last_read, last_register, last_write, reads,
+    register_value, start, stop, word_at,
 };
 pub use soiled::{SoiledWord, soiled_word};
 pub use unfinished::{
     Unfinished, all_unfinished, binds_ring, command_at, has_block, name_two_endpoints, trb_at,
-    unfinished_beside, unfinished_on,
+    unfinished_beside, unfinished_on, unfinished_touching,
 };
 pub use words::{
     NOT_JUDGED, code_name, command_name, endpoint_state_name, general_head, register_name,

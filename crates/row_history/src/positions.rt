@@ -1,33 +1,49 @@
-//! Positions of a ring: which row submitted a TRB, and whether the controller has it.
+//! Positions of a ring: which row submitted a TRB, what is declared there now, and whether the controller has it.
 use crate::finding::Case;
+use crate::ring_past::{RingPast, Submitted};
 use guest_memory::Addr;
 use ring_knowledge::{RingGiving, RingRecord};
-use traces::{Ring, Row};
+use traces::Ring;
+use trb::Block;
 
-/// The row that submitted the TRB of a position, with the TD's first position and how many TRBs it has.
-#[derive(Clone, Copy)]
-pub struct Submitted {
-    pub row: usize,
-    pub first: u64,
-    pub count: u64,
+/// A No Op TRB with Cycle bit 0, as which a withdrawn TRB is declared (xHCI 6.4.1.4.1).
+pub const NO_OP: Block = Block {
+    w: [0, 0, 0, 0x2000],
+};
+
+/// What the rows before say of the ring with this ID.
+pub fn past_of<'a>(case: &Case<'a>, id: u8) -> Option<&'a RingPast> {
+    let rings = case.header.rings.as_slice();
+    let number = rings.iter().position(|ring| ring.id == id)?;
+    case.known.pasts.get(number)
 }
 
-/// The row that submitted the TRB of a position of a ring.
+/// The TD that has a position of a ring now, and the row that submitted it: each TRB that was withdrawn is one of its own.
 pub fn submission(case: &Case, id: u8, position: u64) -> Option<Submitted> {
-    let mut first = 0u64;
-    for (row, kept) in case.before.iter().enumerate() {
-        if let Row::Sub { ring, blocks } = kept {
-            if *ring == id {
-                let count = blocks.as_slice().len() as u64;
-                let end = first.saturating_add(count);
-                if position < end {
-                    return Some(Submitted { row, first, count });
-                }
-                first = end;
-            }
-        }
+    let past = past_of(case, id)?;
+    let td = past.td_with(position)?;
+    if td.withdrawn.is_some() {
+        return Some(Submitted {
+            first: position,
+            count: 1,
+            ..td
+        });
     }
-    None
+    Some(td)
+}
+
+/// The TRB that is declared at a position of a ring now: a No Op where it was withdrawn.
+pub fn declared_now(case: &Case, id: u8, known: &RingRecord, position: u64) -> Option<Block> {
+    let block = known.declared(position)?;
+    match submission(case, id, position) {
+        Some(
+            Submitted {
+                withdrawn: Some(_),
+                ..
+            },
+        ) => Some(NO_OP),
+        _ => Some(block),
+    }
 }
 
 /// The position that a write gives.

@@ -49,6 +49,56 @@ pub fn unfinished_on(
     )
 }
 
+/// The first unfinished command whose success may change an endpoint.
+pub fn unfinished_touching(
+    case: &Case,
+    slot: u8,
+    endpoint: u8,
+) -> Result<Option<Unfinished>, AllocError> {
+    let all = all_unfinished(case)?;
+    Ok(
+        all.iter()
+            .find(|given| {
+                given.command.slot() == Some(slot) && may_change(case, given.command, endpoint)
+            })
+            .copied(),
+    )
+}
+
+/// Whether the success of a command may change an endpoint of its slot.
+fn may_change(case: &Case, command: Command, endpoint: u8) -> bool {
+    match command {
+        Command::NoOp | Command::EnableSlot | Command::EvaluateContext { .. } => false,
+        Command::DisableSlot { .. } => true,
+        Command::AddressDevice { .. } => endpoint == 1,
+        Command::ResetDevice { .. }
+        | Command::ConfigureEndpoint {
+            deconfigure: true,
+            ..
+        } => endpoint > 1,
+        Command::ConfigureEndpoint { input_context, .. } => {
+            case.known.drops(case.header, input_context, endpoint)
+                || endpoint > 1
+                    && case
+                        .known
+                        .added(case.header, input_context, endpoint)
+                        .is_some()
+        }
+        Command::ResetEndpoint {
+            endpoint: named,
+            ..
+        }
+        | Command::StopEndpoint {
+            endpoint: named,
+            ..
+        }
+        | Command::SetTrDequeue {
+            endpoint: named,
+            ..
+        } => named == endpoint,
+    }
+}
+
 /// The first unfinished command by which a command of its slot may not be given now.
 pub fn unfinished_beside(case: &Case, command: Command) -> Result<Option<Unfinished>, AllocError> {
     let is_three = case.header.version.is_three();

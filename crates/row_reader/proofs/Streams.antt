@@ -3,14 +3,10 @@ use Rattle.std.proofs.Common.{◌≡◌, ◌+◌, ◌∷◌, ◌++◌, ◌∙◌
 use Rattle.std.proofs.KnownBytes.{Consumes-trans}
 use Rattle.traces.specs.declared.header.Header.{Header}
 use Rattle.traces.specs.declared.trace_row.TraceRow.{TraceRow}
-use Rattle.traces.specs.declared.trace.Trace.{Trace}
 use Rattle.line_text.specs.Lines.{TextLine, lines_of}
 use Rattle.trace_reader.specs.declared.fault.LineFault.{LineFault}
-use Rattle.trace_reader.specs.Entries.{text_of}
-use Rattle.trace_reader.specs.DriverRows.{DriverText, driver_row, text_taken}
+use Rattle.trace_reader.specs.DriverRows.{text_taken}
 use Rattle.trace_reader.specs.Reading.{State, TextOf, next_number, read_line}
-use Rattle.trace_reader.proofs.DriverTraces.{is_driver_trace, plain_trace}
-use Rattle.trace_reader.proofs.Spelled.{spelled_if_read}
 use Rattle.row_reader.specs.declared.reader.RowReader.{RowReader}
 use Rattle.row_reader.specs.declared.fault.StreamFault.TheVariants.{Line}
 use Rattle.row_reader.specs.Ahead.{OfLater, OfText, ahead_of}
@@ -18,7 +14,7 @@ use Rattle.row_reader.specs.Answers.{IsCall}
 use Rattle.row_reader.specs.ReaderState.{IsOpened, progress_of}
 use Rattle.row_reader.specs.RowByRow.{Call, Progress, call_in, call_on, opened}
 unfoldable use Rattle.row_reader.specs.RowByRow.{next_row}
-use Rattle.row_reader.specs.Streams.{HasRead, IsBadTaken, IsReadTo, OfStream, OfTrace, read_with}
+use Rattle.row_reader.specs.Streams.{HasRead, IsBadTaken, IsReadTo, OfStream, read_with}
 use Rattle.row_reader.specs.WholeTexts.{GivenOf, GivenRows, answered, given_taken, joined, joined_behind, rows_given, with_given}
 unfoldable use Rattle.row_reader.specs.WholeTexts.{taken_by_calls}
 use Rattle.row_reader.proofs.Calls.{call_of, some_held}
@@ -265,14 +261,3 @@ module _ {R : Type 0} (take : TraceRow → Result R LineFault) where
     line_read_bad ended line fault call =
         bad_read held held' held'' r.header first done (progress_of r).read (progress_of r').read (ahead_of r.ahead) (ahead_of r'.ahead) r.ended line fault read
         (subst (λ (e : Bool). IsCall (progress_of r) (record { read = (progress_of r').read; ended = e }) held' held'' (ahead_of r.ahead) (ahead_of r'.ahead) (Err (Line line fault))) ended call)
-
--- what the text says is a trace whose header and rows are allowed
-pub trace_told : (held held' : Option (List ℕ)) (t : DriverText) (P : Trace → Type 0) → OfStream held held' (λ text. text_taken driver_row text ≡ Ok t) → ((trace : Trace) → text_of trace ≡ t → P trace) → OfTrace held held' P
-trace_told held held' t P (came, used, (later, is, told)) step =
-    let valid = is_driver_trace t (spelled_if_read (came ++ later) _ (plain_trace (came ++ later) t told)).1 in
-    let trace : Trace = record { header = t.header; first = t.first; rows = t.rows; headed = valid.headed; placed = valid.first; fitting = valid.rows; within = valid.within } in
-    (trace, (came, used, (later, is, told)), step trace refl)
-
--- what follows of the trace
-pub of_trace : (held held' : Option (List ℕ)) (P Q : Trace → Type 0) → ((trace : Trace) → P trace → Q trace) → OfTrace held held' P → OfTrace held held' Q
-of_trace held held' P Q step (trace, says, so) = (trace, says, step trace so)

@@ -3,11 +3,9 @@ use Rattle.std.specs.Prelude.{◌≡◌, ℕ, true, List, [], ◌++◌, map, Opt
 use Rattle.line_text.specs.Lines.{lines_of}
 use Rattle.traces.specs.declared.header.Header.{Header}
 use Rattle.traces.specs.declared.trace_row.TraceRow.{TraceRow}
-use Rattle.traces.specs.declared.trace.Trace.{Trace}
 use Rattle.trace_reader.specs.declared.fault.LineFault.{LineFault}
-use Rattle.trace_reader.specs.Entries.{text_of}
 use Rattle.trace_reader.specs.Reading.{TextOf}
-use Rattle.trace_reader.specs.DriverRows.{driver_row, text_taken}
+use Rattle.trace_reader.specs.DriverRows.{text_taken}
 use Rattle.row_reader.specs.declared.fault.StreamFault.{StreamFault}
 use Rattle.row_reader.specs.declared.fault.StreamFault.TheVariants.{Line, Device, Memory}
 use Rattle.row_reader.specs.declared.reader.RowReader.{RowReader}
@@ -20,17 +18,9 @@ use Rattle.row_reader.specs.WholeTexts.{GivenOf, given_taken, rows_given}
 abbrev pub OfStream : Option (List ℕ) → Option (List ℕ) → (List ℕ → Type 0) → Type 0
 OfStream held held' P = OfText true held held' [] [] (λ text left. P text)
 
--- so it is of a trace that this text says, all rows of which are the driver's
-abbrev pub OfTrace : Option (List ℕ) → Option (List ℕ) → (Trace → Type 0) → Type 0
-OfTrace held held' P = (trace : Trace) × OfStream held held' (λ text. text_taken driver_row text ≡ Ok (text_of trace)) × P trace
-
 -- this is the first bad line of this text and its least fault, where rows are taken so
 abbrev pub IsBadTaken : {R : Type 0} → (TraceRow → Result R LineFault) → Option (List ℕ) → Option (List ℕ) → ℕ → LineFault → Type 0
 IsBadTaken take held held' line fault = OfStream held held' (λ text. text_taken take text ≡ Err (line, fault))
-
--- the same where the driver's rows are taken alone
-abbrev pub IsBadLine : Option (List ℕ) → Option (List ℕ) → ℕ → LineFault → Type 0
-IsBadLine held held' line fault = IsBadTaken driver_row held held' line fault
 
 -- what a bad line says; want of memory and a failure of the device say nothing
 abbrev pub IfBadLine : StreamFault → (ℕ → LineFault → Type 0) → Type 0

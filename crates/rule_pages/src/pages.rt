@@ -646,7 +646,6 @@ What to write instead
 
 A trace that breaks it
   Row 28 frees the ring of an endpoint that is Running, and is refused.
-  (`check` doesn't read `free` rows yet: it answers 2 Row for that line.)
 
     xtrace 2
     ctx 20
@@ -701,7 +700,6 @@ What to write instead
 
 A trace that breaks it
   Row 7 makes a ring where the TRB of row 5 still shows its Cycle bit: refused.
-  (`check` doesn't read such rows yet: it answers 2 Row for line 6.)
 
     xtrace 2
     ctx 20

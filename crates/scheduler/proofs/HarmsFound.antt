@@ -3,30 +3,29 @@ use Rattle.std.proofs.Common.{◌≡◌, ◌∙◌, ℕ, suc, ◌+◌, ◌≤◌
 use Rattle.std.specs.Prelude.{take, reverse, option_and_then}
 use Rattle.std.proofs.lemmas.Grind.{common_steps}
 use Rattle.traces.specs.declared.header.Header.{Header}
-use Rattle.traces.specs.declared.row.Row.{Row}
+use Rattle.traces.specs.declared.trace_row.TraceRow.{TraceRow}
 use Rattle.traces.specs.declared.step.Step.{Step}
-use Rattle.world_state.specs.World.{World, opening}
 use Rattle.world_state.specs.declared.harm.Harm.{Harm}
 use Rattle.world_state.specs.Harms.{harm_of}
-use Rattle.controller_model.specs.Steps.{Ending, NoHarm, Harmful, ending_from, ending_of, judged, reached, stepped}
-use Rattle.controller_model.specs.Showing.{replayed}
+use Rattle.controller_model.specs.Steps.{Ending, NoHarm, Harmful, judged}
+use Rattle.controller_model.specs.Scenes.{Scene, scene_before, scene_ending_from, scene_reached, scene_replayed, step_made}
 use Rattle.scheduler.specs.Harmful.{DoesHarm, rows_made}
 
-module _ (h : Header) (rows : List Row) where
+module _ (h : Header) (rows : List TraceRow) where
   -- the first so many of these steps, behind those done, lead to a world that isn't safe, and the replay of them alone ends as that of all
-  record IsFound (steps done : List Step) (from : Option World) (m n : ℕ) (k : Harm) : Type 0 where
+  record IsFound (steps done : List Step) (from : Option Scene) (m n : ℕ) (k : Harm) : Type 0 where
     pub count : ℕ
     pub numbered : n ≡ m + count
     pub within : count ≤ length steps
-    pub world : World
-    pub run : reached h rows (reverse (take count steps) ++ done) ≡ Some world
-    pub harmful : harm_of h world ≡ Some k
-    pub replay : ending_from h m from (take count steps) ≡ Harmful n k
+    pub scene : Scene
+    pub run : scene_reached h rows (reverse (take count steps) ++ done) ≡ Some scene
+    pub harmful : harm_of scene.header scene.world ≡ Some k
+    pub replay : scene_ending_from m from (take count steps) ≡ Harmful n k
 
   turned : (s : Step) (xs ys : List Step) → reverse xs ++ s ∷ ys ≡ reverse (s ∷ xs) ++ ys
   turned s xs ys = grind (arith, common_steps)
 
-  abbrev harm_at : ℕ → Harm → Ending h
+  abbrev harm_at : ℕ → Harm → Ending
   harm_at m j = Harmful m j
 
   same_number : (m n : ℕ) (j k : Harm) → harm_at m j ≡ harm_at n k → m ≡ n
@@ -35,29 +34,28 @@ module _ (h : Header) (rows : List Row) where
   same_harm : (m n : ℕ) (j k : Harm) → harm_at m j ≡ harm_at n k → j ≡ k
   same_harm m n j k e = cc
 
-  harm_now : (w : World) (steps done : List Step) (m n : ℕ) (j k : Harm) → reached h rows done ≡ Some w → harm_of h w ≡ Some j → harm_at m j ≡ harm_at n k → IsFound steps done (Some w) m n k
-  unfolding ending_from judged
+  harm_now : (w : Scene) (steps done : List Step) (m n : ℕ) (j k : Harm) → scene_reached h rows done ≡ Some w → harm_of w.header w.world ≡ Some j → harm_at m j ≡ harm_at n k → IsFound steps done (Some w) m n k
+  unfolding scene_ending_from judged
   harm_now w steps done m n j k here is e =
       let number = same_number m n j k e in
       record {
         count = 0;
         numbered = omega (arith, number);
         within = omega arith;
-        world = w;
+        scene = w;
         run = here;
         harmful = is ∙ ap Some (same_harm m n j k e);
-        replay = ap (λ o. judged h m o NoHarm) is ∙ e;
+        replay = ap (λ o. judged m o NoHarm) is ∙ e;
       }
 
-  goes_on : (w : World) (s : Step) (rest : List Step) (m : ℕ) → harm_of h w ≡ None → ending_from h m (Some w) (s ∷ rest) ≡ ending_from h (m + 1) (stepped h w s) rest
-  unfolding ending_from judged
-  goes_on w s rest m safe = ap (λ o. judged h m o (ending_from h (m + 1) (stepped h w s) rest)) safe
+  goes_on : (w : Scene) (s : Step) (rest : List Step) (m : ℕ) → harm_of w.header w.world ≡ None → scene_ending_from m (Some w) (s ∷ rest) ≡ scene_ending_from (m + 1) (step_made w s) rest
+  unfolding scene_ending_from judged
+  goes_on w s rest m safe = ap (λ o. judged m o (scene_ending_from (m + 1) (step_made w s) rest)) safe
 
-  one_more : (w : World) (s : Step) (done : List Step) → reached h rows done ≡ Some w → reached h rows (s ∷ done) ≡ stepped h w s
-  unfolding reached
-  one_more w s done here = ap (λ o. option_and_then (λ v. stepped h v s) o) here
+  one_more : (w : Scene) (s : Step) (done : List Step) → scene_reached h rows done ≡ Some w → scene_reached h rows (s ∷ done) ≡ step_made w s
+  one_more w s done here = ap (λ o. option_and_then (λ v. step_made v s) o) here
 
-  harm_later : (w : World) (s : Step) (rest done : List Step) (m n : ℕ) (k : Harm) → harm_of h w ≡ None → IsFound rest (s ∷ done) (stepped h w s) (m + 1) n k → IsFound (s ∷ rest) done (Some w) m n k
+  harm_later : (w : Scene) (s : Step) (rest done : List Step) (m n : ℕ) (k : Harm) → harm_of w.header w.world ≡ None → IsFound rest (s ∷ done) (step_made w s) (m + 1) n k → IsFound (s ∷ rest) done (Some w) m n k
   harm_later w s rest done m n k safe later =
       let numbered = later.numbered in
       let within = later.within in
@@ -65,32 +63,32 @@ module _ (h : Header) (rows : List Row) where
         count = suc later.count;
         numbered = omega (arith, numbered);
         within = omega (arith, within);
-        world = later.world;
-        run = ap (λ l. reached h rows l) (sym (turned s (take later.count rest) done)) ∙ later.run;
+        scene = later.scene;
+        run = ap (λ l. scene_reached h rows l) (sym (turned s (take later.count rest) done)) ∙ later.run;
         harmful = later.harmful;
         replay = goes_on w s (take later.count rest) m safe ∙ later.replay;
       }
 
-  found : (steps done : List Step) (o : Option World) (m n : ℕ) (k : Harm) → reached h rows done ≡ o → ending_from h m o steps ≡ Harmful n k → IsFound steps done o m n k
-  unfolding ending_from judged
+  found : (steps done : List Step) (o : Option Scene) (m n : ℕ) (k : Harm) → scene_reached h rows done ≡ o → scene_ending_from m o steps ≡ Harmful n k → IsFound steps done o m n k
+  unfolding scene_ending_from judged
   found steps done None m n k here e = absurd (cc)
-  found [] done (Some w) m n k here e = by (harm_of h w) refl e
+  found [] done (Some w) m n k here e = by (harm_of w.header w.world) refl e
     where
-      by : (j : Option Harm) → harm_of h w ≡ j → judged h m j NoHarm ≡ Harmful n k → IsFound [] done (Some w) m n k
+      by : (j : Option Harm) → harm_of w.header w.world ≡ j → judged m j NoHarm ≡ Harmful n k → IsFound [] done (Some w) m n k
       by None is e = absurd (cc)
       by (Some j) is e = harm_now w [] done m n j k here is e
   found (s ∷ rest) done (Some w) m n k here e =
-      by (harm_of h w) refl e (λ next. found rest (s ∷ done) (stepped h w s) (m + 1) n k (one_more w s done here) next)
+      by (harm_of w.header w.world) refl e (λ next. found rest (s ∷ done) (step_made w s) (m + 1) n k (one_more w s done here) next)
     where
-      by : (j : Option Harm) → harm_of h w ≡ j → judged h m j (ending_from h (m + 1) (stepped h w s) rest) ≡ Harmful n k →
-          (ending_from h (m + 1) (stepped h w s) rest ≡ Harmful n k → IsFound rest (s ∷ done) (stepped h w s) (m + 1) n k) → IsFound (s ∷ rest) done (Some w) m n k
+      by : (j : Option Harm) → harm_of w.header w.world ≡ j → judged m j (scene_ending_from (m + 1) (step_made w s) rest) ≡ Harmful n k →
+          (scene_ending_from (m + 1) (step_made w s) rest ≡ Harmful n k → IsFound rest (s ∷ done) (step_made w s) (m + 1) n k) → IsFound (s ∷ rest) done (Some w) m n k
       by None is e later = harm_later w s rest done m n k is (later e)
       by (Some j) is e later = harm_now w (s ∷ rest) done m n j k here is e
 
-  module _ (steps : List Step) (n : ℕ) (k : Harm) (ends : (replayed h rows steps).ending ≡ Harmful n k) where
-    all_found : IsFound steps [] (Some (opening rows)) 0 n k
-    unfolding replayed ending_of reached
-    all_found = found steps [] (Some (opening rows)) 0 n k refl ends
+  module _ (steps : List Step) (n : ℕ) (k : Harm) (ends : (scene_replayed h rows steps).ending ≡ Harmful n k) where
+    all_found : IsFound steps [] (Some (scene_before h rows)) 0 n k
+    unfolding scene_replayed
+    all_found = found steps [] (Some (scene_before h rows)) 0 n k refl ends
 
     counted : n ≡ all_found.count
     counted = omega (arith, all_found.numbered)
@@ -105,11 +103,11 @@ module _ (h : Header) (rows : List Row) where
     none_behind xs = grind (arith, common_steps)
 
     pub does_harm : (most : ℕ) → rows_made (take n steps) ≤ most → DoesHarm h rows most (take n steps) k
-    unfolding replayed ending_of
+    unfolding scene_replayed
     does_harm most few = record {
-      world = all_found.world;
-      run = ap (λ i. reached h rows (reverse (take i steps))) counted ∙ ap (λ l. reached h rows l) (sym (none_behind (reverse (take all_found.count steps)))) ∙ all_found.run;
+      scene = all_found.scene;
+      run = ap (λ i. scene_reached h rows (reverse (take i steps))) counted ∙ ap (λ l. scene_reached h rows l) (sym (none_behind (reverse (take all_found.count steps)))) ∙ all_found.run;
       few = few;
       harmful = all_found.harmful;
-      replay = ap (λ i. ending_from h 0 (Some (opening rows)) (take i steps)) counted ∙ all_found.replay ∙ ap (λ i. Harmful i k) (sym length_done);
+      replay = ap (λ i. scene_ending_from 0 (Some (scene_before h rows)) (take i steps)) counted ∙ all_found.replay ∙ ap (λ i. Harmful i k) (sym length_done);
     }

@@ -1,5 +1,4 @@
 pub mod Replays
 pub mod Noting
 pub mod Fitting
-pub mod Refused
 pub mod HarmsFound

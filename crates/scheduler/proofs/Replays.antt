@@ -44,7 +44,7 @@ module _ (h : Header) (rows : List Row) where
     from_here (s ∷ steps) past n w are were here run =
         let later : reached h rows (reverse steps ++ s ∷ past) ≡ Some world = subst (λ l. reached h rows l ≡ Some world) (turned s steps past) run in
         let next = earlier (reverse steps) (s ∷ past) world later in
-        ap (λ o. judged h n o (ending_from h (n + 1) (stepped h w s) steps)) (harmless past w were here)
+        ap (λ o. judged n o (ending_from h (n + 1) (stepped h w s) steps)) (harmless past w were here)
         ∙ ap (λ o. ending_from h (n + 1) o steps) (last_step s past w next.0 here next.1)
         ∙ from_here steps (s ∷ past) (n + 1) next.0 (All-tail IsStep s steps are) (All-cons IsStep s past (All-head IsStep s steps are) were) next.1 later
 

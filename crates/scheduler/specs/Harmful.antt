@@ -1,14 +1,13 @@
 -- What a schedule that does harm shows
 use Rattle.std.specs.Prelude.{◌≡◌, ◌≤◌, ℕ, Bool, true, false, List, length, filter, reverse, Some}
 use Rattle.traces.specs.declared.header.Header.{Header}
-use Rattle.traces.specs.declared.row.Row.{Row}
+use Rattle.traces.specs.declared.trace_row.TraceRow.{TraceRow}
 use Rattle.traces.specs.declared.step.Step.{Step}
 use Rattle.traces.specs.declared.step.Step.TheVariants.{NextRow}
 use Rattle.world_state.specs.declared.harm.Harm.{Harm}
-use Rattle.world_state.specs.World.{World}
 use Rattle.world_state.specs.Harms.{harm_of}
-use Rattle.controller_model.specs.Steps.{reached, Harmful}
-use Rattle.controller_model.specs.Showing.{replayed}
+use Rattle.controller_model.specs.Scenes.{Scene, scene_reached, scene_replayed}
+use Rattle.controller_model.specs.Steps.{Harmful}
 
 abbrev pub makes_row : Step → Bool
 makes_row NextRow = true
@@ -18,11 +17,11 @@ makes_row _ = false
 abbrev pub rows_made : List Step → ℕ
 rows_made steps = length (filter makes_row steps)
 
--- these steps are a run beside the rows, of which it makes no more than the first n, and the world after the last step isn't safe, with this
--- as its least harm; before that step it was safe, so the replay ends there
-pub record DoesHarm (h : Header) (rows : List Row) (n : ℕ) (steps : List Step) (harm : Harm) : Type 0 where
-  pub world : World
-  pub run : reached h rows (reverse steps) ≡ Some world
+-- these steps are a run beside the rows, of which it makes no more than the first n, and the world after the last step isn't safe, by the rings
+-- that are there then, with this as its least harm; before that step it was safe, so the replay ends there
+pub record DoesHarm (h : Header) (rows : List TraceRow) (n : ℕ) (steps : List Step) (harm : Harm) : Type 0 where
+  pub scene : Scene
+  pub run : scene_reached h rows (reverse steps) ≡ Some scene
   pub few : rows_made steps ≤ n
-  pub harmful : harm_of h world ≡ Some harm
-  pub replay : (replayed h rows steps).ending ≡ Harmful (length steps) harm
+  pub harmful : harm_of scene.header scene.world ≡ Some harm
+  pub replay : (scene_replayed h rows steps).ending ≡ Harmful (length steps) harm

@@ -1,13 +1,14 @@
 //! Schedules that are made step by step, as the controller's model shows what each step does.
-ghost use Rattle.std.specs.Prelude.{◌≡◌, ◌+◌, ◌≤◌, length};
+ghost use Rattle.std.specs.Prelude.{◌≡◌, ◌+◌, ◌≤◌, All, length};
 ghost use Rattle.traces.specs.Limits.{most_schedule_lines};
 ghost use Rattle.traces.specs.Rows.{AreSteps, IsRow, IsStep, steps_are_fact};
+ghost use Rattle.traces.specs.TraceRows.{IsTraceRow};
 ghost use Rattle.trb.specs.Block.{IsBlock};
 
 use controller_model::{Seen, StepFault, World};
 use guest_memory::PageMemory;
 use std::alloc::{AllocError, Global};
-use traces::{Ring, Row, Schedule, Step, Steps, Trace};
+use traces::{Header, Ring, Row, Schedule, Step, Steps, TraceRow};
 use trb::{Block, BlockKind, RingKind};
 
 /// The most steps that a schedule has.
@@ -43,8 +44,14 @@ pub(crate) struct Attempt<'t> {
 
 impl<'t> Attempt<'t> {
     /// No steps yet.
-    pub(crate) fn new(alloc: Global, trace: &'t Trace) -> Result<Attempt<'t>, AllocError> {
-        let world = World::new(alloc, trace, PageMemory::new(alloc))?;
+    pub(crate) fn new(
+        alloc: Global,
+        header: &Header,
+        rows: &'t [TraceRow],
+    ) -> Result<Attempt<'t>, AllocError>
+        requires { All IsTraceRow rows.now }
+    {
+        let world = World::new(alloc, header, rows, PageMemory::new(alloc))?;
         Ok(Attempt {
             world,
             steps: Vec::new(alloc),
@@ -96,7 +103,16 @@ impl<'t> Attempt<'t> {
     }
 
     /// Posts the event that a row reads, if it reads one. Where a ring is late, it is looked at until the event is possible.
-    pub(crate) fn post(&mut self, row: &Row, late: Option<&Ring>) -> Result<(), Unmade>
+    pub(crate) fn post_before(&mut self, row: &TraceRow, late: Option<&Ring>) -> Result<(), Unmade>
+        requires { IsTraceRow row.now }
+    {
+        match row {
+            TraceRow::Plain(row) => self.post(row, late),
+            _ => Ok(()),
+        }
+    }
+
+    fn post(&mut self, row: &Row, late: Option<&Ring>) -> Result<(), Unmade>
         requires { IsRow row.now }
     {
         match (row, late) {

@@ -1,13 +1,12 @@
 //! A schedule that does harm, beside a trace with a row that breaks a rule.
-ghost use Rattle.std.specs.Prelude.{◌≡◌, ◌+◌, ◌-◌, ◌≤◌, All, Some, length, reverse, IfOk, IfSome};
+ghost use Rattle.std.specs.Prelude.{◌≡◌, ◌+◌, ◌<◌, ◌≤◌, ◌^◌, All, length, IfOk, IfSome};
+ghost use Rattle.traces.specs.Header.{IsHeader};
+ghost use Rattle.traces.specs.Limits.{most_lines};
 ghost use Rattle.traces.specs.Rows.{IsRow};
+ghost use Rattle.traces.specs.TraceRows.{IsTraceRow};
 ghost use Rattle.world_state.specs.declared.harm.Harm.{Harm as HarmValue};
 ghost use Rattle.controller_model.specs.Steps.{Harmful};
-ghost use Rattle.controller_model.specs.Showing.{replayed};
-ghost use Rattle.ring_knowledge.specs.Known.{nothing};
-ghost use Rattle.ownership_rules.specs.declared.refusal.Refusal.{Refusal};
-ghost use Rattle.ownership_rules.specs.Clean.{IsClean};
-ghost use Rattle.ownership_rules.specs.Rules.{verdict_from};
+ghost use Rattle.controller_model.specs.Scenes.{scene_replayed};
 ghost use Rattle.scheduler.specs.Harmful.{DoesHarm, rows_made};
 
 use crate::attempt::{Attempt, Unmade};
@@ -16,7 +15,7 @@ use crate::lazy::steps_of;
 use guest_memory::PageMemory;
 use replayer::{ReplayFault, replay};
 use std::alloc::{AllocError, Global};
-use traces::{Ring, Row, Schedule, Step, Steps, Trace};
+use traces::{Header, Ring, Row, Schedule, Step, Steps, TraceRow};
 use trb::RingKind;
 use world_state::Harm;
 
@@ -40,90 +39,94 @@ pub struct HarmfulRun {
     pub harm: Harm,
 }
 
-/// A schedule that does harm beside a trace, as `harmful_run` makes it.
+/// A schedule that does harm beside the rows of a trace, as `harmful_run` makes it.
 pub fn harmful_schedule(
     alloc: Global,
-    trace: &Trace,
-    row: u32,
+    header: &Header,
+    rows: &[TraceRow],
+    driver: &[Row],
+    refused: usize,
 ) -> Result<Option<Schedule>, AllocError>
-    requires refused { (c : Refusal) × (verdict_from trace.now.header nothing trace.now.first trace.now.rows ≡ Some (row, c)) }
+    requires headed { IsHeader header.now }
+    requires fits { All IsTraceRow rows.now }
+    requires driver { All IsRow driver.now }
+    requires few { length driver.now ≤ most_lines }
+    requires inside { refused < length rows.now }
     ensures harm { IfOk result (λ found. IfSome found (λ schedule.
-        (harm : HarmValue) × DoesHarm trace.now.header trace.now.rows (row - trace.now.first + 1) schedule.steps harm)) }
+        (harm : HarmValue) × DoesHarm header.now rows.now (refused + 1) schedule.steps harm)) }
 {
-    match harmful_run(alloc, trace, row, Search::Brief)? {
+    match harmful_run(alloc, header, rows, driver, refused, Search::Brief)? {
         Some(run) => Ok(Some(run.schedule)),
         None => Ok(None),
     }
 }
 
-/// A run that does harm beside a trace, of which `check` tells that this row is the first that breaks a rule: the eager schedule of the rows
-/// up to that one, or else the lazy one, with looks at each ring behind it, up to the first step after which the world isn't safe. That is
-/// told by the replay of what was made. A wide search tries more, where neither does harm. None where no schedule that was tried does,
-/// which doesn't say that no run does.
+/// A run that does harm beside the rows of a trace, of which `check` tells that the row with this number, from 0, is the first that breaks
+/// a rule: the eager schedule of the rows up to that one, or else, where all rows are
+/// the driver's and given as such too, the lazy one, with looks at each ring behind it, up to the first step after which the world isn't safe. That is told by the replay of what was made. A wide search
+/// tries more, where neither does harm. None where no schedule that was tried does, which doesn't say that no run does.
 pub fn harmful_run(
     alloc: Global,
-    trace: &Trace,
-    row: u32,
+    header: &Header,
+    rows: &[TraceRow],
+    driver: &[Row],
+    refused: usize,
     search: Search,
 ) -> Result<Option<HarmfulRun>, AllocError>
-    requires refused { (c : Refusal) × (verdict_from trace.now.header nothing trace.now.first trace.now.rows ≡ Some (row, c)) }
-    ensures harm { IfOk result (λ found. IfSome found (λ run.
-        DoesHarm trace.now.header trace.now.rows (row - trace.now.first + 1) run.schedule.steps run.harm)) }
+    requires headed { IsHeader header.now }
+    requires fits { All IsTraceRow rows.now }
+    requires driver { All IsRow driver.now }
+    requires few { length driver.now ≤ most_lines }
+    requires inside { refused < length rows.now }
+    ensures harm { IfOk result (λ found. IfSome found (λ run. DoesHarm header.now rows.now (refused + 1) run.schedule.steps run.harm)) }
 {
-    let rows = trace.rows.as_slice();
-    let count = (row - trace.first) as usize;
     // no run beside the rows before it does harm
-    if let Row::Read { .. } = rows[count] {
+    if let TraceRow::Plain(Row::Read { .. }) = rows[refused] {
         return Ok(None);
     }
-    let eager = eager_schedule(alloc, trace, &rows[..count + 1], None);
-    if let Some(run) = harm_of(alloc, trace, count + 1, eager)? {
+    let eager = eager_schedule(alloc, header, rows, &rows[..refused + 1], None);
+    if let Some(run) = harm_of(alloc, header, rows, refused + 1, eager)? {
         return Ok(Some(run));
     }
-    let lazy = lazy_schedule_behind(alloc, trace, &rows[..count]);
-    let found = harm_of(alloc, trace, count + 1, lazy)?;
+    let found = lazy_run(alloc, header, rows, driver, refused)?;
     if found.is_some() || search == Search::Brief {
         return Ok(found);
     }
-    harm_with_a_late_ring(alloc, trace, &rows[..count + 1])
+    harm_with_a_late_ring(alloc, header, rows, &rows[..refused + 1])
 }
 
-/// A run that does harm, in which one ring is late.
+/// A run that does harm, in which one of the first rings is late.
 fn harm_with_a_late_ring(
     alloc: Global,
-    trace: &Trace,
-    rows: &[Row],
+    header: &Header,
+    rows: &[TraceRow],
+    first: &[TraceRow],
 ) -> Result<Option<HarmfulRun>, AllocError>
-    requires { All IsRow rows.now }
-    ensures { IfOk result (λ found. IfSome found (λ run.
-        DoesHarm trace.now.header trace.now.rows (length rows.now) run.schedule.steps run.harm)) }
+    requires fits { All IsTraceRow rows.now }
+    requires first { All IsTraceRow first.now }
+    ensures { IfOk result (λ found. IfSome found (λ run. DoesHarm header.now rows.now (length first.now) run.schedule.steps run.harm)) }
 {
-    let most_rings = MOST_ROWS / rows.len().max(1);
-    for ring in trace.header.rings.as_slice().iter().take(most_rings) {
+    let most_rings = MOST_ROWS / first.len().max(1);
+    for ring in header.rings.as_slice().iter().take(most_rings) {
         if ring.shape.kind() == RingKind::Evt {
             continue;
         }
-        let late = eager_schedule(alloc, trace, rows, Some(ring));
-        if let Some(run) = harm_of(alloc, trace, rows.len(), late)? {
+        let late = eager_schedule(alloc, header, rows, first, Some(ring));
+        if let Some(run) = harm_of(alloc, header, rows, first.len(), late)? {
             return Ok(Some(run));
         }
     }
     Ok(None)
 }
 
-/// The rings of a trace.
-fn rings_of(alloc: Global, trace: &Trace) -> Result<Vec<&Ring>, AllocError> {
-    trace.header.rings.as_slice().iter().collect(alloc)
-}
-
-/// The rings of a trace without one that is late.
+/// The rings before the first row, without one that is late.
 fn prompt_rings<'t>(
     alloc: Global,
-    trace: &'t Trace,
+    header: &'t Header,
     late: Option<&Ring>,
 ) -> Result<Vec<&'t Ring>, AllocError> {
     let mut prompt = Vec::new(alloc);
-    for ring in trace.header.rings.as_slice() {
+    for ring in header.rings.as_slice() {
         if late.is_none_or(|late| late.id != ring.id) {
             prompt.push(ring)?;
         }
@@ -131,50 +134,93 @@ fn prompt_rings<'t>(
     Ok(prompt)
 }
 
-/// The eager schedule of rows, the last of which breaks a rule: directly before each event that is read its post, and after each row
-/// looks at each active ring until it waits; at the end once more. One ring may be late: it is looked at only before an event that isn't
-/// possible else, and at the end.
+/// The rings that are there behind a row.
+fn follow_rings<'t>(rings: &mut Vec<&'t Ring>, row: &'t TraceRow) -> Result<(), AllocError> {
+    match row {
+        TraceRow::Comes(ring) => rings.push(ring.as_ring())?,
+        TraceRow::Goes(id) => rings.retain(|ring| ring.id != *id),
+        _ => {}
+    }
+    Ok(())
+}
+
+/// The eager schedule of the first rows, the last of which breaks a rule: directly before each event that is read its post, and after each
+/// row looks at each active ring until it waits, at one that just went too; at the end once more. One ring may be late: it is looked at
+/// only before an event that isn't possible else, and at the end.
 fn eager_schedule(
     alloc: Global,
-    trace: &Trace,
-    rows: &[Row],
+    header: &Header,
+    rows: &[TraceRow],
+    first: &[TraceRow],
     late: Option<&Ring>,
 ) -> Result<Schedule, Unmade>
-    requires { All IsRow rows.now }
+    requires fits { All IsTraceRow rows.now }
+    requires first { All IsTraceRow first.now }
 {
-    let mut attempt = Attempt::new(alloc, trace)?;
-    let prompt = prompt_rings(alloc, trace, late)?;
+    let mut attempt = Attempt::new(alloc, header, rows)?;
+    let mut prompt = prompt_rings(alloc, header, late)?;
     let mut active = Vec::new(alloc);
-    for row in rows {
-        attempt.post(row, late)?;
+    for row in first {
+        attempt.post_before(row, late)?;
         attempt.make(Step::NextRow)?;
         // only a doorbell makes a ring active
         active = match row {
-            Row::Bell { .. } => attempt.look_at_each(alloc, &prompt)?,
+            TraceRow::Plain(Row::Bell { .. }) => attempt.look_at_each(alloc, &prompt)?,
             _ => attempt.look_at_each(alloc, &active)?,
         };
+        follow_rings(&mut prompt, row)?;
     }
-    let rings = rings_of(alloc, trace)?;
-    attempt.look_at_each(alloc, &rings)?;
+    if let Some(ring) = late {
+        prompt.push(ring).map_err(AllocError::from)?;
+    }
+    attempt.look_at_each(alloc, &prompt)?;
     Ok(attempt.into_schedule())
 }
 
-/// The lazy schedule of rows, none of which breaks a rule, then the next row, and looks at each active ring until it waits.
-fn lazy_schedule_behind(alloc: Global, trace: &Trace, rows: &[Row]) -> Result<Schedule, Unmade>
-    requires few { length rows.now ≤ length trace.now.rows }
-    requires fitting { All IsRow rows.now }
-    requires clean { IsClean trace.now.header (reverse rows.now) }
+/// A run that does harm by the lazy schedule of the rows before the refused one, where all rows are the driver's.
+fn lazy_run(
+    alloc: Global,
+    header: &Header,
+    rows: &[TraceRow],
+    driver: &[Row],
+    refused: usize,
+) -> Result<Option<HarmfulRun>, AllocError>
+    requires headed { IsHeader header.now }
+    requires fits { All IsTraceRow rows.now }
+    requires driver { All IsRow driver.now }
+    requires few { length driver.now ≤ most_lines }
+    requires count { refused + 1 < 2 ^ 64 }
+    ensures { IfOk result (λ found. IfSome found (λ run. DoesHarm header.now rows.now (refused + 1) run.schedule.steps run.harm)) }
+{
+    if driver.len() <= refused {
+        return Ok(None);
+    }
+    let lazy = lazy_schedule_behind(alloc, header, rows, &driver[..refused]);
+    harm_of(alloc, header, rows, refused + 1, lazy)
+}
+
+/// The lazy schedule of rows of the driver, if none of them breaks a rule, then the next row, and looks at each active ring until it waits.
+fn lazy_schedule_behind(
+    alloc: Global,
+    header: &Header,
+    rows: &[TraceRow],
+    before: &[Row],
+) -> Result<Schedule, Unmade>
+    requires headed { IsHeader header.now }
+    requires fits { All IsTraceRow rows.now }
+    requires few { length before.now ≤ most_lines }
+    requires fitting { All IsRow before.now }
 {
     let memory = PageMemory::new(alloc);
-    let steps = match steps_of(alloc, &trace.header, trace.first, rows, memory) {
+    let steps = match steps_of(alloc, header, 1, before, memory) {
         Ok(steps) => steps,
         Err(ScheduleFault::Refused { .. }) => return Err(Unmade::Dropped),
         Err(ScheduleFault::Memory) => return Err(Unmade::Memory),
     };
-    let mut attempt = Attempt::new(alloc, trace)?;
+    let mut attempt = Attempt::new(alloc, header, rows)?;
     attempt.make_all(&steps)?;
     attempt.make(Step::NextRow)?;
-    let rings = rings_of(alloc, trace)?;
+    let rings = prompt_rings(alloc, header, None)?;
     attempt.look_at_each(alloc, &rings)?;
     Ok(attempt.into_schedule())
 }
@@ -182,14 +228,16 @@ fn lazy_schedule_behind(alloc: Global, trace: &Trace, rows: &[Row]) -> Result<Sc
 /// A schedule that was made up to the first step after which the world isn't safe; none where none was made, or that does no harm.
 fn harm_of(
     alloc: Global,
-    trace: &Trace,
+    header: &Header,
+    rows: &[TraceRow],
     most_rows: usize,
     made: Result<Schedule, Unmade>,
 ) -> Result<Option<HarmfulRun>, AllocError>
-    ensures { IfOk result (λ found. IfSome found (λ run. DoesHarm trace.now.header trace.now.rows most_rows run.schedule.steps run.harm)) }
+    requires { All IsTraceRow rows.now }
+    ensures { IfOk result (λ found. IfSome found (λ run. DoesHarm header.now rows.now most_rows run.schedule.steps run.harm)) }
 {
     match made {
-        Ok(schedule) => up_to_harm(alloc, trace, most_rows, &schedule),
+        Ok(schedule) => up_to_harm(alloc, header, rows, most_rows, &schedule),
         Err(Unmade::Dropped) => Ok(None),
         Err(Unmade::Memory) => Err(AllocError),
     }
@@ -199,13 +247,15 @@ fn harm_of(
 /// rows up to there.
 fn up_to_harm(
     alloc: Global,
-    trace: &Trace,
+    header: &Header,
+    rows: &[TraceRow],
     most_rows: usize,
     schedule: &Schedule,
 ) -> Result<Option<HarmfulRun>, AllocError>
-    ensures { IfOk result (λ found. IfSome found (λ run. DoesHarm trace.now.header trace.now.rows most_rows run.schedule.steps run.harm)) }
+    requires { All IsTraceRow rows.now }
+    ensures { IfOk result (λ found. IfSome found (λ run. DoesHarm header.now rows.now most_rows run.schedule.steps run.harm)) }
 {
-    let Some(found) = first_harm(alloc, trace, schedule)? else {
+    let Some(found) = first_harm(alloc, header, rows, schedule)? else {
         return Ok(None);
     };
     let done = &schedule.steps.as_slice()[..found.step];
@@ -229,13 +279,14 @@ struct FirstHarm {
 /// The first harm that a schedule does, if its replay does any.
 fn first_harm(
     alloc: Global,
-    trace: &Trace,
+    header: &Header,
+    rows: &[TraceRow],
     schedule: &Schedule,
 ) -> Result<Option<FirstHarm>, AllocError>
-    ensures { IfOk result (λ found. IfSome found (λ first.
-        (replayed trace.now.header trace.now.rows schedule.now.steps).ending ≡ Harmful first.step first.harm)) }
+    requires { All IsTraceRow rows.now }
+    ensures { IfOk result (λ found. IfSome found (λ first. (scene_replayed header.now rows.now schedule.now.steps).ending ≡ Harmful first.step first.harm)) }
 {
-    match replay(alloc, trace, schedule) {
+    match replay(alloc, header, rows, schedule) {
         Ok(_) | Err(ReplayFault::NotPossible { .. }) => Ok(None),
         Err(ReplayFault::Harmful { step, harm, .. }) => Ok(Some(FirstHarm {
             step: step as usize,

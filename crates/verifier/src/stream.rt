@@ -1,13 +1,14 @@
 //! The verifier of a certificate beside a trace whose rows are read one by one.
 ghost use Rattle.std.specs.Prelude.{◌≡◌, ℕ, IfErr, IfOk};
 ghost use Rattle.row_reader.specs.Answers.{told_failures};
-ghost use Rattle.row_reader.specs.Streams.{IfBadLine, IsBadLine, OfTrace};
-ghost use Rattle.verifier.specs.Streams.{IsVerified};
+ghost use Rattle.row_reader.specs.Streams.{IfBadLine};
+ghost use Rattle.ring_pass.specs.Accepted.{IsVerified};
+ghost use Rattle.ring_pass.specs.Reading.{IsBadLine, OfTrace};
 
 use certificate_log::CertificateLog;
 use guest_memory::WordMemory;
 use ring_knowledge::Lease;
-use row_pass::{Passed, pass_rows};
+use ring_pass::{Passed, pass_rows};
 use row_reader::{RowReader, Source, StreamFault};
 use std::alloc::Global;
 

@@ -1,31 +1,13 @@
 -- That what is right of the bytes of an input is right of the input, of which nothing may be known
 use Rattle.std.proofs.Common.{◌≡◌, ℕ, Bool, false, List, Option, Some, None, ◌⊎◌, inl, inr, refl, Result, Ok, Err, subst}
-use Rattle.std.specs.Prelude.{IfErr, IfOk, IfSome}
-use Rattle.traces.specs.declared.trace.Trace.{Trace}
-use Rattle.answers.specs.Inputs.{IsTextOf}
-use Rattle.xhci_cli.specs.HarmAnswers.{IsRefusalTold}
-use Rattle.xhci_cli.specs.CheckAnswers.{IsCheckAnswer, IsCutShort, IsHindered, IsVerdict}
+use Rattle.std.specs.Prelude.{IfSome}
+use Rattle.xhci_cli.specs.CheckAnswers.{IsCheckAnswer, IsHindered}
 use Rattle.answers.proofs.Writing.{begun}
 use Rattle.answers.specs.Keeping.{kept_bytes}
 use Rattle.certificate.specs.Spelling.{spelling}
 use Rattle.xhci_cli.specs.PlanAnswers.{IsPlanAnswer}
 use Rattle.answers.specs.declared.answer.Answer.{Answer}
 use Rattle.answers.specs.declared.answer.Answer.TheVariants.{Accepted, Written, Refused, HarmShown, Unfollowed, BadLine, Memory, Device}
-
-pub verdict_right : {C : Type 0} (shows : Bool) (contents : C → Option (List ℕ)) (before after : Option C) (known : Option (List ℕ)) (a : Answer) (trace : Trace) → IsTextOf known trace →
-    IsVerdict shows contents before after a trace → IsCheckAnswer shows contents before after known a
-verdict_right shows contents before after known (Accepted leases) trace text right = (trace, text, right)
-verdict_right shows contents before after known (Refused row refusal) trace text right = (trace, text, right)
-verdict_right shows contents before after known (HarmShown row refusal harm) trace text right = (trace, text, right)
-verdict_right shows contents before after known Memory trace text right = inl right
-verdict_right shows contents before after known _ trace text right = absurd right
-
--- where a row is refused nothing was kept
-pub refusal_right : {C : Type 0} (shows : Bool) (contents : C → Option (List ℕ)) (before : Option C) (a : Answer) (trace : Trace) → IsRefusalTold shows trace a → IsVerdict shows contents before before a trace
-refusal_right shows contents before (Refused row refusal) trace told = (told, refl)
-refusal_right shows contents before (HarmShown row refusal harm) trace told = (told, refl)
-refusal_right shows contents before Memory trace told = refl
-refusal_right shows contents before _ trace told = absurd told
 
 -- what is right of bytes is right of an input of which nothing is known
 forget_hindered : {C : Type 0} (contents : C → Option (List ℕ)) (before after : Option C) (text : List ℕ) → IsHindered contents before after (Some text) → IsHindered contents before after None
@@ -50,20 +32,10 @@ pub hindered_held : {C : Type 0} (contents : C → Option (List ℕ)) (before af
     IsHindered contents before after (Some text) → IsHindered contents before after known
 hindered_held contents before after known text same hindered = check_held false contents before after known text Memory same hindered
 
-pub answered_right : {C E : Type 0} (shows : Bool) (contents : C → Option (List ℕ)) (before after : Option C) (known : Option (List ℕ)) (r : Result Answer E) (trace : Trace) → IsTextOf known trace →
-    IfOk r (λ a. IsVerdict shows contents before after a trace) → IfOk r (λ a. IsCheckAnswer shows contents before after known a)
-answered_right shows contents before after known (Ok a) trace text right = verdict_right shows contents before after known a trace text right
-answered_right shows contents before after known (Err e) trace text right = tt
-
-pub hindered_right : {C E : Type 0} (contents : C → Option (List ℕ)) (before after : Option C) (known : Option (List ℕ)) (r : Result Answer E) (trace : Trace) → IsTextOf known trace →
-    IfErr r (λ e. IsCutShort contents before after trace) → IfErr r (λ e. IsHindered contents before after known)
-hindered_right contents before after known (Ok a) trace text cut = tt
-hindered_right contents before after known (Err e) trace text cut = inr (trace, text, cut)
-
 -- where an answer can't be told for want of memory, the certificate may stand there whole
 pub hindered : {C : Type 0} (shows : Bool) (contents : C → Option (List ℕ)) (before after : Option C) (known : Option (List ℕ)) (a : Answer) → IsCheckAnswer shows contents before after known a → IsHindered contents before after known
 hindered shows contents before after known (Accepted leases) right =
-    inr (right.0, right.1, (right.2.0, right.2.1, begun (kept_bytes contents before) (kept_bytes contents after) (spelling right.2.0) right.2.5))
+    inr (right.0, right.1, (right.2.0, right.2.1.accepted, begun (kept_bytes contents before) (kept_bytes contents after) (spelling right.2.0) right.2.3))
 hindered shows contents before after known (Refused row refusal) right = inl right.2.1
 hindered shows contents before after known (HarmShown row refusal harm) right = inl right.2.1
 hindered shows contents before after known (BadLine line fault) right = inl right.1

@@ -1,6 +1,11 @@
 -- That the answer to a trace and a schedule is right
-use Rattle.std.proofs.Common.{◌≡◌, ℕ, List, Option, Some, None, Ok, subst}
-use Rattle.std.specs.Prelude.{IfSome}
+use Rattle.std.proofs.Common.{◌≡◌, ◌∙◌, ℕ, List, Option, Some, None, Ok, ap, subst}
+use Rattle.std.specs.Prelude.{IfSome, map}
+use Rattle.traces.specs.declared.trace_row.TraceRow.{TraceRow}
+use Rattle.traces.specs.declared.trace_row.TraceRow.TheVariants.{Plain}
+use Rattle.controller_model.specs.Scenes.{scene_replayed}
+use Rattle.controller_model.specs.Showing.{replayed}
+use Rattle.controller_model.proofs.PlainScenes.{plain_replayed}
 use Rattle.traces.specs.declared.schedule.Schedule.{Schedule}
 use Rattle.traces.specs.declared.trace.Trace.{Trace}
 use Rattle.trace_reader.specs.Schedules.{schedule_of}
@@ -24,3 +29,8 @@ pub beside_held : (trace : Trace) (known : Option (List ℕ)) (text : List ℕ) 
     IsReplayBeside trace known a
 beside_held trace None text a same right = forget_beside trace text a right
 beside_held trace (Some xs) text a same right = subst (λ (l : List ℕ). IsReplayBeside trace (Some l) a) same right
+
+-- beside the driver's rows alone
+pub same_replay : (trace : Trace) (rows : List TraceRow) (schedule : Schedule) → rows ≡ map (λ row. Plain row) trace.rows →
+    scene_replayed trace.header rows schedule.steps ≡ replayed trace.header trace.rows schedule.steps
+same_replay trace rows schedule same = ap (λ rs. scene_replayed trace.header rs schedule.steps) same ∙ plain_replayed trace.header trace.rows schedule.steps

@@ -1,35 +1,42 @@
 -- That what is right of the text that a device gave, with what it still holds, is right of the input, of which nothing may be known
-use Rattle.std.proofs.Common.{◌≡◌, ℕ, Bool, true, false, List, length, Option, Some, None, Result, Ok, Err, not, inl, inr, refl}
-use Rattle.std.specs.Prelude.{IfErr, is_some}
+use Rattle.std.proofs.Common.{◌≡◌, ◌∙◌, ℕ, Bool, true, false, List, length, Option, Some, None, Result, Ok, Err, not, inl, inr, refl, subst, sym}
+use Rattle.std.specs.Prelude.{IfErr, IfOk, is_some}
 use Rattle.traces.specs.declared.trace.Trace.{Trace}
 use Rattle.trace_reader.specs.Entries.{text_of as spelled}
-use Rattle.trace_reader.specs.DriverRows.{driver_trace_of}
+use Rattle.trace_reader.specs.DriverRows.{all_plain, driver_trace_of, text_taken}
+use Rattle.trace_reader.specs.Reading.{TraceText, trace_of}
+use Rattle.trace_reader.proofs.DriverTraces.{plain_trace}
+use Rattle.ring_pass.proofs.RowsTaken.{text_is_trace}
+use Rattle.xhci_cli.specs.HarmAnswers.{IsHarmFound}
+use Rattle.answers.specs.declared.answer.FoundHarm.{FoundHarm}
 use Rattle.trace_reader.specs.declared.fault.LineFault.{LineFault}
 use Rattle.row_reader.specs.declared.fault.StreamFault.{StreamFault}
 use Rattle.row_reader.specs.declared.fault.StreamFault.TheVariants.{Line, Device as NoDevice, Memory as NoMemory}
-use Rattle.ring_knowledge.specs.Known.{nothing}
 use Rattle.ring_knowledge.specs.declared.lease.Lease.{Lease}
-use Rattle.ownership_rules.specs.Rules.{verdict_from}
-use Rattle.row_reader.specs.Streams.{IfBadLine, IsBadLine, OfStream, OfTrace}
+use Rattle.row_reader.specs.Streams.{IfBadLine, OfStream}
 use Rattle.row_reader.proofs.Streams.{known_text}
-use Rattle.ownership_checker.specs.Streams.{IfBadLineIn, IfRefusedIn, IsSound}
+use Rattle.ring_pass.specs.Accepted.{IsSound}
+use Rattle.ring_pass.specs.Reading.{IsBadLine, OfTrace}
+use Rattle.ring_pass.specs.RingRows.{ring_row}
+use Rattle.ring_pass.specs.Rules.{ring_verdict}
+use Rattle.ownership_checker.specs.Streams.{IfBadLineIn, IfRefusedIn}
 use Rattle.ownership_checker.specs.declared.fault.StreamCheckFault.{StreamCheckFault}
 use Rattle.ownership_checker.specs.declared.fault.StreamCheckFault.TheVariants.{Refused as RefusedRow, Unread}
 use Rattle.answers.specs.Answers.{answer_of_stream_fault}
-use Rattle.answers.specs.Inputs.{IsFirstBad, IsTextOf, IsTraceAnswer, IsUnread}
 use Rattle.answers.specs.Keeping.{IsKept, IsKeptInPart}
 use Rattle.answers.specs.declared.answer.Answer.{Answer}
 use Rattle.answers.specs.declared.answer.Answer.TheVariants.{Accepted, Refused, HarmShown, BadLine, Memory, Device, Verified}
 use Rattle.xhci_cli.specs.CheckAnswers.{IsCheckAnswer, IsHindered, IsVerdictAlone, answer_of_check_fault}
+use Rattle.xhci_cli.specs.JudgedTexts.{IsFirstBad, IsTextOf, IsTraceAnswer, IsUnread}
 use Rattle.xhci_cli.specs.VerifyAnswers.{IsVerdictBeside, IsVerified}
 
-text_known : (known known' : Option (List ℕ)) (trace : Trace) → OfStream known known' (λ text. driver_trace_of text ≡ Ok (spelled trace)) → IsTextOf known trace
+text_known : (known known' : Option (List ℕ)) (trace : TraceText) → OfStream known known' (λ text. text_taken ring_row text ≡ Ok trace) → IsTextOf known trace
 text_known None known' trace read = tt
-text_known (Some bytes) known' trace read = known_text bytes known' (λ text. driver_trace_of text ≡ Ok (spelled trace)) read
+text_known (Some bytes) known' trace read = known_text bytes known' (λ text. text_taken ring_row text ≡ Ok trace) read
 
 bad_known : (known known' : Option (List ℕ)) (line : ℕ) (fault : LineFault) → IsBadLine known known' line fault → IsFirstBad known line fault
 bad_known None known' line fault bad = tt
-bad_known (Some bytes) known' line fault bad = known_text bytes known' (λ text. driver_trace_of text ≡ Err (line, fault)) bad
+bad_known (Some bytes) known' line fault bad = known_text bytes known' (λ text. text_taken ring_row text ≡ Err (line, fault)) bad
 
 pub unread_right : (known known' : Option (List ℕ)) (fault : StreamFault) → IfBadLine fault (IsBadLine known known') → IsUnread known (answer_of_stream_fault fault)
 unread_right known known' (Line line fault) bad = bad_known known known' line fault bad
@@ -41,10 +48,10 @@ unread_right known known' NoMemory bad = tt
 pub counted_right : (known known' : Option (List ℕ)) (count : ℕ) → OfTrace known known' (λ trace. (leases : List Lease) × IsSound trace leases × (count ≡ length leases)) →
     IsTraceAnswer IsVerdictAlone known (Accepted count)
 counted_right known known' count (trace, read, (leases, sound, counted)) =
-    inr (trace, text_known known known' trace read, (leases, sound.accepted, counted, sound.walk, sound.harmless, tt))
+    inr (trace, text_known known known' trace read, (leases, sound, counted, tt))
 
 pub unaccepted_right : (known known' : Option (List ℕ)) (fault : StreamCheckFault) →
-    IfRefusedIn fault (λ row c. OfTrace known known' (λ trace. verdict_from trace.header nothing trace.first trace.rows ≡ Some (row, c))) →
+    IfRefusedIn fault (λ row c. OfTrace known known' (λ trace. ring_verdict trace.header trace.first trace.rows ≡ Some (row, c))) →
     IfBadLineIn fault (IsBadLine known known') → IsTraceAnswer IsVerdictAlone known (answer_of_check_fault fault)
 unaccepted_right known known' (RefusedRow row c) refused bad = inr (refused.0, text_known known known' refused.0 refused.1, ((refl, refused.2), refl))
 unaccepted_right known known' (Unread fault) refused bad = inl (unread_right known known' fault bad)
@@ -52,7 +59,7 @@ unaccepted_right known known' (Unread fault) refused bad = inl (unread_right kno
 -- what is right of a trace alone is right where none is asked for
 pub alone_right : {C : Type 0} (contents : C → Option (List ℕ)) (before : Option C) (known : Option (List ℕ)) (a : Answer) → is_some before ≡ not true → IsTraceAnswer IsVerdictAlone known a →
     IsCheckAnswer false contents before before known a
-alone_right contents None known (Accepted count) none (inr right) = (right.0, right.1, (right.2.0, right.2.1, right.2.2, right.2.3, right.2.4, tt))
+alone_right contents None known (Accepted count) none (inr right) = (right.0, right.1, (right.2.0, right.2.1, right.2.2, tt))
 alone_right contents None known (Refused row refusal) none (inr right) = (right.0, right.1, (right.2.0, refl))
 alone_right contents None known (HarmShown row refusal harm) none (inr right) = (right.0, right.1, (right.2.0, refl))
 alone_right contents None known (BadLine line fault) none (inl unread) = (unread, refl)
@@ -65,7 +72,7 @@ alone_right contents (Some writer) known a none right = absurd (cc)
 -- ---- where one is asked for
 
 pub unkept_right : {C : Type 0} (contents : C → Option (List ℕ)) (before : Option C) (known known' : Option (List ℕ)) (fault : StreamCheckFault) →
-    IfRefusedIn fault (λ row c. OfTrace known known' (λ trace. verdict_from trace.header nothing trace.first trace.rows ≡ Some (row, c))) →
+    IfRefusedIn fault (λ row c. OfTrace known known' (λ trace. ring_verdict trace.header trace.first trace.rows ≡ Some (row, c))) →
     IfBadLineIn fault (IsBadLine known known') → IsCheckAnswer false contents before before known (answer_of_check_fault fault)
 unkept_right contents before known known' (RefusedRow row c) refused bad = (refused.0, text_known known known' refused.0 refused.1, ((refl, refused.2), refl))
 unkept_right contents before known known' (Unread (Line line fault)) refused bad = (bad_known known known' line fault bad, refl)
@@ -75,7 +82,7 @@ unkept_right contents before known known' (Unread NoMemory) refused bad = inl re
 pub kept_right : {C : Type 0} (contents : C → Option (List ℕ)) (before after : Option C) (known known' : Option (List ℕ)) (leases : List Lease) (count : ℕ) →
     OfTrace known known' (λ trace. IsSound trace leases) → count ≡ length leases → IsKept contents before after leases → IsCheckAnswer false contents before after known (Accepted count)
 kept_right contents before after known known' leases count (trace, read, sound) counted kept =
-    (trace, text_known known known' trace read, (leases, sound.accepted, counted, sound.walk, sound.harmless, kept))
+    (trace, text_known known known' trace read, (leases, sound, counted, kept))
 
 pub cut_right : {C T E : Type 0} (contents : C → Option (List ℕ)) (before after : Option C) (known known' : Option (List ℕ)) (leases : List Lease) (r : Result T E) →
     OfTrace known known' (λ trace. IsSound trace leases) → IsKeptInPart contents before after leases → IfErr r (λ e. IsHindered contents before after known)
@@ -86,3 +93,14 @@ cut_right contents before after known known' leases (Err e) (trace, read, sound)
 
 pub verified_right : (leases : List Lease) (known known' : Option (List ℕ)) (holds : Bool) → OfTrace known known' (λ trace. IsVerified trace leases holds) → IsVerdictBeside leases known (Verified holds)
 verified_right leases known known' holds (trace, read, right) = inr (trace, text_known known known' trace read, right)
+
+-- ---- a run that does harm, beside the driver's rows alone
+
+same_trace : (x y : TraceText) (r : Result TraceText (ℕ × LineFault)) → r ≡ Ok x → r ≡ Ok y → x ≡ y
+same_trace x y r is also = cc (sym is ∙ also)
+
+pub harm_found : {E : Type 0} (text : List ℕ) (plain : Trace) (row : ℕ) (r : Result (Option FoundHarm) E) → driver_trace_of text ≡ Ok (spelled plain) →
+    IfOk r (λ found. IsHarmFound (all_plain (spelled plain)) row found) → IfOk r (λ found. (trace : TraceText) → text_taken ring_row text ≡ Ok trace → IsHarmFound trace row found)
+harm_found text plain row (Ok found) read harms = λ trace told.
+    subst (λ (t : TraceText). IsHarmFound t row found) (same_trace (all_plain (spelled plain)) trace (trace_of text) (plain_trace text (spelled plain) read) (text_is_trace text trace told)) harms
+harm_found text plain row (Err e) read harms = tt

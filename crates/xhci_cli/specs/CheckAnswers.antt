@@ -1,30 +1,27 @@
 -- What is right to answer to the text of a trace, and to write where its certificate goes
 use Rattle.std.specs.Prelude.{◌≡◌, ◌⊎◌, ℕ, Bool, false, List, length, Option, Some, None}
-use Rattle.traces.specs.declared.trace.Trace.{Trace}
+use Rattle.trace_reader.specs.Reading.{TraceText}
 use Rattle.ring_knowledge.specs.declared.lease.Lease.{Lease}
-use Rattle.ownership_checker.specs.Verdicts.{IsAccepted, IsHarmless}
-use Rattle.ownership_checker.specs.Walks.{WalksRead}
+use Rattle.ring_pass.specs.Accepted.{IsAccepted, IsSound}
 use Rattle.ownership_checker.specs.declared.fault.StreamCheckFault.{StreamCheckFault}
 use Rattle.ownership_checker.specs.declared.fault.StreamCheckFault.TheVariants.{Refused as RefusedRow, Unread}
 use Rattle.answers.specs.Answers.{answer_of_stream_fault}
-use Rattle.answers.specs.Inputs.{IsFirstBad, IsTextOf}
 use Rattle.answers.specs.Keeping.{IsKept, IsKeptInPart}
 use Rattle.answers.specs.declared.answer.Answer.{Answer}
 use Rattle.answers.specs.declared.answer.Answer.TheVariants.{Accepted, Refused, HarmShown, BadLine, Memory, Device}
 use Rattle.xhci_cli.specs.HarmAnswers.{IsRefusalTold}
+use Rattle.xhci_cli.specs.JudgedTexts.{IsFirstBad, IsTextOf}
 
 -- of the certificate of an accepted trace no more than a beginning was written
-abbrev pub IsCutShort : {C : Type 0} → (C → Option (List ℕ)) → Option C → Option C → Trace → Type 0
-IsCutShort contents before after trace = (leases : List Lease) × IsAccepted trace.header trace.rows trace.first leases × IsKeptInPart contents before after leases
+abbrev pub IsCutShort : {C : Type 0} → (C → Option (List ℕ)) → Option C → Option C → TraceText → Type 0
+IsCutShort contents before after trace = (leases : List Lease) × IsAccepted trace leases × IsKeptInPart contents before after leases
 
 -- an answer is right of a trace that was read, and so is what was done where its certificate goes: how many leases it has, where no
 -- row breaks a rule, and then these were kept whole, a walk after any row reads what was declared, and no run of the controller's
 -- model beside the rows does harm; or its first row that breaks a rule, and the least rule that it breaks, with a run that does harm where that
 -- was asked for, and then nothing was kept
-abbrev pub IsVerdict : {C : Type 0} → Bool → (C → Option (List ℕ)) → Option C → Option C → Answer → Trace → Type 0
-IsVerdict shows contents before after (Accepted count) trace =
-    (leases : List Lease) × IsAccepted trace.header trace.rows trace.first leases × (count ≡ length leases) × WalksRead trace.header trace.rows
-    × IsHarmless trace.header trace.rows × IsKept contents before after leases
+abbrev pub IsVerdict : {C : Type 0} → Bool → (C → Option (List ℕ)) → Option C → Option C → Answer → TraceText → Type 0
+IsVerdict shows contents before after (Accepted count) trace = (leases : List Lease) × IsSound trace leases × (count ≡ length leases) × IsKept contents before after leases
 IsVerdict shows contents before after (Refused row refusal) trace = IsRefusalTold shows trace (Refused row refusal) × (after ≡ before)
 IsVerdict shows contents before after (HarmShown row refusal harm) trace = IsRefusalTold shows trace (HarmShown row refusal harm) × (after ≡ before)
 IsVerdict shows contents before after Memory trace = after ≡ before
@@ -33,14 +30,14 @@ IsVerdict shows contents before after _ trace = ⊥
 -- where memory or the device failed nothing was kept, or the input holds a trace that is accepted and a beginning of its
 -- certificate was kept, which may be all of it
 abbrev pub IsHindered : {C : Type 0} → (C → Option (List ℕ)) → Option C → Option C → Option (List ℕ) → Type 0
-IsHindered contents before after known = (after ≡ before) ⊎ ((trace : Trace) × IsTextOf known trace × IsCutShort contents before after trace)
+IsHindered contents before after known = (after ≡ before) ⊎ ((trace : TraceText) × IsTextOf known trace × IsCutShort contents before after trace)
 
 -- an answer to an input is right, and so is what was done where the certificate goes: the verdict on the trace that it holds; or
 -- where it holds none its first bad line, and then nothing was kept; or that memory or the device failed
 abbrev pub IsCheckAnswer : {C : Type 0} → Bool → (C → Option (List ℕ)) → Option C → Option C → Option (List ℕ) → Answer → Type 0
-IsCheckAnswer shows contents before after known (Accepted leases) = (trace : Trace) × IsTextOf known trace × IsVerdict shows contents before after (Accepted leases) trace
-IsCheckAnswer shows contents before after known (Refused row refusal) = (trace : Trace) × IsTextOf known trace × IsVerdict shows contents before after (Refused row refusal) trace
-IsCheckAnswer shows contents before after known (HarmShown row refusal harm) = (trace : Trace) × IsTextOf known trace × IsVerdict shows contents before after (HarmShown row refusal harm) trace
+IsCheckAnswer shows contents before after known (Accepted leases) = (trace : TraceText) × IsTextOf known trace × IsVerdict shows contents before after (Accepted leases) trace
+IsCheckAnswer shows contents before after known (Refused row refusal) = (trace : TraceText) × IsTextOf known trace × IsVerdict shows contents before after (Refused row refusal) trace
+IsCheckAnswer shows contents before after known (HarmShown row refusal harm) = (trace : TraceText) × IsTextOf known trace × IsVerdict shows contents before after (HarmShown row refusal harm) trace
 IsCheckAnswer shows contents before after known (BadLine line fault) = IsFirstBad known line fault × (after ≡ before)
 IsCheckAnswer shows contents before after known Memory = IsHindered contents before after known
 IsCheckAnswer shows contents before after known Device = IsHindered contents before after known
@@ -52,5 +49,5 @@ answer_of_check_fault (RefusedRow row refusal) = Refused row refusal
 answer_of_check_fault (Unread fault) = answer_of_stream_fault fault
 
 -- an answer to a trace is right where no certificate is asked for, and no run
-abbrev pub IsVerdictAlone : Trace → Answer → Type 0
+abbrev pub IsVerdictAlone : TraceText → Answer → Type 0
 IsVerdictAlone trace answer = IsVerdict {C = Unit {0}} false (λ _. None) None None answer trace

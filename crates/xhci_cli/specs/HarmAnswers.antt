@@ -1,33 +1,32 @@
 -- What is right to answer of a row that breaks a rule, with a run that does harm or without
 use Rattle.std.specs.Prelude.{◌≡◌, ℕ, ◌+◌, ◌-◌, Bool, true, false, List, Option, Some, None, Ok}
-use Rattle.traces.specs.declared.trace.Trace.{Trace}
 use Rattle.traces.specs.declared.step.Step.{Step}
 use Rattle.trace_reader.specs.Schedules.{schedule_of}
 use Rattle.trace_reader.specs.ScheduleSpelling.{printed_schedule}
-use Rattle.ring_knowledge.specs.Known.{nothing}
-use Rattle.ownership_rules.specs.Rules.{verdict_from}
+use Rattle.trace_reader.specs.Reading.{TraceText}
+use Rattle.ring_pass.specs.Rules.{ring_verdict}
 use Rattle.scheduler.specs.Harmful.{DoesHarm}
 use Rattle.answers.specs.declared.answer.FoundHarm.{FoundHarm}
 use Rattle.answers.specs.declared.answer.Answer.{Answer}
 use Rattle.answers.specs.declared.answer.Answer.TheVariants.{Refused, HarmShown, Memory}
 
 -- the text is a schedule, and is read as that: a run beside the trace that goes no further than this row and does this harm with its last step
-pub record IsHarmText (trace : Trace) (row : ℕ) (found : FoundHarm) : Type 0 where
+pub record IsHarmText (trace : TraceText) (row : ℕ) (found : FoundHarm) : Type 0 where
   pub steps : List Step
   pub printed : found.schedule.items ≡ printed_schedule steps
   pub reread : schedule_of found.schedule.items ≡ Ok steps
   pub harms : DoesHarm trace.header trace.rows (row - trace.first + 1) steps found.harm
 
 -- that no harm was found says nothing
-abbrev pub IsHarmFound : Trace → ℕ → Option FoundHarm → Type 0
+abbrev pub IsHarmFound : TraceText → ℕ → Option FoundHarm → Type 0
 IsHarmFound trace row None = Unit {0}
 IsHarmFound trace row (Some found) = IsHarmText trace row found
 
 -- the first row that breaks a rule, and the least rule that it breaks; with a run that does harm, where that was asked for; or that memory
 -- was wanted
-abbrev pub IsRefusalTold : Bool → Trace → Answer → Type 0
-IsRefusalTold shows trace (Refused row refusal) = (shows ≡ false) × (verdict_from trace.header nothing trace.first trace.rows ≡ Some (row, refusal))
+abbrev pub IsRefusalTold : Bool → TraceText → Answer → Type 0
+IsRefusalTold shows trace (Refused row refusal) = (shows ≡ false) × (ring_verdict trace.header trace.first trace.rows ≡ Some (row, refusal))
 IsRefusalTold shows trace (HarmShown row refusal harm) =
-    (shows ≡ true) × (verdict_from trace.header nothing trace.first trace.rows ≡ Some (row, refusal)) × IsHarmFound trace row harm
+    (shows ≡ true) × (ring_verdict trace.header trace.first trace.rows ≡ Some (row, refusal)) × IsHarmFound trace row harm
 IsRefusalTold shows trace Memory = Unit {0}
 IsRefusalTold shows trace _ = ⊥

@@ -1,5 +1,6 @@
 pub mod CheckAnswers
 pub mod HarmAnswers
+pub mod JudgedTexts
 pub mod PlanAnswers
 pub mod ReplayAnswers
 pub mod ScheduleAnswers

@@ -1,6 +1,5 @@
 -- What is right to answer to the texts of a trace and of a schedule
 use Rattle.std.specs.Prelude.{◌≡◌, ℕ, List, Option, Some, None, Ok, Err}
-use Rattle.traces.specs.declared.header.Header.{Header}
 use Rattle.traces.specs.declared.schedule.Schedule.{Schedule}
 use Rattle.traces.specs.declared.trace.Trace.{Trace}
 use Rattle.trace_reader.specs.Schedules.{schedule_of}
@@ -24,15 +23,15 @@ IsFirstBadStep None line fault = Unit {0}
 IsFirstBadStep (Some bytes) line fault = schedule_of bytes ≡ Err (line, fault)
 
 -- an ending as the definitions have it
-abbrev pub ending_as : (h : Header) → ReplayEnd → Ending h
-ending_as h NoHarm = EndsSafe
-ending_as h (Harmful step harm) = Harms step harm
-ending_as h (NotPossible step) = Stuck step
+abbrev pub ending_as : ReplayEnd → Ending
+ending_as NoHarm = EndsSafe
+ending_as (Harmful step harm) = Harms step harm
+ending_as (NotPossible step) = Stuck step
 
 -- an answer is the replay of a schedule beside a trace, or that memory was wanted
 abbrev pub IsReplayed : Trace → Schedule → Answer → Type 0
 IsReplayed trace schedule (Replayed seen ending) =
-    (seen.items ≡ (replayed trace.header trace.rows schedule.steps).seen) × (ending_as trace.header ending ≡ (replayed trace.header trace.rows schedule.steps).ending)
+    (seen.items ≡ (replayed trace.header trace.rows schedule.steps).seen) × (ending_as ending ≡ (replayed trace.header trace.rows schedule.steps).ending)
 IsReplayed trace schedule Memory = Unit {0}
 IsReplayed trace schedule _ = ⊥
 

@@ -1,14 +1,14 @@
 -- What is right to answer to the bytes of a certificate and the text of a trace
 use Rattle.std.specs.Prelude.{◌≡◌, ◌≢◌, ◌⊎◌, ℕ, List, Option, Some, None, Ok, Err}
-use Rattle.traces.specs.declared.trace.Trace.{Trace}
+use Rattle.trace_reader.specs.Reading.{TraceText}
 use Rattle.ring_knowledge.specs.declared.lease.Lease.{Lease}
 use Rattle.certificate.specs.Spelling.{certificate_of}
 use Rattle.certificate.specs.declared.fault.CertFault.{CertFault}
 use Rattle.certificate.specs.declared.fault.CertFault.TheVariants.{Memory as NoLeaseMemory}
-pub use Rattle.verifier.specs.Streams.{IsVerified}
-use Rattle.answers.specs.Inputs.{IsTraceAnswer}
+pub use Rattle.ring_pass.specs.Accepted.{IsVerified}
 use Rattle.answers.specs.declared.answer.Answer.{Answer}
 use Rattle.answers.specs.declared.answer.Answer.TheVariants.{Verified, BadCertificate, Memory, Device}
+use Rattle.xhci_cli.specs.JudgedTexts.{IsTraceAnswer}
 
 -- the known bytes of an input spell the leases; of bytes that aren't known nothing is said
 abbrev pub IsCertificateOf : Option (List ℕ) → List Lease → Type 0
@@ -28,7 +28,7 @@ IsUncertified bytes Device = Unit {0}
 IsUncertified bytes _ = ⊥
 
 -- what is right to answer to leases beside a trace: yes or no, or that memory was wanted
-abbrev pub IsVerdictOn : List Lease → Trace → Answer → Type 0
+abbrev pub IsVerdictOn : List Lease → TraceText → Answer → Type 0
 IsVerdictOn leases trace (Verified holds) = IsVerified trace leases holds
 IsVerdictOn leases trace Memory = Unit {0}
 IsVerdictOn leases trace _ = ⊥

@@ -99,6 +99,18 @@ fn answer_as_read<S: Source, C: Write>(
     if certificate.is_none() {
         return Ok(counted_answer(alloc, source));
     }
+    kept_answer(alloc, source, certificate)
+}
+
+/// The same, where all leases are kept.
+pub(crate) fn kept_answer<S: Source, C: Write>(
+    alloc: Global,
+    source: &mut S,
+    certificate: &mut Option<C>,
+) -> io::Result<Answer>
+    ensures answered { IfOk result (λ answer. IsCheckAnswer false C.contents certificate.old certificate.new (S.held source.old) answer) }
+    ensures hindered { IfErr result (λ _. IsHindered C.contents certificate.old certificate.new (S.held source.old)) }
+{
     match check_stream(alloc, source, PageMemory::new(alloc)) {
         Ok(found) => {
             keep(alloc, &found.leases, certificate)?;

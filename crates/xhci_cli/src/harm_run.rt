@@ -1,22 +1,26 @@
 //! Checks a trace, and looks for a run that does harm beside it. That needs all its rows.
-ghost use Rattle.std.specs.Prelude.{Some, ◌≡◌, true, IfErr, IfOk, string_bytes};
+ghost use Rattle.std.specs.Prelude.{Some, ◌≡◌, true, IfErr, IfOk, Ok, string_bytes};
 ghost use Rattle.answers.specs.Telling.{IsNote};
-ghost use Rattle.xhci_cli.specs.CheckAnswers.{IsCheckAnswer, IsCutShort, IsHindered, IsVerdict};
-ghost use Rattle.ring_knowledge.specs.Known.{nothing};
-ghost use Rattle.ownership_rules.specs.declared.refusal.Refusal.{Refusal as RefusalValue};
-ghost use Rattle.ownership_rules.specs.Rules.{verdict_from};
+ghost use Rattle.xhci_cli.specs.CheckAnswers.{IsCheckAnswer, IsHindered};
+ghost use Rattle.trace_reader.specs.DriverRows.{all_plain, text_taken};
+ghost use Rattle.trace_reader.specs.Entries.{text_of as spelled};
+ghost use Rattle.trace_reader.specs.Reading.{TraceText};
+ghost use Rattle.ring_pass.specs.RingRows.{ring_row};
+ghost use Rattle.ring_pass.specs.Rules.{ring_verdict};
 ghost use Rattle.xhci_cli.specs.HarmAnswers.{IsHarmFound, IsRefusalTold};
 
+use crate::check_run::kept_answer;
 use crate::judged::{Judged, unkept, unread};
 use crate::reading::bytes_of;
 use crate::version_note::note_on_check;
-use answers::{Answer, Asked, FoundHarm, keep};
-use ownership_checker::{Certificate, CheckFault, check};
+use answers::{Answer, Asked, FoundHarm};
+use controller_model::plain_rows;
 use ownership_rules::Refusal;
+use row_reader::Counted;
 use scheduler::{Search, harmful_run};
 use std::alloc::{AllocError, Global};
 use std::io::{self, Read, Write};
-use trace_reader::{print_schedule, read_trace};
+use trace_reader::{ReadFault, print_schedule, read_trace};
 use traces::Trace;
 
 /// Judges the trace that an input holds; of a refused one a run that does harm is looked for.
@@ -53,58 +57,55 @@ fn check_answer<C: Write>(
     ensures answered { IfOk result (λ answer. IsCheckAnswer true C.contents certificate.old certificate.new (Some text.now) answer) }
     ensures hindered { IfErr result (λ _. IsHindered C.contents certificate.old certificate.new (Some text.now)) }
 {
-    match read_trace(alloc, text) {
-        Ok(trace) => verdict(alloc, search, &trace, certificate),
-        Err(fault) => Ok(Answer::from(fault)),
+    let mut source = Counted::new(text);
+    match kept_answer(alloc, &mut source, certificate)? {
+        Answer::Refused { row, refusal } => Ok(shown_answer(alloc, search, text, row, refusal)),
+        answer => Ok(answer),
     }
 }
 
-/// The answer to a trace, with its certificate written; or why this can't be written.
-fn verdict<C: Write>(
-    alloc: Global,
-    search: Search,
-    trace: &Trace,
-    certificate: &mut Option<C>,
-) -> io::Result<Answer>
-    ensures answered { IfOk result (λ answer. IsVerdict true C.contents certificate.old certificate.new answer trace.now) }
-    ensures cut { IfErr result (λ _. IsCutShort C.contents certificate.old certificate.new trace.now) }
+/// The answer to the text of a trace with a row that breaks a rule, with a run that does harm, if one is found.
+fn shown_answer(alloc: Global, search: Search, text: &[u8], row: u32, refusal: Refusal) -> Answer
+    ensures { (trace : TraceText) → text_taken ring_row text.now ≡ Ok trace → ring_verdict trace.header trace.first trace.rows ≡ Some (row, refusal) → IsRefusalTold true trace result }
 {
-    match check(alloc, trace) {
-        Ok(Certificate { leases }) => {
-            keep(alloc, &leases, certificate)?;
-            Ok(Answer::Accepted {
-                leases: leases.len() as u64,
-            })
-        }
-        Err(CheckFault::Refused { row, refusal }) => {
-            Ok(shown_answer(alloc, search, trace, row, refusal))
-        }
-        Err(CheckFault::Memory) => Ok(Answer::Memory),
-    }
-}
-
-/// The answer to a trace with a row that breaks a rule, with a run that does harm, if one is found.
-fn shown_answer(alloc: Global, search: Search, trace: &Trace, row: u32, refusal: Refusal) -> Answer
-    requires refused { verdict_from trace.now.header nothing trace.now.first trace.now.rows ≡ Some (row, refusal) }
-    ensures { IsRefusalTold true trace.now result }
-{
-    match found_harm(alloc, search, trace, row) {
+    match found_harm(alloc, search, text, row) {
         Ok(harm) => Answer::HarmShown { row, refusal, harm },
         Err(error) => Answer::from(error),
     }
 }
 
-/// The schedule of a run that does harm, as it is printed, if one is found.
+/// The schedule of a run that does harm, as it is printed, if one is found. It is looked for where all rows are the driver's.
 fn found_harm(
+    alloc: Global,
+    search: Search,
+    text: &[u8],
+    row: u32,
+) -> Result<Option<FoundHarm>, AllocError>
+    ensures { IfOk result (λ found. (trace : TraceText) → text_taken ring_row text.now ≡ Ok trace → IsHarmFound trace row found) }
+{
+    match read_trace(alloc, text) {
+        Ok(trace) => harm_beside(alloc, search, &trace, row),
+        Err(ReadFault::Line { .. }) => Ok(None),
+        Err(ReadFault::Memory) => Err(AllocError),
+    }
+}
+
+/// The same, beside a trace all rows of which are the driver's.
+fn harm_beside(
     alloc: Global,
     search: Search,
     trace: &Trace,
     row: u32,
 ) -> Result<Option<FoundHarm>, AllocError>
-    requires refused { (c : RefusalValue) × (verdict_from trace.now.header nothing trace.now.first trace.now.rows ≡ Some (row, c)) }
-    ensures { IfOk result (λ found. IsHarmFound trace.now row found) }
+    ensures { IfOk result (λ found. IsHarmFound (all_plain (spelled trace.now)) row found) }
 {
-    match harmful_run(alloc, trace, row, search)? {
+    let driver = trace.rows.as_slice();
+    let rows = plain_rows(alloc, driver)?;
+    let refused = row.saturating_sub(trace.first) as usize;
+    if refused >= rows.len() {
+        return Ok(None);
+    }
+    match harmful_run(alloc, &trace.header, &rows, driver, refused, search)? {
         Some(run) => {
             let schedule = print_schedule(alloc, &run.schedule)?;
             Ok(Some(FoundHarm {

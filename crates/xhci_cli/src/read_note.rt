@@ -4,12 +4,14 @@ ghost use Rattle.answers.specs.Telling.{IsNote};
 
 use crate::no_note::note_on_verdict;
 use crate::recorded::{Recorded, Text};
+use crate::stream_answers::unaccepted;
 use answers::{Answer, Asked, note_on_failure};
-use ownership_checker::{Certificate, CheckFault, check};
+use guest_memory::PageMemory;
+use ownership_checker::{Certificate, check_stream};
 use ring_knowledge::Lease;
+use row_reader::Counted;
 use std::alloc::{AllocError, Global};
 use std::io::{Read, Seek};
-use trace_reader::read_trace;
 
 /// What a person is told of an answer to the trace that an input held; the leases are those of a certificate, where one is verified. A text
 /// that was too long to be kept is read once more.
@@ -67,17 +69,14 @@ fn has_answer(alloc: Global, text: &[u8], answer: &Answer) -> Result<bool, Alloc
     }
 }
 
-/// The answer to a text by itself. It is read as a trace, as what explains the answer reads it.
+/// The answer to a text by itself.
 fn answer_again(alloc: Global, text: &[u8]) -> Answer {
-    match read_trace(alloc, text) {
-        Ok(trace) => match check(alloc, &trace) {
-            Ok(Certificate { leases }) => Answer::Accepted {
-                leases: leases.len() as u64,
-            },
-            Err(CheckFault::Refused { row, refusal }) => Answer::Refused { row, refusal },
-            Err(CheckFault::Memory) => Answer::Memory,
+    let mut source = Counted::new(text);
+    match check_stream(alloc, &mut source, PageMemory::new(alloc)) {
+        Ok(Certificate { leases }) => Answer::Accepted {
+            leases: leases.len() as u64,
         },
-        Err(fault) => Answer::from(fault),
+        Err(fault) => unaccepted(fault),
     }
 }
 

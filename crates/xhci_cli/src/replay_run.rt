@@ -1,5 +1,9 @@
 //! Replays a schedule beside a trace, and writes the answer.
-ghost use Rattle.std.specs.Prelude.{Some, ◌≡◌, ◌⊎◌, false, true, IsErr};
+ghost use Rattle.std.specs.Prelude.{Some, ◌≡◌, ◌⊎◌, All, false, true, IsErr, map};
+ghost use Rattle.traces.specs.TraceRows.{IsTraceRow};
+ghost use Rattle.traces.specs.declared.trace_row.TraceRow.TheVariants.{Plain};
+ghost use Rattle.controller_model.specs.Showing.{replayed};
+ghost use Rattle.replayer.specs.Replays.{IsReplay};
 ghost use Rattle.answers.specs.Answers.{goes_out};
 ghost use Rattle.answers.specs.Inputs.{IsUnread, opened};
 ghost use Rattle.xhci_cli.specs.ReplayAnswers.{IsReplayAnswer, IsReplayBeside, IsReplayed};
@@ -9,11 +13,12 @@ use crate::reading::bytes_of;
 use answers::{
     Answer, Asked, ReplayEnd, Status, note_on_schedule, note_on_trace, tell, tell_failure,
 };
+use controller_model::{Seen, plain_rows};
 use replayer::{ReplayFault, replay};
 use std::alloc::Global;
 use std::io::{self, Read, Write};
 use trace_reader::{read_schedule, read_trace};
-use traces::{Schedule, Trace};
+use traces::{Schedule, Trace, TraceRow};
 
 /// Replays the schedule of the input that `open_schedule` opens beside the trace that `trace` holds, once the trace was read; where it
 /// is none, the schedule isn't opened. The takes go to `out`, and how the replay ends; what hinders it to `err`. `beside` is how the
@@ -78,30 +83,45 @@ fn run_beside<S: Read + Drop, O: Write, E: Write>(
         explains: asked.explains,
     };
     match bytes_of(alloc, schedule) {
-        Ok(text) => {
-            let answer = replay_answer(alloc, trace, &text);
-            let note = note_on_schedule(alloc, &named, trace, &text, &answer);
-            tell(alloc, asked.explains, answer, note, out, err)
-        }
+        Ok(text) => match plain_rows(alloc, trace.rows.as_slice()) {
+            Ok(rows) => {
+                let answer = replay_answer(alloc, trace, &rows, &text);
+                let note = note_on_schedule(
+                    alloc,
+                    &named,
+                    &trace.header,
+                    trace.first,
+                    &rows,
+                    &text,
+                    &answer,
+                );
+                tell(alloc, asked.explains, answer, note, out, err)
+            }
+            Err(refused) => tell_failure(alloc, &named, io::Error::from(refused), out, err),
+        },
         Err(error) => tell_failure(alloc, &named, error, out, err),
     }
 }
 
-/// The answer beside a trace to the text of a schedule.
-fn replay_answer(alloc: Global, trace: &Trace, text: &[u8]) -> Answer
+/// The answer beside a trace, its rows as those of any trace, to the text of a schedule.
+fn replay_answer(alloc: Global, trace: &Trace, rows: &[TraceRow], text: &[u8]) -> Answer
+    requires same { rows.now ≡ map (λ row. Plain row) trace.now.rows }
+    requires fit { All IsTraceRow rows.now }
     ensures { IsReplayBeside trace.now (Some text.now) result }
 {
     match read_schedule(alloc, text) {
-        Ok(schedule) => replay_of(alloc, trace, &schedule),
+        Ok(schedule) => replay_of(alloc, trace, rows, &schedule),
         Err(fault) => Answer::from(fault),
     }
 }
 
 /// The replay of a schedule beside a trace, as it is answered.
-fn replay_of(alloc: Global, trace: &Trace, schedule: &Schedule) -> Answer
+fn replay_of(alloc: Global, trace: &Trace, rows: &[TraceRow], schedule: &Schedule) -> Answer
+    requires same { rows.now ≡ map (λ row. Plain row) trace.now.rows }
+    requires fit { All IsTraceRow rows.now }
     ensures { IsReplayed trace.now schedule.now result }
 {
-    match replay(alloc, trace, schedule) {
+    match replay_beside(alloc, trace, rows, schedule) {
         Ok(seen) => Answer::Replayed {
             seen,
             ending: ReplayEnd::NoHarm,
@@ -116,4 +136,18 @@ fn replay_of(alloc: Global, trace: &Trace, schedule: &Schedule) -> Answer
         },
         Err(ReplayFault::Memory) => Answer::Memory,
     }
+}
+
+/// The replay of a schedule beside a trace, its rows as those of any trace.
+fn replay_beside(
+    alloc: Global,
+    trace: &Trace,
+    rows: &[TraceRow],
+    schedule: &Schedule,
+) -> Result<Vec<Seen>, ReplayFault>
+    requires same { rows.now ≡ map (λ row. Plain row) trace.now.rows }
+    requires fit { All IsTraceRow rows.now }
+    ensures { IsReplay (replayed trace.now.header trace.now.rows schedule.now.steps) result }
+{
+    replay(alloc, &trace.header, rows, schedule)
 }

@@ -1,9 +1,10 @@
 //! Checks one of several traces, and writes the answer behind its name.
 ghost use Rattle.std.specs.Prelude.{IfOk, string_bytes};
-ghost use Rattle.answers.specs.Inputs.{IsTraceAnswer, opened};
+ghost use Rattle.answers.specs.Inputs.{opened};
 ghost use Rattle.answers.specs.Telling.{IsNote, IsToldOf};
 ghost use Rattle.answers.specs.declared.answer.Answer.{Answer};
 ghost use Rattle.xhci_cli.specs.CheckAnswers.{IsVerdictAlone};
+ghost use Rattle.xhci_cli.specs.JudgedTexts.{IsTraceAnswer};
 
 use crate::judged::{Judged, unread};
 use crate::read_note::note_as_read;

@@ -1,7 +1,7 @@
 //! Answers to a trace that is judged as a device gives it.
 ghost use Rattle.std.specs.Prelude.{◌≡◌};
-ghost use Rattle.answers.specs.Inputs.{IsTraceAnswer};
 ghost use Rattle.xhci_cli.specs.CheckAnswers.{IsVerdictAlone, answer_of_check_fault};
+ghost use Rattle.xhci_cli.specs.JudgedTexts.{IsTraceAnswer};
 ghost use Rattle.xhci_cli.specs.VerifyAnswers.{IsVerdictBeside};
 
 use answers::Answer;

@@ -1,5 +1,6 @@
 //! Second lines on standard error: in plain words what is wrong, for a person.
 ghost use Rattle.std.specs.Prelude.{IfOk, string_bytes};
+ghost use Rattle.traces.specs.Header.{IsHeader};
 ghost use Rattle.answers.specs.Telling.{IsNote};
 
 mod certificates;
@@ -21,7 +22,7 @@ use plan_writer::PlanRefusal;
 use ring_knowledge::Lease;
 use std::alloc::{AllocError, Global};
 use std::io;
-use traces::Trace;
+use traces::{Header, TraceRow};
 
 /// What a command is asked for beside its answer.
 #[derive(Clone, Copy)]
@@ -94,14 +95,17 @@ fn matter_of(refusal: PlanRefusal) -> Matter {
     }
 }
 
-/// What a person is told of an answer to a schedule beside a trace, beside its line.
+/// What a person is told of an answer to a schedule beside the rows of a trace from the line `first` on, beside its line.
 pub fn note_on_schedule(
     alloc: Global,
     asked: &Asked,
-    trace: &Trace,
+    header: &Header,
+    first: u32,
+    rows: &[TraceRow],
     text: &[u8],
     answer: &Answer,
 ) -> Result<String, AllocError>
+    requires { IsHeader header.now }
     ensures { IfOk result (λ note. IsNote asked.now.explains (string_bytes note)) }
 {
     if !asked.explains {
@@ -115,14 +119,14 @@ pub fn note_on_schedule(
             ending: ReplayEnd::Harmful { step, harm },
             seen,
         } => {
-            let found = notes_on_harm(alloc, trace, *harm, seen.as_slice())?;
+            let found = notes_on_harm(alloc, header, first, rows, *harm, seen.as_slice())?;
             explain_step(alloc, asked.input, text, *step, Some(*harm), found)
         }
         Answer::Replayed {
             ending: ReplayEnd::NotPossible { step },
             seen,
         } => {
-            let found = notes_on_stuck(alloc, trace, seen.as_slice())?;
+            let found = notes_on_stuck(alloc, first, rows, seen.as_slice())?;
             explain_step(alloc, asked.input, text, *step, None, found)
         }
         _ => Ok(String::new(alloc)),

@@ -5,7 +5,7 @@ use Rattle.controller_model.proofs.bells.activate.Goals as goal
 
 pub returns : goal.returns
 unfolding activated
-returns c = λ h rows words w there f.
+returns c = λ h rows words w f.
     let inside : c.args.ring < length c.args.kept.now.rings.items = omega (arith, c.args.kept.now.rings_many, c.ranges.ring) in
     let old = f.rings.each c.args.ring c.index_mut-state.result.now
     (read_at c.args.kept.now.rings.items c.from.result c.args.ring c.index_mut-state.result.now c.from.ensures inside c.index_mut-state.ensures.value) in
@@ -22,7 +22,7 @@ returns c = λ h rows words w there f.
             pointer = old.pointer;
             cycle = old.cycle;
             active = refl;
-            known = λ on. there;
+            harms = old.harms;
             holder = old.holder;
           });
       slots = f.slots;

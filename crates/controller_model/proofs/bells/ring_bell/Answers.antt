@@ -1,6 +1,6 @@
 use Rattle.controller_model.proofs.Words.{◌==◌, ◌&&◌, ◌∙◌, ℕ, ap, sym, subst, arith, World, activated, Follows, ring_held}
 use Rattle.controller_model.proofs.RingSteps.{activated_other}
-use Rattle.controller_model.proofs.BellLemmas.{follows_same, command_ring_known, command_id-some, command_id-none, bell_endpoint, bell_nothing, bell_commands}
+use Rattle.controller_model.proofs.BellLemmas.{follows_same, command_id-some, command_id-none, bell_endpoint, bell_nothing, bell_commands}
 use Rattle.controller_model.proofs.bells.ring_bell.Goals as goal
 
 pub returns-then-slot-ne0 : goal.returns-then-slot-ne0
@@ -43,4 +43,4 @@ returns-in-Some c = λ rows words w f.
     let Q : ℕ → Type 0 = λ r. Follows c.args.header.now rows words c.activate.new.kept (activated c.args.header.now w r) in
     subst P (sym (bell_commands c.args.header.now w c.args.slot c.args.target c.if-slot-ne0.false starts))
     (subst Q (sym (command_id-some c.args.header.now c.in-Some.ring.now c.in-Some.ensures))
-    (c.activate.ensures c.args.header.now rows words w (command_ring_known c.args.header.now c.in-Some.ring.now c.in-Some.ensures) f))
+    (c.activate.ensures c.args.header.now rows words w f))

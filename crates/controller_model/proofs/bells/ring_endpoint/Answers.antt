@@ -26,6 +26,6 @@ returns c = λ h rows words w f.
     let is = c.endpoint_of-endpoint.ensures h rows words w f in
     let runs = ap (λ s. is_running s || is_stopped s) is.0 ∙ sym c.answers_bell.ensures ∙ c.if-not-answers_bell.false in
     let named = is.1 ∙ c.in-Some.is in
-    let on = c.activate.ensures h rows words w (f.endpoints.known c.args.slot c.args.target c.in-Some.ring named).1 f in
+    let on = c.activate.ensures h rows words w f in
     let P : World → Type 0 = λ v. Follows h rows words c.set_state.new.kept v in
     subst P (sym (bell_rings h w c.args.slot c.args.target c.in-Some.ring named runs)) (c.set_state.ensures.change h rows words (activated h w c.in-Some.ring) on)

@@ -24,5 +24,5 @@ returns-clause-change c = λ rows words w v made f.
     sym (placed_is w c.args.slot c.args.index c.in-Some.ring c.args.pointer c.args.cycle c.args.state o refl) ∙ got.is in
     let P : World → Type 0 = λ x. Follows c.args.header.now rows words c.bind.new.kept x in
     subst P is
-    (c.in_ok-bind.ensures.change c.args.header.now rows words u (ap (λ p. shape_or Xfer p) c.in-Some-ring_with.ensures) (having_known c.args.header.now c.args.pointer c.in-Some.ring has)
+    (c.in_ok-bind.ensures.change c.args.header.now rows words u (ap (λ p. shape_or Xfer p) c.in-Some-ring_with.ensures)
     (freed_has w c.args.slot c.args.index o refl) (freed_had w c.args.slot c.args.index o c.in-Some.ring ∙ got.free) now)

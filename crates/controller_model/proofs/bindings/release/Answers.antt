@@ -1,4 +1,4 @@
-use Rattle.controller_model.proofs.Words.{◌≡◌, ◌<◌, ◌+◌, ◌*◌, ◌∙◌, ℕ, true, false, Option, None, Some, length, set, refl, ap, sym, subst, arith, eq-eqb, false≢true, put_pair, is_ring, EndpointState, Endpoint, Holder, ring_held, released, FollowsHolder, FollowsEndpoints}
+use Rattle.controller_model.proofs.Words.{◌≡◌, ◌<◌, ◌+◌, ◌*◌, ◌∙◌, ℕ, true, false, Option, None, Some, length, set, refl, ap, sym, subst, arith, eq-eqb, put_pair, is_ring, EndpointState, Endpoint, Holder, ring_held, released, FollowsHolder, FollowsEndpoints}
 use Rattle.controller_model.proofs.RingLemmas.{read_at, follows_change}
 use Rattle.controller_model.proofs.EndpointLemmas.{endpoints_set}
 use Rattle.controller_model.proofs.HolderLemmas.{holder_left, put_pair_id}
@@ -23,7 +23,7 @@ returns-clause-change c = λ h rows words w has f.
     let P : Option Holder → Type 0 = λ o. FollowsHolder (put_pair (λ t j. is_ring c.args.ring (w.ring_of t j)) c.args.slot c.args.index false) o in
     let new : Endpoint = record { state = c.index_mut-endpoint.result.now.state; ring = None } in
     let Q : (ℕ → ℕ → EndpointState) → Type 0 = λ states.
-    FollowsEndpoints h (set c.args.kept.now.endpoints.items (c.from-2.result * 32 + c.from-3.result) new) states (put_pair w.ring_of c.args.slot c.args.index None) in
+    FollowsEndpoints (set c.args.kept.now.endpoints.items (c.from-2.result * 32 + c.from-3.result) new) states (put_pair w.ring_of c.args.slot c.args.index None) in
     record {
       progress = f.progress;
       registers = f.registers;
@@ -37,13 +37,13 @@ returns-clause-change c = λ h rows words w has f.
             pointer = old.pointer;
             cycle = old.cycle;
             active = refl;
-            known = λ on. absurd (false≢true on);
+            harms = old.harms;
             holder = subst P (sym c.left_by-state.ensures) left;
           });
       slots = f.slots;
       endpoints =
           subst Q (put_pair_id w.endpoint_state c.args.slot c.args.index c.index_mut-endpoint.result.now.state was.0)
-          (endpoints_set h c.args.kept.now.endpoints.items w.endpoint_state w.ring_of (c.from-2.result * 32 + c.from-3.result) c.args.slot c.args.index new place c.requires
+          (endpoints_set c.args.kept.now.endpoints.items w.endpoint_state w.ring_of (c.from-2.result * 32 + c.from-3.result) c.args.slot c.args.index new place c.requires
           (λ r e. absurd (none_some r e)) f.endpoints);
       events = f.events;
       under_way = f.under_way;

@@ -17,7 +17,7 @@ returns-clause-change c = λ h rows words w nothing f.
       rings = rings_off h w c.args.slot c.args.index c.args.kept.now.rings.items nothing f.rings;
       slots = f.slots;
       endpoints =
-          endpoints_set h c.args.kept.now.endpoints.items w.endpoint_state w.ring_of (c.from.result * 32 + c.from-2.result) c.args.slot c.args.index _ place c.requires
+          endpoints_set c.args.kept.now.endpoints.items w.endpoint_state w.ring_of (c.from.result * 32 + c.from-2.result) c.args.slot c.args.index _ place c.requires
           (λ r e. absurd (none_some r e)) f.endpoints;
       events = f.events;
       under_way = f.under_way;

@@ -14,7 +14,7 @@ returns-clause-change c = λ h rows words w f.
       rings = f.rings;
       slots = f.slots;
       endpoints =
-          endpoints_state h c.args.kept.now.endpoints.items w.endpoint_state w.ring_of (c.from.result * 32 + c.from-2.result) c.args.slot c.args.index
+          endpoints_state c.args.kept.now.endpoints.items w.endpoint_state w.ring_of (c.from.result * 32 + c.from-2.result) c.args.slot c.args.index
           c.index_mut-endpoint.result.now _ place (omega (arith, c.ranges.slot)) c.requires c.args.kept.now.endpoints_many c.index_mut-endpoint.ensures.value refl f.endpoints;
       events = f.events;
       under_way = f.under_way;

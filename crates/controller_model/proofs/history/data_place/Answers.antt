@@ -1,4 +1,3 @@
-use Rattle.std.proofs.Common.{◌≡◌, ◌∙◌}
 use Rattle.controller_model.proofs.NamedPlaces.{at_block}
 use Rattle.controller_model.proofs.history.data_place.Goals as goal
 

@@ -1,4 +1,4 @@
-use Rattle.controller_model.proofs.Words.{◌≡◌, ◌+◌, ◌%◌, ◌<◌, ◌≤◌, ◌∙◌, ℕ, true, Some, ap, sym, subst, arith, false≢true, false_from_ne_true, none-some, same_Some, place_count, is_place}
+use Rattle.controller_model.proofs.Words.{◌≡◌, ◌+◌, ◌%◌, ◌<◌, ◌∙◌, ap, sym, arith, false≢true, false_from_ne_true, none-some, same_Some, place_count, is_place}
 use Rattle.controller_model.proofs.FirstFound.{first_at-found, first_at-nowhere}
 use Rattle.controller_model.proofs.NamedPlaces.{one_in_lap}
 use Rattle.controller_model.proofs.history.first_at.Goals as goal

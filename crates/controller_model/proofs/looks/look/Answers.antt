@@ -1,4 +1,4 @@
-use Rattle.controller_model.proofs.Words.{◌≡◌, ◌<◌, ◌∙◌, length, ap, sym, arith, is_some, false≢true, block_at, Xfer, shape_of, shape_or, looked, looked_at, look_shows, Follows}
+use Rattle.controller_model.proofs.Words.{◌≡◌, ◌<◌, ◌∙◌, length, ap, sym, arith, block_at, looked, looked_at, look_shows, Follows}
 use Rattle.controller_model.proofs.RingLemmas.{read_at}
 use Rattle.controller_model.proofs.LookBranches.{step_refused, step_along, looked_inactive, looked_active}
 use Rattle.controller_model.proofs.looks.look.Goals as goal
@@ -12,15 +12,7 @@ returns-then-not-state-clause-step g c = λ rows w f.
     (Follows c.args.header.now rows (g.M.WordMemory.words c.args.memory.now) c.args.kept.now)
     (looked_inactive c.args.header.now w c.args.ring (old.active ∙ c.if-not-state.true))
 
-pub returns-in-None-clause-step : goal.returns-in-None-clause-step
-returns-in-None-clause-step g c = λ rows w f.
-    let inside : c.args.ring < length c.args.kept.now.rings.items = omega (arith, c.args.kept.now.rings_many, c.ranges.ring) in
-    let old = f.rings.each c.args.ring c.index-state.result.now
-    (read_at c.args.kept.now.rings.items c.from.result c.args.ring c.index-state.result.now c.from.ensures inside c.index-state.ensures) in
-    absurd (false≢true (ap (λ o. is_some o) c.in-None.ensures ∙ old.known c.if-not-state.false))
-
 pub returns-clause-step : goal.returns-clause-step
-unfolding shape_of
 returns-clause-step g c = λ rows w f.
     let inside : c.args.ring < length c.args.kept.now.rings.items = omega (arith, c.args.kept.now.rings_many, c.ranges.ring) in
     let old = f.rings.each c.args.ring c.index-state.result.now
@@ -32,4 +24,4 @@ returns-clause-step g c = λ rows w f.
     (Follows c.args.header.now rows (g.M.WordMemory.words c.args.memory.now) c.look_at.new.kept)
     (looked_active c.args.header.now w c.args.ring c.block_at-block.result (old.active ∙ c.if-not-state.false) block)
     (ap (λ b. look_shows w c.args.ring b) block)
-    (c.look_at.ensures.step rows (g.M.WordMemory.words c.args.memory.now) w (ap (λ o. shape_or Xfer o) c.in-Some.ensures) old.pointer old.cycle f)
+    (c.look_at.ensures.step rows (g.M.WordMemory.words c.args.memory.now) w c.ring_with-there.ensures old.pointer old.cycle f)

@@ -1,4 +1,4 @@
-use Rattle.controller_model.proofs.Words.{◌≡◌, ◌∙◌, Some, ap, sym, refl, stored, RowSeen, row_done, declared, register_row, bell_row, event_read, Follows}
+use Rattle.controller_model.proofs.Words.{◌∙◌, Some, ap, sym, refl, stored, RowSeen, row_done, declared, register_row, bell_row, event_read, Follows}
 use Rattle.controller_model.proofs.LookBranches.{step_made, step_along}
 use Rattle.controller_model.proofs.next_row.make_row.Goals as goal
 

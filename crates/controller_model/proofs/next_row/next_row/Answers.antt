@@ -1,61 +1,47 @@
-use Rattle.controller_model.proofs.Words.{◌≡◌, ◌+◌, ◌≤◌, ◌<◌, ◌∙◌, Some, ap, sym, refl, drop, length, slice_get, arith, slice_get_past, err_from_is_err_and, RowSeen, row_done, next_row, Follows}
-use Rattle.controller_model.proofs.LookBranches.{step_refused}
-use Rattle.controller_model.proofs.RingLemmas.{read_at}
-use Rattle.controller_model.proofs.NextRowLemmas.{behind, no_row, this_row, follows_behind, left_after, step_failed, step_seen}
+use Rattle.std.specs.Option.{option_copied}
+use Rattle.controller_model.proofs.Words.{◌≡◌, ◌∙◌, [], ap, sym, refl, drop, err_from_is_err_and, RowSeen, counted, Follows, Ok, Err, option_map}
+use Rattle.controller_model.specs.RingHarms.{FollowsScene}
+use Rattle.controller_model.specs.RingRows.{header_after, row_made}
+use Rattle.controller_model.specs.Scenes.{Scene, row_next}
+use Rattle.controller_model.proofs.NextRowLemmas.{first_left, nothing_left, row_next_is, scene_behind, step_failed, step_mapped, step_none, step_same}
 use Rattle.controller_model.proofs.next_row.next_row.Goals as goal
 
 pub returns-in-None-clause-step : goal.returns-in-None-clause-step
-returns-in-None-clause-step g c = λ w f.
-    let h = c.in-None.ensures.lookup in
-    let past : length c.args.trace.now.rows ≤ c.args.kept.now.progress.next_row = omega (arith, ap length c.as_slice.ensures) in
-    step_refused (next_row c.args.trace.now.header w w.rows) RowSeen (Follows c.args.trace.now.header c.args.trace.now.rows (g.M.WordMemory.words c.args.memory.now) c.args.kept.now)
-    (no_row c.args.trace.now.header c.args.trace.now.rows (g.M.WordMemory.words c.args.memory.now) c.args.kept.now w f
-    (slice_get_past c.args.trace.now.rows c.args.kept.now.progress.next_row past))
+returns-in-None-clause-step g c = λ x f.
+    let none : x.rows ≡ [] = f.left ∙ nothing_left c.args.left.now (sym c.first.ensures.row ∙ ap (λ o. option_copied o) c.in-None.is) in
+    let Q : Scene → Type 0 = FollowsScene c.args.header.now c.args.left.now (g.M.WordMemory.words c.args.memory.now) c.args.kept.now in
+    step_none (row_next x x.rows) RowSeen Q (ap (λ rows. row_next x rows) none)
 
 pub returns-in_err-seen-clause-step : goal.returns-in_err-seen-clause-step
-returns-in_err-seen-clause-step g c = λ w f.
+returns-in_err-seen-clause-step g c = λ x f.
     let p = err_from_is_err_and c.from_residual.result c.from_residual.ensures.1 in
-    let h = c.in-Some.ensures.lookup in
-    let n = c.args.kept.now.progress.next_row in
-    let inside : n < length c.args.trace.now.rows = omega (arith, ap length c.as_slice.ensures) in
-    let at : slice_get c.args.trace.now.rows n ≡ Some c.in-Some.row.now =
-    ap (λ xs. slice_get xs n) (sym c.as_slice.ensures) ∙ read_at c.as_slice.result.now n n c.in-Some.row.now refl (omega (arith, inside, ap length c.as_slice.ensures)) h.1 in
+    let row = c.in-Some.row.now in
+    let first = first_left c.args.left.now row (sym c.first.ensures.row ∙ ap (λ o. option_copied o) c.in-Some.is) in
+    let words = g.M.WordMemory.words c.make_trace_row.new.memory in
     rw (p.1, p.2)
-    (step_failed c.in_err-seen.field-0.0 (next_row c.args.trace.now.header w w.rows) (row_done c.args.trace.now.header (behind w c.args.trace.now.rows n) c.in-Some.row.now) RowSeen
-    (Follows c.args.trace.now.header (drop 1 c.args.trace.now.rows) (g.M.WordMemory.words c.make_row.new.memory) c.make_row.new.kept)
-    (Follows c.args.trace.now.header c.args.trace.now.rows (g.M.WordMemory.words c.make_row.new.memory) c.make_row.new.kept)
-    (this_row c.args.trace.now.header c.args.trace.now.rows (g.M.WordMemory.words c.args.memory.now) c.args.kept.now w f c.in-Some.row.now at)
-    (c.in_err-seen.ensures.step (drop 1 c.args.trace.now.rows) (behind w c.args.trace.now.rows n)
-    (follows_behind c.args.trace.now.header c.args.trace.now.rows (g.M.WordMemory.words c.args.memory.now) c.args.kept.now w f)))
+    (step_same (Err c.in_err-seen.field-0.0) (row_next x x.rows) (option_map (scene_behind x row first.0) (row_made c.args.header.now x.world row)) RowSeen RowSeen
+    (FollowsScene c.make_trace_row.new.header c.args.left.now words c.make_trace_row.new.kept)
+    (row_next_is x c.args.header.now row first.0 f.header (f.left ∙ first.1)) refl
+    (step_failed c.in_err-seen.field-0.0 (row_made c.args.header.now x.world row) (scene_behind x row first.0) RowSeen
+    (Follows c.make_trace_row.new.header [] words c.make_trace_row.new.kept)
+    (FollowsScene c.make_trace_row.new.header c.args.left.now words c.make_trace_row.new.kept)
+    (c.in_err-seen.ensures.step [] x.world f.follows)))
 
 pub returns-clause-step : goal.returns-clause-step
-returns-clause-step g c = λ w f.
-    let h = c.in-Some.ensures.lookup in
-    let n = c.args.kept.now.progress.next_row in
-    let inside : n < length c.args.trace.now.rows = omega (arith, ap length c.as_slice.ensures) in
-    let at : slice_get c.args.trace.now.rows n ≡ Some c.in-Some.row.now =
-    ap (λ xs. slice_get xs n) (sym c.as_slice.ensures) ∙ read_at c.as_slice.result.now n n c.in-Some.row.now refl (omega (arith, inside, ap length c.as_slice.ensures)) h.1 in
-    let next : c.in_ok-kept.field-0 ≡ c.make_row.new.kept.progress.next_row + 1 = (rw c.in_ok-kept.ensures.ok_part at c.checked_add-next.ensures).1 in
-    step_seen c.in_ok-seen.seen (next_row c.args.trace.now.header w w.rows) (row_done c.args.trace.now.header (behind w c.args.trace.now.rows n) c.in-Some.row.now) RowSeen
-    (Follows c.args.trace.now.header (drop 1 c.args.trace.now.rows) (g.M.WordMemory.words c.make_row.new.memory) c.make_row.new.kept)
-    (Follows c.args.trace.now.header c.args.trace.now.rows (g.M.WordMemory.words c.make_row.new.memory) _)
-    (this_row c.args.trace.now.header c.args.trace.now.rows (g.M.WordMemory.words c.args.memory.now) c.args.kept.now w f c.in-Some.row.now at)
-    (λ u f. record {
-      progress = record {
-        rows = left_after c.args.trace.now.rows u.rows c.make_row.new.kept.progress.next_row c.in_ok-kept.field-0 next f.progress.rows;
-        steps = f.progress.steps;
-        started = f.progress.started;
-        stopped = f.progress.stopped;
-      };
-      registers = f.registers;
-      held = f.held;
-      beyond = f.beyond;
-      rings = f.rings;
-      slots = f.slots;
-      endpoints = f.endpoints;
-      events = f.events;
-      under_way = f.under_way;
-      looked = f.looked;
+unfolding counted
+returns-clause-step g c = λ x f.
+    let row = c.in-Some.row.now in
+    let first = first_left c.args.left.now row (sym c.first.ensures.row ∙ ap (λ o. option_copied o) c.in-Some.is) in
+    let words = g.M.WordMemory.words c.make_trace_row.new.memory in
+    let h = c.make_trace_row.new.header in
+    let rest : first.0 ≡ c.pass.new.self = sym (c.pass.ensures ∙ ap (λ xs. drop 1 xs) first.1) in
+    step_same (Ok c.in_ok-seen.seen) (row_next x x.rows) (option_map (scene_behind x row first.0) (row_made c.args.header.now x.world row)) RowSeen RowSeen (FollowsScene h c.pass.new.self words c.count.new.kept)
+    (row_next_is x c.args.header.now row first.0 f.header (f.left ∙ first.1)) refl
+    (step_mapped (Ok c.in_ok-seen.seen) (row_made c.args.header.now x.world row) (scene_behind x row first.0) RowSeen (Follows h [] words c.make_trace_row.new.kept)
+    (FollowsScene h c.pass.new.self words c.count.new.kept)
+    (λ w follows. record {
+      header = ap (λ k. header_after k row) f.header ∙ sym c.in_ok-seen.ensures.header;
+      left = rest;
+      follows = c.in_ok-count.ensures h [] words w follows;
     })
-    (c.in_ok-seen.ensures.step (drop 1 c.args.trace.now.rows) (behind w c.args.trace.now.rows n)
-    (follows_behind c.args.trace.now.header c.args.trace.now.rows (g.M.WordMemory.words c.args.memory.now) c.args.kept.now w f))
+    (c.in_ok-seen.ensures.step [] x.world f.follows))

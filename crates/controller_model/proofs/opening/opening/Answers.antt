@@ -1,4 +1,4 @@
-use Rattle.controller_model.proofs.Words.{◌≡◌, ◌+◌, ◌*◌, ℕ, List, sym, refl, ap, HeaderValue, RowValue, opening, FollowsRing, ring_held}
+use Rattle.controller_model.proofs.Words.{◌+◌, ◌*◌, ℕ, List, sym, refl, ap, HeaderValue, RowValue, opening, FollowsRing, ring_held}
 use Rattle.controller_model.proofs.OpeningLemmas.{all_at, replicate_at}
 use Rattle.controller_model.proofs.opening.opening.Goals as goal
 
@@ -28,7 +28,7 @@ returns c = λ h rows words nothing. record {
         let e = replicate_at (256 * 32) (s * 32 + i) _ x (rw c.in_ok-endpoints.ensures at at) in
         (ap (λ y. y.state) e, ap (λ y. y.ring) e);
     no_more = λ s i far. refl;
-    known = λ s i r e. absurd (cc);
+    low = λ s i r e. absurd (cc);
   };
   events = record { posted = refl; reads = refl; dequeue = refl };
   under_way = refl;

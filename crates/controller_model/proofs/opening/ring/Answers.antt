@@ -1,14 +1,14 @@
-use Rattle.controller_model.proofs.Words.{◌≡◌, refl, shape_of, opening}
+use Rattle.controller_model.proofs.Words.{refl, shape_of, opening}
 use Rattle.controller_model.proofs.opening.ring.Goals as goal
 
 pub returns : goal.returns
 unfolding opening
 returns c = λ h rows r. record {
   declared = c.new.ensures;
-  history = c.new-2.ensures (shape_of h r);
+  history = c.new-2.ensures.keeps (shape_of h r);
+  harms = λ there. c.new-2.ensures.harms (shape_of h r);
   pointer = refl;
   cycle = refl;
   active = refl;
-  known = λ e. absurd (cc);
   holder = record { each = λ s i e. refl; is_one = λ e o. absurd (cc) };
 }

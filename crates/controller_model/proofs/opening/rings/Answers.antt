@@ -1,4 +1,4 @@
-use Rattle.controller_model.proofs.Words.{◌≡◌, ◌+◌, ◌∷◌, ◌++◌, ℕ, [], All, List, ap, length, length-append, sym, subst, arith, All-push, HeaderValue, RowValue, opening, RingState, FollowsRing, ring_held}
+use Rattle.controller_model.proofs.Words.{◌∷◌, ℕ, [], All, List, ap, length, length-append, sym, subst, arith, All-push, HeaderValue, RowValue, opening, RingState, FollowsRing, ring_held}
 use Rattle.controller_model.proofs.opening.rings.Goals as goal
 
 pub loop-id-preserved : goal.loop-id-preserved

@@ -21,7 +21,7 @@ returns c = λ h rows words w f.
             pointer = refl;
             cycle = lowest_bit c.args.kept.now.registers.crcr;
             active = old.active;
-            known = old.known;
+            harms = old.harms;
             holder = old.holder;
           });
       slots = f.slots;

@@ -20,11 +20,11 @@ returns-clause-change c = λ h rows words w few f.
           follows_change h (ring_held w) (ring_held (with_reported h w c.args.ring _)) c.args.kept.now.rings.items c.from.result c.args.ring _ _ c.from.ensures f.rings
           (reported_other h w c.args.ring _) (reported_here h w c.args.ring _) (record {
             declared = old.declared;
-            history = c.report_first.ensures _ _ _ enough old.history;
+            history = c.report_first.ensures.keeps _ _ _ enough old.history;
             pointer = old.pointer;
             cycle = old.cycle;
             active = old.active;
-            known = old.known;
+            harms = λ there. c.report_first.ensures.harms _ _ (old.harms there);
             holder = old.holder;
           });
       slots = f.slots;

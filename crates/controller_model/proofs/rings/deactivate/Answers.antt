@@ -1,4 +1,4 @@
-use Rattle.controller_model.proofs.Words.{◌<◌, Some, length, refl, arith, false≢true, inactive, ring_held}
+use Rattle.controller_model.proofs.Words.{◌<◌, Some, length, refl, arith, inactive, ring_held}
 use Rattle.controller_model.proofs.RingLemmas.{read_at, follows_change}
 use Rattle.controller_model.proofs.RingSteps.{inactive_here, inactive_other}
 use Rattle.controller_model.proofs.rings.deactivate.Goals as goal
@@ -22,7 +22,7 @@ returns-clause-change c = λ h rows words w f.
             pointer = old.pointer;
             cycle = old.cycle;
             active = refl;
-            known = λ on. absurd (false≢true on);
+            harms = old.harms;
             holder = old.holder;
           });
       slots = f.slots;

@@ -22,7 +22,7 @@ returns c = λ h rows words w f.
             pointer = old.pointer;
             cycle = old.cycle;
             active = old.active;
-            known = old.known;
+            harms = old.harms;
             holder = old.holder;
           });
       slots = f.slots;

@@ -1,4 +1,4 @@
-use Rattle.controller_model.proofs.Words.{◌≡◌, ◌+◌, ◌∙◌, ap, sym, changed_at, written_at}
+use Rattle.controller_model.proofs.Words.{◌+◌, ◌∙◌, ap, sym, changed_at, written_at}
 use Rattle.controller_model.proofs.SafetyLemmas.{context_idle, context_of_none, context_unnamed, context_named}
 use Rattle.controller_model.proofs.safety.has_changed_context.Goals as goal
 

@@ -1,20 +1,13 @@
-use Rattle.controller_model.proofs.Words.{◌≡◌, ◌<◌, ◌∙◌, Some, ap, length, slice_get, sym, refl, arith, stepped}
-use Rattle.controller_model.proofs.NextRowLemmas.{behind, this_row}
+use Rattle.std.specs.Option.{option_copied}
+use Rattle.traces.specs.declared.trace_row.TraceRow.TheVariants.{Plain}
+use Rattle.controller_model.proofs.Words.{◌∙◌, Some, ap, sym}
+use Rattle.controller_model.specs.Scenes.{step_made}
+use Rattle.controller_model.proofs.NextRowLemmas.{first_left}
 use Rattle.controller_model.proofs.RingHarmLemmas.{row_harms}
-use Rattle.controller_model.proofs.RingLemmas.{read_at}
 use Rattle.controller_model.proofs.safety.is_quiet.Goals as goal
 
-pub returns-in-Some : goal.returns-in-Some
-returns-in-Some g c = λ w v x f quiet made has.
-    let h = c.args.trace.now.header in
-    let rows = c.args.trace.now.rows in
-    let n = c.args.kept.now.progress.next_row in
-    let words = g.M.WordMemory.words c.args.memory.now in
-    let row = c.in-Some.row.now in
-    let found = c.in-Some.ensures.lookup in
-    let inside : n < length rows = omega (arith, ap length c.as_slice.ensures) in
-    let at : slice_get rows n ≡ Some row =
-    ap (λ xs. slice_get xs n) (sym c.as_slice.ensures) ∙ read_at c.as_slice.result.now n n row refl (omega (arith, inside, ap length c.as_slice.ensures)) found.1 in
-    row_harms h w v rows n row x (this_row h rows words c.args.kept.now w f row at)
-    (λ u done before. c.keeps_harms.ensures h (behind w rows n) u x (sym (ap (λ y. y.memory) f.held)) quiet done before)
-    (sym (ap (λ s. stepped h w s) c.in-NextRow.is) ∙ made) has
+pub returns-in-Some-Plain : goal.returns-in-Some-Plain
+returns-in-Some-Plain g c = λ h k x y harms f quiet made has.
+    let left = first_left c.args.left.now (Plain c.in-Some-Plain.row) (sym c.first.ensures.row ∙ ap (λ o. option_copied o) c.in-Some-Plain.is ∙ ap (λ row. Some row) c.in-Some-Plain.field-0-is) in
+    row_harms x y c.in-Some-Plain.row left.0 harms (f.left ∙ left.1) (sym (ap (λ s. step_made x s) c.in-NextRow.is) ∙ made)
+    (λ u done. c.keeps_harms.ensures x.header x.world u harms (sym (ap (λ y. y.memory) f.follows.held)) quiet done has)

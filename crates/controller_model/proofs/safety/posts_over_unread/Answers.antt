@@ -1,4 +1,4 @@
-use Rattle.controller_model.proofs.Words.{◌≡◌, ◌-◌, ◌≤◌, ◌∙◌, ap, arith, nat_le, event_shape, shape_or, Evt}
+use Rattle.controller_model.proofs.Words.{◌∙◌, ap, arith, nat_le, event_shape, shape_or, Evt}
 use Rattle.controller_model.proofs.SafetyLemmas.{posts_nowhere, posts_there}
 use Rattle.controller_model.proofs.safety.posts_over_unread.Goals as goal
 

@@ -1,6 +1,6 @@
 use Rattle.controller_model.proofs.Words.{◌≡◌, ◌<◌, ◌∙◌, ◌&&◌, Some, ap, get_or, length, slice_get, sym, arith, list_any, shape_of, some_ring, has_other_words, is_inside_descriptor, is_out_of_order, waits}
 use Rattle.controller_model.proofs.RingLemmas.{read_at}
-use Rattle.controller_model.proofs.SafetyLemmas.{any_more, take_past}
+use Rattle.controller_model.proofs.SafetyLemmas.{any_more, listed, take_past}
 use Rattle.controller_model.proofs.safety.ring_harms.Goals as goal
 
 pub loop-ring-preserved : goal.loop-ring-preserved
@@ -12,16 +12,17 @@ loop-ring-preserved g c =
     let below : c.ring-item.result.id < length c.args.kept.now.rings.items = omega (arith, c.args.kept.now.rings_many) in
     let there : slice_get c.args.kept.now.rings.items c.ring-item.result.id ≡ Some c.index-state.result.now =
     read_at c.args.kept.now.rings.items c.from.result c.ring-item.result.id c.index-state.result.now c.from.ensures below c.index-state.ensures in
+    let known = listed c.args.header.now.rings c.loop-ring.ring-index c.ring-item.result inside at in
     record {
       items = c.loop-ring.invariant.items;
       order = λ rows w f.
           let old = f.rings.each c.ring-item.result.id c.index-state.result.now there in
           any_more (λ ring. is_out_of_order (shape_of c.args.header.now ring.id) (w.events ring.id)) c.args.header.now.rings c.loop-ring.ring-index c.ring-item.result _ _ inside at
-          (c.loop-ring.invariant.order rows w f) (c.is_out_of_order.ensures ∙ sym old.history.order);
+          (c.loop-ring.invariant.order rows w f) (c.is_out_of_order.ensures ∙ sym (old.harms known).order);
       words = λ rows w f.
           let old = f.rings.each c.ring-item.result.id c.index-state.result.now there in
           any_more (λ ring. has_other_words (shape_of c.args.header.now ring.id) (w.events ring.id)) c.args.header.now.rings c.loop-ring.ring-index c.ring-item.result _ _ inside at
-          (c.loop-ring.invariant.words rows w f) (c.has_other_words.ensures ∙ sym old.history.words);
+          (c.loop-ring.invariant.words rows w f) (c.has_other_words.ensures ∙ sym (old.harms known).words);
       waiting = λ rows w f.
           let old = f.rings.each c.ring-item.result.id c.index-state.result.now there in
           any_more (λ ring. waits w ring.id && is_inside_descriptor (w.events ring.id)) c.args.header.now.rings c.loop-ring.ring-index c.ring-item.result _ _ inside at

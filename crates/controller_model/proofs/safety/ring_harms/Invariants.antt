@@ -1,4 +1,4 @@
-use Rattle.controller_model.proofs.Words.{◌≡◌, ◌&&◌, ℕ, List, take, list_any, RowValue, shape_of, World, has_other_words, is_inside_descriptor, is_out_of_order, waits, Follows}
+use Rattle.controller_model.proofs.Words.{◌≡◌, ◌&&◌, List, take, list_any, RowValue, shape_of, World, has_other_words, is_inside_descriptor, is_out_of_order, waits, Follows}
 use Rattle.controller_model.proofs.safety.ring_harms.Given as goal
 
 -- the harms of the rings so far

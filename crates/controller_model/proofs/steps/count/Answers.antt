@@ -1,4 +1,4 @@
-use Rattle.controller_model.proofs.Words.{◌≡◌, ◌+◌, ◌∙◌, ap, sym, counted}
+use Rattle.controller_model.proofs.Words.{◌+◌, ◌∙◌, ap, sym, counted}
 use Rattle.controller_model.proofs.steps.count.Goals as goal
 
 pub returns : goal.returns

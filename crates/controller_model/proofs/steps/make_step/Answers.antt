@@ -1,16 +1,25 @@
-use Rattle.controller_model.proofs.Words.{◌≡◌, ◌∙◌, err_from_is_err_and, shows, Follows}
-use Rattle.controller_model.proofs.StepLemmas.{step_counted, step_uncounted}
+use Rattle.controller_model.proofs.Words.{◌∙◌, [], ap, option_map, Header, RowSeen, shows, stepped, Follows}
+use Rattle.controller_model.specs.RingHarms.{FollowsScene}
+use Rattle.controller_model.specs.Scenes.{row_next, step_made}
+use Rattle.controller_model.proofs.NextRowLemmas.{scene_with, step_made_is, step_mapped, step_same}
 use Rattle.controller_model.proofs.steps.make_step.Goals as goal
 
-pub returns-in_err-seen-clause-step : goal.returns-in_err-seen-clause-step
-returns-in_err-seen-clause-step g c = λ w f.
-    let p = err_from_is_err_and c.from_residual-in_err-seen.result c.from_residual-in_err-seen.ensures.1 in
-    rw (p.1, p.2)
-    (step_uncounted c.args.trace.now.header w c.args.step.now c.in_err-seen.field-0.0 (shows c.args.trace.now.header w c.args.step.now)
-    (Follows c.args.trace.now.header c.args.trace.now.rows (g.M.WordMemory.words c.make.new.memory) c.make.new.kept) (Follows c.args.trace.now.header c.args.trace.now.rows (g.M.WordMemory.words c.make.new.memory) c.make.new.kept) (c.in_err-seen.ensures.step w f))
+pub returns-in-NextRow-clause-step : goal.returns-in-NextRow-clause-step
+unfolding shows
+returns-in-NextRow-clause-step g c = λ x f.
+    step_same c.next_row.result (step_made x c.args.step.now) (row_next x x.rows) (shows x.header x.world c.args.step.now) RowSeen
+    (FollowsScene c.next_row.new.header c.next_row.new.left (g.M.WordMemory.words c.next_row.new.memory) c.next_row.new.kept)
+    (ap (λ s. step_made x s) c.in-NextRow.is) (ap (λ s. shows x.header x.world s) c.in-NextRow.is) (c.next_row.ensures.step x f)
 
-pub returns-clause-step : goal.returns-clause-step
-returns-clause-step g c = λ w f.
-    step_counted c.args.trace.now.header w c.args.step.now c.in_ok-seen.seen (shows c.args.trace.now.header w c.args.step.now)
-    (Follows c.args.trace.now.header c.args.trace.now.rows (g.M.WordMemory.words c.make.new.memory) c.make.new.kept) (Follows c.args.trace.now.header c.args.trace.now.rows (g.M.WordMemory.words c.make.new.memory) c.count.new.kept)
-    (λ v follows. c.in_ok-count.ensures c.args.trace.now.header c.args.trace.now.rows (g.M.WordMemory.words c.make.new.memory) v follows) (c.in_ok-seen.ensures.step w f)
+pub returns-in_default-clause-step : goal.returns-in_default-clause-step
+returns-in_default-clause-step g c = λ x f.
+    let s = c.args.step.now in
+    let h = c.args.header.now in
+    let words = g.M.WordMemory.words c.make_counted.new.memory in
+    let k = c.make_counted.new.kept in
+    step_same c.make_counted.result (step_made x s) _ (shows x.header x.world s) (shows h x.world s) (FollowsScene h c.args.left.now words k)
+    (step_made_is x s c.in_default.not-NextRow ∙ ap (λ (z : Header). option_map (scene_with x) (stepped z x.world s)) f.header)
+    (ap (λ (z : Header). shows z x.world s) f.header)
+    (step_mapped c.make_counted.result (stepped h x.world s) (scene_with x) (shows h x.world s) (Follows h [] words k) (FollowsScene h c.args.left.now words k)
+    (λ w follows. record { header = f.header; left = f.left; follows = follows })
+    (c.make_counted.ensures.step [] x.world c.in_default.not-NextRow f.follows))

@@ -1,12 +1,26 @@
-use Rattle.controller_model.proofs.Words.{Follows, IsFollowed, shows, stepped}
+use Rattle.controller_model.proofs.Words.{IsFollowed, shows}
+use Rattle.controller_model.specs.RingHarms.{FollowsScene}
+use Rattle.controller_model.specs.Scenes.{step_made}
 use Rattle.controller_model.proofs.StepLemmas.{step_more}
 use Rattle.controller_model.proofs.world.make_followed.Goals as goal
 
-pub returns-else-not-is_quiet-clause-step : goal.returns-else-not-is_quiet-clause-step
-returns-else-not-is_quiet-clause-step g c = λ w f harms.
-    let h = c.args.trace.now.header in
-    let rows = c.args.trace.now.rows in
+pub returns-then-not-is_quiet-clause-step : goal.returns-then-not-is_quiet-clause-step
+returns-then-not-is_quiet-clause-step g c = λ x f.
+    let h = c.make_step.new.header in
+    let left = c.make_step.new.left in
     let words = g.M.WordMemory.words c.make_step.new.memory in
-    let x = c.args.rings.now in
-    step_more (stepped h w c.args.step.now) c.in_ok-seen.seen (shows h w c.args.step.now) (Follows h rows words c.make_step.new.kept) (IsFollowed h rows words c.make_step.new.kept x)
-    (λ v made follows. record { follows = follows; rings = c.is_quiet-is_quiet.ensures w v x f c.if-not-is_quiet.false made harms }) (c.in_ok-seen.ensures.step w f)
+    let k = c.make_step.new.kept in
+    step_more (step_made x c.args.step.now) c.in_ok-seen.seen (shows x.header x.world c.args.step.now) (FollowsScene h left words k) (IsFollowed h left words k c.harms_after.result)
+    (λ y made follows. record { follows = follows; rings = c.harms_after.ensures left x y f.rings made follows }) (c.in_ok-seen.ensures.step x f.follows)
+
+pub returns-else-not-is_quiet-clause-step : goal.returns-else-not-is_quiet-clause-step
+returns-else-not-is_quiet-clause-step g c = λ x f.
+    let h = c.make_step.new.header in
+    let left = c.make_step.new.left in
+    let words = g.M.WordMemory.words c.make_step.new.memory in
+    let k = c.make_step.new.kept in
+    step_more (step_made x c.args.step.now) c.in_ok-seen.seen (shows x.header x.world c.args.step.now) (FollowsScene h left words k) (IsFollowed h left words k c.args.rings.now)
+    (λ y made follows. record {
+      follows = follows;
+      rings = c.is_quiet-is_quiet.ensures c.args.header.now c.args.kept.now x y c.args.rings.now f.follows c.if-not-is_quiet.false made f.rings;
+    }) (c.in_ok-seen.ensures.step x f.follows)

@@ -3,11 +3,9 @@ use Rattle.std.specs.Prelude.{reverse}
 use Rattle.std.proofs.lemmas.Result.{err_from_is_err_and}
 use Rattle.traces.specs.declared.header.Header.{Header}
 use Rattle.lease_book.specs.Books.{FollowsLeases, HoldsLents}
-use Rattle.row_pass.specs.Passing.{IsWholeLog}
-use Rattle.row_pass.proofs.Verdicts.{room}
-use Rattle.row_reader.proofs.Streams.{of_trace}
-use Rattle.ownership_checker.specs.Streams.{IsSound}
-use Rattle.ownership_checker.proofs.Streams.{opened_bad, sound_book}
+use Rattle.ring_changes.specs.Histories.{header_now}
+use Rattle.ring_leases.specs.RingLents.{ring_lents}
+use Rattle.ownership_checker.proofs.Streams.{opened_bad, sound_so}
 use Rattle.ownership_checker.proofs.stream_check.check_stream.Goals as goal
 
 pub returns-in_err-reader-clause-line : goal.returns-in_err-reader-clause-line
@@ -18,14 +16,14 @@ returns-in_err-reader-clause-line g c =
 pub returns-in-Whole-clause-accepted : goal.returns-in-Whole-clause-accepted
 returns-in-Whole-clause-accepted g c =
     let held = g.S.Source.held c.args.source.now in
-    let held' = g.S.Source.held c.pass_rows.new.source in
     let book = c.in-Whole.book in
     let whole = rw c.in-Whole.is at c.in_ok-book-2.ensures.whole in
     let begins : (first : ℕ) → FollowsLeases c.in_ok-reader.reader.header first [] c.in_ok-book.book =
     subst (λ (h : Header). (first : ℕ) → FollowsLeases h first [] c.in_ok-book.book) c.header.ensures.said c.in_ok-book.ensures in
-    of_trace held held' (λ trace. IsWholeLog HoldsLents trace book) (λ trace. IsSound trace c.into_leases.result.items)
-    (λ trace w. sound_book trace w.clean c.into_leases.result.items (c.into_leases.ensures trace.header trace.first (reverse trace.rows) (room trace) w.kept))
-    (whole held [] c.in_ok-reader.ensures.opened begins)
+    let so = whole held [] c.in_ok-reader.ensures.opened begins in
+    let trace = so.0 in
+    let past = reverse trace.rows in
+    (trace, so.1, sound_so HoldsLents trace book so.2 c.into_leases.result.items (c.into_leases.ensures (header_now trace.header past) (ring_lents trace.header trace.first past) so.2.kept))
 
 pub returns-in-Refused-clause-refused : goal.returns-in-Refused-clause-refused
 returns-in-Refused-clause-refused g c =

@@ -1,12 +1,10 @@
-use Rattle.std.proofs.Common.{◌≡◌, ℕ, List, [], length, subst}
+use Rattle.std.proofs.Common.{◌≡◌, ℕ, [], length, subst}
 use Rattle.std.specs.Prelude.{reverse}
 use Rattle.std.proofs.lemmas.Result.{err_from_is_err_and}
 use Rattle.traces.specs.declared.header.Header.{Header}
-use Rattle.ring_knowledge.specs.declared.lease.Lease.{Lease}
 use Rattle.lease_book.specs.Lents.{lents}
-use Rattle.row_pass.specs.Passing.{IsWholeLog}
-use Rattle.row_reader.proofs.Streams.{of_trace}
-use Rattle.ownership_checker.specs.Streams.{IsSound}
+use Rattle.ring_changes.specs.Histories.{header_now}
+use Rattle.ring_leases.specs.RingLents.{ring_lents}
 use Rattle.ownership_checker.specs.declared.lease_count.LeaseCount.{LeaseCount}
 use Rattle.ownership_checker.proofs.Streams.{opened_bad, sound_count}
 use Rattle.ownership_checker.proofs.stream_check.count_stream.Goals as goal
@@ -19,15 +17,15 @@ returns-in_err-reader-clause-line g c =
 pub returns-in-Whole-clause-accepted : goal.returns-in-Whole-clause-accepted
 returns-in-Whole-clause-accepted g c =
     let held = g.S.Source.held c.args.source.now in
-    let held' = g.S.Source.held c.pass_rows.new.source in
     let log = c.in-Whole.log in
-    let count = c.count.result in
     let whole = rw c.in-Whole.is at c.in_ok-log-2.ensures.whole in
     let begins : (first : ℕ) → c.in_ok-log.log.count ≡ length (lents c.in_ok-reader.reader.header first []) =
     subst (λ (h : Header). (first : ℕ) → c.in_ok-log.log.count ≡ length (lents h first [])) c.header.ensures.said c.in_ok-log.ensures in
-    of_trace held held' (λ trace. IsWholeLog (λ h ts (l : LeaseCount). l.count ≡ length ts) trace log) (λ trace. (leases : List Lease) × IsSound trace leases × (count ≡ length leases))
-    (λ trace w. let ts = lents trace.header trace.first (reverse trace.rows) in sound_count trace w.clean count (c.count.ensures [] trace.header ts w.kept))
-    (whole held [] c.in_ok-reader.ensures.opened begins)
+    let so = whole held [] c.in_ok-reader.ensures.opened begins in
+    let trace = so.0 in
+    let past = reverse trace.rows in
+    let count = c.count.ensures [] (header_now trace.header past) (ring_lents trace.header trace.first past) so.2.kept in
+    (trace, so.1, sound_count (λ h ts (l : LeaseCount). l.count ≡ length ts) trace log so.2 c.count.result count)
 
 pub returns-in-Refused-clause-refused : goal.returns-in-Refused-clause-refused
 returns-in-Refused-clause-refused g c =

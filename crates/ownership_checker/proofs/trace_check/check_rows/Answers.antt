@@ -1,8 +1,10 @@
-use Rattle.std.proofs.Common.{◌≡◌, [], Some, length, sym, subst, arith}
+use Rattle.std.proofs.Common.{◌≡◌, ◌∙◌, [], Some, length, sym, subst, arith}
 use Rattle.ring_knowledge.specs.Known.{nothing}
 use Rattle.ring_knowledge.specs.Learned.{known}
 use Rattle.ownership_rules.specs.declared.refusal.Refusal.{Refusal}
 use Rattle.ownership_rules.specs.Rules.{verdict_from}
+use Rattle.lease_book.specs.Lents.{lents}
+use Rattle.lease_book.proofs.Growing.{leases_are}
 use Rattle.row_checks.proofs.Passes.{by_place, refused, room_for}
 use Rattle.ownership_checker.proofs.Checking.{started, stepped, ended, walked}
 use Rattle.ownership_checker.proofs.trace_check.check_rows.Goals as goal
@@ -38,7 +40,7 @@ returns-clause-accepted g c =
     let ends = c.loop-row.auto.row-index-end in
     let past = c.loop-row-test.false in
     ended c.args.header.now c.args.rows.now c.args.first c.loop-row.row-index c.loop-row.number c.loop-row.kept (g.M.WordMemory.words c.loop-row.memory) c.loop-row.book c.loop-row.ranges c.loop-row.invariant (omega arith)
-    c.into_leases.result.items (room_for c.args.first (length c.args.rows.now) c.requires.within) (λ past room held. c.into_leases.ensures c.args.header.now c.args.first past room held)
+    c.into_leases.result.items (room_for c.args.first (length c.args.rows.now) c.requires.within) (λ past room held. c.into_leases.ensures c.args.header.now (lents c.args.header.now c.args.first past) held ∙ sym (leases_are c.args.header.now c.args.first past room))
 
 pub returns-clause-walk : goal.returns-clause-walk
 returns-clause-walk g c =

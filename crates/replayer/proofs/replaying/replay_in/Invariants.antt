@@ -1,7 +1,5 @@
 use Rattle.std.proofs.Common.{◌≡◌, ℕ, ◌++◌, drop, Some}
-use Rattle.world_state.specs.World.{World}
-use Rattle.controller_model.specs.Steps.{ending_from, ending_of}
-use Rattle.controller_model.specs.Showing.{replayed, seen_from}
+use Rattle.controller_model.specs.Scenes.{Scene, scene_ending_from, scene_replayed, scene_seen_from}
 use Rattle.controller_model.specs.Worlds.{StandsFor}
 use Rattle.replayer.proofs.replaying.replay_in.Given as goal
 
@@ -9,7 +7,7 @@ use Rattle.replayer.proofs.replaying.replay_in.Given as goal
 abbrev pub invariant-loop-step : goal.invariant-loop-step
 invariant-loop-step g l = record {
   number : l.number ≡ l.step-index;
-  here : (w : World) × StandsFor g.M.WordMemory.words l.trace.header l.trace.rows l.world w
-      × (l.seen.items ++ seen_from l.trace.header (Some w) (drop l.step-index l.steps) ≡ (replayed l.trace.header l.trace.rows l.steps).seen)
-      × (ending_from l.trace.header l.number (Some w) (drop l.step-index l.steps) ≡ ending_of l.trace.header l.trace.rows l.steps);
+  here : (x : Scene) × StandsFor g.M.WordMemory.words l.world x
+      × (l.seen.items ++ scene_seen_from (Some x) (drop l.step-index l.steps) ≡ (scene_replayed l.header l.rows l.steps).seen)
+      × (scene_ending_from l.number (Some x) (drop l.step-index l.steps) ≡ (scene_replayed l.header l.rows l.steps).ending);
 }

@@ -25,4 +25,4 @@ returns-in_default-kind c =
     let h = c.args.header.now in
     let ring = c.index-rings-number.result in
     let here = ring_here h (λ q. q.id == c.args.id) h.rings c.in-Some.number ring (sym (c.ring_named.ensures h.rings c.requires.found) ∙ c.in-Some.is) refl (c.index-rings-number.is ∙ ap (λ xs. get_or xs c.in-Some.number ring) c.as_slice-rings.ensures) in
-    record { there = tt; none = another_there h c.requires.headed c.args.id c.in-Some.number ring here.0 (eqb-true ring.id c.args.id here.1) (λ xfer. c.in_default-kind.not-Xfer (c.kind.ensures ∙ sym (ap (λ (r : Ring). r.shape.kind) c.index-rings-number.is) ∙ xfer)) }
+    record { within = tt; there = tt; none = another_there h c.requires.headed c.args.id c.in-Some.number ring here.0 (eqb-true ring.id c.args.id here.1) (λ xfer. c.in_default-kind.not-Xfer (c.kind.ensures ∙ sym (ap (λ (r : Ring). r.shape.kind) c.index-rings-number.is) ∙ xfer)) }

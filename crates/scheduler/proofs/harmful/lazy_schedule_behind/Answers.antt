@@ -8,7 +8,7 @@ use Rattle.scheduler.proofs.harmful.lazy_schedule_behind.Goals as goal
 
 pub make_all-requires : goal.make_all-requires
 make_all-requires c =
-    let h = c.args.trace.now.header in
-    let rows = c.args.rows.now in
+    let h = c.args.header.now in
+    let rows = c.args.before.now in
     let same : c.deref.result.now ≡ lazy_steps h rows = c.deref.ensures.value ∙ c.in-Ok.ensures.steps in
-    subst AreSteps (sym same) (lazy_steps_are h c.args.trace.now.headed rows c.requires.fitting (lenient_history h (reverse rows) c.requires.clean))
+    subst AreSteps (sym same) (lazy_steps_are h c.requires.headed rows c.requires.fitting (lenient_history h (reverse rows) c.in-Ok.ensures.clean))

@@ -2,7 +2,6 @@ use Rattle.std.proofs.Common.{subst}
 use Rattle.std.proofs.lemmas.Result.{err_from_is_err_and}
 use Rattle.lease_book.specs.Lents.{lents}
 use Rattle.certificate_log.specs.Logs.{FollowsCertificate}
-use Rattle.row_reader.proofs.Streams.{of_trace}
 use Rattle.verifier.proofs.Streams.{is_refused, is_whole, opened_bad, unverified, verified}
 use Rattle.verifier.proofs.stream.verify_stream.Goals as goal
 
@@ -16,12 +15,11 @@ returns-in-Whole-clause-verdict g c =
     let held = g.S.Source.held c.args.source.now in
     let leases = c.args.leases.now in
     let begun = subst (λ h. (first : _) → FollowsCertificate leases h (lents h first _) c.in_ok-log.log) c.header.ensures.said c.in_ok-log.ensures in
-    of_trace held (g.S.Source.held c.pass_rows.new.source) _ _ (λ trace. verified trace leases c.in-Whole.log c.is_whole.result c.is_whole.ensures.yes c.is_whole.ensures.no)
-    (is_whole _ c.in_ok-log-2.field-0 c.in-Whole.log c.in-Whole.is c.in_ok-log-2.ensures.whole held leases c.in_ok-reader.ensures.opened begun)
+    let so = is_whole _ c.in_ok-log-2.field-0 c.in-Whole.log c.in-Whole.is c.in_ok-log-2.ensures.whole held leases c.in_ok-reader.ensures.opened begun in
+    (so.0, so.1, verified so.0 leases c.in-Whole.log c.is_whole.result c.is_whole.ensures.yes c.is_whole.ensures.no so.2)
 
 pub returns-in-Refused-clause-verdict : goal.returns-in-Refused-clause-verdict
 returns-in-Refused-clause-verdict g c =
     let held = g.S.Source.held c.args.source.now in
-    let leases = c.args.leases.now in
-    of_trace held (g.S.Source.held c.pass_rows.new.source) _ _ (λ trace. unverified trace leases c.in-Refused.row c.in-Refused.refusal)
-    (is_refused _ c.in_ok-log-2.field-0 c.in-Refused.row c.in-Refused.refusal c.in-Refused.is c.in_ok-log-2.ensures.refused held c.in_ok-reader.ensures.opened)
+    let so = is_refused _ c.in_ok-log-2.field-0 c.in-Refused.row c.in-Refused.refusal c.in-Refused.is c.in_ok-log-2.ensures.refused held c.in_ok-reader.ensures.opened in
+    (so.0, so.1, unverified so.0 c.args.leases.now c.in-Refused.row c.in-Refused.refusal so.2)

@@ -1,4 +1,7 @@
-use Rattle.std.proofs.Common.{length, sym, arith}
+use Rattle.std.proofs.Common.{◌∙◌, length, sym, arith}
+use Rattle.std.specs.Prelude.{reverse}
+use Rattle.lease_book.specs.Lents.{lents}
+use Rattle.lease_book.proofs.Growing.{leases_are}
 use Rattle.ring_knowledge.specs.Learned.{known}
 use Rattle.row_checks.proofs.Passes.{by_place, refused, room_for}
 use Rattle.verifier.proofs.Following.{accepted, held, listed, many, refused_none, started, stepped}
@@ -39,8 +42,9 @@ returns-clause-yes g c = λ is.
     let m = g.M.WordMemory.words c.loop-row.memory in
     let room = room_for c.args.first (length rows) c.requires.within in
     accepted h rows c.args.first c.args.leases.now c.loop-row.row-index c.loop-row.number c.loop-row.kept m c.loop-row.log c.loop-row.ranges c.loop-row.invariant (omega arith) room
-    (c.is_whole.ensures.yes c.args.leases.now h c.args.first _ (many h rows c.args.first c.args.leases.now c.loop-row.row-index c.loop-row.number c.loop-row.kept m c.loop-row.log c.loop-row.ranges c.loop-row.invariant (omega arith) room)
-    (held h rows c.args.first c.args.leases.now c.loop-row.row-index c.loop-row.number c.loop-row.kept m c.loop-row.log c.loop-row.ranges c.loop-row.invariant (omega arith) room) is)
+    (c.is_whole.ensures.yes c.args.leases.now h (lents h c.args.first (reverse rows))
+    (held h rows c.args.first c.args.leases.now c.loop-row.row-index c.loop-row.number c.loop-row.kept m c.loop-row.log c.loop-row.ranges c.loop-row.invariant (omega arith) room) is
+    ∙ sym (leases_are h c.args.first (reverse rows) (many h rows c.args.first c.args.leases.now c.loop-row.row-index c.loop-row.number c.loop-row.kept m c.loop-row.log c.loop-row.ranges c.loop-row.invariant (omega arith) room)))
 
 pub returns-clause-no : goal.returns-clause-no
 returns-clause-no g c = λ is a.
@@ -50,6 +54,7 @@ returns-clause-no g c = λ is a.
     let rows = c.args.rows.now in
     let m = g.M.WordMemory.words c.loop-row.memory in
     let room = room_for c.args.first (length rows) c.requires.within in
-    c.is_whole.ensures.no c.args.leases.now h c.args.first _ (many h rows c.args.first c.args.leases.now c.loop-row.row-index c.loop-row.number c.loop-row.kept m c.loop-row.log c.loop-row.ranges c.loop-row.invariant (omega arith) room)
+    c.is_whole.ensures.no c.args.leases.now h (lents h c.args.first (reverse rows))
     (held h rows c.args.first c.args.leases.now c.loop-row.row-index c.loop-row.number c.loop-row.kept m c.loop-row.log c.loop-row.ranges c.loop-row.invariant (omega arith) room) is
-    (listed h rows c.args.first c.args.leases.now c.loop-row.row-index c.loop-row.number c.loop-row.kept m c.loop-row.log c.loop-row.ranges c.loop-row.invariant (omega arith) room a)
+    (listed h rows c.args.first c.args.leases.now c.loop-row.row-index c.loop-row.number c.loop-row.kept m c.loop-row.log c.loop-row.ranges c.loop-row.invariant (omega arith) room a
+    ∙ leases_are h c.args.first (reverse rows) (many h rows c.args.first c.args.leases.now c.loop-row.row-index c.loop-row.number c.loop-row.kept m c.loop-row.log c.loop-row.ranges c.loop-row.invariant (omega arith) room))

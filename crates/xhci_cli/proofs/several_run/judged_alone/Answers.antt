@@ -1,9 +1,10 @@
 use Rattle.std.proofs.Common.{inl, subst, sym}
-use Rattle.answers.specs.Inputs.{IsTraceAnswer, opened}
+use Rattle.answers.specs.Inputs.{opened}
 use Rattle.answers.proofs.Held.{opened_holds}
 use Rattle.answers.proofs.Told.{failure}
 use Rattle.answers.specs.declared.answer.Answer.{Answer}
 use Rattle.xhci_cli.specs.CheckAnswers.{IsVerdictAlone}
+use Rattle.xhci_cli.specs.JudgedTexts.{IsTraceAnswer}
 use Rattle.xhci_cli.proofs.several_run.judged_alone.Goals as goal
 
 pub returns-in-Ok-clause-right : goal.returns-in-Ok-clause-right

@@ -1,7 +1,7 @@
 use Rattle.std.proofs.Common.{subst, sym}
-use Rattle.answers.specs.Inputs.{IsTraceAnswer}
 use Rattle.answers.specs.declared.answer.Answer.{Answer}
 use Rattle.xhci_cli.specs.CheckAnswers.{IsVerdictAlone}
+use Rattle.xhci_cli.specs.JudgedTexts.{IsTraceAnswer}
 use Rattle.xhci_cli.proofs.Streamed.{counted_right, unaccepted_right}
 use Rattle.xhci_cli.proofs.stream_answers.counted_answer.Goals as goal
 

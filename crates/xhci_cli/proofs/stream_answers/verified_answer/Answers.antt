@@ -1,6 +1,6 @@
 use Rattle.std.proofs.Common.{inl, subst, sym}
-use Rattle.answers.specs.Inputs.{IsUnread}
 use Rattle.answers.specs.declared.answer.Answer.{Answer}
+use Rattle.xhci_cli.specs.JudgedTexts.{IsUnread}
 use Rattle.xhci_cli.proofs.Streamed.{unread_right, verified_right}
 use Rattle.xhci_cli.proofs.stream_answers.verified_answer.Goals as goal
 

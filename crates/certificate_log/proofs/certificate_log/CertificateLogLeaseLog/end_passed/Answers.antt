@@ -1,7 +1,7 @@
 use Rattle.certificate_log.proofs.CitedWords.{◌≡◌, ◌≤◌, ◌+◌, ◌∙◌, ◌||◌, ℕ, List, map, false, sym, ap, subst, arith, is_some, is_crossing, Block, Link, same_leased, Lent, ended_where, is_passed, all_twice, none_over, none_passed, over_alike, passed_crossing, CertificateLog, FollowsCertificate}
 use Rattle.certificate_log.proofs.PassingOn.{passed_on}
 use Rattle.certificate_log.proofs.certificate_log.CertificateLogLeaseLog.end_passed.Goals as goal
-use Rattle.certificate_log.proofs.certificate_log.CertificateLogLeaseLog.end_passed.Goals.{then-is_some, else-is_some}
+use Rattle.certificate_log.proofs.certificate_log.CertificateLogLeaseLog.end_passed.Goals.{in-Some, in_default}
 
 pub loop-number-init : goal.loop-number-init
 loop-number-init c = λ list h ts shape known.
@@ -18,15 +18,15 @@ loop-number-preserved c = λ list h ts shape known.
     let before = c.loop-number.invariant list h ts shape known in
     let blocks : FollowsCertificate list h (map (ended_where (λ l. passed l || same_leased (Block r n) l) row) ts) c.end_block.new.self =
     subst (λ (us : List Lent). FollowsCertificate list h us c.end_block.new.self) (all_twice (same_leased (Block r n)) passed row ts) (c.end_block.ensures list h (map (ended_where passed row) ts) shape before) in
-    elim c.if-is_some.branch [
-      | then-is_some w ↦
+    elim c.match-crossing.branch [
+      | in-Some w ↦
           let ended = w.end_link.ensures list h (map (ended_where (λ l. passed l || same_leased (Block r n) l) row) ts) shape blocks in
           subst (λ (b : CertificateLog). FollowsCertificate list h (map (ended_where (is_passed r c.args.from (n + 1)) row) ts) b) (sym w.self-is)
           (subst (λ (us : List Lent). FollowsCertificate list h us w.end_link.new.self)
           (all_twice (same_leased (Link r n)) (λ l. passed l || same_leased (Block r n) l) row ts
           ∙ over_alike (λ l. (passed l || same_leased (Block r n) l) || same_leased (Link r n) l) (is_passed r c.args.from (n + 1)) row ts (λ l. passed_crossing r c.args.from n l least)) ended)
-      | else-is_some w ↦
-          let none : is_crossing c.args.ring.now.shape n ≡ false = ap is_some (sym c.crossing.ensures.value) ∙ sym c.is_some.ensures ∙ w.if-is_some.false in
+      | in_default w ↦
+          let none : is_crossing c.args.ring.now.shape n ≡ false = ap is_some (sym c.crossing.ensures.value ∙ w.in_default.is) in
           subst (λ (b : CertificateLog). FollowsCertificate list h (map (ended_where (is_passed r c.args.from (n + 1)) row) ts) b) (sym w.self-is)
           (passed_on list h ts c.args.self.now.list c.args.self.now.blocks c.args.self.now.links known r c.args.from n row least (ap (λ s. is_crossing s n) shape ∙ none)
           c.end_block.new.self.list c.end_block.new.self.blocks c.end_block.new.self.links blocks)

@@ -1,6 +1,9 @@
 use Rattle.std.proofs.Common.{refl}
-use Rattle.controller_model.proofs.HistoryLemmas.{keeps_nothing}
+use Rattle.controller_model.proofs.HistoryLemmas.{keeps_nothing, shows_nothing}
 use Rattle.controller_model.proofs.history.History.new.Goals as goal
 
 pub returns : goal.returns
-returns c = λ shape. keeps_nothing shape _ refl refl refl refl refl c.new.ensures.items
+returns c = record {
+  keeps = λ shape. keeps_nothing shape _ refl refl refl c.new.ensures.items;
+  harms = λ shape. shows_nothing shape _ refl refl;
+}

@@ -1,7 +1,9 @@
 use Rattle.std.proofs.Common.{refl}
-use Rattle.controller_model.proofs.HistoryLemmas.{keeps_placed}
+use Rattle.controller_model.proofs.HistoryLemmas.{keeps_placed, shows_placed}
 use Rattle.controller_model.proofs.history.History.place.Goals as goal
 
 pub returns : goal.returns
-returns c = λ events reported.
-    keeps_placed c.args.shape.now events reported c.args.address c.args.self.now _ c.first_at-self.ensures refl refl refl refl c.clear.ensures.items
+returns c = record {
+  keeps = λ events reported. keeps_placed c.args.shape.now events reported c.args.address c.args.self.now _ c.first_at-self.ensures refl refl c.clear.ensures.items;
+  harms = λ events. shows_placed c.args.shape.now events c.args.address c.args.self.now _ refl refl;
+}

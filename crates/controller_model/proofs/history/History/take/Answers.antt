@@ -1,13 +1,14 @@
-use Rattle.controller_model.proofs.Words.{refl, ap, not, ◌||◌, ◌==◌, common_steps, arith}
-use Rattle.controller_model.proofs.HistoryLemmas.{keeps_took}
+use Rattle.controller_model.proofs.Words.{not, ◌||◌, ◌==◌}
+use Rattle.controller_model.proofs.HistoryLemmas.{shows_took}
 use Rattle.controller_model.proofs.history.History.take.Goals as goal
 
-pub returns : goal.returns
-returns c = λ events reported. keeps_took c.args.shape.now events reported c.args.self.now _ c.args.address c.args.block.now _ (record {
-  next = grind (arith, common_steps, c.in_ok-next.ensures.value, c.checked_add.ensures);
-  placed = refl;
-  inside = ap not c.is_end.ensures;
-  order = (λ i. not (c.is_right_place-is_right.ensures i) || not (c.address.ensures i == c.args.address) || c.args.self.now.out_of_order);
-  words = ap (λ b. not b || c.args.self.now.other_words) c.is_as_declared-is_same.ensures;
-  unreported = c.in_ok-push_back.ensures.items;
-})
+pub returns-clause-harms : goal.returns-clause-harms
+returns-clause-harms c = λ events reported.
+    shows_took c.args.shape.now events reported c.args.self.now _ c.args.address c.args.block.now _
+    (λ i. not (c.is_right_place-is_right.ensures i) || not (c.address.ensures i == c.args.address) || c.take_anywhere.ensures.order i)
+    (λ i. not (c.is_as_declared-is_same.ensures i) || c.take_anywhere.ensures.words i)
+
+pub returns-clause-keeps : goal.returns-clause-keeps
+returns-clause-keeps c = λ events reported before.
+    let k = c.in_ok-take_anywhere.ensures.keeps c.args.shape.now events reported c.args.block.now before in
+    record { next = k.next; placed = k.placed; inside = k.inside; unreported = k.unreported; few = k.few }

@@ -1,4 +1,4 @@
-use Rattle.controller_model.proofs.Words.{◌≡◌, ℕ, ◌+◌, ◌≤◌, sym, subst, changed_at, written_at}
+use Rattle.controller_model.proofs.Words.{ℕ, ◌+◌, ◌≤◌, sym, subst, changed_at, written_at}
 use Rattle.controller_model.proofs.WatchLemmas.{none_later}
 use Rattle.controller_model.proofs.stamps.Stamps.is_changed_behind.Goals as goal
 

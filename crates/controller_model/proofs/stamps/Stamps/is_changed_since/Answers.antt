@@ -1,4 +1,4 @@
-use Rattle.controller_model.proofs.Words.{◌≡◌, ℕ, ◌+◌, ◌*◌, ◌<◌, ◌∙◌, ap, sym, subst, nat_lt, false, arith, inl, inr, changed_at}
+use Rattle.controller_model.proofs.Words.{◌≡◌, ℕ, ◌+◌, ◌*◌, ◌∙◌, ap, sym, subst, nat_lt, false, arith, inl, inr, changed_at}
 use Rattle.std.proofs.lemmas.Bool.{cases_lt, lt-ltb, le-ltb}
 use Rattle.controller_model.proofs.ScribbleLemmas.{any_in_range, none_in_range}
 use Rattle.controller_model.proofs.stamps.Stamps.is_changed_since.Goals as goal

@@ -1,4 +1,4 @@
-use Rattle.controller_model.proofs.Words.{◌≡◌, ◌∙◌, ℕ, Some, ap, sym, subst, same_Some, Watch, changed_at, written_at, is_changed_behind}
+use Rattle.controller_model.proofs.Words.{◌≡◌, ◌∙◌, ap, sym, subst, same_Some, Watch, changed_at, written_at, is_changed_behind}
 use Rattle.controller_model.proofs.WatchLemmas.{still_watched}
 use Rattle.controller_model.proofs.stamps.Stamps.note.Goals as goal
 

@@ -1,9 +1,18 @@
-use Rattle.controller_model.proofs.Words.{refl, opening}
+use Rattle.controller_model.proofs.Words.{[], refl, sym, subst, Header, HasRingHarms}
+use Rattle.world_state.specs.World.{opening}
 use Rattle.controller_model.proofs.world.World.new.Goals as goal
 
 pub returns : goal.returns
 returns g c =
-    let h = c.args.trace.now.header in
-    let rows = c.args.trace.now.rows in
-    let follows = c.in_ok-kept.ensures h rows (g.M.WordMemory.words c.args.memory) c.requires in
-    record { header = refl; beside = refl; unspent = refl; follows = follows; rings = c.ring_harms-rings.ensures rows (opening rows) follows }
+    let words = g.M.WordMemory.words c.args.memory in
+    let h = c.in_ok-header.header in
+    let follows = c.in_ok-kept.ensures h [] words c.requires.zero in
+    let harms = c.ring_harms-rings.ensures [] (opening []) follows in
+    let P : Header → Type 0 = λ k. HasRingHarms k (opening []) c.ring_harms-rings.result in
+    record {
+      unspent = refl;
+      followed = record {
+        follows = record { header = sym c.in_ok-header.ensures; left = sym c.new.ensures; follows = follows };
+        rings = subst P c.in_ok-header.ensures harms;
+      };
+    }

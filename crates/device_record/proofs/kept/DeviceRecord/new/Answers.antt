@@ -3,6 +3,7 @@ use Rattle.std.proofs.lemmas.List.{length-replicate}
 use Rattle.device_record.specs.Devices.{fresh_endpoint, fresh_slot}
 use Rattle.device_record.proofs.NewRecord.{follows_nothing}
 use Rattle.device_record.proofs.HolderCounts.{fresh_counted}
+use Rattle.device_record.proofs.HolderPlaces.{fresh_summed}
 use Rattle.device_record.proofs.kept.DeviceRecord.new.Goals as goal
 
 pub returns : goal.returns
@@ -15,5 +16,6 @@ invariant_of-result c =
       slots_many = ap length c.in_ok-slots.ensures ∙ length-replicate 256 fresh_slot;
       endpoints_many = ap length endpoints ∙ length-replicate (256 * 32) fresh_endpoint;
       bound_many = ap length (c.in_ok-vec.ensures.items_if_clones_equal (λ y h. h)) ∙ length-replicate 256 false;
-      counted = fresh_counted c.in_ok-endpoints.field-0.items c.in_ok-new.field-0 (256 * 32) endpoints c.in_ok-new.ensures;
+      counted = fresh_counted c.in_ok-endpoints.field-0.items c.in_ok-new.field-0 (256 * 32) endpoints c.in_ok-new.ensures.counts;
+      summed = fresh_summed c.in_ok-endpoints.field-0.items c.in_ok-new.field-0 (256 * 32) endpoints c.in_ok-new.ensures.sums;
     }

@@ -1,4 +1,4 @@
-use Rattle.lease_book.proofs.Words.{◌≡◌, ◌≤◌, ◌+◌, ◌∙◌, ◌||◌, ℕ, List, map, true, false, sym, ap, subst, arith, is_some, is_crossing, Block, Link, same_leased, LeaseBook, Lent, ended_where, is_passed, HoldsLents, IsFound}
+use Rattle.lease_book.proofs.Words.{◌≡◌, ◌≤◌, ◌+◌, ◌∙◌, ◌||◌, ℕ, List, [], map, true, false, sym, ap, subst, arith, is_some, is_crossing, Block, Link, same_leased, LeaseBook, Lent, ended_where, is_passed, HoldsLents, IsFound}
 use Rattle.lease_book.proofs.Passing.{all_twice, ended_alike, over_alike, none_over, none_passed, passed_block, passed_crossing}
 use Rattle.lease_book.proofs.lease_book.LeaseBookLeaseLog.end_passed.Goals as goal
 use Rattle.lease_book.proofs.lease_book.LeaseBookLeaseLog.end_passed.Goals.{then-is_some, else-is_some}
@@ -17,7 +17,7 @@ loop-number-preserved c = λ h ts shape known.
     let passed = is_passed r c.args.from n in
     let before = c.loop-number.invariant h ts shape known in
     let blocks : HoldsLents h (map (ended_where (λ l. passed l || same_leased (Block r n) l) row) ts) c.end_block.new.self =
-    subst (λ (us : List Lent). HoldsLents h us c.end_block.new.self) (all_twice (same_leased (Block r n)) passed row ts) (c.end_block.ensures h (map (ended_where passed row) ts) shape before) in
+    subst (λ (us : List Lent). HoldsLents h us c.end_block.new.self) (all_twice (same_leased (Block r n)) passed row ts) (c.end_block.ensures [] h (map (ended_where passed row) ts) shape before) in
     elim c.if-is_some.branch [
       | then-is_some w ↦
           let crossing : is_crossing c.args.ring.now.shape n ≡ true = ap is_some (sym c.crossing.ensures.value) ∙ sym c.is_some.ensures ∙ w.if-is_some.true in

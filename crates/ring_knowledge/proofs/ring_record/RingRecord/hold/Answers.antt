@@ -18,7 +18,10 @@ returns c = λ shape v known. let m = known.marks in record {
     given = m.given;
     segments = m.segments;
     crossed = m.crossed;
-    restored = m.restored;
+    withdrawn = m.withdrawn;
+    free = m.free;
+    free_withdrawn = m.free_withdrawn;
+    free_given = m.free_given;
   };
   steps = λ q h. held_step shape v c.args.number q ∙ known.steps q h;
   stop = held_step shape v c.args.number c.args.self.now.count ∙ known.stop;

@@ -1,7 +1,7 @@
-use Rattle.ring_knowledge.proofs.Words.{◌≡◌, ◌∙◌, rules, false, ap, sym, get_or, option_map, place_at, Position, Crossing, positions_of, crossings_of}
+use Rattle.ring_knowledge.proofs.Words.{◌≡◌, ◌∙◌, rules, false, ap, sym, get_or, number, option_map, place_at, arith, Position, Crossing, positions_of, crossings_of}
 use Rattle.ring_knowledge.proofs.DueWrites.{found, no_crossing_of_data, no_position_of_link, no_position_elsewhere, no_crossing_elsewhere}
 use Rattle.ring_knowledge.proofs.GivenWords.{positions_none, positions_marked, positions_found, crossings_none, crossings_marked, crossings_found, no_crossing_named, no_position_named}
-use Rattle.ring_knowledge.proofs.OwnedWords.{owned_data, owned_link, owned_nowhere}
+use Rattle.ring_knowledge.proofs.OwnedWords.{owned_data, unowned_data, owned_link, owned_nowhere}
 use Rattle.ring_knowledge.proofs.ring_record.RingRecord.look.Goals as goal
 
 -- ---- a word of a data place
@@ -13,7 +13,7 @@ returns-then-is_marked c =
     let at = found shape _ _ _ _ c.get.ensures.same c.in-Some-Data.ensures.value c.in-Some-Data.field-0-is in
     let mark = ap (λ marks. get_or marks c.in-Some-Data.place false) (sym c.deref.ensures.value) ∙ sym c.is_marked.ensures ∙ c.if-is_marked.true in
     record {
-      lent = λ v known. sym mark ∙ owned_data shape v r known.marks c.args.at c.get.ensures.aligned c.in-Some-Data.place c.in-Some-Data.index at;
+      lent = λ v known. owned_data shape v r known.marks c.args.at c.get.ensures.aligned c.in-Some-Data.place c.in-Some-Data.index _ at mark (λ p due. c.is_kept.ensures p (omega (arith, ap number known.marks.floor, due.from)) (omega (arith, ap number known.marks.floor, due.within)) due.rest_is);
       positions = λ v known. positions_marked shape v r known.marks c.args.at c.args.word c.in-Some-Data.place c.in-Some-Data.index at mark;
       crossings = λ v known. crossings_none shape v r known.marks c.args.at c.args.word (no_crossing_of_data shape known.marks.allowed r.floor c.args.at c.args.word c.in-Some-Data.place c.in-Some-Data.index at);
     }
@@ -26,7 +26,7 @@ returns-else-is_marked c =
     let mark = ap (λ marks. get_or marks c.in-Some-Data.place false) (sym c.deref.ensures.value) ∙ sym c.is_marked.ensures ∙ c.if-is_marked.false in
     let mapped : c.map.result ≡ option_map Position c.position_by-position.result = search rules in
     record {
-      lent = λ v known. sym mark ∙ owned_data shape v r known.marks c.args.at c.get.ensures.aligned c.in-Some-Data.place c.in-Some-Data.index at;
+      lent = λ v known. unowned_data shape v r known.marks c.args.at c.get.ensures.aligned c.in-Some-Data.place c.in-Some-Data.index at mark;
       positions = λ v known.
           positions_found shape v r known.marks c.args.at c.args.word c.in-Some-Data.place c.position_by-position.result mark c.position_by-position.ensures.gives c.position_by-position.ensures.due
           ∙ sym (ap positions_of mapped);

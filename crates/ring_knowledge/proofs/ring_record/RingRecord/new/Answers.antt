@@ -10,7 +10,7 @@ returns c = record {
       c.new.ensures.items c.new-2.ensures.items
       (c.in_ok-vec.ensures.items_if_clones_equal (λ y h. h) ∙ ap (λ n. replicate n false) c.places-places.ensures.count)
       (c.in_ok-vec-2.ensures.items_if_clones_equal (λ y h. h) ∙ ap (λ n. replicate n false) (ap length c.segments-segments.ensures))
-      refl refl;
+      refl refl c.new-3.ensures.empty c.new-4.ensures.empty;
   steps = λ q h. absurd (omega arith);
   stop = new_stop c.args.shape.now;
 }

@@ -9,7 +9,7 @@ returns c = λ v known later reached.
     let from : c.number-passed.result ≡ floor_number v = c.number-passed.ensures ∙ sym (ap number known.marks.floor) in record {
       marks =
           reached_marks c.args.shape.now v c.args.self.now known.marks c.args.spot later reached _
-          (record { blocks = refl; lengths = refl; floor = refl; held = refl })
+          (record { blocks = refl; lengths = refl; floor = refl; held = refl; withdrawn = refl; free = refl })
           (same_places _ _ _ _ _ _ _ _ (c.from-places.ensures ∙ c.places.ensures.count) from c.number.ensures
           (c.clear_places.ensures (omega (arith, from, c.number.ensures, later))))
           (same_numbers (λ q j. link_crossed c.args.shape.now q ≡ Some j) _ _ _ _ _ _ from c.number-2.ensures

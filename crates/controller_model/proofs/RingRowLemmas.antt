@@ -1,0 +1,141 @@
+-- Rings that come and go: what is kept of the others
+use Rattle.controller_model.proofs.Words.{◌≡◌, ◌≢◌, ◌==◌, ◌∷◌, ◌++◌, ◌<◌, ◌≤◌, ◌∙◌, if◌then◌else◌, ℕ, zero, suc, true, false, [], List, Option, Some, None, IsSome, not, find, filter, get_or, length, position, arith, common_steps, ap, sym, subst, refl, inl, inr, cases_eq, cond-true, cond-false, eq-eqb, ne_eqb, slice_get, set, Xfer, Header, Ring, ring_with, shape_or, shape_of, World, RingHeld, ring_held, RingState, FollowsRing, FollowsRings, Keeps, ShowsHarms}
+use Rattle.std.specs.List.{position_or_len, remove}
+use Rattle.std.proofs.lemmas.List.Quantifiers.{position-Some}
+use Rattle.std.proofs.lemmas.List.Sums.{fails_before_first}
+use Rattle.controller_model.specs.RingRows.{emptied, with_ring, without_descriptor, without_ring}
+use Rattle.segments.specs.Descriptors.{length_from, no_ops, split_at}
+use Rattle.controller_model.proofs.RingLemmas.{put_same, put_other, slice_get-set_same, slice_get-set_other}
+
+-- ---- the rings that are there
+
+found_before : (rings : List Ring) (x : Ring) (id : ℕ) → id ≢ x.id → find (λ r. r.id == id) (rings ++ x ∷ []) ≡ find (λ r. r.id == id) rings
+found_before [] x id apart = cond-false (x.id == id) (Some x) (find (λ r. r.id == id) []) (ne_eqb x.id id (λ e. apart (sym e)))
+found_before (y ∷ ys) x id apart = ap (λ o. if y.id == id then Some y else o) (found_before ys x id apart)
+
+pub with_alike : (h : Header) (ring : Ring) (r : ℕ) → r ≢ ring.id → ring_with (with_ring h ring) r ≡ ring_with h r
+unfolding with_ring
+with_alike h ring r apart = found_before h.rings ring r apart
+
+found_behind : (rings : List Ring) (gone id : ℕ) → id ≢ gone → find (λ r. r.id == id) (filter (λ r. not (r.id == gone)) rings) ≡ find (λ r. r.id == id) rings
+found_behind [] gone id apart = refl
+found_behind (y ∷ ys) gone id apart =
+    elim (cases_eq y.id gone) [
+      | inl same ↦
+          ap (λ rings. find (λ r. r.id == id) rings) (cond-false (not (y.id == gone)) (y ∷ filter (λ r. not (r.id == gone)) ys) (filter (λ r. not (r.id == gone)) ys) (ap not (eq-eqb y.id gone same)))
+          ∙ found_behind ys gone id apart
+          ∙ sym (cond-false (y.id == id) (Some y) (find (λ r. r.id == id) ys) (ne_eqb y.id id (λ e. apart (sym e ∙ same))))
+      | inr other ↦
+          ap (λ rings. find (λ r. r.id == id) rings) (cond-true (not (y.id == gone)) (y ∷ filter (λ r. not (r.id == gone)) ys) (filter (λ r. not (r.id == gone)) ys) (ap not (ne_eqb y.id gone other)))
+          ∙ ap (λ o. if y.id == id then Some y else o) (found_behind ys gone id apart)
+    ]
+
+pub without_alike : (h : Header) (gone r : ℕ) → r ≢ gone → ring_with (without_ring h gone) r ≡ ring_with h r
+unfolding without_ring
+without_alike h gone r apart = found_behind h.rings gone r apart
+
+-- rings with an ID are taken out one by one
+one_out : (rings : List Ring) (n id : ℕ) (d : Ring) → n < length rings → ((get_or rings n d).id == id) ≡ true →
+    filter (λ r. not (r.id == id)) (remove rings n) ≡ filter (λ r. not (r.id == id)) rings
+one_out [] n id d inside is = absurd (omega arith)
+one_out (y ∷ ys) zero id d inside is =
+    sym (cond-false (not (y.id == id)) (y ∷ filter (λ r. not (r.id == id)) ys) (filter (λ r. not (r.id == id)) ys) (ap not is))
+one_out (y ∷ ys) (suc n) id d inside is = ap (λ zs. if not (y.id == id) then y ∷ zs else zs) (one_out ys n id d (omega arith) is)
+
+pub one_dropped : (rings : List Ring) (n id : ℕ) → position (λ r. r.id == id) rings ≡ Some n →
+    filter (λ r. not (r.id == id)) (remove rings n) ≡ filter (λ r. not (r.id == id)) rings
+one_dropped [] n id found = absurd (cc)
+one_dropped (y ∷ ys) n id found =
+    let at = position-Some (λ (r : Ring). r.id == id) (y ∷ ys) n y found in
+    one_out (y ∷ ys) n id y at.0 at.1
+
+none_out : (rings : List Ring) (id : ℕ) → ((k : ℕ) (d : Ring) → k < length rings → ((get_or rings k d).id == id) ≡ false) → filter (λ r. not (r.id == id)) rings ≡ rings
+none_out [] id none = refl
+none_out (y ∷ ys) id none =
+    cond-true (not (y.id == id)) (y ∷ filter (λ r. not (r.id == id)) ys) (filter (λ r. not (r.id == id)) ys) (ap not (none 0 y (omega arith)))
+    ∙ ap (λ zs. y ∷ zs) (none_out ys id (λ k d inside. none (suc k) d (omega arith)))
+
+pub none_dropped : (rings : List Ring) (id : ℕ) → position (λ r. r.id == id) rings ≡ None → filter (λ r. not (r.id == id)) rings ≡ rings
+none_dropped rings id nowhere =
+    let past : length rings ≤ position_or_len (λ (r : Ring). r.id == id) rings = grind (arith, common_steps, nowhere) in
+    none_out rings id (λ k d inside. fails_before_first (λ (r : Ring). r.id == id) rings k d (omega arith))
+
+pub nothing_listed : (rings : List Ring) → length rings ≡ 0 → rings ≡ []
+nothing_listed [] none = refl
+nothing_listed (y ∷ ys) none = absurd (omega arith)
+
+pub without_is : (h : Header) (id : ℕ) (rings : List Ring) → rings ≡ filter (λ r. not (r.id == id)) h.rings → ◌≡◌ {A = Header} (record h { rings = rings }) (without_ring h id)
+unfolding without_ring
+without_is h id rings same = (λ i. record h { rings = same i })
+
+-- ---- what is kept of a ring, by another header in which it is the same
+
+follows_alike : (h g : Header) (q : ℕ) (held : RingHeld) (y : RingState) → ring_with g q ≡ ring_with h q → FollowsRing h q held y → FollowsRing g q held y
+unfolding shape_of
+follows_alike h g q held y same f =
+    let P : Option Ring → Type 0 = λ o. Keeps (shape_or Xfer o) held.events held.reported y.history in
+    let Q : Option Ring → Type 0 = λ o. IsSome o → ShowsHarms (shape_or Xfer o) held.events y.history in
+    record {
+      declared = f.declared;
+      history = subst P (sym same) f.history;
+      harms = subst Q (sym same) f.harms;
+      pointer = f.pointer;
+      cycle = f.cycle;
+      active = f.active;
+      holder = f.holder;
+    }
+
+pub follows_other : (h g : Header) (before after : ℕ → RingHeld) (rings : List RingState) (i r : ℕ) (x : RingState) (now : RingHeld) → i ≡ r →
+    ((q : ℕ) → q ≢ r → ring_with g q ≡ ring_with h q) → FollowsRings h before rings → ((q : ℕ) → q ≢ r → after q ≡ before q) → after r ≡ now →
+    FollowsRing g r now x → FollowsRings g after (set rings i x)
+follows_other h g before after rings i r x now index alike f others made here = record {
+  each = λ q y at. elim (cases_eq q r) [
+    | inl same ↦
+        let P : ℕ → Type 0 = λ n. slice_get (set rings n x) r ≡ Some y in
+        let R : ℕ → Type 0 = λ n. slice_get (set rings i x) n ≡ Some y in
+        let new : x ≡ y = slice_get-set_same rings r x y (subst P index (subst R same at)) in
+        let Q : ℕ → Type 0 = λ n. FollowsRing g n (after n) y in
+        let S : RingState → Type 0 = λ z. FollowsRing g r (after r) z in
+        let T : RingHeld → Type 0 = λ held. FollowsRing g r held x in
+        subst Q (sym same) (subst S new (subst T (sym made) here))
+    | inr apart ↦
+        let P : RingHeld → Type 0 = λ held. FollowsRing g q held y in
+        subst P (sym (others q apart))
+        (follows_alike h g q (before q) y (alike q apart) (f.each q y (sym (slice_get-set_other rings i q x (λ e. apart (e ∙ index))) ∙ at)))
+  ];
+}
+
+-- ---- the world
+
+pub emptied_here : (w : World) (r : ℕ) → ring_held (emptied w r) r ≡ record (ring_held w r) { queue = []; lengths = []; events = []; reported = 0 }
+unfolding emptied
+emptied_here w r = (λ i. record (ring_held w r) {
+  queue = put_same w.queue r [] i;
+  lengths = put_same w.lengths r [] i;
+  events = put_same w.events r [] i;
+  reported = put_same w.reported r 0 i;
+})
+
+pub emptied_other : (w : World) (r q : ℕ) → q ≢ r → ring_held (emptied w r) q ≡ ring_held w q
+unfolding emptied
+emptied_other w r q apart = (λ i. record (ring_held w q) {
+  queue = put_other w.queue r q [] apart i;
+  lengths = put_other w.lengths r q [] apart i;
+  events = put_other w.events r q [] apart i;
+  reported = put_other w.reported r q 0 apart i;
+})
+
+pub withdrawn_here : (w : World) (r p : ℕ) → ring_held (without_descriptor w r p) r
+    ≡ record (ring_held w r) { queue = no_ops (w.queue r) p (length_from (w.lengths r) 0 p); lengths = split_at (w.lengths r) 0 p }
+unfolding without_descriptor
+withdrawn_here w r p = (λ i. record (ring_held w r) {
+  queue = put_same w.queue r (no_ops (w.queue r) p (length_from (w.lengths r) 0 p)) i;
+  lengths = put_same w.lengths r (split_at (w.lengths r) 0 p) i;
+})
+
+pub withdrawn_other : (w : World) (r p q : ℕ) → q ≢ r → ring_held (without_descriptor w r p) q ≡ ring_held w q
+unfolding without_descriptor
+withdrawn_other w r p q apart = (λ i. record (ring_held w q) {
+  queue = put_other w.queue r q (no_ops (w.queue r) p (length_from (w.lengths r) 0 p)) apart i;
+  lengths = put_other w.lengths r q (split_at (w.lengths r) 0 p) apart i;
+})

@@ -1,0 +1,376 @@
+-- A descriptor that is withdrawn: what is declared by position then
+use Rattle.controller_model.proofs.Words.{◌≡◌, ◌≢◌, ◌+◌, ◌-◌, ◌<◌, ◌≤◌, ◌==◌, ◌||◌, ◌++◌, ◌∷◌, ◌∙◌, ◌⊎◌, ℕ, zero, suc, [], All, Bool, List, Option, Some, None, length, true, false, refl, sym, ap, subst, arith, inl, inr, set, slice_get, slice_get_within, same_Some, option_map, eq-eqb, eqb-true, ne_eqb, or_left, or_right, false≢true, cases_Bool, cases_eq, cases_lt, cond-true, cond-false, Block, DeclaredBlock, declared_at, is_border, Declared, Declarations, Declares, as_declared, blocks_of}
+use Rattle.std.specs.Prelude.{replicate}
+use Rattle.std.proofs.lemmas.List.Elements.{All-head, All-tail}
+use Rattle.segments.specs.Descriptors.{length_from, no_op, no_ops, split_at}
+use Rattle.segments.proofs.Withdrawing.{length-no_ops, split_all}
+use Rattle.controller_model.specs.Declarations.{lone_no_op, withdrawn, withdrawn_from}
+
+-- ---- the blocks
+
+-- one block more of the descriptor
+pub goes_on : (xs : List Declared) (p : ℕ) (d : Declared) → slice_get xs p ≡ Some d → d.ends ≡ false → withdrawn_from (set xs p lone_no_op) (p + 1) ≡ withdrawn_from xs p
+goes_on xs p d at e = ap (λ n. withdrawn_from (set xs p lone_no_op) n) (let same : p + 1 ≡ suc p = omega arith in same) ∙ by xs p at
+  where
+    from_start : (rest : List Declared) → withdrawn_from rest zero ≡ withdrawn rest
+    from_start [] = refl
+    from_start (y ∷ rest) = refl
+
+    by : (ys : List Declared) (n : ℕ) → slice_get ys n ≡ Some d → withdrawn_from (set ys n lone_no_op) (suc n) ≡ withdrawn_from ys n
+    by [] n found = absurd (cc)
+    by (y ∷ rest) zero found =
+        let same : y ≡ d = cc in
+        ap (λ zs. lone_no_op ∷ zs) (from_start rest ∙ sym (cond-false y.ends rest (withdrawn rest) (ap (λ (z : Declared). z.ends) same ∙ e)))
+    by (y ∷ rest) (suc n) found = ap (λ zs. y ∷ zs) (by rest n found)
+
+pub ends_here : (xs : List Declared) (p : ℕ) (d : Declared) → slice_get xs p ≡ Some d → d.ends ≡ true → set xs p lone_no_op ≡ withdrawn_from xs p
+ends_here [] p d at e = absurd (cc)
+ends_here (y ∷ rest) zero d at e =
+    let same : y ≡ d = cc in
+    ap (λ zs. lone_no_op ∷ zs) (sym (cond-true y.ends rest (withdrawn rest) (ap (λ (z : Declared). z.ends) same ∙ e)))
+ends_here (y ∷ rest) (suc p) d at e = ap (λ zs. y ∷ zs) (ends_here rest p d at e)
+
+pub none_behind : (xs : List Declared) (p : ℕ) → length xs ≤ p → withdrawn_from xs p ≡ xs
+none_behind [] p past = refl
+none_behind (y ∷ rest) zero past = absurd (omega arith)
+none_behind (y ∷ rest) (suc p) past = ap (λ zs. y ∷ zs) (none_behind rest p (omega arith))
+
+length-withdrawn : (xs : List Declared) → length (withdrawn xs) ≡ length xs
+length-withdrawn [] = refl
+length-withdrawn (d ∷ rest) =
+    elim (cases_Bool d.ends) [
+      | inl last ↦ ap (λ ys. suc (length ys)) (cond-true d.ends rest (withdrawn rest) last)
+      | inr more ↦ ap (λ ys. suc (length ys)) (cond-false d.ends rest (withdrawn rest) more) ∙ ap suc (length-withdrawn rest)
+    ]
+
+length-withdrawn_from : (xs : List Declared) (p : ℕ) → length (withdrawn_from xs p) ≡ length xs
+length-withdrawn_from [] p = refl
+length-withdrawn_from (d ∷ rest) zero = length-withdrawn (d ∷ rest)
+length-withdrawn_from (d ∷ rest) (suc p) = ap suc (length-withdrawn_from rest p)
+
+-- the block at position e is the first from p on that ends a descriptor
+record IsEnd (xs : List Declared) (p e : ℕ) : Type 0 where
+  from : p ≤ e
+  inside : e < length xs
+  before : (q : ℕ) (d : Declared) → p ≤ q → q < e → slice_get xs q ≡ Some d → d.ends ≡ false
+  here : (q : ℕ) (d : Declared) → q ≡ e → slice_get xs q ≡ Some d → d.ends ≡ true
+
+behind_first : (d : Declared) (rest : List Declared) (e : ℕ) → IsEnd (d ∷ rest) zero (suc e) → IsEnd rest zero e
+behind_first d rest e is = record {
+  from = omega arith;
+  inside = omega (arith, is.inside);
+  before = λ q x low high at. is.before (suc q) x (omega arith) (omega arith) at;
+  here = λ q x same at. is.here (suc q) x (omega arith) at;
+}
+
+behind_one : (d : Declared) (rest : List Declared) (p e : ℕ) → IsEnd (d ∷ rest) (suc p) (suc e) → IsEnd rest p e
+behind_one d rest p e is = record {
+  from = omega (arith, is.from);
+  inside = omega (arith, is.inside);
+  before = λ q x low high at. is.before (suc q) x (omega arith) (omega arith) at;
+  here = λ q x same at. is.here (suc q) x (omega arith) at;
+}
+
+run_here : (xs : List Declared) (e q : ℕ) → IsEnd xs zero e → q ≤ e → slice_get (withdrawn xs) q ≡ Some lone_no_op
+run_here [] e q is within = absurd (omega (arith, is.inside))
+run_here (d ∷ rest) e zero is within = refl
+run_here (d ∷ rest) zero (suc q) is within = absurd (omega arith)
+run_here (d ∷ rest) (suc e) (suc q) is within =
+    ap (λ ys. slice_get ys q) (cond-false d.ends rest (withdrawn rest) (is.before 0 d (omega arith) (omega arith) refl)) ∙ run_here rest e q (behind_first d rest e is) (omega arith)
+
+run_past : (xs : List Declared) (e q : ℕ) → IsEnd xs zero e → e < q → slice_get (withdrawn xs) q ≡ slice_get xs q
+run_past [] e q is past = absurd (omega (arith, is.inside))
+run_past (d ∷ rest) e zero is past = absurd (omega arith)
+run_past (d ∷ rest) zero (suc q) is past = ap (λ ys. slice_get ys q) (cond-true d.ends rest (withdrawn rest) (is.here 0 d refl refl))
+run_past (d ∷ rest) (suc e) (suc q) is past =
+    ap (λ ys. slice_get ys q) (cond-false d.ends rest (withdrawn rest) (is.before 0 d (omega arith) (omega arith) refl)) ∙ run_past rest e q (behind_first d rest e is) (omega arith)
+
+from_here : (xs : List Declared) (p e q : ℕ) → IsEnd xs p e → p ≤ q → q ≤ e → slice_get (withdrawn_from xs p) q ≡ Some lone_no_op
+from_here [] p e q is low high = absurd (omega (arith, is.inside))
+from_here (d ∷ rest) zero e q is low high = run_here (d ∷ rest) e q is high
+from_here (d ∷ rest) (suc p) zero q is low high = absurd (omega (arith, is.from))
+from_here (d ∷ rest) (suc p) (suc e) zero is low high = absurd (omega arith)
+from_here (d ∷ rest) (suc p) (suc e) (suc q) is low high = from_here rest p e q (behind_one d rest p e is) (omega arith) (omega arith)
+
+from_elsewhere : (xs : List Declared) (p e q : ℕ) → IsEnd xs p e → (q < p) ⊎ (e < q) → slice_get (withdrawn_from xs p) q ≡ slice_get xs q
+from_elsewhere [] p e q is out = refl
+from_elsewhere (d ∷ rest) zero e q is out = elim out [ inl low ↦ absurd (omega arith) | inr high ↦ run_past (d ∷ rest) e q is high ]
+from_elsewhere (d ∷ rest) (suc p) e zero is out = refl
+from_elsewhere (d ∷ rest) (suc p) zero (suc q) is out = absurd (omega (arith, is.from))
+from_elsewhere (d ∷ rest) (suc p) (suc e) (suc q) is out =
+    from_elsewhere rest p e q (behind_one d rest p e is) (elim out [ inl low ↦ inl (omega arith) | inr high ↦ inr (omega arith) ])
+
+no_ops_here : (xs : List Block) (p n q : ℕ) → p + n ≤ length xs → p ≤ q → q < p + n → slice_get (no_ops xs p n) q ≡ Some no_op
+unfolding no_ops
+no_ops_here [] p n q fits low high = absurd (omega arith)
+no_ops_here (b ∷ rest) zero zero q fits low high = absurd (omega arith)
+no_ops_here (b ∷ rest) zero (suc n) zero fits low high = refl
+no_ops_here (b ∷ rest) zero (suc n) (suc q) fits low high = no_ops_here rest zero n q (omega arith) (omega arith) (omega arith)
+no_ops_here (b ∷ rest) (suc p) n zero fits low high = absurd (omega arith)
+no_ops_here (b ∷ rest) (suc p) n (suc q) fits low high = no_ops_here rest p n q (omega arith) (omega arith) (omega arith)
+
+no_ops_elsewhere : (xs : List Block) (p n q : ℕ) → (q < p) ⊎ (p + n ≤ q) → slice_get (no_ops xs p n) q ≡ slice_get xs q
+unfolding no_ops
+no_ops_elsewhere [] p n q out = refl
+no_ops_elsewhere (b ∷ rest) zero zero q out = refl
+no_ops_elsewhere (b ∷ rest) zero (suc n) zero out = elim out [ inl low ↦ absurd (omega arith) | inr high ↦ absurd (omega arith) ]
+no_ops_elsewhere (b ∷ rest) zero (suc n) (suc q) out =
+    no_ops_elsewhere rest zero n q (elim out [ inl low ↦ absurd (omega arith) | inr high ↦ inr (omega arith) ])
+no_ops_elsewhere (b ∷ rest) (suc p) n zero out = refl
+no_ops_elsewhere (b ∷ rest) (suc p) n (suc q) out =
+    no_ops_elsewhere rest p n q (elim out [ inl low ↦ inl (omega arith) | inr high ↦ inr (omega arith) ])
+
+-- ---- where descriptors begin
+
+border_start : (lengths : List ℕ) (s : ℕ) → is_border lengths s s ≡ true
+unfolding is_border
+border_start [] s = eq-eqb s s refl
+border_start (n ∷ rest) s = ap (λ b. b || is_border rest (s + n) s) (eq-eqb s s refl)
+
+border_below : (lengths : List ℕ) (s q : ℕ) → q < s → is_border lengths s q ≡ false
+unfolding is_border
+border_below [] s q low = ne_eqb s q (λ e. omega arith)
+border_below (n ∷ rest) s q low = (λ i. ne_eqb s q (λ e. omega arith) i || border_below rest (s + n) q (omega arith) i)
+
+-- no descriptor begins there
+pub begins_none : (lengths : List ℕ) (s p : ℕ) → is_border lengths s p ≡ false → (length_from lengths s p ≡ 0) × (split_at lengths s p ≡ lengths)
+unfolding is_border length_from split_at
+begins_none [] s p none = (refl, refl)
+begins_none (n ∷ rest) s p none =
+    elim (cases_Bool (s == p)) [
+      | inl here ↦ absurd (false≢true (sym none ∙ ap (λ b. b || is_border rest (s + n) p) here))
+      | inr e ↦
+          let later = begins_none rest (s + n) p (ap (λ b. b || is_border rest (s + n) p) (sym e) ∙ none) in (
+            cond-false (s == p) n (length_from rest (s + n) p) e ∙ later.0,
+            cond-false (s == p) (replicate n 1 ++ rest) (n ∷ split_at rest (s + n) p) e ∙ ap (λ l. n ∷ l) later.1,
+          )
+    ]
+
+pub begins_past : (lengths : List ℕ) (s p : ℕ) → All (λ n. 0 < n) lengths → s + blocks_of lengths ≤ p → (length_from lengths s p ≡ 0) × (split_at lengths s p ≡ lengths)
+unfolding length_from split_at
+begins_past [] s p some past = (refl, refl)
+begins_past (n ∷ rest) s p some past =
+    let first : 0 < n = All-head (λ m. 0 < m) n rest some in
+    let e = ne_eqb s p (λ same. omega arith) in
+    let later = begins_past rest (s + n) p (All-tail (λ m. 0 < m) n rest some) (omega arith) in
+    (cond-false (s == p) n (length_from rest (s + n) p) e ∙ later.0, cond-false (s == p) (replicate n 1 ++ rest) (n ∷ split_at rest (s + n) p) e ∙ ap (λ l. n ∷ l) later.1)
+
+-- the descriptor that begins at p
+record IsDescriptor (lengths : List ℕ) (s p : ℕ) : Type 0 where
+  some : 0 < length_from lengths s p
+  within : p + length_from lengths s p ≤ s + blocks_of lengths
+  ends : is_border lengths s (p + length_from lengths s p) ≡ true
+  whole : (q : ℕ) → p < q → q < p + length_from lengths s p → is_border lengths s q ≡ false
+
+begins_first : (n : ℕ) (rest : List ℕ) (s p : ℕ) → 0 < n → s ≡ p → IsDescriptor (n ∷ rest) s p
+unfolding is_border length_from
+begins_first n rest s p positive here =
+    let is : length_from (n ∷ rest) s p ≡ n = cond-true (s == p) n (length_from rest (s + n) p) (eq-eqb s p here) in
+    let end : p + length_from (n ∷ rest) s p ≡ s + n = omega (arith, is, here) in
+    record {
+      some = omega (arith, is, positive);
+      within = omega (arith, end);
+      ends = ap (λ q. is_border (n ∷ rest) s q) end ∙ or_right (s == s + n) (is_border rest (s + n) (s + n)) (border_start rest (s + n));
+      whole = λ q above below. (λ i. ne_eqb s q (λ e. omega (arith, here)) i || border_below rest (s + n) q (omega (arith, end)) i);
+    }
+
+begins_later : (n : ℕ) (rest : List ℕ) (s p : ℕ) → s ≢ p → s + n ≤ p → IsDescriptor rest (s + n) p → IsDescriptor (n ∷ rest) s p
+unfolding is_border length_from
+begins_later n rest s p apart from found =
+    let is : length_from (n ∷ rest) s p ≡ length_from rest (s + n) p = cond-false (s == p) n (length_from rest (s + n) p) (ne_eqb s p apart) in
+    record {
+      some = omega (arith, is, found.some);
+      within = omega (arith, is, found.within);
+      ends = ap (λ m. is_border (n ∷ rest) s (p + m)) is ∙ or_right (s == p + length_from rest (s + n) p) (is_border rest (s + n) (p + length_from rest (s + n) p)) found.ends;
+      whole = λ q above below. (λ i. ne_eqb s q (λ same. apart (omega (arith, from, above))) i || found.whole q above (omega (arith, is)) i);
+    }
+
+begins_one : (lengths : List ℕ) (s p : ℕ) → All (λ n. 0 < n) lengths → is_border lengths s p ≡ true → p < s + blocks_of lengths → IsDescriptor lengths s p
+unfolding is_border
+begins_one [] s p some begins within = absurd (omega (arith, eqb-true s p begins))
+begins_one (n ∷ rest) s p some begins within =
+    elim (cases_eq s p) [
+      | inl here ↦ begins_first n rest s p (All-head (λ m. 0 < m) n rest some) here
+      | inr apart ↦
+          let begins_behind : is_border rest (s + n) p ≡ true = ap (λ b. b || is_border rest (s + n) p) (sym (ne_eqb s p apart)) ∙ begins in
+          elim (cases_lt p (s + n)) [
+            | inl low ↦ absurd (false≢true (sym (border_below rest (s + n) p low) ∙ begins_behind))
+            | inr from ↦ begins_later n rest s p apart from (begins_one rest (s + n) p (All-tail (λ m. 0 < m) n rest some) begins_behind (omega (arith, within)))
+          ]
+    ]
+
+-- behind descriptors of one block: each position up to the last begins or ends one
+ones_within : (n : ℕ) (rest : List ℕ) (s q : ℕ) → s ≤ q → q ≤ s + n → is_border (replicate n 1 ++ rest) s q ≡ true
+unfolding is_border
+ones_within zero rest s q low high = ap (λ m. is_border rest s m) (let same : q ≡ s = omega arith in same) ∙ border_start rest s
+ones_within (suc n) rest s q low high =
+    elim (cases_eq s q) [
+      | inl here ↦ or_left (s == q) (is_border (replicate n 1 ++ rest) (s + 1) q) (eq-eqb s q here)
+      | inr past ↦ or_right (s == q) (is_border (replicate n 1 ++ rest) (s + 1) q) (ones_within n rest (s + 1) q (omega (arith, past)) (omega arith))
+    ]
+
+ones_past : (n : ℕ) (rest : List ℕ) (s q : ℕ) → s + n < q → is_border (replicate n 1 ++ rest) s q ≡ is_border rest (s + n) q
+unfolding is_border
+ones_past zero rest s q past = ap (λ m. is_border rest m q) (let same : s ≡ s + 0 = omega arith in same)
+ones_past (suc n) rest s q past =
+    ap (λ b. b || is_border (replicate n 1 ++ rest) (s + 1) q) (ne_eqb s q (λ e. omega arith)) ∙ ones_past n rest (s + 1) q (omega arith)
+    ∙ ap (λ m. is_border rest m q) (let same : s + 1 + n ≡ s + suc n = omega arith in same)
+
+-- a position of the descriptor, or its end
+split_within : (lengths : List ℕ) (s p q : ℕ) → 0 < length_from lengths s p → p ≤ q → q ≤ p + length_from lengths s p → is_border (split_at lengths s p) s q ≡ true
+unfolding is_border length_from split_at
+split_within [] s p q some low high = absurd (omega arith)
+split_within (n ∷ rest) s p q some low high =
+    elim (cases_eq s p) [
+      | inl here ↦
+          let is : length_from (n ∷ rest) s p ≡ n = cond-true (s == p) n (length_from rest (s + n) p) (eq-eqb s p here) in
+          ap (λ l. is_border l s q) (cond-true (s == p) (replicate n 1 ++ rest) (n ∷ split_at rest (s + n) p) (eq-eqb s p here))
+          ∙ ones_within n rest s q (omega (arith, here)) (omega (arith, here, is))
+      | inr apart ↦
+          let is : length_from (n ∷ rest) s p ≡ length_from rest (s + n) p = cond-false (s == p) n (length_from rest (s + n) p) (ne_eqb s p apart) in
+          ap (λ l. is_border l s q) (cond-false (s == p) (replicate n 1 ++ rest) (n ∷ split_at rest (s + n) p) (ne_eqb s p apart))
+          ∙ or_right (s == q) (is_border (split_at rest (s + n) p) (s + n) q) (split_within rest (s + n) p q (omega (arith, is)) low (omega (arith, is)))
+    ]
+
+-- and elsewhere descriptors begin where they did
+split_elsewhere : (lengths : List ℕ) (s p q : ℕ) → (q < p) ⊎ (p + length_from lengths s p < q) → is_border (split_at lengths s p) s q ≡ is_border lengths s q
+unfolding is_border length_from split_at
+split_elsewhere [] s p q out = refl
+split_elsewhere (n ∷ rest) s p q out =
+    elim (cases_eq s p) [
+      | inl here ↦
+          let is : length_from (n ∷ rest) s p ≡ n = cond-true (s == p) n (length_from rest (s + n) p) (eq-eqb s p here) in
+          ap (λ l. is_border l s q) (cond-true (s == p) (replicate n 1 ++ rest) (n ∷ split_at rest (s + n) p) (eq-eqb s p here))
+          ∙ elim out [
+            | inl low ↦ below q here low
+            | inr high ↦ ones_past n rest s q (omega (arith, here, is)) ∙ ap (λ b. b || is_border rest (s + n) q) (sym (ne_eqb s q (λ e. omega (arith, here, is))))
+          ]
+      | inr apart ↦
+          let is : length_from (n ∷ rest) s p ≡ length_from rest (s + n) p = cond-false (s == p) n (length_from rest (s + n) p) (ne_eqb s p apart) in
+          ap (λ l. is_border l s q) (cond-false (s == p) (replicate n 1 ++ rest) (n ∷ split_at rest (s + n) p) (ne_eqb s p apart))
+          ∙ ap (λ b. s == q || b) (split_elsewhere rest (s + n) p q (elim out [ inl low ↦ inl low | inr high ↦ inr (omega (arith, is)) ]))
+    ]
+  where
+    below : (q : ℕ) → s ≡ p → q < p → is_border (replicate n 1 ++ rest) s q ≡ is_border (n ∷ rest) s q
+    below q here low = border_below (replicate n 1 ++ rest) s q (omega (arith, here)) ∙ sym (border_below (n ∷ rest) s q (omega (arith, here)))
+
+blocks_split : (lengths : List ℕ) (s p : ℕ) → blocks_of (split_at lengths s p) ≡ blocks_of lengths
+unfolding split_at
+blocks_split [] s p = refl
+blocks_split (n ∷ rest) s p =
+    elim (cases_Bool (s == p)) [
+      | inl here ↦ ap blocks_of (cond-true (s == p) (replicate n 1 ++ rest) (n ∷ split_at rest (s + n) p) here) ∙ ones n rest
+      | inr later ↦ ap blocks_of (cond-false (s == p) (replicate n 1 ++ rest) (n ∷ split_at rest (s + n) p) later) ∙ ap (λ m. n + m) (blocks_split rest (s + n) p)
+    ]
+  where
+    ones : (n : ℕ) (rest : List ℕ) → blocks_of (replicate n 1 ++ rest) ≡ n + blocks_of rest
+    ones zero rest = omega arith
+    ones (suc n) rest = omega (arith, ones n rest)
+
+-- ---- what is declared
+
+-- what is declared tells where a descriptor begins and ends
+told_by : (x : Declared) (begins ends : Bool) (o : Option Block) →
+    Some (as_declared x) ≡ option_map (λ b. let d : DeclaredBlock = record { block = b; begins = begins; ends = ends } in d) o → (x.begins ≡ begins) × (x.ends ≡ ends)
+told_by x begins ends None e = absurd (cc)
+told_by x begins ends (Some b) e =
+    let same = same_Some _ _ e in
+    (ap (λ (y : DeclaredBlock). y.begins) same, ap (λ (y : DeclaredBlock). y.ends) same)
+
+module _ (d : Declarations) (queue : List Block) (lengths : List ℕ) (p : ℕ) (old : Declares d queue lengths) where
+  abbrev pub count : ℕ
+  count = length_from lengths 0 p
+
+  told : (q : ℕ) (y : Declared) → slice_get d.blocks.items q ≡ Some y → (y.begins ≡ is_border lengths 0 q) × (y.ends ≡ is_border lengths 0 (q + 1))
+  unfolding declared_at
+  told q y here = told_by y (is_border lengths 0 q) (is_border lengths 0 (q + 1)) (slice_get queue q) (sym (ap (λ o. option_map as_declared o) here) ∙ old.at q)
+
+  -- no descriptor begins there
+  withdraws_none : (count ≡ 0) × (split_at lengths 0 p ≡ lengths) → Declares d (no_ops queue p count) (split_at lengths 0 p)
+  unfolding no_ops
+  withdraws_none none =
+      let P : List Block → Type 0 = λ xs. Declares d xs (split_at lengths 0 p) in
+      let Q : List ℕ → Type 0 = λ l. Declares d queue l in
+      subst P (sym (ap (λ n. no_ops queue p n) none.0 ∙ nothing queue p)) (subst Q (sym none.1) old)
+    where
+      nothing : (xs : List Block) (n : ℕ) → no_ops xs n 0 ≡ xs
+      nothing [] n = refl
+      nothing (b ∷ rest) zero = refl
+      nothing (b ∷ rest) (suc n) = ap (λ ys. b ∷ ys) (nothing rest n)
+
+  pub withdraws_inside : (x : Declared) → slice_get d.blocks.items p ≡ Some x → x.begins ≡ false → Declares d (no_ops queue p count) (split_at lengths 0 p)
+  withdraws_inside x at inside = withdraws_none (begins_none lengths 0 p (sym (told p x at).0 ∙ inside))
+
+  pub withdraws_past : length d.blocks.items ≤ p → Declares d (no_ops queue p count) (split_at lengths 0 p)
+  withdraws_past past = withdraws_none (begins_past lengths 0 p old.some (omega (arith, past, old.many, old.whole)))
+
+  -- the descriptor that begins there
+  module _ (e : Declarations) (x : Declared) (at : slice_get d.blocks.items p ≡ Some x) (begins : x.begins ≡ true) (made : e.blocks.items ≡ withdrawn_from d.blocks.items p) where
+    border : is_border lengths 0 p ≡ true
+    border = sym (told p x at).0 ∙ begins
+
+    within : p < length d.blocks.items
+    within = slice_get_within d.blocks.items p x at
+
+    found : IsDescriptor lengths 0 p
+    found = begins_one lengths 0 p old.some border (omega (arith, within, old.many, old.whole))
+
+    fits : p + count ≤ length queue
+    fits = omega (arith, found.within, old.whole)
+
+    end : IsEnd d.blocks.items p (p + count - 1)
+    end = record {
+      from = omega (arith, found.some);
+      inside = omega (arith, found.some, fits, old.many);
+      before = λ q y low high here. (told q y here).1 ∙ found.whole (q + 1) (omega arith) (omega arith);
+      here = λ q y same here. (told q y here).1 ∙ ap (λ n. is_border lengths 0 n) (let next : q + 1 ≡ p + count = omega (arith, same, found.some) in next) ∙ found.ends;
+    }
+
+    borders : (q : ℕ) → (q ≤ p) ⊎ (p + count ≤ q) → is_border (split_at lengths 0 p) 0 q ≡ is_border lengths 0 q
+    borders q out =
+        elim (cases_lt q p) [
+          | inl low ↦ split_elsewhere lengths 0 p q (inl low)
+          | inr from ↦
+              elim (cases_eq q p) [
+                | inl first ↦ split_within lengths 0 p q found.some from (omega (arith, first)) ∙ sym (ap (λ n. is_border lengths 0 n) first ∙ border)
+                | inr behind ↦
+                    elim (cases_eq q (p + count)) [
+                      | inl last ↦ split_within lengths 0 p q found.some from (omega (arith, last)) ∙ sym (ap (λ n. is_border lengths 0 n) last ∙ found.ends)
+                      | inr past ↦ split_elsewhere lengths 0 p q (inr (elim out [ inl low ↦ absurd (behind (omega arith)) | inr high ↦ omega (arith, past) ]))
+                    ]
+              ]
+        ]
+
+    same_at : (q : ℕ) → (q < p) ⊎ (p + count ≤ q) → option_map as_declared (slice_get e.blocks.items q) ≡ declared_at (no_ops queue p count) (split_at lengths 0 p) q
+    unfolding declared_at
+    same_at q out =
+        let there : slice_get e.blocks.items q ≡ slice_get d.blocks.items q =
+        ap (λ xs. slice_get xs q) made
+        ∙ from_elsewhere d.blocks.items p (p + count - 1) q end (elim out [ inl low ↦ inl low | inr high ↦ inr (omega (arith, found.some)) ]) in
+        let begins_so = borders q (elim out [ inl low ↦ inl (omega arith) | inr high ↦ inr high ]) in
+        let ends_so = borders (q + 1) (elim out [ inl low ↦ inl (omega arith) | inr high ↦ inr (omega arith) ]) in
+        ap (λ o. option_map as_declared o) there ∙ old.at q
+        ∙ (λ i. option_map (λ b. let y : DeclaredBlock = record { block = b; begins = sym begins_so i; ends = sym ends_so i } in y) (sym (no_ops_elsewhere queue p count q out) i))
+
+    here_at : (q : ℕ) → p ≤ q → q < p + count → option_map as_declared (slice_get e.blocks.items q) ≡ declared_at (no_ops queue p count) (split_at lengths 0 p) q
+    unfolding declared_at
+    here_at q low high =
+        let there : slice_get e.blocks.items q ≡ Some lone_no_op = ap (λ xs. slice_get xs q) made ∙ from_here d.blocks.items p (p + count - 1) q end low (omega arith) in
+        let begins_so = split_within lengths 0 p q found.some low (omega arith) in
+        let ends_so = split_within lengths 0 p (q + 1) found.some (omega arith) (omega arith) in
+        ap (λ o. option_map as_declared o) there
+        ∙ (λ i. option_map (λ b. let y : DeclaredBlock = record { block = b; begins = sym begins_so i; ends = sym ends_so i } in y) (sym (no_ops_here queue p count q fits low high) i))
+
+    pub withdraws_one : Declares e (no_ops queue p count) (split_at lengths 0 p)
+    withdraws_one = record {
+      at = λ q. elim (cases_lt q p) [
+        | inl low ↦ same_at q (inl low)
+        | inr from ↦ elim (cases_lt q (p + count)) [
+          | inl below ↦ here_at q from below
+          | inr past ↦ same_at q (inr past)
+        ]
+      ];
+      many = ap length made ∙ length-withdrawn_from d.blocks.items p ∙ old.many ∙ sym (length-no_ops queue p count);
+      whole = blocks_split lengths 0 p ∙ old.whole ∙ sym (length-no_ops queue p count);
+      some = split_all lengths 0 p old.some;
+    }

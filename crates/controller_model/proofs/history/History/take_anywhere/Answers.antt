@@ -1,0 +1,12 @@
+use Rattle.controller_model.proofs.Words.{refl, ap, not, common_steps, arith}
+use Rattle.controller_model.proofs.HistoryLemmas.{keeps_took}
+use Rattle.controller_model.proofs.history.History.take_anywhere.Goals as goal
+
+pub returns-clause-keeps : goal.returns-clause-keeps
+returns-clause-keeps c = λ shape events reported block.
+    keeps_took shape events reported c.args.self.now _ c.args.address block _ (record {
+      next = grind (arith, common_steps, c.in_ok-next.ensures.value, c.checked_add.ensures);
+      placed = refl;
+      inside = ap not c.is_end.ensures;
+      unreported = c.in_ok-push_back.ensures.items;
+    })

@@ -1,0 +1,6 @@
+use Rattle.std.proofs.Common.{◌∙◌, sym}
+use Rattle.ownership_checker.proofs.Streams.{as_many_ended}
+use Rattle.ownership_checker.proofs.lease_count.LeaseCountLeaseLog.end_block.Goals as goal
+
+pub returns : goal.returns
+returns c = λ list h ts shaped held. held ∙ sym (as_many_ended _ c.args._row ts)

@@ -1,0 +1,69 @@
+-- Which words flip the Cycle bit of what is free and may be passed
+use Rattle.ring_knowledge.proofs.Words.{◌≡◌, ◌+◌, ◌*◌, ◌%◌, ◌∙◌, ◌==◌, ◌&&◌, ℕ, Bool, true, false, Some, None, refl, ap, sym, arith, not, nat_lt, list_any, range_with_len, and_parts, eq-eqb, eqb-true, AtData, Shape, place_count, place_count_pos, address_of, address_of-mod, cycle_of, place_at, place_at-Data, place_at-address_of, RingView, floor_number, ceiling, unrestored, due_positions, flips_passed, RingRecord, FollowsMarks}
+use Rattle.ring_knowledge.proofs.Noted.{false_unless}
+use Rattle.ring_knowledge.proofs.Ranges.{any_filtered, any_none, any_only}
+use Rattle.ring_knowledge.proofs.DueNumbers.{IsDue, same_due}
+
+data_is : (i v j w : ℕ) → Some (AtData i v) ≡ Some (AtData j w) → i ≡ j
+data_is i v j w e = cc
+
+module _ (shape : Shape) (v : RingView) (r : RingRecord) (follows : FollowsMarks shape v r) (a w : ℕ) where
+  abbrev flips : ℕ → Bool
+  flips p = v.free p && (nat_lt p (ceiling shape v) && a == address_of shape p + 12 && not (w % 2 == cycle_of shape p))
+
+  flips_are : flips_passed shape v a w ≡ list_any flips (range_with_len (floor_number v) (place_count shape))
+  unfolding flips_passed unrestored due_positions
+  flips_are = any_filtered (λ p. nat_lt p (ceiling shape v) && a == address_of shape p + 12 && not (w % 2 == cycle_of shape p)) v.free (range_with_len (floor_number v) (place_count shape))
+
+  -- such a word is the control word of the position's place
+  word_at : (p : ℕ) → flips p ≡ true → place_at shape a ≡ Some (AtData (p % place_count shape) 3)
+  word_at p h =
+      let parts = and_parts (v.free p) (nat_lt p (ceiling shape v) && a == address_of shape p + 12 && not (w % 2 == cycle_of shape p)) h in
+      let front = and_parts (nat_lt p (ceiling shape v) && a == address_of shape p + 12) (not (w % 2 == cycle_of shape p)) parts.1 in
+      let here = and_parts (nat_lt p (ceiling shape v)) (a == address_of shape p + 12) front.0 in
+      let at : a ≡ address_of shape p + 4 * 3 = eqb-true a (address_of shape p + 12) here.1 in
+      ap (λ x. place_at shape x) at ∙ place_at-address_of shape follows.allowed p 3 (omega arith)
+
+  -- no other word does
+  pub no_flip : ((i : ℕ) → place_at shape a ≡ Some (AtData i 3) → ⊥) → false ≡ flips_passed shape v a w
+  no_flip never = sym (flips_are ∙ any_none flips (floor_number v) (place_count shape) (λ p low high. false_unless (flips p) (λ h. never (p % place_count shape) (word_at p h))))
+
+  -- at the control word of a place it is as its due position says
+  pub flip_at : (i p : ℕ) → place_at shape a ≡ Some (AtData i 3) → IsDue (floor_number v) (place_count shape) i p →
+      (v.free p && (nat_lt p (ceiling shape v) && not (w % 2 == cycle_of shape p))) ≡ flips_passed shape v a w
+  flip_at i p at due =
+      let where_ = place_at-Data shape follows.allowed a i 3 at in
+      let same = address_of-mod shape follows.allowed p in
+      let rest = ap (λ n. address_of shape n) due.rest_is in
+      let here : (a == address_of shape p + 12) ≡ true = eq-eqb a (address_of shape p + 12) (omega (arith, where_.2, same, rest)) in
+      sym (flips_are
+      ∙ any_only flips (floor_number v) (place_count shape) p due.from due.within
+      (λ n low high other. false_unless (flips n) (λ h. other (same_due (floor_number v) (place_count shape) n p (place_count_pos shape follows.allowed) low high due.from due.within
+      (data_is (n % place_count shape) 3 i 3 (sym (word_at n h) ∙ at) ∙ sym due.rest_is))))
+      ∙ ap (λ b. v.free p && (nat_lt p (ceiling shape v) && b && not (w % 2 == cycle_of shape p))) here ∙ and_true (v.free p) (nat_lt p (ceiling shape v)) (not (w % 2 == cycle_of shape p)))
+    where
+      and_true : (f x y : Bool) → (f && (x && true && y)) ≡ (f && (x && y))
+      and_true f true y = refl
+      and_true f false y = refl
+
+  module _ (i p : ℕ) (at : place_at shape a ≡ Some (AtData i 3)) (due : IsDue (floor_number v) (place_count shape) i p) where
+    -- it isn't free
+    pub kept_at : v.free p ≡ false → false ≡ flips_passed shape v a w
+    kept_at kept = sym (ap (λ b. b && (nat_lt p (ceiling shape v) && not (w % 2 == cycle_of shape p))) kept) ∙ flip_at i p at due
+
+    -- it lies at the ceiling or behind
+    pub behind_at : v.free p ≡ true → nat_lt p (ceiling shape v) ≡ false → false ≡ flips_passed shape v a w
+    behind_at free behind =
+        sym (ap (λ b. b && (nat_lt p (ceiling shape v) && not (w % 2 == cycle_of shape p))) free ∙ ap (λ b. b && not (w % 2 == cycle_of shape p)) behind) ∙ flip_at i p at due
+
+    -- it may be passed
+    pub passed_at : v.free p ≡ true → nat_lt p (ceiling shape v) ≡ true → not (w % 2 == cycle_of shape p) ≡ flips_passed shape v a w
+    passed_at free below =
+        sym (ap (λ b. b && (nat_lt p (ceiling shape v) && not (w % 2 == cycle_of shape p))) free ∙ ap (λ b. b && not (w % 2 == cycle_of shape p)) below) ∙ flip_at i p at due
+
+-- words of other places
+pub other_word : (i v j w : ℕ) → Some (AtData i v) ≡ Some (AtData j w) → v ≡ w
+other_word i v j w e = cc
+
+pub no_place : (i v : ℕ) → None ≡ Some (AtData i v) → ⊥
+no_place i v e = cc

@@ -1,0 +1,111 @@
+-- The free positions of a ring that a record follows, as its set has them
+use Rattle.ring_knowledge.proofs.Words.{◌≡◌, ◌≢◌, ◌+◌, ◌<◌, ◌∷◌, ◌∙◌, ◌&&◌, ◌||◌, ℕ, suc, zero, List, [], Bool, true, false, refl, ap, sym, arith, inl, inr, length, filter, not, nat_le, nat_lt, cases_lt, cases_eq, cases_Bool, false≢true, nat_tests, list_any, range_with_len, contains, is_at, nat_cmp, Shape, place_count, RingView, floor_number, unrestored, due_positions, is_not_restored, is_declared_as, address_of, cycle_of, ◌++◌, common_steps, FollowsMarks, RingRecord, ◌%◌}
+use Rattle.std.specs.Prelude.{slice_get}
+use Rattle.trb.specs.Block.{block_at}
+use Rattle.ring_knowledge.proofs.Noted.{noted_past}
+use Rattle.ring_knowledge.proofs.Ranges.{any_filtered}
+use Rattle.std.specs.BTreeSet.{BTreeSet, IsOrdered}
+use Rattle.std.specs.List.{AllByRecursion}
+use Rattle.std.specs.List.Sorted.{IsStrictlySortedBy}
+use Rattle.std.specs.declared.cmp.Ordering.TheVariants.{Less}
+use Rattle.std.specs.Cmp.{nat_cmp_total}
+use Rattle.std.proofs.lemmas.List.Kept.{IsStrictlySortedBy-filter}
+use Rattle.std.proofs.lemmas.Map.Lookups.{btree_set_from_contains, exact_unsigned}
+use Rattle.std.proofs.lemmas.Map.Views.{any-filter_same}
+
+-- ---- one number of a set
+
+pub at_is : (p q : ℕ) → is_at (nat_cmp p) q ≡ true → p ≡ q
+at_is p q h = grind (arith, nat_tests, h)
+
+pub at_same : (p : ℕ) → is_at (nat_cmp p) p ≡ true
+at_same p = grind (arith, nat_tests)
+
+at_other : (p q : ℕ) → p ≢ q → is_at (nat_cmp p) q ≡ false
+at_other p q h = grind (arith, nat_tests, h)
+
+-- a set that isn't empty has a number
+pub some_in : (s : BTreeSet ℕ) → length s.keys ≢ 0 → (p : ℕ) × (contains nat_cmp s p ≡ true)
+some_in s some = by s.keys some
+  where
+    by : (ks : List ℕ) → length ks ≢ 0 → (p : ℕ) × (list_any (is_at (nat_cmp p)) ks ≡ true)
+    by [] some = absurd (some refl)
+    by (k ∷ ks) some = (k, ap (λ b. b || list_any (is_at (nat_cmp k)) ks) (at_same k))
+
+-- an empty one has none
+pub none_in : (s : BTreeSet ℕ) → length s.keys ≡ 0 → (p : ℕ) → contains nat_cmp s p ≡ false
+none_in s none p = by s.keys none
+  where
+    by : (ks : List ℕ) → length ks ≡ 0 → list_any (is_at (nat_cmp p)) ks ≡ false
+    by [] none = refl
+    by (k ∷ ks) none = absurd (omega arith)
+
+-- ---- runs of numbers
+
+above : (k a n : ℕ) → k < a → AllByRecursion (λ y. nat_cmp k y ≡ Less) (range_with_len a n)
+above k a zero h = tt
+above k a (suc n) h = (grind (arith, nat_tests, h), above k (a + 1) n (omega arith))
+
+run_sorted : (a n : ℕ) → IsStrictlySortedBy nat_cmp (range_with_len a n)
+unfolding IsStrictlySortedBy
+run_sorted a zero = tt
+run_sorted a (suc n) = (above a (a + 1) n (omega arith), run_sorted (a + 1) n)
+
+in_run : (a n q : ℕ) → list_any (is_at (nat_cmp q)) (range_with_len a n) ≡ (nat_le a q && nat_lt q (a + n))
+in_run a zero q = grind (arith, nat_tests)
+in_run a (suc n) q =
+    let rest = in_run (a + 1) n q in
+    elim (cases_eq q a) [
+      | inl same ↦ grind (arith, nat_tests, same)
+      | inr other ↦ ap (λ b. b || list_any (is_at (nat_cmp q)) (range_with_len (a + 1) n)) (at_other q a other) ∙ rest ∙ grind (arith, nat_tests, other)
+    ]
+
+-- a filter keeps of a number what the test says of it
+in_filter : (f : ℕ → Bool) (q : ℕ) (ks : List ℕ) → list_any (is_at (nat_cmp q)) (filter f ks) ≡ (f q && list_any (is_at (nat_cmp q)) ks)
+in_filter f q ks = any-filter_same (is_at (nat_cmp q)) f (f q) (λ k at. ap f (sym (at_is q k at))) ks
+
+module _ (shape : Shape) (v : RingView) (r : RingRecord) (follows : FollowsMarks shape v r) where
+  within : (q : ℕ) → v.free q ≡ true → q < floor_number v + place_count shape
+  within q free = elim (cases_lt q (floor_number v + place_count shape)) [
+    | inl below ↦ below
+    | inr past ↦ absurd (false≢true (sym (follows.given q ∙ noted_past (floor_number v) (place_count shape) r.given.items (q % place_count shape) q past) ∙ follows.free_given q free))
+  ]
+
+  same_ends : (q : ℕ) → (v.free q && (nat_le (floor_number v) q && nat_lt q (floor_number v + place_count shape))) ≡ (nat_le (floor_number v) q && contains nat_cmp r.free q)
+  same_ends q = elim (cases_Bool (v.free q)) [
+    | inl free ↦ let high = within q free in let is = sym (follows.free q) ∙ free in grind (arith, nat_tests, free, high, is)
+    | inr kept ↦ let is = sym (follows.free q) ∙ kept in grind (arith, nat_tests, kept, is)
+  ]
+
+  -- in ascending order they are the numbers of the set from the floor on
+  pub unrestored_is : IsOrdered nat_cmp r.free → unrestored shape v ≡ filter (nat_le (floor_number v)) r.free.keys
+  unfolding unrestored due_positions
+  unrestored_is ordered =
+      btree_set_from_contains nat_cmp_total
+      (record { keys = filter v.free (range_with_len (floor_number v) (place_count shape)) }) (record { keys = filter (nat_le (floor_number v)) r.free.keys })
+      (IsStrictlySortedBy-filter nat_cmp v.free (range_with_len (floor_number v) (place_count shape)) (run_sorted (floor_number v) (place_count shape)))
+      (IsStrictlySortedBy-filter nat_cmp (nat_le (floor_number v)) r.free.keys ordered)
+      (λ q. in_filter v.free q (range_with_len (floor_number v) (place_count shape)) ∙ ap (λ b. v.free q && b) (in_run (floor_number v) (place_count shape) q) ∙ same_ends q
+      ∙ sym (in_filter (nat_le (floor_number v)) q r.free.keys))
+      exact_unsigned
+
+  -- what doesn't stand as declared is looked for among them
+  pub not_restored_is : IsOrdered nat_cmp r.free → (memory : ℕ → ℕ) (floor : ℕ) → floor ≡ floor_number v → is_not_restored shape v memory
+      ≡ list_any (λ p. nat_le floor p && not (is_declared_as (block_at memory (address_of shape p)) (cycle_of shape p) (slice_get r.blocks.items p))) r.free.keys
+  unfolding is_not_restored
+  not_restored_is ordered memory floor same =
+      ap (λ ps. list_any (λ p. not (is_declared_as (block_at memory (address_of shape p)) (cycle_of shape p) (slice_get v.queue p))) ps) (unrestored_is ordered)
+      ∙ any_filtered (λ p. not (is_declared_as (block_at memory (address_of shape p)) (cycle_of shape p) (slice_get v.queue p))) (nat_le (floor_number v)) r.free.keys
+      ∙ ap (λ n. list_any (λ p. nat_le n p && not (is_declared_as (block_at memory (address_of shape p)) (cycle_of shape p) (slice_get v.queue p))) r.free.keys) (sym same)
+      ∙ ap (λ xs. list_any (λ p. nat_le floor p && not (is_declared_as (block_at memory (address_of shape p)) (cycle_of shape p) (slice_get xs p))) r.free.keys) follows.queue
+
+-- one number of a list more
+pub first_passes : (f : ℕ → Bool) (x : ℕ) (xs ys : List ℕ) → ys ≡ x ∷ xs → f x ≡ true → list_any f ys ≡ true
+first_passes f x xs ys is passes = ap (list_any f) is ∙ ap (λ b. b || list_any f xs) passes
+
+pub first_fails : (f : ℕ → Bool) (x : ℕ) (xs ys : List ℕ) → ys ≡ x ∷ xs → f x ≡ false → list_any f xs ≡ list_any f ys
+first_fails f x xs ys is fails = sym (ap (list_any f) is ∙ ap (λ b. b || list_any f xs) fails)
+
+-- none is left
+pub all_there : (xs ys zs all : List ℕ) → ys ≡ [] → (xs ++ ys) ≡ all → all ≡ zs → xs ≡ zs
+all_there xs ys zs all none so_far is = grind (arith, common_steps, none, so_far, is)

@@ -1,0 +1,299 @@
+-- A record that follows a ring of which a descriptor is withdrawn, or what is free is restored
+use Rattle.ring_knowledge.proofs.Words.{◌≡◌, ◌+◌, ◌<◌, ◌≤◌, ◌∷◌, ◌++◌, ◌∙◌, ◌==◌, ◌&&◌, ◌||◌, ℕ, suc, zero, List, [], Bool, true, false, refl, ap, sym, arith, inl, inr, length, slice_index, replicate, sum, not, set, nat_le, nat_lt, if◌then◌else◌, cases_eq, cases_lt, cases_Bool, eq-eqb, ne_eqb, nat_tests, common_steps, and_parts, or_cases, Block, Shape, RingView, length_from, descriptor_length, no_ops, split_at, FollowsMarks, FollowsRing, RingRecord, ArePositive, ◌%◌, no_op, is_in, place_count, floor_number, is_step_given, is_way_given, changed, Withdraws, Restores, list_any, range_with_len, contains, nat_cmp, is_at, is_noted, false≢true, or_left, or_right, leb-true, ltb-true}
+use Rattle.segments.proofs.Withdrawing.{length-no_ops, split_sum}
+use Rattle.ring_knowledge.proofs.Ranges.{none_each}
+use Rattle.ring_knowledge.proofs.Noted.{false_unless}
+use Rattle.ring_knowledge.proofs.DeclaredMore.{sum-cons}
+
+-- a descriptor's length, as the record has it
+pub length_is : (shape : Shape) (v : RingView) (r : RingRecord) → FollowsMarks shape v r → (p : ℕ) → descriptor_length v p ≡ slice_index r.lengths.items p
+unfolding descriptor_length
+length_is shape v r follows p = follows.begins p
+
+-- none yet
+pub none_no_op : (xs : List Block) (p : ℕ) → no_ops xs p 0 ≡ xs
+unfolding no_ops
+none_no_op [] p = refl
+none_no_op (b ∷ rest) zero = refl
+none_no_op (b ∷ rest) (suc p) = ap (λ ys. b ∷ ys) (none_no_op rest p)
+
+-- one block more is a No Op
+pub one_no_op : (xs : List Block) (p k : ℕ) → set (no_ops xs p k) (p + k) no_op ≡ no_ops xs p (suc k)
+unfolding no_ops
+one_no_op [] p k = refl
+one_no_op (b ∷ rest) zero zero = ap (λ ys. no_op ∷ ys) (sym (none_no_op rest zero))
+one_no_op (b ∷ rest) zero (suc k) =
+    let next : zero + suc k ≡ suc (zero + k) = omega arith in
+    ap (λ n. set (no_op ∷ no_ops rest zero k) n no_op) next ∙ ap (λ ys. no_op ∷ ys) (one_no_op rest zero k)
+one_no_op (b ∷ rest) (suc p) k =
+    let next : suc p + k ≡ suc (p + k) = omega arith in
+    ap (λ n. set (b ∷ no_ops rest p k) n no_op) next ∙ ap (λ ys. b ∷ ys) (one_no_op rest p k)
+
+-- what was added for want of memory is out again
+pub back : (old mid new inside : Bool) → (inside ≡ false → mid ≡ old) → (inside ≡ true → old ≡ false) → new ≡ (mid && not inside) → new ≡ old
+back old mid new true same none is = is ∙ and_false mid ∙ sym (none refl)
+  where
+    and_false : (b : Bool) → (b && false) ≡ false
+    and_false true = refl
+    and_false false = refl
+back old mid new false same none is = is ∙ and_true mid ∙ same refl
+  where
+    and_true : (b : Bool) → (b && true) ≡ b
+    and_true true = refl
+    and_true false = refl
+
+-- ---- the descriptors
+
+-- descriptors of one block begin at each of their blocks
+ones_begin : (n : ℕ) (rest : List ℕ) (start q : ℕ) → length_from (replicate n 1 ++ rest) start q ≡ (if is_in q start n then 1 else length_from rest (start + n) q)
+unfolding length_from
+ones_begin zero rest start q =
+    let out : is_in q start 0 ≡ false = grind (arith, nat_tests) in
+    let same : start + 0 ≡ start = omega arith in
+    rw (out, same) refl
+ones_begin (suc n) rest start q =
+    let next : start + 1 + n ≡ start + suc n = omega arith in
+    let rest_is : length_from (replicate n 1 ++ rest) (start + 1) q ≡ (if is_in q (start + 1) n then 1 else length_from rest (start + suc n) q) =
+    ones_begin n rest (start + 1) q ∙ ap (λ s. if is_in q (start + 1) n then 1 else length_from rest s q) next in
+    elim (cases_eq start q) [
+      | inl here ↦
+          let first : (start == q) ≡ true = eq-eqb start q here in
+          let inside : is_in q start (suc n) ≡ true = grind (arith, nat_tests, here) in
+          rw (first, inside) refl
+      | inr past ↦
+          let later : (start == q) ≡ false = ne_eqb start q past in
+          let same : is_in q (start + 1) n ≡ is_in q start (suc n) = grind (arith, nat_tests, past) in
+          rw later (rest_is ∙ ap (λ b. if b then 1 else length_from rest (start + suc n) q) same)
+    ]
+
+-- none begins before the first
+begins_from : (ls : List ℕ) (start p : ℕ) → 0 < length_from ls start p → start ≤ p
+unfolding length_from
+begins_from [] start p some = absurd (omega arith)
+begins_from (n ∷ rest) start p some =
+    elim (cases_eq start p) [
+      | inl here ↦ omega arith
+      | inr past ↦
+          let later : (start == p) ≡ false = ne_eqb start p past in
+          let more : 0 < length_from rest (start + n) p = rw later at some in
+          let behind = begins_from rest (start + n) p more in
+          omega arith
+    ]
+
+-- of the descriptor that begins at p each block is one then, and all others begin where they began
+split_begins : (ls : List ℕ) (start p q : ℕ) → ArePositive ls → length_from (split_at ls start p) start q ≡ (if is_in q p (length_from ls start p) then 1 else length_from ls start q)
+unfolding length_from split_at
+split_begins [] start p q positive =
+    let out : is_in q p 0 ≡ false = grind (arith, nat_tests) in
+    rw out refl
+split_begins (n ∷ rest) start p q positive =
+    let some = positive.0 in
+    elim (cases_eq start p) [
+      | inl here ↦
+          let first : (start == p) ≡ true = eq-eqb start p here in
+          let ones = ones_begin n rest start q in
+          let at : is_in q start n ≡ is_in q p n = ap (λ s. is_in q s n) here in
+          rw first (ones ∙ ap (λ b. if b then 1 else length_from rest (start + n) q) at ∙ elim (cases_Bool (is_in q p n)) [
+            | inl inside ↦ rw inside refl
+            | inr outside ↦
+                let other : (start == q) ≡ false = grind (arith, nat_tests, outside, here, some) in
+                rw (outside, other) refl
+          ])
+      | inr past ↦
+          let later : (start == p) ≡ false = ne_eqb start p past in
+          let rest_is = split_begins rest (start + n) p q positive.1 in
+          rw later (elim (cases_eq start q) [
+            | inl here ↦
+                let first : (start == q) ≡ true = eq-eqb start q here in
+                let out : is_in q p (length_from rest (start + n) p) ≡ false = before (length_from rest (start + n) p) (begins_from rest (start + n) p) here some in
+                rw (first, out) refl
+            | inr behind ↦
+                let other : (start == q) ≡ false = ne_eqb start q behind in
+                rw other rest_is
+          ])
+    ]
+  where
+    before : (m : ℕ) → (0 < m → start + n ≤ p) → start ≡ q → 0 < n → is_in q p m ≡ false
+    before zero from here some = grind (arith, nat_tests)
+    before (suc m) from here some = let low = from (omega arith) in grind (arith, nat_tests, low, here, some)
+
+ones_positive : (n : ℕ) (rest : List ℕ) → ArePositive rest → ArePositive (replicate n 1 ++ rest)
+ones_positive zero rest positive = positive
+ones_positive (suc n) rest positive = (omega arith, ones_positive n rest positive)
+
+split_positive : (ls : List ℕ) (start p : ℕ) → ArePositive ls → ArePositive (split_at ls start p)
+unfolding split_at
+split_positive [] start p positive = positive
+split_positive (n ∷ rest) start p positive =
+    elim (cases_eq start p) [
+      | inl here ↦
+          let first : (start == p) ≡ true = eq-eqb start p here in
+          rw first (ones_positive n rest positive.1)
+      | inr past ↦
+          let later : (start == p) ≡ false = ne_eqb start p past in
+          rw later (positive.0, split_positive rest (start + n) p positive.1)
+    ]
+
+-- a descriptor that begins has its blocks among the declared ones
+ends_within : (ls : List ℕ) (start p : ℕ) → 0 < length_from ls start p → p + length_from ls start p ≤ start + sum ls
+unfolding length_from
+ends_within [] start p some = absurd (omega arith)
+ends_within (n ∷ rest) start p some =
+    let all = sum-cons n rest in
+    elim (cases_eq start p) [
+      | inl here ↦
+          let first : (start == p) ≡ true = eq-eqb start p here in
+          rw first (omega arith)
+      | inr past ↦
+          let later : (start == p) ≡ false = ne_eqb start p past in
+          let more : 0 < length_from rest (start + n) p = rw later at some in
+          let behind = ends_within rest (start + n) p more in
+          rw later (omega arith)
+    ]
+
+-- ---- a descriptor is withdrawn
+
+module _ (shape : Shape) (v : RingView) (r : RingRecord) (known : FollowsRing shape v r) where
+  abbrev follows : FollowsMarks shape v r
+  follows = known.marks
+
+  module _ (p : ℕ) where
+    abbrev count : ℕ
+    count = slice_index r.lengths.items p
+
+    -- its blocks lie among the declared ones
+    pub ends : 0 < count → p + count ≤ length r.lengths.items
+    ends some =
+        let same : length_from v.lengths 0 p ≡ count = follows.begins p in
+        let within = ends_within v.lengths 0 p (omega arith) in
+        omega (arith, follows.whole, follows.as_many)
+
+    -- so their lengths are among those that are kept
+    pub begins_at : (ls : List ℕ) → length ls ≡ length r.lengths.items →
+        ((q : ℕ) → q < length r.lengths.items → slice_index ls q ≡ (if is_in q p count then 1 else slice_index r.lengths.items q)) →
+        (q : ℕ) → slice_index ls q ≡ (if is_in q p count then 1 else slice_index r.lengths.items q)
+    begins_at ls many here q =
+        elim (cases_lt q (length r.lengths.items)) [
+          | inl below ↦ here q below
+          | inr past ↦
+              let out : is_in q p count ≡ false = beyond count ends q past in
+              index_past ls q (omega arith) ∙ sym (index_past r.lengths.items q past)
+              ∙ sym (ap (λ b. if b then 1 else slice_index r.lengths.items q) out)
+        ]
+      where
+        index_past : (xs : List ℕ) (q : ℕ) → length xs ≤ q → slice_index xs q ≡ 0
+        index_past xs q h = grind (arith, common_steps, h)
+
+        beyond : (n : ℕ) → (0 < n → p + n ≤ length r.lengths.items) → (q : ℕ) → length r.lengths.items ≤ q → is_in q p n ≡ false
+        beyond zero within q past = grind (arith, nat_tests)
+        beyond (suc n) within q past = let end = within (omega arith) in grind (arith, nat_tests, end, past)
+
+    -- No Ops in their place, and those that were given are free
+    pub withdrawn_here : (n : RingRecord) → n.blocks.items ≡ no_ops r.blocks.items p count → length n.lengths.items ≡ length r.lengths.items →
+        ((q : ℕ) → slice_index n.lengths.items q ≡ (if is_in q p count then 1 else slice_index r.lengths.items q)) →
+        n.given.items ≡ r.given.items → n.crossed.items ≡ r.crossed.items → n.floor ≡ r.floor → n.held ≡ r.held → n.count ≡ r.count →
+        ((q : ℕ) → contains nat_cmp n.withdrawn q ≡ (contains nat_cmp r.withdrawn q || is_in q p count)) →
+        ((q : ℕ) → contains nat_cmp n.free q ≡ (contains nat_cmp r.free q || (is_in q p count && is_noted (floor_number v) (place_count shape) r.given.items (q % place_count shape) q))) →
+        FollowsRing shape (changed shape v (Withdraws p)) n
+    unfolding is_step_given is_way_given
+    withdrawn_here n queue many begins given crossed floor held counted withdrawn free =
+        let same : length_from v.lengths 0 p ≡ count = follows.begins p in
+        let long = length-no_ops r.blocks.items p count in
+        record {
+          marks = record {
+            allowed = follows.allowed;
+            queue = ap (λ m. no_ops v.queue p m) same ∙ ap (λ xs. no_ops xs p count) follows.queue ∙ sym queue;
+            floor = follows.floor ∙ sym floor;
+            held = follows.held ∙ sym held;
+            begins = λ q. split_begins v.lengths 0 p q follows.positive ∙ ap (λ m. if is_in q p m then 1 else length_from v.lengths 0 q) same
+                ∙ ap (λ m. if is_in q p count then 1 else m) (follows.begins q) ∙ sym (begins q);
+            as_many = many ∙ follows.as_many ∙ sym long ∙ sym (ap length queue);
+            whole = split_sum v.lengths 0 p ∙ follows.whole ∙ sym long ∙ sym (ap length queue);
+            positive = split_positive v.lengths 0 p follows.positive;
+            room = omega (arith, follows.room, long, ap length queue);
+            places = ap length given ∙ follows.places;
+            given = rw given follows.given;
+            segments = rw crossed follows.segments;
+            crossed = rw crossed follows.crossed;
+            withdrawn = λ q. ap (λ b. b || is_in q p (length_from v.lengths 0 p)) (follows.withdrawn q) ∙ ap (λ m. contains nat_cmp r.withdrawn q || is_in q p m) same ∙ sym (withdrawn q);
+            free = λ q. ap (λ b. b || (is_in q p (length_from v.lengths 0 p) && v.given q)) (follows.free q) ∙ ap (λ m. contains nat_cmp r.free q || (is_in q p m && v.given q)) same
+                ∙ ap (λ b. contains nat_cmp r.free q || (is_in q p count && b)) (follows.given q) ∙ sym (free q);
+            free_withdrawn = λ q now. elim (or_cases (v.free q) (is_in q p (length_from v.lengths 0 p) && v.given q) now) [
+              | inl was ↦ or_left (v.withdrawn q) (is_in q p (length_from v.lengths 0 p)) (follows.free_withdrawn q was)
+              | inr new ↦ or_right (v.withdrawn q) (is_in q p (length_from v.lengths 0 p)) (and_parts (is_in q p (length_from v.lengths 0 p)) (v.given q) new).0
+            ];
+            free_given = λ q now. elim (or_cases (v.free q) (is_in q p (length_from v.lengths 0 p) && v.given q) now) [
+              | inl was ↦ follows.free_given q was
+              | inr new ↦ (and_parts (is_in q p (length_from v.lengths 0 p)) (v.given q) new).1
+            ];
+          };
+          steps = λ q below. known.steps q (omega (arith, below, counted));
+          stop = ap (λ m. is_step_given shape v m) counted ∙ known.stop;
+        }
+
+    -- none of them was withdrawn before, so none is free
+    pub none_before : list_any v.withdrawn (range_with_len p (descriptor_length v p)) ≡ false → (q : ℕ) → is_in q p count ≡ true → v.withdrawn q ≡ false
+    unfolding descriptor_length
+    none_before none q inside =
+        let same : length_from v.lengths 0 p ≡ count = follows.begins p in
+        let parts = and_parts (nat_le p q) (nat_lt q (p + count)) inside in
+        none_each v.withdrawn p (length_from v.lengths 0 p) none q (leb-true p q parts.0) (omega (arith, ltb-true q (p + count) parts.1))
+
+    pub none_free_before : list_any v.withdrawn (range_with_len p (descriptor_length v p)) ≡ false → (q : ℕ) → is_in q p count ≡ true → v.free q ≡ false
+    none_free_before none q inside = false_unless (v.free q) (λ free. false≢true (sym (none_before none q inside) ∙ follows.free_withdrawn q free))
+
+  -- the same record with sets of the same numbers
+  pub same_sets : (n : RingRecord) → n.blocks.items ≡ r.blocks.items → n.lengths.items ≡ r.lengths.items → n.given.items ≡ r.given.items → n.crossed.items ≡ r.crossed.items →
+      n.floor ≡ r.floor → n.held ≡ r.held → n.count ≡ r.count → ((q : ℕ) → contains nat_cmp n.withdrawn q ≡ contains nat_cmp r.withdrawn q) →
+      ((q : ℕ) → contains nat_cmp n.free q ≡ contains nat_cmp r.free q) → FollowsRing shape v n
+  same_sets n blocks lengths given crossed floor held counted withdrawn free = record {
+    marks = record {
+      allowed = follows.allowed;
+      queue = follows.queue ∙ sym blocks;
+      floor = follows.floor ∙ sym floor;
+      held = follows.held ∙ sym held;
+      begins = rw lengths follows.begins;
+      as_many = ap length lengths ∙ follows.as_many ∙ sym (ap length blocks);
+      whole = follows.whole ∙ sym (ap length blocks);
+      positive = follows.positive;
+      room = rw blocks follows.room;
+      places = ap length given ∙ follows.places;
+      given = rw given follows.given;
+      segments = rw crossed follows.segments;
+      crossed = rw crossed follows.crossed;
+      withdrawn = λ q. follows.withdrawn q ∙ sym (withdrawn q);
+      free = λ q. follows.free q ∙ sym (free q);
+      free_withdrawn = follows.free_withdrawn;
+      free_given = follows.free_given;
+    };
+    steps = λ q below. known.steps q (omega (arith, below, counted));
+    stop = ap (λ m. is_step_given shape v m) counted ∙ known.stop;
+  }
+
+  -- all that was free is restored
+  pub restored_now : (n : RingRecord) → n.blocks.items ≡ r.blocks.items → n.lengths.items ≡ r.lengths.items → n.given.items ≡ r.given.items → n.crossed.items ≡ r.crossed.items →
+      n.floor ≡ r.floor → n.held ≡ r.held → n.count ≡ r.count → n.withdrawn ≡ r.withdrawn → n.free.keys ≡ [] → FollowsRing shape (changed shape v Restores) n
+  unfolding is_step_given is_way_given
+  restored_now n blocks lengths given crossed floor held counted withdrawn none = record {
+    marks = record {
+      allowed = follows.allowed;
+      queue = follows.queue ∙ sym blocks;
+      floor = follows.floor ∙ sym floor;
+      held = follows.held ∙ sym held;
+      begins = rw lengths follows.begins;
+      as_many = ap length lengths ∙ follows.as_many ∙ sym (ap length blocks);
+      whole = follows.whole ∙ sym (ap length blocks);
+      positive = follows.positive;
+      room = rw blocks follows.room;
+      places = ap length given ∙ follows.places;
+      given = rw given follows.given;
+      segments = rw crossed follows.segments;
+      crossed = rw crossed follows.crossed;
+      withdrawn = λ q. follows.withdrawn q ∙ ap (λ s. contains nat_cmp s q) (sym withdrawn);
+      free = λ q. sym (ap (λ ks. list_any (is_at (nat_cmp q)) ks) none);
+      free_withdrawn = λ q free. absurd (false≢true free);
+      free_given = λ q free. absurd (false≢true free);
+    };
+    steps = λ q below. known.steps q (omega (arith, below, counted));
+    stop = ap (λ m. is_step_given shape v m) counted ∙ known.stop;
+  }

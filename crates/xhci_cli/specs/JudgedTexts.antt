@@ -1,0 +1,29 @@
+-- What the text of a trace says that is judged as it is read, and what is right to answer to it
+use Rattle.std.specs.Prelude.{◌≡◌, ◌⊎◌, ℕ, List, Option, Some, None, Ok, Err}
+use Rattle.trace_reader.specs.DriverRows.{text_taken}
+use Rattle.trace_reader.specs.Reading.{TraceText}
+use Rattle.trace_reader.specs.declared.fault.LineFault.{LineFault}
+use Rattle.ring_pass.specs.RingRows.{ring_row}
+use Rattle.answers.specs.declared.answer.Answer.{Answer}
+use Rattle.answers.specs.declared.answer.Answer.TheVariants.{BadLine, Memory, Device}
+
+-- the known bytes of an input spell the trace, in which no descriptor is withdrawn; of bytes that aren't known nothing is said
+abbrev pub IsTextOf : Option (List ℕ) → TraceText → Type 0
+IsTextOf None trace = Unit {0}
+IsTextOf (Some bytes) trace = text_taken ring_row bytes ≡ Ok trace
+
+-- the first bad line of the known bytes of an input, and the least of its faults; a row by which a descriptor is withdrawn is bad
+abbrev pub IsFirstBad : Option (List ℕ) → ℕ → LineFault → Type 0
+IsFirstBad None line fault = Unit {0}
+IsFirstBad (Some bytes) line fault = text_taken ring_row bytes ≡ Err (line, fault)
+
+-- what is right to answer where no trace is read: its first bad line, or that memory or the device failed
+abbrev pub IsUnread : Option (List ℕ) → Answer → Type 0
+IsUnread known (BadLine line fault) = IsFirstBad known line fault
+IsUnread known Memory = Unit {0}
+IsUnread known Device = Unit {0}
+IsUnread known _ = ⊥
+
+-- what is right to answer to the text of a trace: that none is read, or what is right of the trace that the text spells
+abbrev pub IsTraceAnswer : (TraceText → Answer → Type 0) → Option (List ℕ) → Answer → Type 0
+IsTraceAnswer IsRight known answer = IsUnread known answer ⊎ ((trace : TraceText) × IsTextOf known trace × IsRight trace answer)

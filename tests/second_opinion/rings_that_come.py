@@ -1,0 +1,52 @@
+"""Where a ring may come, where one may go, and which descriptors may be withdrawn (xHCI 4.6.9, 4.6.10, 4.9, 4.11.5.1)."""
+from areas import is_in_range_lease, is_soiled
+from blocks import with_cycle
+from given_commands import changes_endpoint
+from moves import is_being_bound
+
+
+def shows_first_lap(known, segment):
+    """A control word shows the Cycle bit of the first lap."""
+    return any(known.word(segment.base + 16 * i + 12) % 2 == 1 for i in range(segment.count))
+
+
+def is_bad_segment(known, segment):
+    area = segment.base, 16 * segment.count
+    return (known.touches_ring(*area) or is_in_range_lease(known, *area) or is_soiled(known, *area)
+            or shows_first_lap(known, segment))
+
+
+def may_go(known, ring):
+    """A transfer ring that no endpoint has, and that no unfinished command binds."""
+    return ring is not None and ring.kind == 'xfer' and not known.endpoints_with(ring) and not is_being_bound(known, ring)
+
+
+def has_stopped(known, ring):
+    """An endpoint that has the ring is Stopped, and no unfinished command touches it."""
+    def rests(number, index):
+        is_touched = any(changes_endpoint(known, command, number, index) for command in known.unfinished)
+        return known.endpoint_state(number, index) == 'Stopped' and not is_touched
+    return any(rests(*at) for at in known.endpoints_with(ring))
+
+
+def may_be_withdrawn(known, ring, position):
+    """A descriptor begins there, not put there by a withdrawal, that the controller can't have come to; in version 3 one that it isn't known to have passed."""
+    least = known.floor(ring).number if known.trace.version >= 3 else known.ceiling(ring)
+    blocks = range(position, position + known.descriptor_length(ring, position))
+    return len(blocks) > 0 and not any(known.was_withdrawn(ring, p) for p in blocks) and position >= least
+
+
+def stands_as_declared(known, ring, position):
+    return known.block_at(ring.address(position)) == with_cycle(known.queue(ring)[position], ring.cycle(position))
+
+
+def is_left(known, ring):
+    """A block of the ring that was withdrawn doesn't stand in memory as it is declared now."""
+    return not all(stands_as_declared(known, ring, p) for p in known.unrestored(ring))
+
+
+def flips_passed(known, write):
+    """The Cycle bit of a block that was withdrawn, and that the controller may have passed, becomes the other one."""
+    def is_flipped(ring, p):
+        return p < known.ceiling(ring) and write.address == ring.address(p) + 12 and write.word % 2 != ring.cycle(p)
+    return any(is_flipped(ring, p) for ring in known.driver_rings for p in known.unrestored(ring))
