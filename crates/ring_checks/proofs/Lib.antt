@@ -7,3 +7,5 @@ pub mod Went
 pub mod AtRest
 pub mod OneRing
 pub mod Withdrawn
+pub mod PassedFlips
+pub mod GivenAt

@@ -1,2 +1,3 @@
 pub mod RingSteps
 pub mod Withdrawing
+pub mod GivenCommands

@@ -39,8 +39,8 @@ pub(crate) fn free_ring(
     Some(number)
 }
 
-/// The number of the transfer ring with this ID.
-pub(crate) fn transfer_ring(header: &Header, finder: &Finder, id: u8) -> Option<usize>
+/// The number in the header of the transfer ring with this ID.
+pub fn transfer_ring(header: &Header, finder: &Finder, id: u8) -> Option<usize>
     requires headed { IsHeader header.now }
     requires found { IsFinder header.now.rings finder.now }
     ensures within { IfSome result (λ n. n < length header.now.rings) }

@@ -7,3 +7,4 @@ pub mod Walks
 pub mod RowsTaken
 pub mod RowsFit
 pub mod RowsRead
+pub mod FreeLeases

@@ -1,7 +1,7 @@
 -- What the log of a pass keeps behind one row more
-use Rattle.std.proofs.Common.{◌≡◌, ◌+◌, ◌<◌, ◌≤◌, ◌∷◌, ◌∙◌, ℕ, Bool, true, false, not, ◌||◌, ◌==◌, None, List, [], length, map, arith, refl, sym, ap, subst}
+use Rattle.std.proofs.Common.{◌≡◌, ◌+◌, ◌<◌, ◌≤◌, ◌∷◌, ◌∙◌, ℕ, Bool, true, false, not, ◌||◌, ◌==◌, None, Some, List, [], length, map, arith, refl, sym, ap, subst}
 use Rattle.std.proofs.lemmas.Bool.{or_parts}
-use Rattle.safety.proofs.Words.{Header, Known, Ring, IsHeader, open_leases}
+use Rattle.safety.proofs.Words.{Header, Known, Ring, IsHeader, Bell, Write, learned, none-some, on_ring, open_leases}
 use Rattle.std.proofs.lemmas.Bool.{false≢true}
 use Rattle.std.specs.List.{position}
 use Rattle.trb.specs.declared.ring_kind.RingKind.{RingKind}
@@ -9,7 +9,7 @@ use Rattle.trb.specs.declared.ring_kind.RingKind.TheVariants.{Cmd, Evt, Xfer}
 use Rattle.ring_finder.proofs.FoundRings.{none_here}
 use Rattle.ring_finder.proofs.HeaderRings.{not_found, ring_found}
 use Rattle.ring_finder.proofs.RingsApart.{IsAmong}
-use Rattle.safety.proofs.Lenient.{lenient_row}
+use Rattle.ownership_rules.specs.Rules.{lenient}
 use Rattle.safety.proofs.TestsPassed.{clean_tests}
 use Rattle.safety.specs.EndpointsKeep.{is_transfer_ring}
 use Rattle.traces.specs.declared.row.Row.{Row}
@@ -18,9 +18,7 @@ use Rattle.traces.specs.declared.trace_row.TraceRow.TheVariants.{Plain, Comes, G
 use Rattle.traces.specs.Header.{is_driver_kind, is_transfer_kind, ring_with}
 use Rattle.ownership_rules.specs.Leases.{without_end}
 use Rattle.ownership_rules.specs.Moves.{is_being_bound}
-use Rattle.trace_record.specs.declared.trace_record.TraceRecord.{TraceRecord}
-use Rattle.trace_record.specs.Steps.{IsRowStep}
-use Rattle.lease_book.specs.InStep.{IsInStep}
+use Rattle.lease_book.specs.InStep.{AreOpen, IsInStep}
 use Rattle.lease_book.specs.Lents.{Lent, ended_where, grown, lents, passed_on}
 use Rattle.lease_book.specs.OtherShapes.{AreShapedAlike}
 use Rattle.lease_book.specs.Ranges.{FindsRanges}
@@ -34,7 +32,9 @@ use Rattle.ring_leases.proofs.HeldBehind.{comes_alike, comes_commands, goes_alik
 use Rattle.ring_leases.proofs.LentBehind.{comes_lent, goes_lent, in_step_now, lent_open}
 use Rattle.ring_pass.specs.Passing.{IsRingPassed}
 use Rattle.ring_pass.specs.declared.pass.RingPass.{RingPass}
-use Rattle.ring_pass.proofs.Histories.{known_plain}
+use Rattle.ring_leases.proofs.FreeRows.{rung_now}
+use Rattle.ring_changes.specs.Withdrawals.{ring_restored}
+use Rattle.segments.specs.RingView.{Restores}
 use Rattle.ring_pass.proofs.Steps.{headed_now, tracked_now}
 
 -- before the first row the leases of a history are those of a trace
@@ -54,7 +54,7 @@ goes_transfer h k id good =
     not_false true e = refl
     not_false false e = absurd cc
 
-transfer_drives : (n : RingKind) → is_transfer_kind n ≡ true → is_driver_kind n ≡ true
+pub transfer_drives : (n : RingKind) → is_transfer_kind n ≡ true → is_driver_kind n ≡ true
 transfer_drives Xfer e = refl
 transfer_drives Cmd e = refl
 transfer_drives Evt e = absurd cc
@@ -86,26 +86,36 @@ module _ {B M : Type 0} (words : M → ℕ → ℕ) (Holds : Header → List Len
   low = omega (arith, room)
 
   -- the row of the driver is the next of what is known and lent
-  pub next_row : (row : Row) (after : TraceRecord) (memory : ℕ → ℕ) → IsRowStep before.header k row after memory → IsNextRow before.header k ts row before.record (words before.memory)
-  next_row row after memory step =
-      let clean = lenient_row before.header k row step.clean in
-      record {
-        followed = p.tracked.follows;
-        keeps = p.tracked.keeps (clean_tests before.header k row clean).0;
-        entries = p.entries;
-        step = subst (λ (x : Header). IsInStep x k ts) (sym p.header) (in_step_now h first past low);
-        clean = clean;
-      }
+  pub next_row : (row : Row) → lenient before.header k row ≡ [] → IsNextRow before.header k ts row before.record (words before.memory)
+  next_row row clean = record {
+    followed = p.tracked.follows;
+    keeps = p.tracked.keeps (clean_tests before.header k row clean).0;
+    entries = p.entries;
+    step = subst (λ (x : Header). IsInStep x k ts) (sym p.header) (in_step_now h first past low);
+    clean = clean;
+  }
 
-  lents_plain : (row : Row) → ring_lents h first (Plain row ∷ past) ≡ grown g k row (first + length past) ts
+  -- by the rings of the pass
+  pub held_before : (log : B) (x : RangeIndexes) → HoldsAll Holds g ts log x → HoldsAll Holds before.header ts log x
+  held_before log x held = subst (λ (y : Header). HoldsAll Holds y ts log x) (sym p.header) held
+
+  pub opened_before : AreOpen before.header k ts
+  opened_before = subst (λ (y : Header). AreOpen y k ts) (sym p.header) (lent_open h first past low)
+
+  -- what is lent behind a row, as the log is told of it by the rings of the pass
+  pub behind_logged : (later : Header → Known) (us : List Lent) → us ≡ passed_on (open_leases g k) (open_leases g (later g)) (first + length past) ts → (number : ℕ) → number ≡ first + length past → (log : B) (x : RangeIndexes) →
+      HoldsAll Holds before.header (passed_on (open_leases before.header k) (open_leases before.header (later before.header)) number ts) log x → HoldsAll Holds g us log x
+  behind_logged later us is number numbered log x held =
+      subst (λ vs. HoldsAll Holds g vs log x) (sym is)
+      (subst (λ n. HoldsAll Holds g (passed_on (open_leases g k) (open_leases g (later g)) n ts) log x) numbered
+      (subst (λ (y : Header). HoldsAll Holds y (passed_on (open_leases y k) (open_leases y (later y)) number ts) log x) p.header held))
+
+  -- a row of the driver that restores no ring
+  pub plain_logged : (row : Row) → known_now h (Plain row ∷ past) ≡ learned g k row → (number : ℕ) → number ≡ first + length past → (log : B) (x : RangeIndexes) →
+      HoldsAll Holds before.header (grown before.header k row number ts) log x → HoldsAll Holds g (ring_lents h first (Plain row ∷ past)) log x
   unfolding ring_lents grown
-  lents_plain row = ap (λ x. passed_on (open_leases g k) (open_leases g x) (first + length past) ts) (known_plain h row past p.clean)
-
-  pub plain_logged : (row : Row) (number : ℕ) → number ≡ first + length past → (log : B) (x : RangeIndexes) → HoldsAll Holds before.header (grown before.header k row number ts) log x →
-      HoldsAll Holds g (ring_lents h first (Plain row ∷ past)) log x
-  plain_logged row number numbered log x held =
-      subst (λ us. HoldsAll Holds g us log x) (sym (lents_plain row))
-      (subst (λ n. HoldsAll Holds g (grown g k row n ts) log x) numbered (subst (λ (y : Header). HoldsAll Holds y (grown y k row number ts) log x) p.header held))
+  plain_logged row is number numbered log x held =
+      behind_logged (λ y. learned y k row) (ring_lents h first (Plain row ∷ past)) (ap (λ m. passed_on (open_leases g k) (open_leases g m) (first + length past) ts) is) number numbered log x held
 
   pub comes_logged : (ring : Ring) → IsComing ring → k.stopped ≡ false → is_bad_ring g k ring ≡ false → HoldsAll Holds g ts before.log before.ranges →
       HoldsAll Holds (with_ring g ring) (ring_lents h first (Comes ring ∷ past)) before.log before.ranges
@@ -134,3 +144,11 @@ module _ {B M : Type 0} (words : M → ℕ → ℕ) (Holds : Header → List Len
             (ranges_found g (without_ring g id) before.ranges (goes_commands g is k d id good) (map (ended_where (is_of_ring id) (first + length past)) ts)
             (some_end g before.ranges (is_of_ring id) (first + length past) ts held.found));
       }
+
+  -- the doorbell of an endpoint that has a ring
+  pub rung_lents : (row : Row) (id : ℕ) → ((a w : ℕ) → row ≡ Write a w → ⊥) → ring_restored g k row ≡ Some id →
+      ring_lents h first (Plain row ∷ past) ≡ passed_on (open_leases g k) (open_leases g (on_ring g k id Restores)) (first + length past) ts
+  unfolding ring_restored
+  rung_lents (Bell s t) id other has = rung_now h first past s t id has
+  rung_lents (Write a w) id other has = absurd (other a w refl)
+  rung_lents _ id other has = absurd (none-some id has)

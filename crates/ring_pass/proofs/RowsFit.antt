@@ -26,10 +26,7 @@ fits (Withdraws ring position) is = is
 
 -- a row is taken as it stands
 same_row : (row one : TraceRow) → ring_row row ≡ Ok one → row ≡ one
-same_row (Plain row) one is = cc is
-same_row (Comes ring) one is = cc is
-same_row (Goes ring) one is = cc is
-same_row (Withdraws ring position) one is = cc is
+same_row row one is = cc is
 
 line_says : (st next : State) (line : TextLine) (row : TraceRow) → 2 ≤ st.lines → read_line st line ≡ Ok (next, Some row) → IsTraceRow row
 unfolding read_lines

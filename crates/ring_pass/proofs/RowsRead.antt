@@ -14,7 +14,7 @@ use Rattle.row_reader.specs.Ahead.{ahead_of}
 use Rattle.row_reader.specs.Answers.{IsCall, has_ended}
 use Rattle.row_reader.specs.ReaderState.{IsOpened, progress_of}
 use Rattle.row_reader.specs.Streams.{HasRead, IfBadLine, IsBadTaken, OfStream}
-use Rattle.row_reader.proofs.Streams.{end_read, line_read_bad, opened_read, row_numbered, row_read, row_read_refused}
+use Rattle.row_reader.proofs.Streams.{end_read, line_read_bad, opened_read, row_numbered, row_read}
 use Rattle.ring_knowledge.specs.declared.lease.Lease.{Lease}
 use Rattle.ownership_rules.specs.declared.refusal.Refusal.{Refusal}
 use Rattle.ownership_rules.specs.Leases.{without_end}
@@ -24,7 +24,7 @@ use Rattle.ring_leases.specs.RingLents.{ring_lents}
 use Rattle.ring_pass.specs.Clean.{IsLeastOfRow}
 use Rattle.ring_pass.specs.Passing.{DoNoHarm, IsRingLogged, IsRingPassed}
 use Rattle.ring_pass.specs.Reading.{Begins, IfRefusedRow, IsWholeLog, OfTrace, with_rows}
-use Rattle.ring_pass.specs.RingRows.{at_line, ring_row}
+use Rattle.ring_pass.specs.RingRows.{ring_row}
 use Rattle.ring_pass.specs.Rules.{ring_verdict}
 use Rattle.ring_pass.specs.declared.pass.RingPass.{RingPass}
 use Rattle.ring_pass.specs.declared.reading.Passed.{Passed}
@@ -68,15 +68,9 @@ ended held held' r r' is headed over call = record {
 pub fewer_left : (held held' : Option (List ℕ)) (r r' : RowReader) (row : ℕ × TraceRow) → IsGiven held held' r r' row → most_lines - r'.lines < most_lines - r.lines
 fewer_left held held' r r' row next = let n = row_numbered ring_row held held' r r' row next.on next.call in omega (arith, n.0, n.1, r'.within)
 
--- ---- rows as they are taken
-
-taken : (number : ℕ) (o : Result TraceRow LineFault) (row : TraceRow) → Ok row ≡ at_line number o → o ≡ Ok row
-taken number (Ok other) row is = let same : row ≡ other = cc is in ap (λ (r : TraceRow). Ok r) (sym same)
-taken number (Err fault) row is = cc is
-
-untaken : (number : ℕ) (o : Result TraceRow LineFault) (e : StreamFault) → Err e ≡ at_line number o → (fault : LineFault) × (e ≡ Line number fault) × (o ≡ Err fault)
-untaken number (Ok row) e is = cc is
-untaken number (Err fault) e is = (fault, cc is, refl)
+-- each row is taken as it stands
+as_taken : (row one : TraceRow) → row ≡ one → ring_row row ≡ Ok one
+as_taken row one same = ap (λ (r : TraceRow). Ok r) same
 
 -- what a pass comes to that ends at a row
 pub ended_refused : {B : Type 0} (r : Result (Passed B) StreamFault) (P Q : ℕ → Refusal → Type 0) → ((row : ℕ) (c : Refusal) → P row c → Q row c) → IfOk r (λ p. IfRefusedRow p P) → IfOk r (λ p. IfRefusedRow p Q)
@@ -115,7 +109,7 @@ module _ {B M : Type 0} (words : M → ℕ → ℕ) (holds : List Lease → Head
   }
 
   module _ (held' held'' : Option (List ℕ)) (r r' : RowReader) (pass : RingPass B M) (u : IsUnderway words holds start held held' log r pass) where
-    module _ (row : ℕ × TraceRow) (next : IsGiven held' held'' r r' row) (one : TraceRow) (told : Ok one ≡ at_line row.0 (ring_row row.1)) where
+    module _ (row : ℕ × TraceRow) (next : IsGiven held' held'' r r' row) (one : TraceRow) (told : row.1 ≡ one) where
       number_so : row.0 ≡ start.lines + 1 + length u.past
       number_so = let n = row_numbered ring_row held' held'' r r' row next.on next.call in omega (arith, n.0, u.numbered)
 
@@ -127,12 +121,12 @@ module _ {B M : Type 0} (words : M → ℕ → ℕ) (holds : List Lease → Head
       few_so = (start.header, u.past, u.passed, omega (arith, u.numbered, r.within))
 
       pub fits_so : FitsFields one
-      fits_so = row_fits held' held'' r r' row one (taken row.0 (ring_row row.1) one told) next.on next.call
+      fits_so = row_fits held' held'' r r' row one (as_taken row.1 one told) next.on next.call
 
       read_so : (before : Option (List ℕ)) → IsOpened before held (Ok start) → HasRead ring_row before held'' (start.lines + 1) (reverse (one ∷ u.past)) r'
       read_so before opened =
           subst (λ (rows : List TraceRow). HasRead ring_row before held'' (start.lines + 1) rows r') (reversed_more u.past one)
-          (row_read ring_row before held' held'' (start.lines + 1) (reverse u.past) r r' next.headed (u.read before opened) row one (taken row.0 (ring_row row.1) one told) next.on next.call)
+          (row_read ring_row before held' held'' (start.lines + 1) (reverse u.past) r r' next.headed (u.read before opened) row one (as_taken row.1 one told) next.on next.call)
 
       pub row_passed : (pass' : RingPass B M) → ((h : Header) (past : List TraceRow) → IsRingPassed words h past pass → IsRingPassed words h (one ∷ past) pass') →
           ((list : List Lease) (h : Header) (first : ℕ) (past : List TraceRow) → IsRingPassed words h past pass → row.0 ≡ first + length past → first + length past < without_end →
@@ -170,14 +164,6 @@ module _ {B M : Type 0} (words : M → ℕ → ℕ) (holds : List Lease → Head
       bad_behind last (Line line fault) told = λ before opened. told before (start.lines + 1) (reverse (one ∷ u.past)) (read_so before opened)
       bad_behind last Device told = tt
       bad_behind last Memory told = tt
-
-    -- a row by which a descriptor is withdrawn
-    pub untaken_so : (row : ℕ × TraceRow) → IsGiven held' held'' r r' row → (e : StreamFault) → Err e ≡ at_line row.0 (ring_row row.1) →
-        IfBadLine e (λ line fault. (before : Option (List ℕ)) → IsOpened before held (Ok start) → IsBadTaken ring_row before held'' line fault)
-    untaken_so row next e told =
-        let is = untaken row.0 (ring_row row.1) e told in
-        subst (λ (x : StreamFault). IfBadLine x (λ line fault. (before : Option (List ℕ)) → IsOpened before held (Ok start) → IsBadTaken ring_row before held'' line fault)) (sym is.1)
-        (λ before opened. row_read_refused ring_row before held' held'' (start.lines + 1) (reverse u.past) r r' next.headed (u.read before opened) row is.0 is.2 next.on next.call)
 
     -- a bad line is told
     pub bad_so : (e : StreamFault) → r'.header ≡ r.header → r'.ended ≡ true → Gives held' held'' r r' (Err e) →
@@ -241,22 +227,11 @@ module _ (start : RowReader) (held : Option (List ℕ)) where
       bad_more : r'.header ≡ r.header → r'.ended ≡ true → (line : ℕ) (fault : LineFault) → Gives held' held'' r r' (Err (Line line fault)) → Read held' r → IsBadTaken ring_row before held'' line fault
       bad_more headed over line fault call (more, read) = line_read_bad ring_row before held' held'' first (done ++ more) r r' headed read over line fault call
 
-    pub row_read_on : (row : ℕ × TraceRow) → IsGiven held' held'' r r' row → (one : TraceRow) → Ok one ≡ at_line row.0 (ring_row row.1) → IsReadOn start held held'' r'
-    row_read_on row next one told = record {
+    pub row_read_on : (row : ℕ × TraceRow) → IsGiven held' held'' r r' row → IsReadOn start held held'' r'
+    row_read_on row next = record {
       headed = next.headed ∙ u.headed;
-      read = λ before first done read. row_more before first done row next one (taken row.0 (ring_row row.1) one told) (u.read before first done read);
+      read = λ before first done read. row_more before first done row next row.1 (as_taken row.1 row.1 refl) (u.read before first done read);
     }
-
-    -- a row by which a descriptor is withdrawn
-    pub untaken_read_on : (row : ℕ × TraceRow) → IsGiven held' held'' r r' row → (e : StreamFault) → Err e ≡ at_line row.0 (ring_row row.1) →
-        IfBadLine e (λ line fault. (before : Option (List ℕ)) (first : ℕ) (done : List TraceRow) → HasRead ring_row before held first done start → IsBadTaken ring_row before held'' line fault)
-    untaken_read_on row next e told =
-        let is = untaken row.0 (ring_row row.1) e told in
-        subst (λ (x : StreamFault). IfBadLine x (λ line fault. (before : Option (List ℕ)) (first : ℕ) (done : List TraceRow) → HasRead ring_row before held first done start → IsBadTaken ring_row before held'' line fault))
-        (sym is.1)
-        (λ before first done read.
-        let so = u.read before first done read in
-        row_read_refused ring_row before held' held'' first (done ++ so.0) r r' next.headed so.1 row is.0 is.2 next.on next.call)
 
     pub all_read_on : IsOver held' held'' r r' → (r.ended ≡ true → held'' ≡ held') →
         (before : Option (List ℕ)) (first : ℕ) (done : List TraceRow) → HasRead ring_row before held first done start →

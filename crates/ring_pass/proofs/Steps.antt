@@ -1,7 +1,8 @@
 -- A row more of a pass
 use Rattle.std.proofs.Common.{◌≡◌, ◌+◌, ◌++◌, ◌∷◌, ◌∙◌, ℕ, true, false, List, [], All, Option, Some, None, Result, Ok, Err, IfErr, suc, length, reverse, arith, refl, sym, ap, subst, inl, inr}
-use Rattle.safety.proofs.Words.{reverse-append, All-cons, All-head, All-nil, All-tail, Header, Known, Ring, IsHeader, DriverKeeps, learned, nothing}
-use Rattle.safety.proofs.DriverHistories.{kept_restored}
+use Rattle.safety.proofs.Words.{reverse-append, All-cons, All-head, All-nil, All-tail, Header, Known, Ring, IsHeader, DriverKeeps, nothing, on_ring}
+use Rattle.std.proofs.lemmas.Bool.{false≢true}
+use Rattle.safety.proofs.DriverHistories.{kept_driver}
 use Rattle.safety.proofs.Lenient.{lenient_row}
 use Rattle.safety.proofs.NothingKept.{nothing_kept}
 use Rattle.safety.proofs.TestsPassed.{clean_tests}
@@ -9,7 +10,7 @@ use Rattle.event_ring.specs.EventPlaceValue.{EventState}
 use Rattle.trb.specs.declared.ring_kind.RingKind.TheVariants.{Xfer}
 use Rattle.traces.specs.declared.row.Row.{Row}
 use Rattle.traces.specs.declared.trace_row.TraceRow.{TraceRow}
-use Rattle.traces.specs.declared.trace_row.TraceRow.TheVariants.{Plain, Comes, Goes}
+use Rattle.traces.specs.declared.trace_row.TraceRow.TheVariants.{Plain, Comes, Goes, Withdraws}
 use Rattle.ring_finder.specs.Finding.{IsFinder}
 use Rattle.ring_finder.proofs.HeaderRings.{id_below, shape_allowed}
 use Rattle.ring_finder.proofs.RingsApart.{IsAmong}
@@ -22,20 +23,28 @@ use Rattle.trace_record.specs.Steps as steps
 use Rattle.trace_record.specs.Steps.{IsLeast, IsRowStep}
 use Rattle.ownership_rules.specs.declared.refusal.Refusal.{Refusal}
 use Rattle.row_checks.specs.Tracking.{IsTracked}
+use Rattle.row_checks.proofs.Keeping.{contexts_fit}
+use Rattle.trace_record.specs.Premises.{ContextsFit}
 use Rattle.lease_rows.specs.LeftBehind.{EntriesFit}
 use Rattle.lease_rows.proofs.EntriesFit.{nothing_fits, row_fits, still_fit}
 use Rattle.ring_changes.specs.Changes.{IsComing, forgotten, is_bad_free, is_bad_ring, with_ring, without_ring}
 use Rattle.ring_changes.specs.Histories.{AreKept, FitsFields, header_now, known_now}
+use Rattle.ring_changes.specs.Withdrawals.{is_left, restored, restored_on, ring_restored, some_flips}
+use Rattle.ring_changes.proofs.Restored.{row_comes, row_keeps, stopped_still}
+use Rattle.ring_changes.proofs.Withdrawn.{withdraw_keeps}
 use Rattle.ring_changes.proofs.GoneRings.{gone_ring_kept}
 use Rattle.ring_changes.proofs.RingRuns.{comes_keeps}
 use Rattle.ring_changes.proofs.RingsHeadline.{rings_headline}
-use Rattle.ownership_rules.specs.declared.refusal.Refusal.TheVariants.{BadFree, BadRing}
+use Rattle.ownership_rules.specs.declared.refusal.Refusal.TheVariants.{BadFree, BadRing, BadWithdraw}
+use Rattle.ownership_rules.specs.Refusal.{first_of}
 use Rattle.ring_checks.specs.RingSteps.{IsRingStep}
+use Rattle.ring_checks.specs.Withdrawing.{withdraws_badly}
+use Rattle.ring_leases.proofs.NothingRestored.{restored_same}
 use Rattle.ring_pass.specs.Clean.{IsLeastOfRow}
-use Rattle.ring_pass.specs.Passing.{DoNoHarm, IsRingPassed}
+use Rattle.ring_pass.specs.Passing.{DoNoHarm, IsRingPassed, NothingFree}
 use Rattle.ring_pass.specs.declared.pass.RingPass.{RingPass}
 use Rattle.ring_pass.proofs.Broken.{least_broken, none_broken}
-use Rattle.ring_pass.proofs.Histories.{kept_now, known_plain, nothing_free_now}
+use Rattle.ring_pass.proofs.Histories.{comes_free, driver_same, flips_none_restored, goes_free, kept_now, no_rule_broken, nothing_free, plain_free, stands_where_restored}
 use Rattle.ring_pass.proofs.Verdicts.{reversed_twice}
 
 among_last : (r : Ring) (rs : List Ring) → IsAmong r (rs ++ r ∷ [])
@@ -74,9 +83,18 @@ refused_too (Ok x) P Q f so = tt
 refused_too (Err (variants.Refused c)) P Q f so = f c so
 refused_too (Err variants.Memory) P Q f so = tt
 
+pub told_of : (e : step.StepFault) (P Q : Refusal → Type 0) → ((c : Refusal) → P c → Q c) → steps.IfRefused e P → steps.IfRefused e Q
+told_of (variants.Refused c) P Q f so = f c so
+told_of variants.Memory P Q f so = tt
+
 forgotten_fits : (k : Known) (id : ℕ) → EntriesFit k → EntriesFit (forgotten k id)
 unfolding forgotten
 forgotten_fits k id fit = still_fit k (forgotten k id) refl (λ s d at. at) fit
+
+restored_fits : (h : Header) (k : Known) (o : Option ℕ) → EntriesFit k → EntriesFit (restored_on h k o)
+unfolding restored_on on_ring
+restored_fits h k None fit = fit
+restored_fits h k (Some r) fit = still_fit k (restored_on h k (Some r)) refl (λ s d at. at) fit
 
 module _ {B M : Type 0} (words : M → ℕ → ℕ) where
   pub before_rows : (pass : RingPass B M) → IsHeader pass.header → IsFinder pass.header.rings pass.finder → IsWithin pass.record.events 0 → FollowsTrace pass.header nothing pass.record (words pass.memory) →
@@ -90,6 +108,7 @@ module _ {B M : Type 0} (words : M → ℕ → ℕ) where
     tracked = record { follows = follows; keeps = λ on. nothing_kept pass.header is };
     entries = nothing_fits pass.header;
     clean = tt;
+    unwithdrawn = λ none. nothing_free;
   }
 
   module _ (h : Header) (past : List TraceRow) (before : RingPass B M) (p : IsRingPassed words h past before) where
@@ -106,15 +125,19 @@ module _ {B M : Type 0} (words : M → ℕ → ℕ) where
     pub headed_now : IsHeader g
     headed_now = subst IsHeader p.header p.headed
 
-    -- behind a row of the driver
-    pub plain_behind : (row : Row) (after : TraceRecord) (memory : ℕ → ℕ) → IsRowStep before.header k row after memory → IsWithin after.events (length past + 1) →
-        (later : RingPass B M) → later.header ≡ before.header → later.finder ≡ before.finder → later.record ≡ after → words later.memory ≡ memory → IsRingPassed words h (Plain row ∷ past) later
-    plain_behind row after memory step reads later header same is at =
-        let now : IsRowStep g k row after memory = subst (λ (x : Header). IsRowStep x k row after memory) p.header step in
-        let none = nothing_free_now h past p.clean in
-        let tracked : IsTracked g (learned g k row) after memory = record {
+    -- behind a row of the driver: what it starts or moves stood as declared
+    pub plain_behind : (row : Row) (after : TraceRecord) (memory : ℕ → ℕ) → is_left g k (ring_restored g k row) ≡ false → some_flips g (restored g k row) row ≡ false →
+        IsRowStep g (restored g k row) row after memory → IsWithin after.events (length past + 1) →
+        (later : RingPass B M) → later.header ≡ before.header → later.finder ≡ before.finder → later.record ≡ after → words later.memory ≡ memory →
+        (later.has_withdrawn ≡ false → NothingFree (known_now h (Plain row ∷ past))) → IsRingPassed words h (Plain row ∷ past) later
+    plain_behind row after memory stands flips now reads later header same is at none =
+        let clean = lenient_row g (restored g k row) row now.clean in
+        let on : k.stopped ≡ false = sym (stopped_still g k (ring_restored g k row)) ∙ (clean_tests g (restored g k row) row clean).0 in
+        let keeps = tracked_now.keeps on in
+        let keeps_restored : DriverKeeps g (restored g k row) = row_keeps g headed_now k keeps row stands in
+        let tracked : IsTracked g (known_now h (Plain row ∷ past)) after memory = record {
           follows = now.followed;
-          keeps = λ on. let clean = lenient_row g k row now.clean in kept_restored g headed_now k row (λ r driver. none r) (tracked_now.keeps (clean_tests g k row clean).0) clean on;
+          keeps = λ still. kept_driver g headed_now (restored g k row) row keeps_restored (row_comes g headed_now k keeps row clean flips) still;
         } in
         let number : length past + 1 ≡ length (Plain row ∷ past) = omega arith in
         record {
@@ -123,19 +146,40 @@ module _ {B M : Type 0} (words : M → ℕ → ℕ) where
           headed = subst IsHeader (sym header) p.headed;
           found = rw (header, same) p.found;
           few_reads = rw is (subst (IsWithin after.events) number reads);
-          tracked = rw (is, at) (subst (λ (x : Header). IsTracked x (known_now h (Plain row ∷ past)) after memory) (sym (header ∙ p.header))
-              (subst (λ (x : Known). IsTracked g x after memory) (sym (known_plain h row past p.clean)) tracked));
-          entries =
-              let clean = lenient_row g k row now.clean in
-              subst EntriesFit (sym (known_plain h row past p.clean)) (row_fits g headed_now k row (tracked_now.keeps (clean_tests g k row clean).0) clean p.entries);
-          clean = (p.clean, now.clean);
+          tracked = rw (is, at) (subst (λ (x : Header). IsTracked x (known_now h (Plain row ∷ past)) after memory) (sym (header ∙ p.header)) tracked);
+          entries = row_fits g headed_now (restored g k row) row keeps_restored clean (restored_fits g k (ring_restored g k row) p.entries);
+          clean = (p.clean, no_rule_broken g k row (record { on = on; stands = stands; flips = flips; clean = now.clean }));
+          unwithdrawn = none;
         }
+
+    -- the same where nothing was withdrawn
+    module _ (has_none : before.has_withdrawn ≡ false) where
+      pub none_now : NothingFree k
+      none_now = p.unwithdrawn has_none
+
+      pub quiet_behind : (row : Row) (after : TraceRecord) (memory : ℕ → ℕ) → IsRowStep before.header k row after memory → IsWithin after.events (length past + 1) →
+          (later : RingPass B M) → later.header ≡ before.header → later.finder ≡ before.finder → later.record ≡ after → words later.memory ≡ memory → IsRingPassed words h (Plain row ∷ past) later
+      quiet_behind row after memory step reads later header same is at =
+          let here : IsRowStep g k row after memory = subst (λ (x : Header). IsRowStep x k row after memory) p.header step in
+          plain_behind row after memory (stands_where_restored g k none_now row) (flips_none_restored g k none_now row)
+          (subst (λ (x : Known). IsRowStep g x row after memory) (sym (restored_same g k row none_now)) here) reads later header same is at (λ none. plain_free h past none_now row)
+
+      pub least_quiet : (row : Row) (c : Refusal) → IsLeast before.header k row c → IsLeastOfRow g k (Plain row) c
+      least_quiet row c least = ap first_of (driver_same g k none_now row) ∙ subst (λ (x : Header). IsLeast x k row c) p.header least
+
+    -- where the ring that a row starts or moves stands as declared, this holds what is known once that is the controller's again
+    pub restored_tracked : (row : Row) (o : Option ℕ) (after : TraceRecord) → o ≡ ring_restored before.header k row → k.stopped ≡ false → is_left before.header k (ring_restored before.header k row) ≡ false →
+        FollowsTrace before.header (restored_on before.header k o) after (words before.memory) → IsTracked before.header (restored before.header k row) after (words before.memory)
+    restored_tracked row o after is on stands follows = record {
+      follows = subst (λ (x : Option ℕ). FollowsTrace before.header (restored_on before.header k x) after (words before.memory)) is follows;
+      keeps = λ still. row_keeps before.header p.headed k (p.tracked.keeps on) row stands;
+    }
 
     -- behind a ring that comes
     pub comes_behind : (ring : Ring) (after : TraceRecord) → ring.shape.kind ≡ Xfer → (DriverKeeps before.header k → k.stopped ≡ false → IsRingStep before.header k (Comes ring) after (words before.memory)) →
         k.stopped ≡ false → IsWithin after.events (length past) → (later : RingPass B M) → later.header ≡ with_ring before.header ring → IsHeader later.header → IsFinder later.header.rings later.finder → later.record ≡ after →
-        words later.memory ≡ words before.memory → IsRingPassed words h (Comes ring ∷ past) later
-    comes_behind ring after kind stepped on reads later header is found recorded at =
+        words later.memory ≡ words before.memory → later.has_withdrawn ≡ before.has_withdrawn → IsRingPassed words h (Comes ring ∷ past) later
+    comes_behind ring after kind stepped on reads later header is found recorded at same =
         let keeps = tracked_now.keeps on in
         let now : IsRingStep g k (Comes ring) after (words before.memory) =
         subst (λ (x : Header). IsRingStep x k (Comes ring) after (words before.memory)) p.header (stepped (p.tracked.keeps on) on) in
@@ -151,13 +195,14 @@ module _ {B M : Type 0} (words : M → ℕ → ℕ) where
               (record { follows = now.followed; keeps = λ still. comes_keeps g headed_now ring coming k keeps now.kept.1 }));
           entries = forgotten_fits k _ p.entries;
           clean = (p.clean, none_broken k BadRing (is_bad_ring g k ring) now.kept);
+          unwithdrawn = λ none. comes_free h past (p.unwithdrawn (sym same ∙ none)) ring;
         }
 
     -- behind a ring that goes
     pub goes_behind : (id : ℕ) (after : TraceRecord) → (DriverKeeps before.header k → k.stopped ≡ false → IsRingStep before.header k (Goes id) after (words before.memory)) →
         k.stopped ≡ false → IsWithin after.events (length past) → (later : RingPass B M) → later.header ≡ without_ring before.header id → IsHeader later.header → IsFinder later.header.rings later.finder → later.record ≡ after →
-        words later.memory ≡ words before.memory → IsRingPassed words h (Goes id ∷ past) later
-    goes_behind id after stepped on reads later header is found recorded at =
+        words later.memory ≡ words before.memory → later.has_withdrawn ≡ before.has_withdrawn → IsRingPassed words h (Goes id ∷ past) later
+    goes_behind id after stepped on reads later header is found recorded at same =
         let keeps = tracked_now.keeps on in
         let now : IsRingStep g k (Goes id) after (words before.memory) =
         subst (λ (x : Header). IsRingStep x k (Goes id) after (words before.memory)) p.header (stepped (p.tracked.keeps on) on) in
@@ -172,12 +217,37 @@ module _ {B M : Type 0} (words : M → ℕ → ℕ) where
               (record { follows = now.followed; keeps = λ still. gone_ring_kept g headed_now k keeps id now.kept.1 }));
           entries = forgotten_fits k _ p.entries;
           clean = (p.clean, none_broken k BadFree (is_bad_free g k id) now.kept);
+          unwithdrawn = λ none. goes_free h past (p.unwithdrawn (sym same ∙ none)) id;
+        }
+
+    -- behind a descriptor that is withdrawn
+    pub withdrawn_behind : (r q : ℕ) (after : TraceRecord) → (DriverKeeps before.header k → k.stopped ≡ false → IsRingStep before.header k (Withdraws r q) after (words before.memory)) →
+        (DriverKeeps before.header k → withdraws_badly before.header k r q ≡ false) → k.stopped ≡ false → IsWithin after.events (length past) →
+        (later : RingPass B M) → later.header ≡ before.header → later.finder ≡ before.finder → later.record ≡ after → words later.memory ≡ words before.memory → later.has_withdrawn ≡ true →
+        IsRingPassed words h (Withdraws r q ∷ past) later
+    unfolding on_ring
+    withdrawn_behind r q after stepped good on reads later header same recorded at has =
+        let keeps = tracked_now.keeps on in
+        let keeps_before = p.tracked.keeps on in
+        let now : IsRingStep g k (Withdraws r q) after (words before.memory) =
+        subst (λ (x : Header). IsRingStep x k (Withdraws r q) after (words before.memory)) p.header (stepped keeps_before on) in
+        record {
+          opening = p.opening;
+          header = header ∙ p.header;
+          headed = subst IsHeader (sym header) p.headed;
+          found = rw (header, same) p.found;
+          few_reads = rw recorded (one_later after (length past) reads);
+          tracked = rw (recorded, at) (subst (λ (x : Header). IsTracked x (known_now h (Withdraws r q ∷ past)) after (words before.memory)) (sym (header ∙ p.header))
+              (record { follows = now.followed; keeps = λ still. withdraw_keeps g r q headed_now k keeps now.kept.1 }));
+          entries = still_fit k (known_now h (Withdraws r q ∷ past)) refl (λ s d at. at) p.entries;
+          clean = (p.clean, none_broken k BadWithdraw (withdraws_badly g k r q) (on, subst (λ (x : Header). withdraws_badly x k r q ≡ false) p.header (good keeps_before)));
+          unwithdrawn = λ none. absurd (false≢true (sym none ∙ has));
         }
 
     -- the log and the indexes tell nothing of this
     pub same_still : (later : RingPass B M) → later.header ≡ before.header → later.finder ≡ before.finder → later.record ≡ before.record → later.memory ≡ before.memory →
-        IsRingPassed words h past later
-    same_still later header finder known memory = rw (header, finder, known, memory) (record {
+        later.has_withdrawn ≡ before.has_withdrawn → IsRingPassed words h past later
+    same_still later header finder known memory withdrawn = rw (header, finder, known, memory, withdrawn) (record {
       opening = p.opening;
       header = p.header;
       headed = p.headed;
@@ -186,10 +256,8 @@ module _ {B M : Type 0} (words : M → ℕ → ℕ) where
       tracked = p.tracked;
       entries = p.entries;
       clean = p.clean;
+      unwithdrawn = p.unwithdrawn;
     })
-
-    pub least_now : (row : Row) (c : Refusal) → IsLeast before.header k row c → IsLeastOfRow g k (Plain row) c
-    least_now row c least = subst (λ (x : Header). IsLeast x k row c) p.header least
 
     -- no run beside the rows, in their order, does harm
     pub no_harm : All FitsFields past → DoNoHarm h (reverse past)
@@ -219,3 +287,19 @@ module _ {B M : Type 0} (words : M → ℕ → ℕ) where
       subst (λ (x : Refusal). IsLeastOfRow g k (Goes id) x) (sym bad.0)
       (least_broken k BadFree (is_bad_free g k id) on (subst (λ (x : Header). is_bad_free x k id ≡ true) q.header (bad.1 k (words later.memory) q.tracked.follows (q.tracked.keeps on))))
   goes_refused before later id still variants.Memory bad = tt
+
+  -- a descriptor that is refused
+  pub withdrawn_refused : (before later : RingPass B M) (r q : ℕ) → ((h : Header) (past : List TraceRow) → IsRingPassed words h past before → IsRingPassed words h past later × ((known_now h past).stopped ≡ false)) →
+      (e : step.StepFault) →
+      steps.IfRefused e (λ c. (c ≡ BadWithdraw) × ((k : Known) → FollowsTrace later.header k later.record (words later.memory) → DriverKeeps later.header k → ContextsFit later.header k → withdraws_badly later.header k r q ≡ true)) →
+      steps.IfRefused e (λ c. (h : Header) (past : List TraceRow) → IsRingPassed words h past before → IsLeastOfRow (header_now h past) (known_now h past) (Withdraws r q) c)
+  withdrawn_refused before later r q still (variants.Refused c) bad = λ h past p.
+      let g = header_now h past in
+      let k = known_now h past in
+      let l = (still h past p).0 in
+      let on = (still h past p).1 in
+      let keeps = l.tracked.keeps on in
+      subst (λ (x : Refusal). IsLeastOfRow g k (Withdraws r q) x) (sym bad.0)
+      (least_broken k BadWithdraw (withdraws_badly g k r q) on
+      (subst (λ (x : Header). withdraws_badly x k r q ≡ true) l.header (bad.1 k l.tracked.follows keeps (contexts_fit later.header k keeps))))
+  withdrawn_refused before later r q still variants.Memory bad = tt

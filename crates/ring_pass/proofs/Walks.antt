@@ -10,26 +10,28 @@ use Rattle.traces.specs.declared.row.Row.{Row}
 use Rattle.traces.specs.declared.trace_row.TraceRow.{TraceRow}
 use Rattle.traces.specs.declared.trace_row.TraceRow.TheVariants.{Plain, Comes, Goes, Withdraws}
 use Rattle.traces.specs.Header.{is_driver_kind, shape_of}
-use Rattle.safety.proofs.Words.{All-head, All-tail, Header, IsHeader, Known, learned}
+use Rattle.safety.proofs.Words.{All-head, All-tail, Header, IsHeader, Known}
+use Rattle.safety.specs.Keeps.{DriverKeeps}
 use Rattle.safety.specs.RingsKeep.{RingsKeep}
 use Rattle.safety.proofs.DriverRings.{rings_of, endpoints_of}
 use Rattle.safety.proofs.DriverRows.{nothing_keeps}
 use Rattle.safety.proofs.Histories.{row_keeps}
 use Rattle.safety.proofs.KeptRings.{still_of}
 use Rattle.safety.proofs.Lenient.{lenient_row}
-use Rattle.safety.proofs.NothingFree.{restoring_where_restored}
 use Rattle.safety.proofs.RingsOfHeader.{HasRing, has_ring, shape_allowed}
 use Rattle.safety.proofs.StillPlacing.{still_reads}
-use Rattle.safety.proofs.TestsPassed.{clean_tests}
 use Rattle.ownership_rules.specs.declared.refusal.Refusal.TheVariants.{BadFree, BadRing, BadWithdraw}
 use Rattle.ring_knowledge.specs.Rings.{on_ring}
 use Rattle.ring_changes.specs.Changes.{forgotten, is_bad_free, is_bad_ring}
 use Rattle.ring_changes.specs.Histories.{FitsFields, header_now, known_now}
+use Rattle.ring_changes.specs.Withdrawals.{restored}
+use Rattle.ring_changes.proofs.Restored.{row_comes, row_keeps as restored_keeps}
 use Rattle.ring_changes.proofs.RingsHeadline.{now_keeps}
+use Rattle.ring_checks.specs.Withdrawing.{withdraws_badly}
 use Rattle.ring_pass.specs.Accepted.{WalksRead}
 use Rattle.ring_pass.specs.Clean.{AreClean}
 use Rattle.ring_pass.proofs.Broken.{breaks_none}
-use Rattle.ring_pass.proofs.Histories.{kept_now, known_plain, nothing_free_now}
+use Rattle.ring_pass.proofs.Histories.{breaks_no_rule, kept_now}
 use Rattle.ring_pass.proofs.Verdicts.{reversed_twice}
 
 module _ (h : Header) (is : IsHeader h) where
@@ -49,20 +51,22 @@ module _ (h : Header) (is : IsHeader h) where
   all_kept (Plain row ∷ past) fit clean =
       let g : Header = header_now h past in
       let k : Known = known_now h past in
-      let may = lenient_row g k row clean.1 in
-      let p = now_keeps h is past (All-tail FitsFields (Plain row) past fit) (kept_now h past clean.0) (clean_tests g k row may).0 in
-      let none = nothing_free_now h past clean.0 in
-      let endpoints = endpoints_of g k p.keeps.states in
-      let rings = rings_of g k p.keeps in
+      let c = breaks_no_rule g k row clean.1 in
+      let p = now_keeps h is past (All-tail FitsFields (Plain row) past fit) (kept_now h past clean.0) c.on in
+      let may = lenient_row g (restored g k row) row c.clean in
+      let keeps : DriverKeeps g (restored g k row) = restored_keeps g p.headed k p.keeps row c.stands in
+      let endpoints = endpoints_of g (restored g k row) keeps.states in
+      let rings = rings_of g (restored g k row) keeps in
       record {
         headed = p.headed;
-        rings = subst (λ (x : Known). RingsKeep g x) (sym (known_plain h row past clean.0))
-            (row_keeps g p.headed k row rings endpoints p.keeps.commands_stay (may, restoring_where_restored g p.headed k row endpoints (λ r driver. none r)) (still_reads g p.headed k row rings endpoints (still_of g p.headed k row p.keeps may)));
+        rings =
+            row_keeps g p.headed (restored g k row) row rings endpoints keeps.commands_stay (row_comes g p.headed k p.keeps row may c.flips)
+            (still_reads g p.headed (restored g k row) row rings endpoints (still_of g p.headed (restored g k row) row keeps may));
       }
   all_kept (Comes ring ∷ past) fit clean =
       of_rows (Comes ring ∷ past) fit clean (breaks_none (known_now h past) BadRing (is_bad_ring (header_now h past) (known_now h past) ring) clean.1).0
   all_kept (Goes id ∷ past) fit clean = of_rows (Goes id ∷ past) fit clean (breaks_none (known_now h past) BadFree (is_bad_free (header_now h past) (known_now h past) id) clean.1).0
-  all_kept (Withdraws r p ∷ past) fit clean = of_rows (Withdraws r p ∷ past) fit clean (breaks_none (known_now h past) BadWithdraw true clean.1).0
+  all_kept (Withdraws r p ∷ past) fit clean = of_rows (Withdraws r p ∷ past) fit clean (breaks_none (known_now h past) BadWithdraw (withdraws_badly (header_now h past) (known_now h past) r p) clean.1).0
 
   earlier_clean : (xs ys : List TraceRow) → AreClean h (xs ++ ys) → AreClean h ys
   earlier_clean [] ys clean = clean
@@ -79,7 +83,7 @@ no_event_ring : (kind : RingKind) → is_driver_kind kind ≡ true → kind ≡ 
 no_event_ring kind driver same = false≢true (sym (ap is_driver_kind same) ∙ driver)
 
 pub walks : (h : Header) → IsHeader h → (past : List TraceRow) → All FitsFields past → AreClean h past → WalksRead h (reverse past)
-walks h is past fit clean done r within driver =
+walks h is past fit clean done r within driver restored =
     let rows : List TraceRow = reverse past in
     let there : List TraceRow = reverse (take done rows) in
     let parts : past ≡ reverse (drop done rows) ++ there = sym (reversed_twice past) ∙ split rows done in
@@ -88,4 +92,4 @@ walks h is past fit clean done r within driver =
     let g = header_now h there in
     let has : HasRing g r = has_ring g r driver in
     walk_reads (shape_of g r) (shape_allowed g kept.headed r driver) (no_event_ring (shape_of g r).kind (ap (λ s. is_driver_kind s.kind) has.shape ∙ has.driver))
-    (known_now h there).memory ((known_now h there).ring r) (kept.rings r driver) (nothing_free_now h there was_clean r)
+    (known_now h there).memory ((known_now h there).ring r) (kept.rings r driver) restored

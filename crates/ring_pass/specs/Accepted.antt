@@ -1,5 +1,6 @@
--- What an accepted trace is, between the rows of which rings may come and go
+-- What an accepted trace is, between the rows of which rings may come and go, and descriptors be withdrawn
 use Rattle.std.specs.Prelude.{◌≡◌, ◌≤◌, ℕ, Bool, true, false, List, None, length, map, reverse, take}
+use Rattle.segments.specs.RingKeeps.{IsRestored}
 use Rattle.segments.specs.Walk.{WalkReads}
 use Rattle.traces.specs.declared.header.Header.{Header}
 use Rattle.traces.specs.declared.trace_row.TraceRow.{TraceRow}
@@ -17,11 +18,13 @@ use Rattle.ring_pass.specs.Rules.{ring_verdict}
 abbrev pub leases_of : Header → ℕ → List TraceRow → List Lease
 leases_of h first rows = map lease_of (ring_lents h first (reverse rows))
 
--- behind any number of rows, of each command and transfer ring that is there then: the walk through memory from the floor's spot reads whole
--- descriptors as they were declared, up to one border, and waits there; it reads no Link that wasn't given, and nothing outside the ring
+-- behind any number of rows, of each command and transfer ring that is there then, and of which nothing that was withdrawn is the driver's still:
+-- the walk through memory from the floor's spot reads whole descriptors as they were declared, up to one border, and waits there; it reads no
+-- Link that wasn't given, and nothing outside the ring
 abbrev pub WalksRead : Header → List TraceRow → Type 0
 WalksRead h rows =
     (done r : ℕ) → done ≤ length rows → IsDriverRing (header_now h (reverse (take done rows))) r →
+    IsRestored ((known_now h (reverse (take done rows))).ring r) →
     WalkReads (shape_of (header_now h (reverse (take done rows))) r) (known_now h (reverse (take done rows))).memory ((known_now h (reverse (take done rows))).ring r)
 
 -- a trace is accepted with these leases: no row breaks a rule, and they are its leases

@@ -1,11 +1,13 @@
--- How far a pass has come over rows between which rings come and go, and what that comes to
-use Rattle.std.specs.Prelude.{◌≡◌, ℕ, List, All, Some, length}
+-- How far a pass has come over rows between which rings come and go, and descriptors are withdrawn, and what that comes to
+use Rattle.std.specs.Prelude.{◌≡◌, ℕ, false, List, All, Some, length}
+use Rattle.segments.specs.RingKeeps.{IsRestored}
 use Rattle.traces.specs.declared.header.Header.{Header}
 use Rattle.traces.specs.declared.step.Step.{Step}
 use Rattle.traces.specs.declared.trace_row.TraceRow.{TraceRow}
 use Rattle.traces.specs.Header.{IsHeader}
 use Rattle.traces.specs.Rows.{IsStep}
 use Rattle.world_state.specs.Harms.{IsSafe}
+use Rattle.ring_knowledge.specs.Known.{Known}
 use Rattle.ring_finder.specs.Finding.{IsFinder}
 use Rattle.ring_changes.specs.Histories.{Scene, header_now, known_now, scene_reached}
 use Rattle.trace_record.specs.Fresh.{IsWithin}
@@ -16,6 +18,10 @@ use Rattle.lease_rows.specs.LeftBehind.{EntriesFit}
 use Rattle.ring_leases.specs.RingLents.{ring_lents}
 use Rattle.ring_pass.specs.Clean.{AreClean}
 use Rattle.ring_pass.specs.declared.pass.RingPass.{RingPass}
+
+-- of no ring is anything the driver's that was handed over
+abbrev pub NothingFree : Known → Type 0
+NothingFree k = (r : ℕ) → IsRestored (k.ring r)
 
 -- the rows so far, the newest first, break no rule; the header is that of the rings that are there behind them, and the record and the
 -- memory hold what is known then; `h` is the header before the first
@@ -28,6 +34,7 @@ pub record IsRingPassed {B M : Type 0} (words : M → ℕ → ℕ) (h : Header) 
   pub tracked : IsTracked pass.header (known_now h past) pass.record (words pass.memory)
   pub entries : EntriesFit (known_now h past)
   pub clean : AreClean h past
+  pub unwithdrawn : pass.has_withdrawn ≡ false → NothingFree (known_now h past)
 
 -- the log keeps the leases of the rows so far, the newest first, and the indexes find the ranges among them; `first` is the number of the
 -- oldest row

@@ -1,4 +1,4 @@
--- What a pass over the rows of a trace comes to, between which rings come and go
+-- What a pass over the rows of a trace comes to, between which rings come and go, and descriptors are withdrawn
 use Rattle.std.specs.Prelude.{◌≡◌, ℕ, List, [], Option, None, Ok, reverse}
 use Rattle.traces.specs.declared.header.Header.{Header}
 use Rattle.traces.specs.declared.trace_row.TraceRow.{TraceRow}
@@ -18,11 +18,11 @@ use Rattle.ring_pass.specs.Rules.{ring_verdict}
 use Rattle.ring_pass.specs.declared.reading.Passed.{Passed}
 use Rattle.ring_pass.specs.declared.reading.Passed.TheVariants.{Whole, Refused}
 
--- so it is of a trace that this text says, in which no descriptor is withdrawn
+-- so it is of a trace that this text says
 abbrev pub OfTrace : Option (List ℕ) → Option (List ℕ) → (TraceText → Type 0) → Type 0
 OfTrace held held' P = (trace : TraceText) × OfStream held held' (λ text. text_taken ring_row text ≡ Ok trace) × P trace
 
--- this is the first bad line of this text, and its least fault; a row by which a descriptor is withdrawn is one
+-- this is the first bad line of this text, and its least fault
 abbrev pub IsBadLine : Option (List ℕ) → Option (List ℕ) → ℕ → LineFault → Type 0
 IsBadLine held held' line fault = IsBadTaken ring_row held held' line fault
 

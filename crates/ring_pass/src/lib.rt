@@ -1,5 +1,5 @@
-//! A pass over rows between which rings come and go, as they are read: each is checked, and the leases that begin and end with it are told to
-//! a log.
+//! A pass over rows between which rings come and go, and descriptors are withdrawn, as they are read: each is checked, and the leases that
+//! begin and end with it are told to a log.
 #![tactic(auto)]
 
 mod headers;

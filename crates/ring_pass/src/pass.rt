@@ -1,10 +1,11 @@
-ghost use Rattle.std.specs.Prelude.{◌≡◌, ◌+◌, ◌<◌, ◌≤◌, ℕ, true, [], ◌∷◌, List, All, length, map, reverse, IfErr, IfOk, OnOk};
+//! A pass over rows between which rings come and go, and descriptors are withdrawn.
+ghost use Rattle.std.specs.Prelude.{◌≡◌, ◌+◌, ◌<◌, ◌≤◌, ℕ, true, false, [], ◌∷◌, List, All, length, map, reverse, IfErr, IfOk, OnOk};
 ghost use Rattle.trb.specs.declared.ring_kind.RingKind.TheVariants.{Xfer};
 ghost use Rattle.traces.specs.Header.{IsHeader};
 ghost use Rattle.traces.specs.Limits.{most_lines};
 ghost use Rattle.traces.specs.declared.header.Header.{Header};
 ghost use Rattle.traces.specs.declared.trace_row.TraceRow.{TraceRow};
-ghost use Rattle.traces.specs.declared.trace_row.TraceRow.TheVariants.{Plain, Comes, Goes, Withdraws};
+ghost use Rattle.traces.specs.declared.trace_row.TraceRow.TheVariants.{Plain, Comes, Goes};
 ghost use Rattle.traces.specs.Header.{ring_with};
 ghost use Rattle.ring_knowledge.specs.declared.lease.Lease.{Lease};
 ghost use Rattle.ring_knowledge.specs.Known.{Known};
@@ -21,6 +22,8 @@ ghost use Rattle.trace_record.specs.WordPlaces.{IsOwnedSo, IsPlaced};
 ghost use Rattle.ring_pass.specs.Clean.{IsLeastOfRow};
 ghost use Rattle.ring_pass.specs.Passing.{DoNoHarm, IsRingLogged, IsRingPassed};
 
+mod withdrawals;
+
 use guest_memory::WordMemory;
 use lease_book::{LeaseLog, RangeIndexes};
 use lease_rows::note_row;
@@ -31,7 +34,7 @@ use ring_leases::note_going;
 use row_checks::check_row;
 use std::alloc::{AllocError, Global};
 use trace_record::{StepFault, TraceRecord, WordPlace};
-use traces::{Header, Ring, Row, TraceRow};
+use traces::{Header, Ring, Row};
 
 /// Where the word of a row lies that writes none.
 const NOWHERE: WordPlace = WordPlace {
@@ -50,6 +53,8 @@ pub struct RingPass<B, M> {
     memory: M,
     log: B,
     ranges: RangeIndexes,
+    /// Whether a descriptor was withdrawn: else nothing that was handed over is the driver's.
+    has_withdrawn: bool,
 }
 
 impl<B: LeaseLog + Drop, M: WordMemory + Drop> RingPass<B, M> {
@@ -75,38 +80,8 @@ impl<B: LeaseLog + Drop, M: WordMemory + Drop> RingPass<B, M> {
             memory,
             log,
             ranges: RangeIndexes::new(alloc),
+            has_withdrawn: false,
         })
-    }
-
-    /// Checks a row, and notes it and its leases. Descriptors aren't withdrawn here: a row that does breaks a rule.
-    #[inline(always)]
-    pub fn row(&mut self, number: u32, row: TraceRow) -> Result<(), StepFault>
-        requires so_far { (h : Header) × (past : List TraceRow) × IsRingPassed M.words h past self.old × (length past ≤ most_lines) }
-        requires fits { FitsFields row }
-        ensures passed { OnOk result ((h : Header) (past : List TraceRow) → IsRingPassed M.words h past self.old → IsRingPassed M.words h (row ∷ past) self.new) }
-        ensures logged { OnOk result ((list : List Lease) (h : Header) (first : ℕ) (past : List TraceRow) → IsRingPassed M.words h past self.old →
-            number ≡ first + length past → first + length past < without_end →
-            IsRingLogged (B.holds list) h first past self.old → IsRingLogged (B.holds list) h first (row ∷ past) self.new) }
-        ensures refused { IfErr result (λ e. IfRefused e (λ c. (h : Header) (past : List TraceRow) → IsRingPassed M.words h past self.old →
-            IsLeastOfRow (header_now h past) (known_now h past) row c)) }
-    {
-        match row {
-            TraceRow::Plain(row) => self.driver_row(number, &row),
-            TraceRow::Comes(ring) => self.ring_comes(ring.into_ring()),
-            TraceRow::Goes(id) => self.ring_goes(number, id),
-            TraceRow::Withdraws { .. } => Err(StepFault::Refused(self.withdrawal())),
-        }
-    }
-
-    /// The rule that a row breaks by which a descriptor is withdrawn.
-    fn withdrawal(&self) -> Refusal
-        ensures { (h : Header) (past : List TraceRow) (ring position : ℕ) → IsRingPassed M.words h past self.now →
-            IsLeastOfRow (header_now h past) (known_now h past) (Withdraws ring position) result }
-    {
-        if self.record.registers.is_stopped() {
-            return Refusal::AfterStop;
-        }
-        Refusal::BadWithdraw
     }
 
     /// Checks what the driver did, or an event that it read, and notes it and its leases.
@@ -120,6 +95,9 @@ impl<B: LeaseLog + Drop, M: WordMemory + Drop> RingPass<B, M> {
         ensures refused { IfErr result (λ e. IfRefused e (λ c. (h : Header) (past : List TraceRow) → IsRingPassed M.words h past self.old →
             IsLeastOfRow (header_now h past) (known_now h past) (Plain row.now) c)) }
     {
+        if self.has_withdrawn {
+            return self.row_behind_withdrawals(number, row);
+        }
         match row {
             Row::Write { .. } => {
                 let place = self.record.place(&self.header, &self.finder, row);
@@ -130,7 +108,8 @@ impl<B: LeaseLog + Drop, M: WordMemory + Drop> RingPass<B, M> {
         }
     }
 
-    /// The same of a row whose word lies here, and is the controller's or not. It goes inline for writes and for other rows each by itself.
+    /// The same of a row whose word lies here, and is the controller's or not, where nothing was withdrawn. It goes inline for writes and for
+    /// other rows each by itself.
     #[inline(always)]
     fn placed_row(
         &mut self,
@@ -139,6 +118,7 @@ impl<B: LeaseLog + Drop, M: WordMemory + Drop> RingPass<B, M> {
         place: WordPlace,
         owned: bool,
     ) -> Result<(), StepFault>
+        requires unwithdrawn { self.old.has_withdrawn ≡ false }
         requires so_far { (h : Header) × (past : List TraceRow) × IsRingPassed M.words h past self.old × (length past ≤ most_lines) }
         ensures passed { OnOk result ((h : Header) (past : List TraceRow) → IsRingPassed M.words h past self.old → IsPlaced self.old.header (known_now h past) row.now place →
             IsOwnedSo self.old.header (known_now h past) row.now owned → IsRingPassed M.words h (Plain row.now ∷ past) self.new) }
@@ -232,6 +212,7 @@ impl<B: LeaseLog + Drop, M: WordMemory + Drop> RingPass<B, M> {
         ensures record { self.new.record ≡ self.old.record }
         ensures memory { self.new.memory ≡ self.old.memory }
         ensures ranges { self.new.ranges ≡ self.old.ranges }
+        ensures withdrawn { self.new.has_withdrawn ≡ self.old.has_withdrawn }
         ensures ended { (list : List Lease) (k : Known) (memory : ℕ → ℕ) (ts : List Lent) → FollowsTrace self.old.header k self.old.record memory →
             is_transfer_ring (ring_with self.old.header id) ≡ true → AreOpen self.old.header k ts → B.holds list self.old.header ts self.old.log →
             B.holds list self.old.header (map (ended_where (is_of_ring id) number) ts) self.new.log }

@@ -4,12 +4,10 @@ ghost use Rattle.traces.specs.declared.trace_row.TraceRow.{TraceRow};
 ghost use Rattle.ring_knowledge.specs.declared.lease.Lease.{Lease};
 ghost use Rattle.row_reader.specs.Answers.{told_failures};
 ghost use Rattle.row_reader.specs.ReaderState.{IsOpened};
-ghost use Rattle.trace_reader.specs.declared.fault.LineFault.TheVariants.{Row as BadRow};
-ghost use Rattle.row_reader.specs.declared.fault.StreamFault.TheVariants.{Line};
 ghost use Rattle.row_reader.specs.Streams.{HasRead, IfBadLine, OfStream};
 ghost use Rattle.trace_reader.specs.DriverRows.{text_taken};
 ghost use Rattle.ring_pass.specs.Reading.{Begins, IfRefusedRow, IfWhole, IsBadLine, IsWholeLog, OfTrace, with_rows};
-ghost use Rattle.ring_pass.specs.RingRows.{at_line, ring_row};
+ghost use Rattle.ring_pass.specs.RingRows.{ring_row};
 ghost use Rattle.ring_pass.specs.Rules.{ring_verdict};
 
 use crate::headers::copy_header;
@@ -19,7 +17,6 @@ use lease_book::LeaseLog;
 use ownership_rules::Refusal;
 use row_reader::{RowReader, Source, StreamFault};
 use std::alloc::Global;
-use trace_reader::LineFault;
 use trace_record::StepFault;
 use traces::TraceRow;
 
@@ -32,9 +29,8 @@ pub enum Passed<B> {
     Refused { row: u32, refusal: Refusal },
 }
 
-/// Checks the rows of a trace in one pass as they are read, none of which was read yet; rings may come and go between them. Behind a
-/// refused row it reads on: a bad line later is told in place of the refusal. A row by which a descriptor is withdrawn is a bad line. The
-/// memory is all zero.
+/// Checks the rows of a trace in one pass as they are read, none of which was read yet; rings may come and go between them, and descriptors
+/// be withdrawn. Behind a refused row it reads on: a bad line later is told in place of the refusal. The memory is all zero.
 pub fn pass_rows<S: Source, B: LeaseLog + Drop, M: WordMemory + Drop>(
     alloc: Global,
     reader: RowReader,
@@ -68,7 +64,12 @@ pub fn pass_rows<S: Source, B: LeaseLog + Drop, M: WordMemory + Drop>(
                 Ok(()) => {}
                 Err(fault) => return ended_at(&mut reader, source, number, fault),
             },
-            TraceRow::Withdraws { .. } => return Err(bad_row(number)),
+            TraceRow::Withdraws { ring, position } => {
+                match pass.descriptor_withdrawn(number, ring, position) {
+                    Ok(()) => {}
+                    Err(fault) => return ended_at(&mut reader, source, number, fault),
+                }
+            }
         }
     }
     Ok(Passed::Whole(pass.into_log()))
@@ -110,30 +111,8 @@ fn read_on<S: Source>(reader: &mut RowReader, source: &mut S) -> Result<(), Stre
         IsBadLine held (S.held source.new) line fault)) }
     ensures failures { S.failed source.new ≡ told_failures (S.failed source.old) result }
 {
-    while let Some((number, row)) = reader.next_row(source)? {
-        drop(ring_row_at(number, row)?);
+    while let Some(next) = reader.next_row(source)? {
+        drop(next);
     }
     Ok(())
-}
-
-/// The row, if it withdraws no descriptor; else the line with this number is bad.
-fn ring_row_at(number: u32, row: TraceRow) -> Result<TraceRow, StreamFault>
-    ensures { result ≡ at_line number (ring_row row) }
-{
-    match row {
-        TraceRow::Withdraws { .. } => Err(bad_row(number)),
-        TraceRow::Plain(row) => Ok(TraceRow::Plain(row)),
-        TraceRow::Comes(ring) => Ok(TraceRow::Comes(ring)),
-        TraceRow::Goes(id) => Ok(TraceRow::Goes(id)),
-    }
-}
-
-/// The line with this number is bad: a descriptor is withdrawn there.
-fn bad_row(number: u32) -> StreamFault
-    ensures { result ≡ Line number BadRow }
-{
-    StreamFault::Line {
-        line: number,
-        fault: LineFault::Row,
-    }
 }

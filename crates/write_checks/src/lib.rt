@@ -9,4 +9,5 @@ mod plain;
 mod positions;
 
 pub use checks::check_write;
+pub use given_commands::given_command;
 pub use plain::plain_refusal;

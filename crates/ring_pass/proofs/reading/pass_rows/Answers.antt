@@ -3,7 +3,7 @@ use Rattle.std.proofs.lemmas.Result.{err_from_is_err_and}
 use Rattle.traces.specs.declared.header.Header.{Header}
 use Rattle.traces.specs.declared.ring.Ring.{Ring}
 use Rattle.traces.specs.declared.trace_row.TraceRow.{TraceRow}
-use Rattle.traces.specs.declared.trace_row.TraceRow.TheVariants.{Plain, Comes, Goes}
+use Rattle.traces.specs.declared.trace_row.TraceRow.TheVariants.{Plain, Comes, Goes, Withdraws}
 use Rattle.row_reader.specs.declared.fault.StreamFault.{StreamFault}
 use Rattle.trace_record.specs.declared.fault.StepFault.{StepFault}
 use Rattle.trace_record.specs.Steps.{IfRefused}
@@ -11,9 +11,8 @@ use Rattle.ring_changes.specs.Histories.{header_now, known_now}
 use Rattle.ring_pass.specs.Clean.{IsLeastOfRow}
 use Rattle.ring_pass.specs.Passing.{IsRingLogged, IsRingPassed}
 use Rattle.ring_pass.specs.Reading.{OfTrace}
-use Rattle.ring_pass.specs.RingRows.{at_line, ring_row}
 use Rattle.ring_pass.specs.Rules.{ring_verdict}
-use Rattle.ring_pass.proofs.RowsRead.{bad_behind, bad_so, ended, ended_bad, ended_refused, fewer_left, fits_so, given, refused_so, row_passed, underway, untaken_so, whole_so}
+use Rattle.ring_pass.proofs.RowsRead.{bad_behind, bad_so, ended, ended_bad, ended_refused, fewer_left, fits_so, given, refused_so, row_passed, underway, whole_so}
 use Rattle.ring_pass.proofs.reading.pass_rows.Goals as goal
 
 pub loop-pass-init : goal.loop-pass-init
@@ -57,22 +56,8 @@ ring_comes-requires-clause-transfers g c =
     let r' = c.next_row.new.self in
     let row : ℕ × TraceRow = (c.in-Some.number, c.in-Some.row) in
     let next = given held' held'' r r' row c.in-Some.is c.in_ok-number.ensures.header c.in_ok-number.ensures.over c.in_ok-number.ensures.answer in
-    let told : Ok (Comes c.in-Comes.ring) ≡ at_line row.0 (ring_row row.1) = sym (ap (λ o. at_line row.0 (ring_row o)) c.in-Comes.is) in
+    let told : row.1 ≡ Comes c.in-Comes.ring = c.in-Comes.is in
     ap (λ (q : Ring). q.shape.kind) c.into_ring.ensures ∙ (fits_so words holds c.args.reader held c.args.log held' held'' r r' c.loop-pass.pass c.loop-pass.invariant.0 row next (Comes c.in-Comes.ring) told).kind
-
-pub returns-in-Withdraws-clause-line : goal.returns-in-Withdraws-clause-line
-returns-in-Withdraws-clause-line g c =
-    let words = g.M.WordMemory.words in
-    let holds = g.B.LeaseLog.holds in
-    let held = g.S.Source.held c.args.source.now in
-    let held' = g.S.Source.held c.loop-pass.source in
-    let held'' = g.S.Source.held c.next_row.new.source in
-    let r = c.loop-pass.reader in
-    let r' = c.next_row.new.self in
-    let row : ℕ × TraceRow = (c.in-Some.number, c.in-Some.row) in
-    let next = given held' held'' r r' row c.in-Some.is c.in_ok-number.ensures.header c.in_ok-number.ensures.over c.in_ok-number.ensures.answer in
-    untaken_so words holds c.args.reader held c.args.log held' held'' r r' c.loop-pass.pass c.loop-pass.invariant.0 row next c.bad_row.result
-    (ap (λ (e : StreamFault). Err e) c.bad_row.ensures ∙ sym (ap (λ o. at_line row.0 (ring_row o)) c.in-Withdraws.is))
 
 pub loop-pass-smaller-in-Ok : goal.loop-pass-smaller-in-Ok
 loop-pass-smaller-in-Ok g c =
@@ -96,7 +81,7 @@ loop-pass-preserved-in-Ok g c =
     let row : ℕ × TraceRow = (c.in-Some.number, c.in-Some.row) in
     let next = given held' held'' r r' row c.in-Some.is c.in_ok-number.ensures.header c.in_ok-number.ensures.over c.in_ok-number.ensures.answer in
     let one : TraceRow = Plain c.in-Plain.row in
-    let told : Ok one ≡ at_line row.0 (ring_row row.1) = sym (ap (λ o. at_line row.0 (ring_row o)) c.in-Plain.is) in (
+    let told : row.1 ≡ one = c.in-Plain.is in (
       row_passed words holds c.args.reader held c.args.log held' held'' r r' c.loop-pass.pass c.loop-pass.invariant.0 row next one told c.driver_row.new.self c.in-Ok.ensures.passed c.in-Ok.ensures.logged,
       c.in_ok-number.ensures.failures ∙ c.loop-pass.invariant.1,
     )
@@ -113,7 +98,7 @@ returns-in-Err-clause-refused g c =
     let row : ℕ × TraceRow = (c.in-Some.number, c.in-Some.row) in
     let next = given held' held'' r r' row c.in-Some.is c.in_ok-number.ensures.header c.in_ok-number.ensures.over c.in_ok-number.ensures.answer in
     let one : TraceRow = Plain c.in-Plain.row in
-    let told : Ok one ≡ at_line row.0 (ring_row row.1) = sym (ap (λ o. at_line row.0 (ring_row o)) c.in-Plain.is) in
+    let told : row.1 ≡ one = c.in-Plain.is in
     let last = g.S.Source.held c.ended_at.new.source in
     ended_refused c.ended_at.result _ _ (λ number x so before opened.
     let least = subst (λ (e : StepFault). IfRefused e (λ y. (h : Header) (past : List TraceRow) → IsRingPassed words h past c.loop-pass.pass → IsLeastOfRow (header_now h past) (known_now h past) one y)) so.1 c.in-Err.ensures.refused in
@@ -132,7 +117,7 @@ returns-in-Err-clause-line g c =
     let row : ℕ × TraceRow = (c.in-Some.number, c.in-Some.row) in
     let next = given held' held'' r r' row c.in-Some.is c.in_ok-number.ensures.header c.in_ok-number.ensures.over c.in_ok-number.ensures.answer in
     let one : TraceRow = Plain c.in-Plain.row in
-    let told : Ok one ≡ at_line row.0 (ring_row row.1) = sym (ap (λ o. at_line row.0 (ring_row o)) c.in-Plain.is) in
+    let told : row.1 ≡ one = c.in-Plain.is in
     let last = g.S.Source.held c.ended_at.new.source in
     ended_bad c.ended_at.result _ _ (λ e so. bad_behind words holds c.args.reader held c.args.log held' held'' r r' c.loop-pass.pass c.loop-pass.invariant.0 row next one told last e so) c.ended_at.ensures.line
 
@@ -158,7 +143,7 @@ loop-pass-preserved-in-Ok-ring_comes g c =
     let row : ℕ × TraceRow = (c.in-Some.number, c.in-Some.row) in
     let next = given held' held'' r r' row c.in-Some.is c.in_ok-number.ensures.header c.in_ok-number.ensures.over c.in_ok-number.ensures.answer in
     let one : TraceRow = Comes c.in-Comes.ring in
-    let told : Ok one ≡ at_line row.0 (ring_row row.1) = sym (ap (λ o. at_line row.0 (ring_row o)) c.in-Comes.is) in
+    let told : row.1 ≡ one = c.in-Comes.is in
     let passed = rw c.into_ring.ensures at c.in-Ok-ring_comes.ensures.passed in
     let logged = rw c.into_ring.ensures at c.in-Ok-ring_comes.ensures.logged in (
       row_passed words holds c.args.reader held c.args.log held' held'' r r' c.loop-pass.pass c.loop-pass.invariant.0 row next one told c.ring_comes.new.self passed (λ list h first past p numbered. logged list h first past p),
@@ -177,7 +162,7 @@ returns-in-Err-ring_comes-clause-refused g c =
     let row : ℕ × TraceRow = (c.in-Some.number, c.in-Some.row) in
     let next = given held' held'' r r' row c.in-Some.is c.in_ok-number.ensures.header c.in_ok-number.ensures.over c.in_ok-number.ensures.answer in
     let one : TraceRow = Comes c.in-Comes.ring in
-    let told : Ok one ≡ at_line row.0 (ring_row row.1) = sym (ap (λ o. at_line row.0 (ring_row o)) c.in-Comes.is) in
+    let told : row.1 ≡ one = c.in-Comes.is in
     let refused = rw c.into_ring.ensures at c.in-Err-ring_comes.ensures.refused in
     let last = g.S.Source.held c.ended_at-in-Err-ring_comes.new.source in
     ended_refused c.ended_at-in-Err-ring_comes.result _ _ (λ number x so before opened.
@@ -197,7 +182,7 @@ returns-in-Err-ring_comes-clause-line g c =
     let row : ℕ × TraceRow = (c.in-Some.number, c.in-Some.row) in
     let next = given held' held'' r r' row c.in-Some.is c.in_ok-number.ensures.header c.in_ok-number.ensures.over c.in_ok-number.ensures.answer in
     let one : TraceRow = Comes c.in-Comes.ring in
-    let told : Ok one ≡ at_line row.0 (ring_row row.1) = sym (ap (λ o. at_line row.0 (ring_row o)) c.in-Comes.is) in
+    let told : row.1 ≡ one = c.in-Comes.is in
     let last = g.S.Source.held c.ended_at-in-Err-ring_comes.new.source in
     ended_bad c.ended_at-in-Err-ring_comes.result _ _ (λ e so. bad_behind words holds c.args.reader held c.args.log held' held'' r r' c.loop-pass.pass c.loop-pass.invariant.0 row next one told last e so) c.ended_at-in-Err-ring_comes.ensures.line
 
@@ -211,8 +196,18 @@ loop-pass-smaller g c =
     let next = given held' held'' r r' row c.in-Some.is c.in_ok-number.ensures.header c.in_ok-number.ensures.over c.in_ok-number.ensures.answer in
     fewer_left held' held'' r r' row next
 
-pub loop-pass-preserved : goal.loop-pass-preserved
-loop-pass-preserved g c =
+pub loop-pass-smaller-in-Ok-ring_goes : goal.loop-pass-smaller-in-Ok-ring_goes
+loop-pass-smaller-in-Ok-ring_goes g c =
+    let held' = g.S.Source.held c.loop-pass.source in
+    let held'' = g.S.Source.held c.next_row.new.source in
+    let r = c.loop-pass.reader in
+    let r' = c.next_row.new.self in
+    let row : ℕ × TraceRow = (c.in-Some.number, c.in-Some.row) in
+    let next = given held' held'' r r' row c.in-Some.is c.in_ok-number.ensures.header c.in_ok-number.ensures.over c.in_ok-number.ensures.answer in
+    fewer_left held' held'' r r' row next
+
+pub loop-pass-preserved-in-Ok-ring_goes : goal.loop-pass-preserved-in-Ok-ring_goes
+loop-pass-preserved-in-Ok-ring_goes g c =
     let words = g.M.WordMemory.words in
     let holds = g.B.LeaseLog.holds in
     let held = g.S.Source.held c.args.source.now in
@@ -223,7 +218,7 @@ loop-pass-preserved g c =
     let row : ℕ × TraceRow = (c.in-Some.number, c.in-Some.row) in
     let next = given held' held'' r r' row c.in-Some.is c.in_ok-number.ensures.header c.in_ok-number.ensures.over c.in_ok-number.ensures.answer in
     let one : TraceRow = Goes c.in-Goes.id in
-    let told : Ok one ≡ at_line row.0 (ring_row row.1) = sym (ap (λ o. at_line row.0 (ring_row o)) c.in-Goes.is) in (
+    let told : row.1 ≡ one = c.in-Goes.is in (
       row_passed words holds c.args.reader held c.args.log held' held'' r r' c.loop-pass.pass c.loop-pass.invariant.0 row next one told c.ring_goes.new.self c.in-Ok-ring_goes.ensures.passed c.in-Ok-ring_goes.ensures.logged,
       c.in_ok-number.ensures.failures ∙ c.loop-pass.invariant.1,
     )
@@ -240,7 +235,7 @@ returns-in-Err-ring_goes-clause-refused g c =
     let row : ℕ × TraceRow = (c.in-Some.number, c.in-Some.row) in
     let next = given held' held'' r r' row c.in-Some.is c.in_ok-number.ensures.header c.in_ok-number.ensures.over c.in_ok-number.ensures.answer in
     let one : TraceRow = Goes c.in-Goes.id in
-    let told : Ok one ≡ at_line row.0 (ring_row row.1) = sym (ap (λ o. at_line row.0 (ring_row o)) c.in-Goes.is) in
+    let told : row.1 ≡ one = c.in-Goes.is in
     let last = g.S.Source.held c.ended_at-in-Err-ring_goes.new.source in
     ended_refused c.ended_at-in-Err-ring_goes.result _ _ (λ number x so before opened.
     let least = subst (λ (e : StepFault). IfRefused e (λ y. (h : Header) (past : List TraceRow) → IsRingPassed words h past c.loop-pass.pass → IsLeastOfRow (header_now h past) (known_now h past) one y)) so.1 c.in-Err-ring_goes.ensures.refused in
@@ -259,6 +254,58 @@ returns-in-Err-ring_goes-clause-line g c =
     let row : ℕ × TraceRow = (c.in-Some.number, c.in-Some.row) in
     let next = given held' held'' r r' row c.in-Some.is c.in_ok-number.ensures.header c.in_ok-number.ensures.over c.in_ok-number.ensures.answer in
     let one : TraceRow = Goes c.in-Goes.id in
-    let told : Ok one ≡ at_line row.0 (ring_row row.1) = sym (ap (λ o. at_line row.0 (ring_row o)) c.in-Goes.is) in
+    let told : row.1 ≡ one = c.in-Goes.is in
     let last = g.S.Source.held c.ended_at-in-Err-ring_goes.new.source in
     ended_bad c.ended_at-in-Err-ring_goes.result _ _ (λ e so. bad_behind words holds c.args.reader held c.args.log held' held'' r r' c.loop-pass.pass c.loop-pass.invariant.0 row next one told last e so) c.ended_at-in-Err-ring_goes.ensures.line
+
+pub loop-pass-preserved : goal.loop-pass-preserved
+loop-pass-preserved g c =
+    let words = g.M.WordMemory.words in
+    let holds = g.B.LeaseLog.holds in
+    let held = g.S.Source.held c.args.source.now in
+    let held' = g.S.Source.held c.loop-pass.source in
+    let held'' = g.S.Source.held c.next_row.new.source in
+    let r = c.loop-pass.reader in
+    let r' = c.next_row.new.self in
+    let row : ℕ × TraceRow = (c.in-Some.number, c.in-Some.row) in
+    let next = given held' held'' r r' row c.in-Some.is c.in_ok-number.ensures.header c.in_ok-number.ensures.over c.in_ok-number.ensures.answer in
+    let one : TraceRow = Withdraws c.in-Withdraws.ring c.in-Withdraws.position in
+    let told : row.1 ≡ one = c.in-Withdraws.is in (
+      row_passed words holds c.args.reader held c.args.log held' held'' r r' c.loop-pass.pass c.loop-pass.invariant.0 row next one told c.descriptor_withdrawn.new.self c.in-Ok-descriptor_withdrawn.ensures.passed c.in-Ok-descriptor_withdrawn.ensures.logged,
+      c.in_ok-number.ensures.failures ∙ c.loop-pass.invariant.1,
+    )
+
+pub returns-in-Err-descriptor_withdrawn-clause-refused : goal.returns-in-Err-descriptor_withdrawn-clause-refused
+returns-in-Err-descriptor_withdrawn-clause-refused g c =
+    let words = g.M.WordMemory.words in
+    let holds = g.B.LeaseLog.holds in
+    let held = g.S.Source.held c.args.source.now in
+    let held' = g.S.Source.held c.loop-pass.source in
+    let held'' = g.S.Source.held c.next_row.new.source in
+    let r = c.loop-pass.reader in
+    let r' = c.next_row.new.self in
+    let row : ℕ × TraceRow = (c.in-Some.number, c.in-Some.row) in
+    let next = given held' held'' r r' row c.in-Some.is c.in_ok-number.ensures.header c.in_ok-number.ensures.over c.in_ok-number.ensures.answer in
+    let one : TraceRow = Withdraws c.in-Withdraws.ring c.in-Withdraws.position in
+    let told : row.1 ≡ one = c.in-Withdraws.is in
+    let last = g.S.Source.held c.ended_at-in-Err-descriptor_withdrawn.new.source in
+    ended_refused c.ended_at-in-Err-descriptor_withdrawn.result _ _ (λ number x so before opened.
+    let least = subst (λ (e : StepFault). IfRefused e (λ y. (h : Header) (past : List TraceRow) → IsRingPassed words h past c.loop-pass.pass → IsLeastOfRow (header_now h past) (known_now h past) one y)) so.1 c.in-Err-descriptor_withdrawn.ensures.refused in
+    subst (λ n. OfTrace before last (λ trace. ring_verdict trace.header trace.first trace.rows ≡ Some (n, x))) (sym so.0)
+    (refused_so words holds c.args.reader held c.args.log held' held'' r r' c.loop-pass.pass c.loop-pass.invariant.0 row next one told last x least so.2 before opened)) c.ended_at-in-Err-descriptor_withdrawn.ensures.refused
+
+pub returns-in-Err-descriptor_withdrawn-clause-line : goal.returns-in-Err-descriptor_withdrawn-clause-line
+returns-in-Err-descriptor_withdrawn-clause-line g c =
+    let words = g.M.WordMemory.words in
+    let holds = g.B.LeaseLog.holds in
+    let held = g.S.Source.held c.args.source.now in
+    let held' = g.S.Source.held c.loop-pass.source in
+    let held'' = g.S.Source.held c.next_row.new.source in
+    let r = c.loop-pass.reader in
+    let r' = c.next_row.new.self in
+    let row : ℕ × TraceRow = (c.in-Some.number, c.in-Some.row) in
+    let next = given held' held'' r r' row c.in-Some.is c.in_ok-number.ensures.header c.in_ok-number.ensures.over c.in_ok-number.ensures.answer in
+    let one : TraceRow = Withdraws c.in-Withdraws.ring c.in-Withdraws.position in
+    let told : row.1 ≡ one = c.in-Withdraws.is in
+    let last = g.S.Source.held c.ended_at-in-Err-descriptor_withdrawn.new.source in
+    ended_bad c.ended_at-in-Err-descriptor_withdrawn.result _ _ (λ e so. bad_behind words holds c.args.reader held c.args.log held' held'' r r' c.loop-pass.pass c.loop-pass.invariant.0 row next one told last e so) c.ended_at-in-Err-descriptor_withdrawn.ensures.line

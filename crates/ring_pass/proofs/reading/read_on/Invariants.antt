@@ -3,9 +3,9 @@ use Rattle.traces.specs.Limits.{most_lines}
 use Rattle.ring_pass.proofs.RowsRead.{IsReadOn}
 use Rattle.ring_pass.proofs.reading.read_on.Given as goal
 
-abbrev pub invariant-loop-number : goal.invariant-loop-number
-invariant-loop-number g l = IsReadOn l.fn.reader (g.S.Source.held l.fn.source) (g.S.Source.held l.source) l.reader × (g.S.Source.failed l.source ≡ g.S.Source.failed l.fn.source)
+abbrev pub invariant-loop-next : goal.invariant-loop-next
+invariant-loop-next g l = IsReadOn l.fn.reader (g.S.Source.held l.fn.source) (g.S.Source.held l.source) l.reader × (g.S.Source.failed l.source ≡ g.S.Source.failed l.fn.source)
 
 -- the lines that a trace may still have
-abbrev pub decreases-loop-number : goal.decreases-loop-number
-decreases-loop-number g l = most_lines - l.reader.lines
+abbrev pub decreases-loop-next : goal.decreases-loop-next
+decreases-loop-next g l = most_lines - l.reader.lines

@@ -1,11 +1,11 @@
-use Rattle.std.proofs.Common.{length, refl, subst, sym}
+use Rattle.std.proofs.Common.{length, refl}
 use Rattle.ring_changes.specs.Histories.{known_now}
-use Rattle.traces.specs.declared.header.Header.{Header}
-use Rattle.lease_rows.specs.CleanRows.{HoldsAll}
+use Rattle.safety.proofs.Lenient.{lenient_row}
 use Rattle.lease_rows.proofs.OtherRows.{on_both}
 use Rattle.ring_leases.specs.RingLents.{ring_lents}
-use Rattle.ring_pass.proofs.Logged.{next_row, plain_logged}
-use Rattle.ring_pass.proofs.Steps.{least_now, plain_behind, refused_too}
+use Rattle.ring_pass.proofs.Logged.{held_before, next_row, plain_logged}
+use Rattle.ring_pass.proofs.Histories.{known_plain}
+use Rattle.ring_pass.proofs.Steps.{least_quiet, none_now, quiet_behind, refused_too}
 use Rattle.ring_pass.proofs.pass.RingPass.placed_row.Goals as goal
 
 pub returns-clause-passed : goal.returns-clause-passed
@@ -14,14 +14,14 @@ returns-clause-passed g c =
     let before = c.args.self.now in
     on_both c.check_row.result (λ ok reads h past p placed owned.
     let k = known_now h past in
-    plain_behind words h past before p c.args.row.now c.check_row.new.kept (words c.check_row.new.memory) (ok k p.tracked placed owned) (reads (length past) p.few_reads) _ refl refl refl refl)
+    quiet_behind words h past before p c.requires.unwithdrawn c.args.row.now c.check_row.new.kept (words c.check_row.new.memory) (ok k p.tracked placed owned) (reads (length past) p.few_reads) _ refl refl refl refl)
     c.check_row.ensures.ok c.check_row.ensures.reads
 
 pub returns-clause-refused : goal.returns-clause-refused
 returns-clause-refused g c =
     let words = g.M.WordMemory.words in
     let before = c.args.self.now in
-    refused_too c.check_row.result _ _ (λ r least h past p placed owned. least_now words h past before p c.args.row.now r (least (known_now h past) p.tracked placed owned)) c.check_row.ensures.refused
+    refused_too c.check_row.result _ _ (λ r least h past p placed owned. least_quiet words h past before p c.requires.unwithdrawn c.args.row.now r (least (known_now h past) p.tracked placed owned)) c.check_row.ensures.refused
 
 pub returns-clause-logged : goal.returns-clause-logged
 returns-clause-logged g c =
@@ -33,7 +33,7 @@ returns-clause-logged g c =
     let other = g.met.B.LeaseLog.other_rings list in
     let k = known_now h past in
     let step = ok k p.tracked placed owned in
-    plain_logged words Holds other h first past before p room row c.args.number numbered c.note_row.new.book c.note_row.new.ranges
-    (c.in_ok-note_row.ensures.step list k (ring_lents h first past) placed (next_row words Holds other h first past before p room row _ _ step)
-    (subst (λ (x : Header). HoldsAll Holds x (ring_lents h first past) before.log before.ranges) (sym p.header) held)))
+    plain_logged words Holds other h first past before p room row (known_plain h past (none_now words h past before p c.requires.unwithdrawn) row) c.args.number numbered c.note_row.new.book c.note_row.new.ranges
+    (c.in_ok-note_row.ensures.step list k (ring_lents h first past) placed (next_row words Holds other h first past before p room row (lenient_row before.header k row step.clean))
+    (held_before words Holds other h first past before p room before.log before.ranges held)))
     c.check_row.ensures.ok c.check_row.ensures.reads

@@ -32,7 +32,7 @@ returns-clause-passed g c = λ h past p.
     (λ keeps on. c.in_ok-check_coming.ensures.ok k p.tracked.follows keeps on)
     (sym (c.is_stopped.ensures k p.tracked.follows.registers) ∙ c.if-is_stopped.false)
     (subst (λ e. IsWithin e (length past)) (sym c.in_ok-check_coming.ensures.events) p.few_reads) _
-    c.in_ok-check_coming.ensures.comes c.in_ok-check_coming.ensures.headed c.in_ok-check_coming.ensures.found refl refl
+    c.in_ok-check_coming.ensures.comes c.in_ok-check_coming.ensures.headed c.in_ok-check_coming.ensures.found refl refl refl
 
 pub returns-clause-logged : goal.returns-clause-logged
 returns-clause-logged g c = λ list h first past p room held.
