@@ -3,7 +3,7 @@ ghost use Rattle.std.specs.Prelude.{◌≡◌, IfOk, IsOk, string_bytes};
 ghost use Rattle.diagnostics.specs.Layout.{IsToldOf};
 ghost use Rattle.trace_reader.specs.Reading.{trace_of};
 
-use crate::reading::{TextRows, rows_of};
+use crate::reading::rows_of;
 use command_findings::{
     after_stop, bad_command, bad_doorbell, bad_erdp, bad_register, busy, not_in_profile,
 };
@@ -18,6 +18,7 @@ use ring_findings::{
     not_as_submitted, not_declared, not_restored, not_whole, ring_full, write_to_owned,
 };
 use row_history::{Case, Finding, command_at, general_head, known_after, line_of, why_refused};
+use row_reader::TextRows;
 use std::alloc::{AllocError, Global};
 use traces::{Row, TraceRow};
 

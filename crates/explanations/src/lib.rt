@@ -8,4 +8,3 @@ mod reading;
 
 pub use explain::{diagnostic_of, explain_refused};
 pub use plans::{diagnostic_of_plan, explain_unfollowed};
-pub use reading::{TextRows, rows_of};

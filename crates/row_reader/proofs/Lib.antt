@@ -6,3 +6,5 @@ pub mod Openings
 pub mod CallsJoined
 pub mod RowsBefore
 pub mod Streams
+pub mod TextLines
+pub mod RowsFit

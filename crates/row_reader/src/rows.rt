@@ -1,6 +1,7 @@
 ghost use Rattle.std.specs.Prelude.{◌≡◌, ◌+◌, ◌≤◌, ℕ, List, Option, None, Some, Ok, false, true, IfNone, IfOk, IfSome};
 ghost use Rattle.traces.specs.Limits.{most_lines};
 ghost use Rattle.traces.specs.Header.{IsHeader};
+ghost use Rattle.traces.specs.TraceRows.{IsTraceRow};
 ghost use Rattle.traces.specs.declared.row.Row.TheVariants.{Sub};
 ghost use Rattle.trace_reader.specs.Reading.{State};
 ghost use Rattle.trace_reader.specs.RowsAhead.{BeginsWithRow};
@@ -38,8 +39,8 @@ impl RowReader {
     }
 
     /// The next row, with the number of its line: the answer, how far the reading has come and the text that is left are those of the
-    /// definition. Where no row is answered the reading has ended, and from then on each call answers none and reads nothing. A failure of
-    /// the device is told, and nothing else is told as one.
+    /// definition. The numbers of a row fit the fields of their types. Where no row is answered the reading has ended, and from then on each
+    /// call answers none and reads nothing. A failure of the device is told, and nothing else is told as one.
     #[inline(always)]
     pub fn next_row<S: Source>(
         &mut self,
@@ -50,6 +51,7 @@ impl RowReader {
         ensures nothing { self.old.ended ≡ true → (result ≡ Ok None) × (self.new ≡ self.old) × (source.new ≡ source.old) }
         ensures failures { S.failed source.new ≡ told_failures (S.failed source.old) result }
         ensures header { self.new.header ≡ self.old.header }
+        ensures fits { IfOk result (λ found. IfSome found (λ row. IsTraceRow row.1)) }
     {
         if self.ended || self.lines >= MOST_LINES {
             return self.searched_row(source);

@@ -7,12 +7,12 @@ use Rattle.ring_pass.specs.RingRows.{ring_row}
 use Rattle.answers.specs.declared.answer.Answer.{Answer}
 use Rattle.answers.specs.declared.answer.Answer.TheVariants.{BadLine, Memory, Device}
 
--- the known bytes of an input spell the trace, in which no descriptor is withdrawn; of bytes that aren't known nothing is said
+-- the known bytes of an input spell the trace; of bytes that aren't known nothing is said
 abbrev pub IsTextOf : Option (List ℕ) → TraceText → Type 0
 IsTextOf None trace = Unit {0}
 IsTextOf (Some bytes) trace = text_taken ring_row bytes ≡ Ok trace
 
--- the first bad line of the known bytes of an input, and the least of its faults; a row by which a descriptor is withdrawn is bad
+-- the first bad line of the known bytes of an input, and the least of its faults
 abbrev pub IsFirstBad : Option (List ℕ) → ℕ → LineFault → Type 0
 IsFirstBad None line fault = Unit {0}
 IsFirstBad (Some bytes) line fault = text_taken ring_row bytes ≡ Err (line, fault)
