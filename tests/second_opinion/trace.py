@@ -100,7 +100,7 @@ class Trace(RingList):
 
 
 # the rows that no command judges yet
-UNJUDGED = (Withdraws,)
+UNJUDGED = ()
 
 # the rows that commands don't take yet which keep all rows of a trace: `schedule`, `replay`, `show`, and `check --show` behind its verdict
 UNKEPT = (Comes, Goes, Withdraws)

@@ -1,20 +1,13 @@
 -- A row that was read fits the fields of its type
-use Rattle.std.proofs.Common.{◌≡◌, ◌≤◌, ◌∷◌, ◌++◌, ◌∙◌, ℕ, Bool, true, false, List, [], Option, Some, None, Result, Ok, Err, refl, ap, sym, subst}
-use Rattle.safety.proofs.Words.{All-head}
+use Rattle.std.proofs.Common.{◌≡◌, ℕ, false, List, Option, Some, Ok, subst}
 use Rattle.traces.specs.declared.trace_row.TraceRow.{TraceRow}
 use Rattle.traces.specs.declared.trace_row.TraceRow.TheVariants.{Plain, Comes, Goes, Withdraws}
 use Rattle.traces.specs.TraceRows.{IsTraceRow}
-use Rattle.line_text.specs.Lines.{TextLine, lines_of}
-use Rattle.trace_reader.specs.declared.fault.LineFault.{LineFault}
-use Rattle.trace_reader.specs.Reading.{State, read_line, read_lines}
-use Rattle.trace_reader.proofs.SpelledTraces.{IsLineRow, read_on, spells_from_read}
 use Rattle.row_reader.specs.Ahead.{ahead_of}
 use Rattle.row_reader.specs.Answers.{IsCall}
 use Rattle.row_reader.specs.ReaderState.{progress_of}
-use Rattle.row_reader.specs.RowByRow.{Call, Progress, call_in, call_on}
-unfoldable use Rattle.row_reader.specs.RowByRow.{next_row}
 use Rattle.row_reader.specs.declared.reader.RowReader.{RowReader}
-use Rattle.row_reader.proofs.Calls.{call_of}
+use Rattle.row_reader.proofs.RowsFit.{answer_fits}
 use Rattle.ring_changes.specs.Histories.{FitsFields}
 use Rattle.ring_pass.specs.RingRows.{ring_row}
 
@@ -28,44 +21,6 @@ fits (Withdraws ring position) is = is
 same_row : (row one : TraceRow) → ring_row row ≡ Ok one → row ≡ one
 same_row row one is = cc is
 
-line_says : (st next : State) (line : TextLine) (row : TraceRow) → 2 ≤ st.lines → read_line st line ≡ Ok (next, Some row) → IsTraceRow row
-unfolding read_lines
-line_says st next line row behind is =
-    let s = spells_from_read (line ∷ []) st (next, row ∷ []) behind (read_on st next line [] (Some row) next [] is refl) in
-    (All-head (IsLineRow st.version) row [] s.are.fit).0
-
-module _ (st : State) (behind : 2 ≤ st.lines) (p' : Progress) (text left : List ℕ) (row : ℕ × TraceRow) where
-  abbrev GivesRow : Call → Type 0
-  GivesRow c = c ≡ record { answer = Ok (Some row); progress = p'; left = left }
-
-  on_line : (line : TextLine) (r : Result (State × Option TraceRow) LineFault) → read_line st line ≡ r → GivesRow (call_on st text r) → IsTraceRow row.1
-  on_line line (Ok (next, Some one)) is gives =
-      let at : Ok (Some (next.lines, one)) ≡ Ok (Some row) = ap (λ (c : Call). c.answer) gives in
-      let same : one ≡ row.1 = cc at in
-      subst IsTraceRow same (line_says st next line one behind is)
-  on_line line (Ok (next, None)) is gives = let none = ap (λ (c : Call). c.answer) gives in cc none
-  on_line line (Err fault) is gives = let none = ap (λ (c : Call). c.answer) gives in cc none
-
-  none_over : GivesRow (next_row (record { read = st; ended = true }) text) → ⊥
-  unfolding next_row
-  none_over gives = let none = ap (λ (c : Call). c.answer) gives in cc none
-
-  in_text : (lines : List TextLine) → lines_of text ≡ lines → GivesRow (next_row (record { read = st; ended = false }) text) → IsTraceRow row.1
-  unfolding next_row
-  in_text [] are gives = let none : Ok None ≡ Ok (Some row) = ap (λ ls. (call_in st text ls).answer) (sym are) ∙ ap (λ (c : Call). c.answer) gives in cc none
-  in_text (line ∷ lines) are gives = on_line line (read_line st line) refl (sym (call_of st text line lines are) ∙ gives)
-
-of_call : (held held' : Option (List ℕ)) (ahead ahead' : List ℕ) (st st' : State) (ended : Bool) (row : ℕ × TraceRow) → 2 ≤ st.lines →
-    IsCall (record { read = st; ended = ended }) (record { read = st'; ended = false }) held held' ahead ahead' (Ok (Some row)) → IsTraceRow row.1
-of_call held held' ahead ahead' st st' true row behind (came, used, all) = absurd (none_over st behind (record { read = st'; ended = false }) (ahead ++ came ++ []) (ahead' ++ []) row (all []))
-of_call held held' ahead ahead' st st' false row behind (came, used, all) =
-    let text = ahead ++ came ++ [] in
-    in_text st behind (record { read = st'; ended = false }) text (ahead' ++ []) row (lines_of text) refl (all [])
-
 pub row_fits : (held held' : Option (List ℕ)) (r r' : RowReader) (row : ℕ × TraceRow) (one : TraceRow) → ring_row row.1 ≡ Ok one → r'.ended ≡ false →
     IsCall (progress_of r) (progress_of r') held held' (ahead_of r.ahead) (ahead_of r'.ahead) (Ok (Some row)) → FitsFields one
-row_fits held held' r r' row one taken on call =
-    let is =
-    of_call held held' (ahead_of r.ahead) (ahead_of r'.ahead) (progress_of r).read (progress_of r').read r.ended row r.behind
-    (subst (λ (e : Bool). IsCall (progress_of r) (record { read = (progress_of r').read; ended = e }) held held' (ahead_of r.ahead) (ahead_of r'.ahead) (Ok (Some row))) on call) in
-    subst FitsFields (same_row row.1 one taken) (fits row.1 is)
+row_fits held held' r r' row one taken on call = subst FitsFields (same_row row.1 one taken) (fits row.1 (answer_fits held held' r r' (Ok (Some row)) on call))

@@ -2,7 +2,6 @@
 //! begin and end with it are told to a log.
 #![tactic(auto)]
 
-mod headers;
 mod pass;
 mod reading;
 

@@ -10,8 +10,8 @@ ghost use Rattle.ring_pass.specs.Reading.{Begins, IfRefusedRow, IfWhole, IsBadLi
 ghost use Rattle.ring_pass.specs.RingRows.{ring_row};
 ghost use Rattle.ring_pass.specs.Rules.{ring_verdict};
 
-use crate::headers::copy_header;
 use crate::pass::RingPass;
+use controller_model::copy_header;
 use guest_memory::WordMemory;
 use lease_book::LeaseLog;
 use ownership_rules::Refusal;
