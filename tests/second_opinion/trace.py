@@ -102,7 +102,7 @@ class Trace(RingList):
 # the rows that no command judges yet
 UNJUDGED = ()
 
-# the rows that commands don't take yet which keep all rows of a trace: `schedule`, `replay`, `show`, and `check --show` behind its verdict
+# the rows that `schedule` and `show` don't take yet; beside them `check --show` tries no lazy schedule
 UNKEPT = (Comes, Goes, Withdraws)
 
 

@@ -1,12 +1,16 @@
+use row_reader::read_rows;
 use std::alloc::AllocError;
 use std::test::Fail;
 use trace_reader::{
-    LineFault, PlanLine, ReadFault, Step, print_schedule, print_trace, read_plan, read_schedule,
-    read_trace,
+    LineFault, PlanLine, ReadFault, Step, TraceRow, print_schedule, print_trace, read_plan,
+    read_schedule, read_trace,
 };
 
 const TRACE: &str =
     "xtrace 1\nctx 40\nring 00 cmd 0000000000010000:0010\nring 02 xfer 0000000000030000:0004 0000000000040000:0002\nsub 02 00000001 00000002 00000003 00000004\nw 0000000000030000 0000000a\nreg crcr fedcba9876543210\ndb 01 02\nev 00000005 00000006 00000007 00000008\n";
+
+const ROWS_OF_RINGS: &str =
+    "xtrace 2\nctx 20\nring 02 xfer 0000000000030000:0004\nw 0000000000030000 0000000a\nring 03 xfer 0000000000040000:0004\nnop 02 0000000000000001\nfree 03\n";
 
 const PLAN: &str =
     "xplan 1\nring 02 xfer 0000000000030000:0004\nsub 02 00000001 00000002 00000003 00000004\nret 0000000000000001\n";
@@ -22,6 +26,28 @@ fn reads_and_prints_a_trace(rt: HostRuntime) -> Result<(), Fail> {
     assert_eq!(rt; trace.rows.as_slice().len(), 5);
     let out = print_trace(rt.alloc(), &trace)?;
     assert_eq!(rt; out.as_slice(), TRACE.as_bytes());
+    Ok(())
+}
+
+#[test]
+fn keeps_rows_of_each_kind(rt: HostRuntime) -> Result<(), Fail> {
+    let kept = read_rows(rt.alloc(), ROWS_OF_RINGS.as_bytes())?;
+    assert_eq!(rt; kept.first, 4);
+    assert_eq!(rt; kept.header.rings.as_slice().len(), 1);
+    assert!(rt;
+        matches!(
+            kept.rows.as_slice(),
+            [
+                TraceRow::Plain(_),
+                TraceRow::Comes(_),
+                TraceRow::Withdraws {
+                    ring: 2,
+                    position: 1,
+                },
+                TraceRow::Goes(3),
+            ]
+        )
+    );
     Ok(())
 }
 

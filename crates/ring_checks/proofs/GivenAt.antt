@@ -1,5 +1,5 @@
 -- The command that a write gives, by the ring that has the word
-use Rattle.std.proofs.Common.{◌≡◌, ◌∷◌, ◌<◌, ◌∙◌, ℕ, zero, suc, Bool, true, false, if◌then◌else◌, List, [], Option, Some, None, get_or, length, arith, refl, ap, sym, subst, inl, inr}
+use Rattle.std.proofs.Common.{◌≡◌, ◌∷◌, ◌∙◌, ℕ, zero, suc, Bool, true, false, if◌then◌else◌, List, [], Option, Some, None, get_or, length, refl, ap, sym, subst, inl, inr}
 use Rattle.std.specs.Prelude.{position, slice_get}
 use Rattle.std.proofs.lemmas.Bool.{cases_Bool}
 use Rattle.std.proofs.lemmas.Option.{slice_get_read}
@@ -19,9 +19,9 @@ use Rattle.ring_knowledge.specs.Known.{Known}
 use Rattle.ring_knowledge.specs.Writes.{command_given}
 use Rattle.ring_knowledge.specs.RingRecords.{positions_of}
 use Rattle.ring_knowledge.specs.declared.ring_record.RingGiving.{RingGiving}
-use Rattle.ring_knowledge.specs.declared.ring_record.RingGiving.TheVariants.{Position, Crossing}
+use Rattle.ring_knowledge.specs.declared.ring_record.RingGiving.TheVariants.{Position}
 use Rattle.ring_finder.proofs.FoundRings.{none_here}
-use Rattle.ring_finder.proofs.RingsApart.{IsAmong, among_at}
+use Rattle.ring_finder.proofs.RingsApart.{among_at}
 use Rattle.trace_record.specs.declared.word_place.WordPlace.{WordPlace}
 use Rattle.trace_record.specs.WordPlaces.{IsGivenBy, IsGivenOn, IsPlacedSo}
 use Rattle.ring_changes.specs.Withdrawals.{ring_moved, ring_restored, some_flips}

@@ -1,6 +1,5 @@
 -- The ring that a row starts or moves, and the Cycle bits that a write flips, by the ring that has the word
-use Rattle.std.proofs.Common.{◌≡◌, ◌≢◌, ◌+◌, ◌%◌, ◌==◌, ◌&&◌, ◌∙◌, ℕ, Bool, true, false, not, Option, Some, None, nat_lt, ap, arith, sym, subst, inl, inr, eqb-true, refl}
-use Rattle.std.specs.List.{list_any}
+use Rattle.std.proofs.Common.{◌≡◌, ◌+◌, ◌%◌, ◌==◌, ◌&&◌, ◌∙◌, ℕ, Bool, true, false, not, nat_lt, ap, arith, sym, inl, inr, eqb-true}
 use Rattle.segments.specs.Ceiling.{ceiling}
 use Rattle.segments.specs.Givings.{flips_passed, unrestored}
 use Rattle.segments.specs.Places.{address_of, cycle_of, is_inside, touches}
@@ -18,7 +17,7 @@ use Rattle.ring_finder.proofs.ListTests.{and_left, and_right, any_nowhere, false
 use Rattle.ring_finder.proofs.RingsApart.{Apart, IsAmong, same_or_apart}
 use Rattle.trace_record.proofs.OneRingHas.{no_driver_event}
 use Rattle.ring_changes.specs.Withdrawals.{some_flips}
-use Rattle.write_checks.proofs.OnRing.{inside, inside_is}
+use Rattle.write_checks.proofs.OnRing.{inside_is}
 
 -- a word outside a ring isn't of its blocks
 pub flips_outside : (shape : Shape) → IsShape shape → (v : RingView) (a w : ℕ) → is_inside shape a ≡ false → flips_passed shape v a w ≡ false

@@ -1,5 +1,5 @@
 -- The leases that end where a descriptor is withdrawn, and those that begin where a ring is started or moved, as the log is told of them
-use Rattle.std.proofs.Common.{◌≡◌, ◌+◌, ◌<◌, ◌≤◌, ◌^◌, ◌∷◌, ◌∙◌, ℕ, zero, suc, Bool, true, false, not, List, [], Option, None, Some, slice_get, slice_index, length, arith, refl, ap, sym, subst}
+use Rattle.std.proofs.Common.{◌≡◌, ◌+◌, ◌<◌, ◌^◌, ◌∷◌, ◌∙◌, ℕ, zero, suc, Bool, true, false, not, List, [], Option, None, Some, slice_get, slice_index, length, arith, refl, ap, sym, subst}
 use Rattle.std.proofs.lemmas.Bool.{or_parts}
 use Rattle.std.specs.Prelude.{is_some}
 use Rattle.std.specs.Option.{SomeIff}

@@ -1,6 +1,6 @@
 -- What a row of the driver says that breaks no rule; where no descriptor was withdrawn nothing is free; and what breaks no rule of the trace's version
 -- breaks no lenient one
-use Rattle.std.proofs.Common.{◌≡◌, ◌∷◌, ◌++◌, ◌∙◌, ◌==◌, ◌||◌, ℕ, Bool, true, false, if◌then◌else◌, List, [], Option, Some, None, filter, refl, sym, ap, subst, inl, inr}
+use Rattle.std.proofs.Common.{◌≡◌, ◌∷◌, ◌++◌, ◌∙◌, ◌==◌, ℕ, Bool, true, false, if◌then◌else◌, List, [], Option, Some, None, filter, refl, sym, ap, subst, inl, inr}
 use Rattle.std.proofs.lemmas.Bool.{or_parts}
 use Rattle.std.specs.List.{list_any}
 use Rattle.safety.proofs.Words.{cases_Bool, cond-true, no_flips, Header, Known, Ring, Write, Sub, Reg, Bell, Read, learned, nothing, shape_of}

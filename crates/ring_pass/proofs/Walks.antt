@@ -6,11 +6,10 @@ use Rattle.std.proofs.lemmas.List.{reverse-append, take-append-drop}
 use Rattle.trb.specs.declared.ring_kind.RingKind.{RingKind}
 use Rattle.trb.specs.declared.ring_kind.RingKind.TheVariants.{Evt}
 use Rattle.segments.proofs.WalkReads.{walk_reads}
-use Rattle.traces.specs.declared.row.Row.{Row}
 use Rattle.traces.specs.declared.trace_row.TraceRow.{TraceRow}
 use Rattle.traces.specs.declared.trace_row.TraceRow.TheVariants.{Plain, Comes, Goes, Withdraws}
 use Rattle.traces.specs.Header.{is_driver_kind, shape_of}
-use Rattle.safety.proofs.Words.{All-head, All-tail, Header, IsHeader, Known}
+use Rattle.safety.proofs.Words.{All-tail, Header, IsHeader, Known}
 use Rattle.safety.specs.Keeps.{DriverKeeps}
 use Rattle.safety.specs.RingsKeep.{RingsKeep}
 use Rattle.safety.proofs.DriverRings.{rings_of, endpoints_of}

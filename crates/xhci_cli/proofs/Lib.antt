@@ -1,5 +1,6 @@
 mod VersionNotes
 pub mod Certified
 pub mod HeldAnswers
+pub mod KeptHeld
 pub mod Replayed
 pub mod Streamed

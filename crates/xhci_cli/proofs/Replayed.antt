@@ -1,36 +1,26 @@
 -- That the answer to a trace and a schedule is right
-use Rattle.std.proofs.Common.{◌≡◌, ◌∙◌, ℕ, List, Option, Some, None, Ok, ap, subst}
-use Rattle.std.specs.Prelude.{IfSome, map}
-use Rattle.traces.specs.declared.trace_row.TraceRow.{TraceRow}
-use Rattle.traces.specs.declared.trace_row.TraceRow.TheVariants.{Plain}
-use Rattle.controller_model.specs.Scenes.{scene_replayed}
-use Rattle.controller_model.specs.Showing.{replayed}
-use Rattle.controller_model.proofs.PlainScenes.{plain_replayed}
+use Rattle.std.proofs.Common.{◌≡◌, ℕ, List, Option, Some, None, Ok, subst}
+use Rattle.std.specs.Prelude.{IfSome}
 use Rattle.traces.specs.declared.schedule.Schedule.{Schedule}
-use Rattle.traces.specs.declared.trace.Trace.{Trace}
+use Rattle.trace_reader.specs.Reading.{TraceText}
 use Rattle.trace_reader.specs.Schedules.{schedule_of}
 use Rattle.xhci_cli.specs.ReplayAnswers.{IsReplayBeside, IsReplayed}
 use Rattle.answers.specs.declared.answer.Answer.{Answer}
 use Rattle.answers.specs.declared.answer.Answer.TheVariants.{Replayed, BadLine, Memory}
 
-pub beside_right : (trace : Trace) (schedule : Schedule) (text : List ℕ) (a : Answer) → schedule_of text ≡ Ok schedule.steps → IsReplayed trace schedule a →
+pub beside_right : (trace : TraceText) (schedule : Schedule) (text : List ℕ) (a : Answer) → schedule_of text ≡ Ok schedule.steps → IsReplayed trace schedule a →
     IsReplayBeside trace (Some text) a
 beside_right trace schedule text (Replayed seen ending) read right = (schedule, read, right)
 beside_right trace schedule text Memory read right = tt
 beside_right trace schedule text _ read right = absurd right
 
-forget_beside : (trace : Trace) (text : List ℕ) (a : Answer) → IsReplayBeside trace (Some text) a → IsReplayBeside trace None a
+forget_beside : (trace : TraceText) (text : List ℕ) (a : Answer) → IsReplayBeside trace (Some text) a → IsReplayBeside trace None a
 forget_beside trace text (Replayed seen ending) right = (right.0, tt, right.2)
 forget_beside trace text (BadLine line fault) right = tt
 forget_beside trace text _ right = right
 
 -- what is right of the bytes that were read is right of the input
-pub beside_held : (trace : Trace) (known : Option (List ℕ)) (text : List ℕ) (a : Answer) → IfSome known (λ xs. text ≡ xs) → IsReplayBeside trace (Some text) a →
+pub beside_held : (trace : TraceText) (known : Option (List ℕ)) (text : List ℕ) (a : Answer) → IfSome known (λ xs. text ≡ xs) → IsReplayBeside trace (Some text) a →
     IsReplayBeside trace known a
 beside_held trace None text a same right = forget_beside trace text a right
 beside_held trace (Some xs) text a same right = subst (λ (l : List ℕ). IsReplayBeside trace (Some l) a) same right
-
--- beside the driver's rows alone
-pub same_replay : (trace : Trace) (rows : List TraceRow) (schedule : Schedule) → rows ≡ map (λ row. Plain row) trace.rows →
-    scene_replayed trace.header rows schedule.steps ≡ replayed trace.header trace.rows schedule.steps
-same_replay trace rows schedule same = ap (λ rs. scene_replayed trace.header rs schedule.steps) same ∙ plain_replayed trace.header trace.rows schedule.steps

@@ -1,11 +1,8 @@
 -- That what is right of the text that a device gave, with what it still holds, is right of the input, of which nothing may be known
 use Rattle.std.proofs.Common.{◌≡◌, ◌∙◌, ℕ, Bool, true, false, List, length, Option, Some, None, Result, Ok, Err, not, inl, inr, refl, subst, sym}
 use Rattle.std.specs.Prelude.{IfErr, IfOk, is_some}
-use Rattle.traces.specs.declared.trace.Trace.{Trace}
-use Rattle.trace_reader.specs.Entries.{text_of as spelled}
-use Rattle.trace_reader.specs.DriverRows.{all_plain, driver_trace_of, text_taken}
+use Rattle.trace_reader.specs.DriverRows.{text_taken}
 use Rattle.trace_reader.specs.Reading.{TraceText, trace_of}
-use Rattle.trace_reader.proofs.DriverTraces.{plain_trace}
 use Rattle.ring_pass.proofs.RowsTaken.{text_is_trace}
 use Rattle.xhci_cli.specs.HarmAnswers.{IsHarmFound}
 use Rattle.answers.specs.declared.answer.FoundHarm.{FoundHarm}
@@ -94,13 +91,13 @@ cut_right contents before after known known' leases (Err e) (trace, read, sound)
 pub verified_right : (leases : List Lease) (known known' : Option (List ℕ)) (holds : Bool) → OfTrace known known' (λ trace. IsVerified trace leases holds) → IsVerdictBeside leases known (Verified holds)
 verified_right leases known known' holds (trace, read, right) = inr (trace, text_known known known' trace read, right)
 
--- ---- a run that does harm, beside the driver's rows alone
+-- ---- a run that does harm
 
 same_trace : (x y : TraceText) (r : Result TraceText (ℕ × LineFault)) → r ≡ Ok x → r ≡ Ok y → x ≡ y
 same_trace x y r is also = cc (sym is ∙ also)
 
-pub harm_found : {E : Type 0} (text : List ℕ) (plain : Trace) (row : ℕ) (r : Result (Option FoundHarm) E) → driver_trace_of text ≡ Ok (spelled plain) →
-    IfOk r (λ found. IsHarmFound (all_plain (spelled plain)) row found) → IfOk r (λ found. (trace : TraceText) → text_taken ring_row text ≡ Ok trace → IsHarmFound trace row found)
-harm_found text plain row (Ok found) read harms = λ trace told.
-    subst (λ (t : TraceText). IsHarmFound t row found) (same_trace (all_plain (spelled plain)) trace (trace_of text) (plain_trace text (spelled plain) read) (text_is_trace text trace told)) harms
-harm_found text plain row (Err e) read harms = tt
+pub harm_found : {E : Type 0} (text : List ℕ) (kept : TraceText) (row : ℕ) (r : Result (Option FoundHarm) E) → trace_of text ≡ Ok kept → IfOk r (λ found. IsHarmFound kept row found) →
+    IfOk r (λ found. (trace : TraceText) → text_taken ring_row text ≡ Ok trace → IsHarmFound trace row found)
+harm_found text kept row (Ok found) read harms = λ trace told.
+    subst (λ (t : TraceText). IsHarmFound t row found) (same_trace kept trace (trace_of text) read (text_is_trace text trace told)) harms
+harm_found text kept row (Err e) read harms = tt

@@ -1,6 +1,7 @@
 pub mod CheckAnswers
 pub mod HarmAnswers
 pub mod JudgedTexts
+pub mod KeptTexts
 pub mod PlanAnswers
 pub mod ReplayAnswers
 pub mod ScheduleAnswers

@@ -1,16 +1,17 @@
 -- What is right to answer to the texts of a trace and of a schedule
 use Rattle.std.specs.Prelude.{◌≡◌, ℕ, List, Option, Some, None, Ok, Err}
 use Rattle.traces.specs.declared.schedule.Schedule.{Schedule}
-use Rattle.traces.specs.declared.trace.Trace.{Trace}
+use Rattle.trace_reader.specs.Reading.{TraceText}
 use Rattle.trace_reader.specs.Schedules.{schedule_of}
 use Rattle.trace_reader.specs.declared.fault.LineFault.{LineFault}
-use Rattle.controller_model.specs.Showing.{Replay, replayed}
+use Rattle.controller_model.specs.Scenes.{scene_replayed}
+use Rattle.controller_model.specs.Showing.{Replay}
 use Rattle.controller_model.specs.Steps.{Ending, NoHarm as EndsSafe, NotPossible as Stuck, Harmful as Harms}
-use Rattle.answers.specs.Inputs.{IsTraceAnswer}
 use Rattle.answers.specs.declared.replay_lines.ReplayEnd.{ReplayEnd}
 use Rattle.answers.specs.declared.replay_lines.ReplayEnd.TheVariants.{NoHarm, Harmful, NotPossible}
 use Rattle.answers.specs.declared.answer.Answer.{Answer}
 use Rattle.answers.specs.declared.answer.Answer.TheVariants.{Replayed, BadLine, Memory, Device}
+use Rattle.xhci_cli.specs.KeptTexts.{IsTraceAnswer}
 
 -- the known bytes of an input spell the schedule; of bytes that aren't known nothing is said
 abbrev pub IsScheduleIn : Option (List ℕ) → Schedule → Type 0
@@ -29,14 +30,14 @@ ending_as (Harmful step harm) = Harms step harm
 ending_as (NotPossible step) = Stuck step
 
 -- an answer is the replay of a schedule beside a trace, or that memory was wanted
-abbrev pub IsReplayed : Trace → Schedule → Answer → Type 0
+abbrev pub IsReplayed : TraceText → Schedule → Answer → Type 0
 IsReplayed trace schedule (Replayed seen ending) =
-    (seen.items ≡ (replayed trace.header trace.rows schedule.steps).seen) × (ending_as ending ≡ (replayed trace.header trace.rows schedule.steps).ending)
+    (seen.items ≡ (scene_replayed trace.header trace.rows schedule.steps).seen) × (ending_as ending ≡ (scene_replayed trace.header trace.rows schedule.steps).ending)
 IsReplayed trace schedule Memory = Unit {0}
 IsReplayed trace schedule _ = ⊥
 
 -- what is right to answer beside a trace to the text of a schedule: the replay, or the first bad line; or that memory or the device failed
-abbrev pub IsReplayBeside : Trace → Option (List ℕ) → Answer → Type 0
+abbrev pub IsReplayBeside : TraceText → Option (List ℕ) → Answer → Type 0
 IsReplayBeside trace steps (Replayed seen ending) = (schedule : Schedule) × IsScheduleIn steps schedule × IsReplayed trace schedule (Replayed seen ending)
 IsReplayBeside trace steps (BadLine line fault) = IsFirstBadStep steps line fault
 IsReplayBeside trace steps Memory = Unit {0}

@@ -1,10 +1,12 @@
-//! Checks a trace, and looks for a run that does harm beside it. That needs all its rows.
-ghost use Rattle.std.specs.Prelude.{Some, ◌≡◌, true, IfErr, IfOk, Ok, string_bytes};
+//! Checks a trace, and looks for a run that does harm beside it. That needs all its rows in memory.
+ghost use Rattle.std.specs.Prelude.{Some, ◌≡◌, ◌≤◌, true, All, IfErr, IfOk, Ok, length, string_bytes};
+ghost use Rattle.traces.specs.Limits.{most_lines};
+ghost use Rattle.traces.specs.Rows.{IsRow};
 ghost use Rattle.answers.specs.Telling.{IsNote};
 ghost use Rattle.xhci_cli.specs.CheckAnswers.{IsCheckAnswer, IsHindered};
-ghost use Rattle.trace_reader.specs.DriverRows.{all_plain, text_taken};
-ghost use Rattle.trace_reader.specs.Entries.{text_of as spelled};
+ghost use Rattle.trace_reader.specs.DriverRows.{text_taken};
 ghost use Rattle.trace_reader.specs.Reading.{TraceText};
+ghost use Rattle.row_reader.specs.TextRows.{trace_kept};
 ghost use Rattle.ring_pass.specs.RingRows.{ring_row};
 ghost use Rattle.ring_pass.specs.Rules.{ring_verdict};
 ghost use Rattle.xhci_cli.specs.HarmAnswers.{IsHarmFound, IsRefusalTold};
@@ -14,14 +16,13 @@ use crate::judged::{Judged, unkept, unread};
 use crate::reading::bytes_of;
 use crate::version_note::note_on_check;
 use answers::{Answer, Asked, FoundHarm};
-use controller_model::plain_rows;
 use ownership_rules::Refusal;
-use row_reader::Counted;
+use row_reader::{Counted, TextRows, read_rows};
 use scheduler::{Search, harmful_run};
 use std::alloc::{AllocError, Global};
 use std::io::{self, Read, Write};
 use trace_reader::{ReadFault, print_schedule, read_trace};
-use traces::Trace;
+use traces::Row;
 
 /// Judges the trace that an input holds; of a refused one a run that does harm is looked for.
 pub fn judged_with_harm<R: Read + Drop, C: Write>(
@@ -74,7 +75,7 @@ fn shown_answer(alloc: Global, search: Search, text: &[u8], row: u32, refusal: R
     }
 }
 
-/// The schedule of a run that does harm, as it is printed, if one is found. It is looked for where all rows are the driver's.
+/// The schedule of a run that does harm, as it is printed, if one is found.
 fn found_harm(
     alloc: Global,
     search: Search,
@@ -83,29 +84,48 @@ fn found_harm(
 ) -> Result<Option<FoundHarm>, AllocError>
     ensures { IfOk result (λ found. (trace : TraceText) → text_taken ring_row text.now ≡ Ok trace → IsHarmFound trace row found) }
 {
-    match read_trace(alloc, text) {
-        Ok(trace) => harm_beside(alloc, search, &trace, row),
+    match read_rows(alloc, text) {
+        Ok(trace) => harm_in_text(alloc, search, text, &trace, row),
         Err(ReadFault::Line { .. }) => Ok(None),
         Err(ReadFault::Memory) => Err(AllocError),
     }
 }
 
-/// The same, beside a trace all rows of which are the driver's.
+/// The same, beside the rows of the text. Where all are the driver's the scheduler is given them as such too.
+fn harm_in_text(
+    alloc: Global,
+    search: Search,
+    text: &[u8],
+    trace: &TextRows,
+    row: u32,
+) -> Result<Option<FoundHarm>, AllocError>
+    ensures { IfOk result (λ found. IsHarmFound (trace_kept trace.now) row found) }
+{
+    match read_trace(alloc, text) {
+        Ok(plain) => harm_beside(alloc, search, trace, plain.rows.as_slice(), row),
+        Err(ReadFault::Line { .. }) => harm_beside(alloc, search, trace, &[], row),
+        Err(ReadFault::Memory) => Err(AllocError),
+    }
+}
+
+/// The same, beside all rows of a trace.
 fn harm_beside(
     alloc: Global,
     search: Search,
-    trace: &Trace,
+    trace: &TextRows,
+    driver: &[Row],
     row: u32,
 ) -> Result<Option<FoundHarm>, AllocError>
-    ensures { IfOk result (λ found. IsHarmFound (all_plain (spelled trace.now)) row found) }
+    requires driver { All IsRow driver.now }
+    requires few { length driver.now ≤ most_lines }
+    ensures { IfOk result (λ found. IsHarmFound (trace_kept trace.now) row found) }
 {
-    let driver = trace.rows.as_slice();
-    let rows = plain_rows(alloc, driver)?;
+    let rows = trace.rows.as_slice();
     let refused = row.saturating_sub(trace.first) as usize;
     if refused >= rows.len() {
         return Ok(None);
     }
-    match harmful_run(alloc, &trace.header, &rows, driver, refused, search)? {
+    match harmful_run(alloc, &trace.header, rows, driver, refused, search)? {
         Some(run) => {
             let schedule = print_schedule(alloc, &run.schedule)?;
             Ok(Some(FoundHarm {

@@ -1,11 +1,9 @@
 //! Replays a schedule beside a trace, and writes the answer.
-ghost use Rattle.std.specs.Prelude.{Some, ◌≡◌, ◌⊎◌, All, false, true, IsErr, map};
-ghost use Rattle.traces.specs.TraceRows.{IsTraceRow};
-ghost use Rattle.traces.specs.declared.trace_row.TraceRow.TheVariants.{Plain};
-ghost use Rattle.controller_model.specs.Showing.{replayed};
-ghost use Rattle.replayer.specs.Replays.{IsReplay};
+ghost use Rattle.std.specs.Prelude.{Some, ◌≡◌, ◌⊎◌, false, true, IsErr};
+ghost use Rattle.row_reader.specs.TextRows.{trace_kept};
 ghost use Rattle.answers.specs.Answers.{goes_out};
-ghost use Rattle.answers.specs.Inputs.{IsUnread, opened};
+ghost use Rattle.answers.specs.Inputs.{opened};
+ghost use Rattle.xhci_cli.specs.KeptTexts.{IsUnread};
 ghost use Rattle.xhci_cli.specs.ReplayAnswers.{IsReplayAnswer, IsReplayBeside, IsReplayed};
 ghost use Rattle.answers.specs.Telling.{IsTold};
 
@@ -13,15 +11,15 @@ use crate::reading::bytes_of;
 use answers::{
     Answer, Asked, ReplayEnd, Status, note_on_schedule, note_on_trace, tell, tell_failure,
 };
-use controller_model::{Seen, plain_rows};
 use replayer::{ReplayFault, replay};
+use row_reader::{TextRows, read_rows};
 use std::alloc::Global;
 use std::io::{self, Read, Write};
-use trace_reader::{read_schedule, read_trace};
-use traces::{Schedule, Trace, TraceRow};
+use trace_reader::read_schedule;
+use traces::Schedule;
 
-/// Replays the schedule of the input that `open_schedule` opens beside the trace that `trace` holds, once the trace was read; where it
-/// is none, the schedule isn't opened. The takes go to `out`, and how the replay ends; what hinders it to `err`. `beside` is how the
+/// Replays the schedule of the input that `open_schedule` opens beside the trace that `trace` holds, with all its rows, once it was read;
+/// where it is none, the schedule isn't opened. The takes go to `out`, and how the replay ends; what hinders it to `err`. `beside` is how the
 /// schedule is called in messages.
 pub fn run_replay<R, S, F, O: Write, E: Write>(
     alloc: Global,
@@ -51,7 +49,7 @@ where
         Ok(text) => text,
         Err(error) => return tell_failure(alloc, asked, error, out, err),
     };
-    match read_trace(alloc, &text) {
+    match read_rows(alloc, &text) {
         Ok(trace) => run_beside(alloc, asked, beside, &trace, open_schedule(), out, err),
         Err(fault) => {
             let answer = Answer::from(fault);
@@ -66,12 +64,12 @@ fn run_beside<S: Read + Drop, O: Write, E: Write>(
     alloc: Global,
     asked: &Asked,
     beside: &str,
-    trace: &Trace,
+    trace: &TextRows,
     schedule: io::Result<S>,
     out: &mut O,
     err: &mut E,
 ) -> Status
-    ensures told { (answer : Answer) × IsReplayBeside trace.now (opened S.remaining schedule) answer
+    ensures told { (answer : Answer) × IsReplayBeside (trace_kept trace.now) (opened S.remaining schedule) answer
         × IsTold asked.now.explains answer result (O.contents out.old) (O.contents out.new) (E.contents err.old) (E.contents err.new) }
     ensures out { result ≡ Status.Unreadable → out.new ≡ out.old }
     ensures err { asked.now.explains ≡ false → goes_out result ≡ true → err.new ≡ err.old }
@@ -83,45 +81,38 @@ fn run_beside<S: Read + Drop, O: Write, E: Write>(
         explains: asked.explains,
     };
     match bytes_of(alloc, schedule) {
-        Ok(text) => match plain_rows(alloc, trace.rows.as_slice()) {
-            Ok(rows) => {
-                let answer = replay_answer(alloc, trace, &rows, &text);
-                let note = note_on_schedule(
-                    alloc,
-                    &named,
-                    &trace.header,
-                    trace.first,
-                    &rows,
-                    &text,
-                    &answer,
-                );
-                tell(alloc, asked.explains, answer, note, out, err)
-            }
-            Err(refused) => tell_failure(alloc, &named, io::Error::from(refused), out, err),
-        },
+        Ok(text) => {
+            let answer = replay_answer(alloc, trace, &text);
+            let note = note_on_schedule(
+                alloc,
+                &named,
+                &trace.header,
+                trace.first,
+                trace.rows.as_slice(),
+                &text,
+                &answer,
+            );
+            tell(alloc, asked.explains, answer, note, out, err)
+        }
         Err(error) => tell_failure(alloc, &named, error, out, err),
     }
 }
 
-/// The answer beside a trace, its rows as those of any trace, to the text of a schedule.
-fn replay_answer(alloc: Global, trace: &Trace, rows: &[TraceRow], text: &[u8]) -> Answer
-    requires same { rows.now ≡ map (λ row. Plain row) trace.now.rows }
-    requires fit { All IsTraceRow rows.now }
-    ensures { IsReplayBeside trace.now (Some text.now) result }
+/// The answer beside a trace to the text of a schedule.
+fn replay_answer(alloc: Global, trace: &TextRows, text: &[u8]) -> Answer
+    ensures { IsReplayBeside (trace_kept trace.now) (Some text.now) result }
 {
     match read_schedule(alloc, text) {
-        Ok(schedule) => replay_of(alloc, trace, rows, &schedule),
+        Ok(schedule) => replay_of(alloc, trace, &schedule),
         Err(fault) => Answer::from(fault),
     }
 }
 
 /// The replay of a schedule beside a trace, as it is answered.
-fn replay_of(alloc: Global, trace: &Trace, rows: &[TraceRow], schedule: &Schedule) -> Answer
-    requires same { rows.now ≡ map (λ row. Plain row) trace.now.rows }
-    requires fit { All IsTraceRow rows.now }
-    ensures { IsReplayed trace.now schedule.now result }
+fn replay_of(alloc: Global, trace: &TextRows, schedule: &Schedule) -> Answer
+    ensures { IsReplayed (trace_kept trace.now) schedule.now result }
 {
-    match replay_beside(alloc, trace, rows, schedule) {
+    match replay(alloc, &trace.header, trace.rows.as_slice(), schedule) {
         Ok(seen) => Answer::Replayed {
             seen,
             ending: ReplayEnd::NoHarm,
@@ -136,18 +127,4 @@ fn replay_of(alloc: Global, trace: &Trace, rows: &[TraceRow], schedule: &Schedul
         },
         Err(ReplayFault::Memory) => Answer::Memory,
     }
-}
-
-/// The replay of a schedule beside a trace, its rows as those of any trace.
-fn replay_beside(
-    alloc: Global,
-    trace: &Trace,
-    rows: &[TraceRow],
-    schedule: &Schedule,
-) -> Result<Vec<Seen>, ReplayFault>
-    requires same { rows.now ≡ map (λ row. Plain row) trace.now.rows }
-    requires fit { All IsTraceRow rows.now }
-    ensures { IsReplay (replayed trace.now.header trace.now.rows schedule.now.steps) result }
-{
-    replay(alloc, &trace.header, rows, schedule)
 }

@@ -1,4 +1,4 @@
-use Rattle.std.proofs.Common.{◌≡◌, ◌∙◌, ℕ, arith, length, refl, subst, sym}
+use Rattle.std.proofs.Common.{◌∙◌, ℕ, arith, length, refl, subst, sym}
 use Rattle.std.proofs.lemmas.Option.{slice_get_read, slice_get_within}
 use Rattle.safety.proofs.Words.{false≢true}
 use Rattle.std.specs.Prelude.{Option}

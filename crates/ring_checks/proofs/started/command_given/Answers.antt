@@ -1,7 +1,7 @@
 use Rattle.std.proofs.Common.{◌≡◌, ◌∙◌, true, ap, arith, get_or, length, refl, sym}
 use Rattle.std.proofs.lemmas.Option.{slice_get_read, slice_get_within}
 use Rattle.segments.specs.Places.{touches}
-use Rattle.traces.specs.Header.{is_command_kind, is_driver_kind}
+use Rattle.traces.specs.Header.{is_command_kind}
 use Rattle.ring_finder.proofs.FoundRings.{ring_here}
 use Rattle.ring_checks.proofs.GivenAt.{command_drives, given_on, none_on, none_without, said_by}
 use Rattle.ring_checks.proofs.started.command_given.Goals as goal

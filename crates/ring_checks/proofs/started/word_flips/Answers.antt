@@ -1,7 +1,7 @@
 use Rattle.std.proofs.Common.{◌≡◌, ◌∙◌, true, ap, arith, get_or, length, not, refl, sym}
 use Rattle.std.proofs.lemmas.Option.{slice_get_read, slice_get_within}
 use Rattle.segments.specs.Places.{touches}
-use Rattle.traces.specs.Header.{is_driver_kind, is_event_kind}
+use Rattle.traces.specs.Header.{is_driver_kind}
 use Rattle.ring_finder.proofs.FoundRings.{none_here, ring_here}
 use Rattle.ring_finder.proofs.RingsApart.{among_at}
 use Rattle.ring_checks.proofs.PassedFlips.{event_flips, none_flips, ring_flips}

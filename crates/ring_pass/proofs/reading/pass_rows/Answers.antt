@@ -1,15 +1,14 @@
-use Rattle.std.proofs.Common.{◌≡◌, ◌+◌, ◌∷◌, ◌<◌, ◌∙◌, ap, ℕ, List, Ok, Err, Some, refl, subst, sym}
+use Rattle.std.proofs.Common.{◌≡◌, ◌∙◌, ap, ℕ, List, Some, refl, subst, sym}
 use Rattle.std.proofs.lemmas.Result.{err_from_is_err_and}
 use Rattle.traces.specs.declared.header.Header.{Header}
 use Rattle.traces.specs.declared.ring.Ring.{Ring}
 use Rattle.traces.specs.declared.trace_row.TraceRow.{TraceRow}
 use Rattle.traces.specs.declared.trace_row.TraceRow.TheVariants.{Plain, Comes, Goes, Withdraws}
-use Rattle.row_reader.specs.declared.fault.StreamFault.{StreamFault}
 use Rattle.trace_record.specs.declared.fault.StepFault.{StepFault}
 use Rattle.trace_record.specs.Steps.{IfRefused}
 use Rattle.ring_changes.specs.Histories.{header_now, known_now}
 use Rattle.ring_pass.specs.Clean.{IsLeastOfRow}
-use Rattle.ring_pass.specs.Passing.{IsRingLogged, IsRingPassed}
+use Rattle.ring_pass.specs.Passing.{IsRingPassed}
 use Rattle.ring_pass.specs.Reading.{OfTrace}
 use Rattle.ring_pass.specs.Rules.{ring_verdict}
 use Rattle.ring_pass.proofs.RowsRead.{bad_behind, bad_so, ended, ended_bad, ended_refused, fewer_left, fits_so, given, refused_so, row_passed, underway, whole_so}

@@ -1,21 +1,17 @@
 use Rattle.answers.specs.Inputs.{opened}
+use Rattle.row_reader.specs.TextRows.{trace_kept}
 use Rattle.xhci_cli.specs.ReplayAnswers.{IsReplayBeside}
 use Rattle.xhci_cli.proofs.Replayed.{beside_held}
 use Rattle.answers.proofs.Told.{failure, told_right}
 use Rattle.xhci_cli.proofs.replay_run.run_beside.Goals as goal
 
-pub returns-in-Ok-plain_rows-clause-told : goal.returns-in-Ok-plain_rows-clause-told
-returns-in-Ok-plain_rows-clause-told g c =
-    let known = opened g.S.Read.remaining c.args.schedule in
-    let held = beside_held c.args.trace.now known _ c.replay_answer-answer.result c.in-Ok.ensures.bytes (rw c.deref-in-Ok-plain_rows.ensures.value at c.replay_answer-answer.ensures) in
-    told_right (λ a. IsReplayBeside c.args.trace.now known a) _ _ _ _ _ _ _ held tt c.tell.ensures.told
-
-pub returns-clause-told : goal.returns-clause-told
-returns-clause-told g c =
-    let known = opened g.S.Read.remaining c.args.schedule in
-    told_right (λ a. IsReplayBeside c.args.trace.now known a) _ _ _ _ _ _ _ (failure (λ a. IsReplayBeside c.args.trace.now known a) tt tt _) tt c.tell_failure-in-Err.ensures.told
-
 pub returns-in-Ok-clause-told : goal.returns-in-Ok-clause-told
 returns-in-Ok-clause-told g c =
     let known = opened g.S.Read.remaining c.args.schedule in
-    told_right (λ a. IsReplayBeside c.args.trace.now known a) _ _ _ _ _ _ _ (failure (λ a. IsReplayBeside c.args.trace.now known a) tt tt _) tt c.tell_failure.ensures.told
+    let held = beside_held (trace_kept c.args.trace.now) known _ c.replay_answer-answer.result c.in-Ok.ensures.bytes (rw c.deref.ensures.value at c.replay_answer-answer.ensures) in
+    told_right (λ a. IsReplayBeside (trace_kept c.args.trace.now) known a) _ _ _ _ _ _ _ held tt c.tell.ensures.told
+
+pub returns-in-Err-clause-told : goal.returns-in-Err-clause-told
+returns-in-Err-clause-told g c =
+    let known = opened g.S.Read.remaining c.args.schedule in
+    told_right (λ a. IsReplayBeside (trace_kept c.args.trace.now) known a) _ _ _ _ _ _ _ (failure (λ a. IsReplayBeside (trace_kept c.args.trace.now) known a) tt tt _) tt c.tell_failure.ensures.told

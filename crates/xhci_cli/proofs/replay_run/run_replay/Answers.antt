@@ -1,8 +1,10 @@
 use Rattle.std.proofs.Common.{inl, inr, subst, sym}
-use Rattle.answers.specs.Inputs.{IsUnread, opened}
+use Rattle.answers.specs.Inputs.{opened}
 use Rattle.answers.specs.declared.answer.Answer.{Answer}
-use Rattle.answers.proofs.Held.{text_held, unread_right}
 use Rattle.answers.proofs.Told.{failure, told_right}
+use Rattle.row_reader.specs.TextRows.{trace_kept}
+use Rattle.xhci_cli.proofs.KeptHeld.{text_held, unread_right}
+use Rattle.xhci_cli.specs.KeptTexts.{IsUnread}
 use Rattle.xhci_cli.proofs.replay_run.run_replay.Goals as goal
 
 pub returns-in-Err-clause-told : goal.returns-in-Err-clause-told
@@ -10,8 +12,8 @@ returns-in-Err-clause-told g c =
     let rows = opened g.R.Read.remaining c.args.trace in
     let t = told_right (λ a. IsUnread rows a) _ _ _ _ _ _ _ (failure (λ a. IsUnread rows a) tt tt _) tt c.tell_failure.ensures.told in (t.0, inl t.1, t.2)
 
-pub returns-in-Ok-read_trace-clause-told : goal.returns-in-Ok-read_trace-clause-told
-returns-in-Ok-read_trace-clause-told g c =
+pub returns-in-Ok-read_rows-clause-told : goal.returns-in-Ok-read_rows-clause-told
+returns-in-Ok-read_rows-clause-told g c =
     let rows = opened g.R.Read.remaining c.args.trace in
     let t = c.run_beside.ensures.told in (
       t.0,
@@ -19,19 +21,19 @@ returns-in-Ok-read_trace-clause-told g c =
         c.open_schedule.result,
         c.open_schedule.ensures,
         inr (
-          c.in-Ok-read_trace.trace,
-          text_held rows _ c.in-Ok-read_trace.trace c.in-Ok.ensures.bytes
-              (rw c.deref.ensures.value at c.in-Ok-read_trace.ensures.read),
+          trace_kept c.in-Ok-read_rows.trace,
+          text_held rows _ (trace_kept c.in-Ok-read_rows.trace) c.in-Ok.ensures.bytes
+              (rw c.deref.ensures.value at c.in-Ok-read_rows.ensures.read),
           t.1,
         ),
       ),
       t.2,
     )
 
-pub returns-in-Err-read_trace-clause-told : goal.returns-in-Err-read_trace-clause-told
-returns-in-Err-read_trace-clause-told g c =
+pub returns-in-Err-read_rows-clause-told : goal.returns-in-Err-read_rows-clause-told
+returns-in-Err-read_rows-clause-told g c =
     let rows = opened g.R.Read.remaining c.args.trace in
-    let unread = unread_right rows _ c.in-Err-read_trace.fault c.in-Ok.ensures.bytes
-    (rw c.deref.ensures.value at c.in-Err-read_trace.ensures.refused) in
+    let unread = unread_right rows _ c.in-Err-read_rows.fault c.in-Ok.ensures.bytes
+    (rw c.deref.ensures.value at c.in-Err-read_rows.ensures.refused) in
     let right : IsUnread rows c.from-answer.result = subst (λ (a : Answer). IsUnread rows a) (sym c.from-answer.ensures) unread in
     let t = told_right (λ a. IsUnread rows a) _ _ _ _ _ _ _ right tt c.tell.ensures.told in (t.0, inl t.1, t.2)
