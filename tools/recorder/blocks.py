@@ -5,6 +5,7 @@ RESET_ENDPOINT, STOP_ENDPOINT, SET_TR_DEQUEUE, RESET_DEVICE = 14, 15, 16, 17
 STOPPING = (RESET_ENDPOINT, STOP_ENDPOINT, SET_TR_DEQUEUE)  # where they succeed the endpoint is stopped
 TRANSFER_EVENT, COMMAND_COMPLETION = 32, 33
 SUCCESS, STOPPED_CODES, HALTING_CODES = 1, (26, 27, 28), (3, 4, 5, 6, 36)
+EMPTY_CODES = (14, 15)  # Ring Underrun, Ring Overrun: no TRB is meant (4.10.3.1)
 
 
 def kind(words):

@@ -4,7 +4,7 @@ from collections import namedtuple
 import blocks
 from qemu_log import Fetch, Post, Seen
 
-# given: the key of the last store to its control word; completion: the posted event's words; read: the key of its reading, or None
+# given: the key of the store that gives it, the first that leaves its Cycle bit; completion: the posted event's words; read: the key of its reading, or None
 Command = namedtuple('Command', 'key at words given completion read')
 
 
@@ -26,7 +26,7 @@ def find(items, memory):
         elif isinstance(item, Post) and fetched and blocks.kind(item.words) == blocks.COMMAND_COMPLETION:
             if blocks.pointer(item.words) == fetched.at:
                 seen = read.get(id(item))
-                given = memory.last_store(fetched.at + 12, fetched.key) or fetched.key
+                given = memory.cycle_since(fetched.at + 12, fetched.key) or fetched.key
                 commands.append(Command(fetched.key, fetched.at, fetched.words, given, item.words, seen and seen.key))
             fetched = None
     return commands

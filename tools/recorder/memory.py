@@ -2,12 +2,11 @@
 from bisect import bisect_left, insort
 from collections import namedtuple
 
-from qemu_log import Found, Page, Store
+from qemu_log import KEPT, Found, Page, Store
 
 Entry = namedtuple('Entry', 'key word found')  # found: no store was seen that left this word, but then it stood there; or None
 
 BEFORE_ALL = -1
-KEPT = 64  # entries of a word of no area that are kept
 
 
 class Memory:
@@ -54,19 +53,19 @@ class Memory:
     def block(self, at, key):
         return tuple(self.word(at + 4 * i, key) for i in range(4))
 
-    def last_store(self, at, key):
-        """The key of the last store to this word at or before `key`, or None."""
-        place = self.place(at, key)
-        return self.entries[at][place - 1].key if place else None
-
-    def set_since(self, at, key, since):
-        """Where bit 0 of a word is 1 at `key`: when it became 1, behind `since` where that isn't None; else None."""
+    def cycle_since(self, at, key, since=None):
+        """From when on bit 0 of a word is what it is at `key`: the first such store, behind `since` where that isn't None; else None."""
         place, found = self.place(at, key), None
         entries = self.entries.get(at, [])
-        while place > 0 and entries[place - 1].word & 1 and (since is None or entries[place - 1].key > since):
+        cycle = self.word(at, key) & 1
+        while place > 0 and entries[place - 1].word & 1 == cycle and (since is None or entries[place - 1].key > since):
             place -= 1
             found = entries[place].key
         return found
+
+    def set_since(self, at, key, since):
+        """The same where bit 0 is 1 at `key`; else None."""
+        return self.cycle_since(at, key, since) if self.word(at, key) & 1 else None
 
     def life(self, at, named, ended):
         """The entries of a word of an area: from the last one of 0 before `named` on, else from the first, to `ended` or on."""

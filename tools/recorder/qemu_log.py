@@ -23,6 +23,9 @@ Reset = namedtuple('Reset', 'key by_driver')
 
 CPU, DEVICE, LATER = 0, 1, 2  # at one count: what the CPU did, what the device did for it, what came after
 FOREVER = float('inf')
+KEPT = 64             # stores to a word of no area that are kept, from the last one of 0 on
+MOST_TOLD = 1 << 18   # items that are held while a page may still be told, before those are left out that no area needs
+RECENT = 1 << 16      # counts: a command that names an area, and is taken now, was given no longer ago
 
 
 def key_of(count, rank, number):
@@ -73,7 +76,7 @@ class LogReader:
         self.end = (0, 0)
 
     def items(self, lines):
-        held = []  # what may not be told to its end yet
+        held, most = [], MOST_TOLD  # what may not be told to its end yet
         for self.number, line in enumerate(lines):
             self.in_page = self.in_page and not self.is_after_page(line)
             if self.is_told():
@@ -85,11 +88,26 @@ class LogReader:
                 self.fault = f'line {self.number + 1} of the log is not understood: {line.strip()[:200]}'
             if self.fault:
                 break
+            if len(held) > most:
+                held = self.needed(held)
+                most = max(MOST_TOLD, 2 * len(held))
         if self.ended or self.is_told():
             yield from held + self.all_found()
             for number, make in self.waiting:
                 yield make(key_of(self.count, LATER, number))
             self.end = (self.count, self.number + 1)
+
+    def needed(self, held):
+        """Of stores that are remembered from long ago those that an area may need: to each word the last ones, from one of 0 on."""
+        kept, counts = [], {}
+        for item in reversed(held):
+            if isinstance(item, Store) and count_of(item.key) < self.count - RECENT:
+                count = counts.get(item.at, 0)
+                if count == KEPT:
+                    continue
+                counts[item.at] = count + 1 if item.word else KEPT
+            kept.append(item)
+        return kept[::-1]
 
     def is_told(self):
         """Whether the plugin isn't in the middle of a store to a register, or of a page."""
