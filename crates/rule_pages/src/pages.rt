@@ -529,8 +529,8 @@ What to write instead
   WriteToOwned.
 
 A trace that breaks it
-  Row 29 withdraws the TD of row 28 while the endpoint is Running: refused.
-  (`check` doesn't read `nop` rows yet: it answers 2 Row for that line.)
+  Row 29 withdraws the TD of row 28 while the endpoint is Running, and is
+  refused.
 
     xtrace 2
     ctx 20
@@ -586,8 +586,7 @@ What to write instead
 
 A trace that breaks it
   Row 34 withdraws the TD that row 29 handed over; row 35 rings before it is a
-  No Op, and is refused. (`check` doesn't read `nop` rows yet: it answers 2 Row
-  for line 34.)
+  No Op, and is refused.
 
     xtrace 2
     ctx 20
