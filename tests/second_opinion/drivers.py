@@ -13,7 +13,7 @@ from blocks import (ADDRESS_DEVICE, CONFIGURE_ENDPOINT, COMMAND_COMPLETION, DATA
 from known import Known
 from rings import Ring, Segment, is_shape
 from rules import least_broken
-from trace import UNJUDGED, Comes, Declare, Doorbell, Event, Goes, Register, Trace, Withdraws, Write
+from trace import Comes, Declare, Doorbell, Event, Goes, Register, Trace, Withdraws, Write
 
 ARRAY, TABLE, INPUT_CONTEXTS, DEVICE_CONTEXTS = 0x50000, 0x40000, 0x60000, 0x70000
 SLOTS = (1, 2)
@@ -564,7 +564,7 @@ def text_of(trace):
     return ''.join(' '.join(line) + '\n' for line in lines).encode()
 
 
-def driven(seed, steps, most_refused, unmade=UNJUDGED):
+def driven(seed, steps, most_refused, unmade=()):
     """The text of one driver's clean trace; and some texts whose last row breaks a rule, each with that rule's number. It makes no rows of
     the types `unmade`."""
     driver = Driver(seed, unmade)

@@ -181,7 +181,7 @@ def page(trace, row=None):
 
 def main(arguments):
     with open(arguments[0], 'rb') as file:
-        trace = read_trace(file.read(), ())
+        trace = read_trace(file.read())
     try:
         print(page(trace, int(arguments[1]) if len(arguments) > 1 else None), end='')
     except NoRow as fault:

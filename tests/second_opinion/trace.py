@@ -99,9 +99,6 @@ class Trace(RingList):
         return 33 * self.context_bytes
 
 
-# the rows that no command judges yet
-UNJUDGED = ()
-
 # the rows that `schedule` and `show` don't take yet; beside them `check --show` tries no lazy schedule
 UNKEPT = (Comes, Goes, Withdraws)
 
@@ -191,9 +188,8 @@ def is_bad_shape(ring, rings, is_begun):
     return not is_shape(ring) or any(ring.number == other.number if is_begun else clash(ring, other) for other in rings)
 
 
-def read_line(line, content, is_ended, version, rings, is_begun, unjudged):
-    """What a line behind the first two says; `rings` are all that those before it named, `is_begun` tells whether a row is among them. A row
-    of an `unjudged` type is 2 Row where it has a right form."""
+def read_line(line, content, is_ended, version, rings, is_begun):
+    """What a line behind the first two says; `rings` are all that those before it named, `is_begun` tells whether a row is among them."""
     if len(content) > MOST_BYTES:
         raise BadLine(line, 4)
     fields = content.decode('latin-1').split(' ')
@@ -207,12 +203,10 @@ def read_line(line, content, is_ended, version, rings, is_begun, unjudged):
         raise BadLine(line, 4)
     if isinstance(said, Ring) and is_bad_shape(said, rings, is_begun):
         raise BadLine(line, 5)
-    if isinstance(said, unjudged):
-        raise BadLine(line, 2)
     return said
 
 
-def read_trace(text, unjudged=UNJUDGED):
+def read_trace(text):
     """The trace of a text (bytes), or BadLine."""
     lines = lines_of(text)
     versions = {(b'xtrace %d' % version, True): version for version in (1, 2, 3)}
@@ -222,7 +216,7 @@ def read_trace(text, unjudged=UNJUDGED):
         raise BadLine(2, 1)
     named, rings, rows = [], [], []
     for line, (content, is_ended) in enumerate(lines[2:], start=3):
-        said = read_line(line, content, is_ended, versions[lines[0]], named, bool(rows), unjudged)
+        said = read_line(line, content, is_ended, versions[lines[0]], named, bool(rows))
         if isinstance(said, Ring):
             named.append(said)
         if isinstance(said, Ring) and not rows:

@@ -38,7 +38,7 @@ def verdict_line(trace):
 def main(arguments):
     data = [open(path, 'rb').read() for path in arguments]
     try:
-        trace = read_trace(data[0], ())
+        trace = read_trace(data[0])
         if len(data) == 1:
             print(verdict_line(trace))
         else:
