@@ -4,7 +4,7 @@ use Rattle.std.proofs.KnownBytes.{Consumes-nil}
 use Rattle.std.proofs.lemmas.Bool.{cases_Bool}
 use Rattle.std.proofs.lemmas.List.{drop_at}
 use Rattle.std.specs.Io.KnownBytes.{IsAtEnd}
-use Rattle.traces.specs.Limits.{most_bytes, most_lines}
+use Rattle.traces.specs.Limits.{most_bytes}
 use Rattle.traces.specs.TraceRows.{ids_with}
 use Rattle.traces.specs.declared.row.Row.{Row}
 use Rattle.traces.specs.declared.trace_row.TraceRow.{TraceRow}
@@ -15,7 +15,7 @@ use Rattle.trace_reader.specs.declared.fault.LineFault.{LineFault}
 use Rattle.trace_reader.specs.declared.fault.LineError.{LineError}
 use Rattle.trace_reader.specs.declared.fault.LineError.TheVariants.{Fault, Memory}
 use Rattle.trace_reader.specs.Entries.{AnswersRow}
-use Rattle.trace_reader.specs.Reading.{State, behind_row, next_number, read_line}
+use Rattle.trace_reader.specs.Reading.{State, behind_row, most_of, next_number, read_line}
 use Rattle.trace_reader.specs.RowsAhead.{BeginsWithRow}
 unfoldable use Rattle.trace_reader.specs.Reading.{is_too_long}
 use Rattle.row_reader.specs.declared.fault.StreamFault.{StreamFault}
@@ -184,7 +184,7 @@ given st false number row ids held held' ahead ahead' is at noted right =
 pub begun_within : (ahead : List ℕ) (row : Row) (count : ℕ) → BeginsWithRow row count ahead → count ≤ length ahead
 begun_within ahead row count begins = omega (arith, ap length begins.2, length-append begins.0 (10 ∷ begins.1), begins.3)
 
-pub row_begins : (st : State) (ended : Bool) (held : Option (List ℕ)) (ahead left : List ℕ) (row : Row) (count : ℕ) → BeginsWithRow row count ahead → 2 ≤ st.lines → next_number st ≤ most_lines →
+pub row_begins : (st : State) (ended : Bool) (held : Option (List ℕ)) (ahead left : List ℕ) (row : Row) (count : ℕ) → BeginsWithRow row count ahead → 2 ≤ st.lines → next_number st ≤ most_of st →
     ended ≡ false → left ≡ drop count ahead →
     IsCall (record { read = st; ended = ended }) (record { read = record st { lines = next_number st; begun = true }; ended = ended }) held held ahead left (Ok (Some (next_number st, Plain row)))
 row_begins st ended held ahead left row count begins behind within going is =

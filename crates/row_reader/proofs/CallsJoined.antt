@@ -176,10 +176,10 @@ module _ {R : Type 0} (take : TraceRow → Result R LineFault) where
   open_law (line ∷ lines) = λ st text are. opened_law st text line lines are (open_law lines) (read_line st line) refl
 
   -- where the whole text says a trace, opening and the calls give its header and rows; where it has a bad line, they tell this one
-  pub calls_say_what_is_taken : (text : List ℕ) → taken_by_calls take text ≡ text_taken take text
+  pub calls_say_what_is_taken : (keeps : Bool) (text : List ℕ) → taken_by_calls keeps take text ≡ text_taken keeps take text
   unfolding taken_by_calls opened text_taken
-  calls_say_what_is_taken text = open_law (lines_of text) start text refl
+  calls_say_what_is_taken keeps text = open_law (lines_of text) (start keeps) text refl
 
 -- the same where each row is taken
-pub calls_say_the_text : (text : List ℕ) → read_by_calls text ≡ trace_of text
-calls_say_the_text text = calls_say_what_is_taken (λ row. Ok row) text ∙ all_taken text
+pub calls_say_the_text : (keeps : Bool) (text : List ℕ) → read_by_calls keeps text ≡ trace_of keeps text
+calls_say_the_text keeps text = calls_say_what_is_taken (λ row. Ok row) keeps text ∙ all_taken keeps text

@@ -11,7 +11,7 @@ use Rattle.row_reader.specs.declared.reader.RowReader.{RowReader}
 use Rattle.row_reader.specs.declared.fault.StreamFault.TheVariants.{Line}
 use Rattle.row_reader.specs.Ahead.{OfLater, OfText, ahead_of}
 use Rattle.row_reader.specs.Answers.{IsCall}
-use Rattle.row_reader.specs.ReaderState.{IsOpened, progress_of}
+use Rattle.row_reader.specs.ReaderState.{IsSameTrace, IsOpened, progress_of}
 use Rattle.row_reader.specs.RowByRow.{Call, Progress, call_in, call_on, opened}
 unfoldable use Rattle.row_reader.specs.RowByRow.{next_row}
 use Rattle.row_reader.specs.Streams.{HasRead, IsBadTaken, IsReadTo, OfStream, read_with}
@@ -141,45 +141,46 @@ module _ {R : Type 0} (take : TraceRow → Result R LineFault) where
   joined_so st (rows, None) = refl
   joined_so st (rows, Some fault) = refl
 
-  opened_so : (st : State) (ended : Bool) (text left : List ℕ) → opened text ≡ Ok (record { read = st; ended = ended }, left) →
-      text_taken take text ≡ read_with (record { version = st.version; context_size = st.size; rings = st.rings }) (st.lines + 1) [] (given_taken take (rows_given (lines_of left) (record { read = st; ended = ended }) left))
+  opened_so : (keeps : Bool) (st : State) (ended : Bool) (text left : List ℕ) → opened keeps text ≡ Ok (record { read = st; ended = ended }, left) →
+      text_taken keeps take text ≡ read_with (record { version = st.version; context_size = st.size; rings = st.rings }) (st.lines + 1) [] (given_taken take (rows_given (lines_of left) (record { read = st; ended = ended }) left))
   unfolding taken_by_calls
-  opened_so st ended text left is =
-      sym (calls_say_what_is_taken take text) ∙ ap (joined_behind take) is ∙ joined_so st (given_taken take (rows_given (lines_of left) (record { read = st; ended = ended }) left))
+  opened_so keeps st ended text left is =
+      sym (calls_say_what_is_taken take keeps text) ∙ ap (joined_behind take) is ∙ joined_so st (given_taken take (rows_given (lines_of left) (record { read = st; ended = ended }) left))
 
   -- where the reading was opened no row was read
-  pub opened_read : (held held' : Option (List ℕ)) (r : RowReader) → IsOpened held held' (Ok r) → HasRead take held held' (r.lines + 1) [] r
-  opened_read held held' r is =
-      text_too r.ended held held' [] (ahead_of r.ahead) (λ text left. opened text ≡ Ok (progress_of r, left))
-      (λ text left. text_taken take text ≡ read_with r.header (r.lines + 1) [] (given_taken take (rows_given (lines_of left) (progress_of r) left))) (opened_so (progress_of r).read r.ended) is
+  pub opened_read : (keeps : Bool) (held held' : Option (List ℕ)) (r : RowReader) → IsOpened keeps held held' (Ok r) → HasRead take held held' (r.lines + 1) [] r
+  opened_read keeps held held' r is =
+      subst (λ (k : Bool). IsReadTo k take held held' r.header (r.lines + 1) [] (progress_of r) (ahead_of r.ahead)) (sym is.0)
+      (text_too r.ended held held' [] (ahead_of r.ahead) (λ text left. opened keeps text ≡ Ok (progress_of r, left))
+      (λ text left. text_taken keeps take text ≡ read_with r.header (r.lines + 1) [] (given_taken take (rows_given (lines_of left) (progress_of r) left))) (opened_so keeps (progress_of r).read r.ended) is.1)
 
-  module _ (held held' held'' : Option (List ℕ)) (h : Header) (first : ℕ) (done : List R) (st st' : State) (ahead ahead' : List ℕ) where
+  module _ (keeps : Bool) (held held' held'' : Option (List ℕ)) (h : Header) (first : ℕ) (done : List R) (st st' : State) (ahead ahead' : List ℕ) where
     abbrev Stands : Bool → Type 0
-    Stands ended = IsReadTo take held held' h first done (record { read = st; ended = ended }) ahead
+    Stands ended = IsReadTo keeps take held held' h first done (record { read = st; ended = ended }) ahead
 
     abbrev Says : Call → List ℕ → List ℕ → Type 0
     Says c text left = next_row (record { read = st; ended = false }) text ≡ record c { left = left }
 
     row_more : (ended : Bool) (row : ℕ × TraceRow) (one : R) → take row.1 ≡ Ok one → Stands ended → IsCall (record { read = st; ended = ended }) (record { read = st'; ended = false }) held' held'' ahead ahead' (Ok (Some row)) →
-        IsReadTo take held held'' h first (done ++ one ∷ []) (record { read = st'; ended = false }) ahead'
+        IsReadTo keeps take held held'' h first (done ++ one ∷ []) (record { read = st'; ended = false }) ahead'
     row_more true row one is stands (came, used, all) = absurd (over_gives st (record { read = st'; ended = false }) (ahead ++ came ++ []) (ahead' ++ []) row (all []))
     row_more false row one is stands call =
         let p' : Progress = record { read = st'; ended = false } in
-        text_then false held held' held'' ahead ahead' (λ text left. text_taken take text ≡ read_with h first done (given_taken take (rows_given (lines_of left) (record { read = st; ended = false }) left)))
+        text_then false held held' held'' ahead ahead' (λ text left. text_taken keeps take text ≡ read_with h first done (given_taken take (rows_given (lines_of left) (record { read = st; ended = false }) left)))
         (λ text left. next_row (record { read = st; ended = false }) text ≡ record { answer = Ok (Some row); progress = p'; left = left })
-        (λ text left. text_taken take text ≡ read_with h first (done ++ one ∷ []) (given_taken take (rows_given (lines_of left) p' left)))
+        (λ text left. text_taken keeps take text ≡ read_with h first (done ++ one ∷ []) (given_taken take (rows_given (lines_of left) p' left)))
         (λ text left left' told gives. told ∙ ap (λ g. read_with h first done (given_taken take g)) (row_given st p' left left' row gives) ∙ row_taken h first done row one (rows_given (lines_of left') p' left') is) stands call
 
     -- a row that isn't taken, whatever follows it
     row_refused : (ended : Bool) (row : ℕ × TraceRow) (fault : LineFault) → take row.1 ≡ Err fault → Stands ended →
-        IsCall (record { read = st; ended = ended }) (record { read = st'; ended = false }) held' held'' ahead ahead' (Ok (Some row)) → IsBadTaken take held held'' row.0 fault
+        IsCall (record { read = st; ended = ended }) (record { read = st'; ended = false }) held' held'' ahead ahead' (Ok (Some row)) → IsBadTaken keeps take held held'' row.0 fault
     row_refused true row fault is stands (came, used, all) = absurd (over_gives st (record { read = st'; ended = false }) (ahead ++ came ++ []) (ahead' ++ []) row (all []))
     row_refused false row fault is stands call =
         let p' : Progress = record { read = st'; ended = false } in
-        some_text held held'' [] ahead' (λ text. text_taken take text ≡ Err (row.0, fault))
-        (text_then false held held' held'' ahead ahead' (λ text left. text_taken take text ≡ read_with h first done (given_taken take (rows_given (lines_of left) (record { read = st; ended = false }) left)))
+        some_text held held'' [] ahead' (λ text. text_taken keeps take text ≡ Err (row.0, fault))
+        (text_then false held held' held'' ahead ahead' (λ text left. text_taken keeps take text ≡ read_with h first done (given_taken take (rows_given (lines_of left) (record { read = st; ended = false }) left)))
         (λ text left. next_row (record { read = st; ended = false }) text ≡ record { answer = Ok (Some row); progress = p'; left = left })
-        (λ text left. text_taken take text ≡ Err (row.0, fault))
+        (λ text left. text_taken keeps take text ≡ Err (row.0, fault))
         (λ text left left' told gives. told ∙ ap (λ g. read_with h first done (given_taken take g)) (row_given st p' left left' row gives) ∙ row_untaken h first done row fault (rows_given (lines_of left') p' left') is)
         stands call)
 
@@ -188,18 +189,18 @@ module _ {R : Type 0} (take : TraceRow → Result R LineFault) where
         ((left left' : List ℕ) → next_row (record { read = st; ended = false }) left ≡ record { answer = answer; progress = record { read = st'; ended = true }; left = left' } →
         read_with h first done (given_taken take (rows_given (lines_of left) (record { read = st; ended = false }) left)) ≡ said) →
         Stands false → OfText true held' held'' ahead ahead' (λ text left. next_row (record { read = st; ended = false }) text ≡ record { answer = answer; progress = record { read = st'; ended = true }; left = left }) →
-        OfStream held held'' (λ text. text_taken take text ≡ said)
+        OfStream held held'' (λ text. text_taken keeps take text ≡ said)
     end_more answer said says stands call =
-        text_then true held held' held'' ahead ahead' (λ text left. text_taken take text ≡ read_with h first done (given_taken take (rows_given (lines_of left) (record { read = st; ended = false }) left)))
+        text_then true held held' held'' ahead ahead' (λ text left. text_taken keeps take text ≡ read_with h first done (given_taken take (rows_given (lines_of left) (record { read = st; ended = false }) left)))
         (λ text left. next_row (record { read = st; ended = false }) text ≡ record { answer = answer; progress = record { read = st'; ended = true }; left = left })
-        (λ text left. text_taken take text ≡ said) (λ text left left' told gives. told ∙ says left left' gives) stands call
+        (λ text left. text_taken keeps take text ≡ said) (λ text left left' told gives. told ∙ says left left' gives) stands call
 
     all_read : (ended : Bool) → Stands ended → IsCall (record { read = st; ended = ended }) (record { read = st'; ended = true }) held' held'' ahead ahead' (Ok None) → (ended ≡ true → held'' ≡ held') →
-        OfStream held held'' (λ text. text_taken take text ≡ Ok (record { header = h; first = first; rows = done }))
+        OfStream held held'' (λ text. text_taken keeps take text ≡ Ok (record { header = h; first = first; rows = done }))
     all_read true stands call still =
-        subst (λ (x : Option (List ℕ)). OfStream held x (λ text. text_taken take text ≡ Ok (record { header = h; first = first; rows = done }))) (sym (still refl))
-        (text_too true held held' [] ahead (λ text left. text_taken take text ≡ read_with h first done (given_taken take (rows_given (lines_of left) (record { read = st; ended = true }) left)))
-        (λ text left. text_taken take text ≡ Ok (record { header = h; first = first; rows = done }))
+        subst (λ (x : Option (List ℕ)). OfStream held x (λ text. text_taken keeps take text ≡ Ok (record { header = h; first = first; rows = done }))) (sym (still refl))
+        (text_too true held held' [] ahead (λ text left. text_taken keeps take text ≡ read_with h first done (given_taken take (rows_given (lines_of left) (record { read = st; ended = true }) left)))
+        (λ text left. text_taken keeps take text ≡ Ok (record { header = h; first = first; rows = done }))
         (λ text left told. told ∙ ap (λ g. read_with h first done (given_taken take g)) (over st (lines_of left) left) ∙ with_none h first done) stands)
     all_read false stands call still =
         end_more (Ok None) (Ok (record { header = h; first = first; rows = done }))
@@ -211,7 +212,7 @@ module _ {R : Type 0} (take : TraceRow → Result R LineFault) where
     over_bad left fault c is = let none = ap (λ (d : Call). d.answer) is in cc none
 
     bad_read : (ended : Bool) (line : ℕ) (fault : LineFault) → Stands ended →
-        IsCall (record { read = st; ended = ended }) (record { read = st'; ended = true }) held' held'' ahead ahead' (Err (Line line fault)) → IsBadTaken take held held'' line fault
+        IsCall (record { read = st; ended = ended }) (record { read = st'; ended = true }) held' held'' ahead ahead' (Err (Line line fault)) → IsBadTaken keeps take held held'' line fault
     bad_read true line fault stands (came, used, (later, is, call)) =
         absurd (over_bad (ahead ++ came ++ later) (line, fault) (record { answer = Err (line, fault); progress = record { read = st'; ended = true }; left = ahead' ++ later }) call)
     bad_read false line fault stands call =
@@ -235,29 +236,30 @@ module _ {R : Type 0} (take : TraceRow → Result R LineFault) where
       line_of_row held held' (ahead_of r.ahead) (ahead_of r'.ahead) (progress_of r).read (progress_of r').read r.ended row
       (subst (λ (e : Bool). IsCall (progress_of r) (record { read = (progress_of r').read; ended = e }) held held' (ahead_of r.ahead) (ahead_of r'.ahead) (Ok (Some row))) on call)
 
-  module _ (held held' held'' : Option (List ℕ)) (first : ℕ) (done : List R) (r r' : RowReader) (headed : r'.header ≡ r.header) (read : HasRead take held held' first done r) where
+  module _ (held held' held'' : Option (List ℕ)) (first : ℕ) (done : List R) (r r' : RowReader) (same : IsSameTrace r r') (read : HasRead take held held' first done r) where
     pub row_read : (row : ℕ × TraceRow) (one : R) → take row.1 ≡ Ok one → r'.ended ≡ false → IsCall (progress_of r) (progress_of r') held' held'' (ahead_of r.ahead) (ahead_of r'.ahead) (Ok (Some row)) →
         HasRead take held held'' first (done ++ one ∷ []) r'
     row_read row one is on call =
-        subst (λ (h : Header). IsReadTo take held held'' h first (done ++ one ∷ []) (progress_of r') (ahead_of r'.ahead)) (sym headed)
-        (subst (λ (e : Bool). IsReadTo take held held'' r.header first (done ++ one ∷ []) (record { read = (progress_of r').read; ended = e }) (ahead_of r'.ahead)) (sym on)
-        (row_more held held' held'' r.header first done (progress_of r).read (progress_of r').read (ahead_of r.ahead) (ahead_of r'.ahead) r.ended row one is read
-        (subst (λ (e : Bool). IsCall (progress_of r) (record { read = (progress_of r').read; ended = e }) held' held'' (ahead_of r.ahead) (ahead_of r'.ahead) (Ok (Some row))) on call)))
+        subst (λ (k : Bool). IsReadTo k take held held'' r'.header first (done ++ one ∷ []) (progress_of r') (ahead_of r'.ahead)) (sym same.1)
+        (subst (λ (h : Header). IsReadTo r.keeps take held held'' h first (done ++ one ∷ []) (progress_of r') (ahead_of r'.ahead)) (sym same.0)
+        (subst (λ (e : Bool). IsReadTo r.keeps take held held'' r.header first (done ++ one ∷ []) (record { read = (progress_of r').read; ended = e }) (ahead_of r'.ahead)) (sym on)
+        (row_more r.keeps held held' held'' r.header first done (progress_of r).read (progress_of r').read (ahead_of r.ahead) (ahead_of r'.ahead) r.ended row one is read
+        (subst (λ (e : Bool). IsCall (progress_of r) (record { read = (progress_of r').read; ended = e }) held' held'' (ahead_of r.ahead) (ahead_of r'.ahead) (Ok (Some row))) on call))))
 
     pub row_read_refused : (row : ℕ × TraceRow) (fault : LineFault) → take row.1 ≡ Err fault → r'.ended ≡ false → IsCall (progress_of r) (progress_of r') held' held'' (ahead_of r.ahead) (ahead_of r'.ahead) (Ok (Some row)) →
-        IsBadTaken take held held'' row.0 fault
+        IsBadTaken r.keeps take held held'' row.0 fault
     row_read_refused row fault is on call =
-        row_refused held held' held'' r.header first done (progress_of r).read (progress_of r').read (ahead_of r.ahead) (ahead_of r'.ahead) r.ended row fault is read
+        row_refused r.keeps held held' held'' r.header first done (progress_of r).read (progress_of r').read (ahead_of r.ahead) (ahead_of r'.ahead) r.ended row fault is read
         (subst (λ (e : Bool). IsCall (progress_of r) (record { read = (progress_of r').read; ended = e }) held' held'' (ahead_of r.ahead) (ahead_of r'.ahead) (Ok (Some row))) on call)
 
     pub end_read : r'.ended ≡ true → IsCall (progress_of r) (progress_of r') held' held'' (ahead_of r.ahead) (ahead_of r'.ahead) (Ok None) → (r.ended ≡ true → held'' ≡ held') →
-        OfStream held held'' (λ text. text_taken take text ≡ Ok (record { header = r.header; first = first; rows = done }))
+        OfStream held held'' (λ text. text_taken r.keeps take text ≡ Ok (record { header = r.header; first = first; rows = done }))
     end_read ended call still =
-        all_read held held' held'' r.header first done (progress_of r).read (progress_of r').read (ahead_of r.ahead) (ahead_of r'.ahead) r.ended read
+        all_read r.keeps held held' held'' r.header first done (progress_of r).read (progress_of r').read (ahead_of r.ahead) (ahead_of r'.ahead) r.ended read
         (subst (λ (e : Bool). IsCall (progress_of r) (record { read = (progress_of r').read; ended = e }) held' held'' (ahead_of r.ahead) (ahead_of r'.ahead) (Ok None)) ended call) still
 
     pub line_read_bad : r'.ended ≡ true → (line : ℕ) (fault : LineFault) → IsCall (progress_of r) (progress_of r') held' held'' (ahead_of r.ahead) (ahead_of r'.ahead) (Err (Line line fault)) →
-        IsBadTaken take held held'' line fault
+        IsBadTaken r.keeps take held held'' line fault
     line_read_bad ended line fault call =
-        bad_read held held' held'' r.header first done (progress_of r).read (progress_of r').read (ahead_of r.ahead) (ahead_of r'.ahead) r.ended line fault read
+        bad_read r.keeps held held' held'' r.header first done (progress_of r).read (progress_of r').read (ahead_of r.ahead) (ahead_of r'.ahead) r.ended line fault read
         (subst (λ (e : Bool). IsCall (progress_of r) (record { read = (progress_of r').read; ended = e }) held' held'' (ahead_of r.ahead) (ahead_of r'.ahead) (Err (Line line fault))) ended call)

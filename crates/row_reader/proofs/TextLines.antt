@@ -1,5 +1,5 @@
 -- A text whose rows are kept, line by line
-use Rattle.std.proofs.Common.{◌≡◌, ◌∷◌, ◌∙◌, ◌-◌, ◌≤◌, ℕ, List, Option, Some, None, Result, Ok, Err, All, refl, ap, sym, length, arith}
+use Rattle.std.proofs.Common.{true, ◌≡◌, ◌∷◌, ◌∙◌, ◌-◌, ◌≤◌, ℕ, List, Option, Some, None, Result, Ok, Err, All, refl, ap, sym, length, arith}
 use Rattle.std.proofs.lemmas.List.Elements.{All-weaker}
 use Rattle.traces.specs.TraceRows.{IsTraceRow}
 use Rattle.traces.specs.declared.trace_row.TraceRow.{TraceRow}
@@ -29,36 +29,36 @@ same_taken (Err fault) = refl
 
 -- these rows were read, and these lines of the text are left
 abbrev pub HasLines : List ℕ → List TraceRow → State → List TextLine → Type 0
-HasLines text rows st lines = take_lines each start (lines_of text) ≡ prepend rows (take_lines each st lines)
+HasLines text rows st lines = take_lines each (start true) (lines_of text) ≡ prepend rows (take_lines each st lines)
 
 pub line_more : (text : List ℕ) (rows later : List TraceRow) (st next : State) (line : TextLine) (rest : List ℕ) (lines : List TextLine) → HasLines text rows st lines → lines ≡ line ∷ lines_of rest →
     took_in rows (read_line st line) ≡ Ok (next, later) → HasLines text later next (lines_of rest)
 line_more text rows later st next line rest lines so_far is took =
-    read_on each text rows later st next line rest lines so_far is (ap (took_in rows) (same_taken (read_line st line)) ∙ took)
+    read_on true each text rows later st next line rest lines so_far is (ap (took_in rows) (same_taken (read_line st line)) ∙ took)
 
 fault_taken : (st : State) (line : TextLine) (e : LineError) → IfFault e (λ f. read_line st line ≡ Err f) → IfFault e (λ f. taken each (read_line st line) ≡ Err f)
 fault_taken st line (Fault fault) is = same_taken (read_line st line) ∙ is
 fault_taken st line Memory is = tt
 
-bad_read : (text : List ℕ) (e : ReadFault) → IfBadLine e (λ number code. text_taken each text ≡ Err (number, code)) → IfBadLine e (λ number code. trace_of text ≡ Err (number, code))
-bad_read text (Line line code) is = sym (all_taken text) ∙ is
+bad_read : (text : List ℕ) (e : ReadFault) → IfBadLine e (λ number code. text_taken true each text ≡ Err (number, code)) → IfBadLine e (λ number code. trace_of true text ≡ Err (number, code))
+bad_read text (Line line code) is = sym (all_taken true text) ∙ is
 bad_read text NoMemory is = tt
 
 pub line_bad : (text : List ℕ) (rows : List TraceRow) (st : State) (line : TextLine) (rest : List ℕ) (lines : List TextLine) (e : LineError) → HasLines text rows st lines → lines ≡ line ∷ lines_of rest →
-    IfFault e (λ f. read_line st line ≡ Err f) → IfBadLine (at_line (next_number st) e) (λ number code. trace_of text ≡ Err (number, code))
+    IfFault e (λ f. read_line st line ≡ Err f) → IfBadLine (at_line (next_number st) e) (λ number code. trace_of true text ≡ Err (number, code))
 line_bad text rows st line rest lines e so_far is bad =
     bad_read text (at_line (next_number st) e)
-    (stopped each text rows st line (lines_of rest) e (so_far ∙ ap (λ ls. prepend rows (take_lines each st ls)) is) (fault_taken st line e bad))
+    (stopped true each text rows st line (lines_of rest) e (so_far ∙ ap (λ ls. prepend rows (take_lines each st ls)) is) (fault_taken st line e bad))
 
-pub all_read : (text rest : List ℕ) (rows : List TraceRow) (st : State) → HasLines text rows st (lines_of rest) → length rest ≡ 0 → trace_of text ≡ whole (Ok (st, rows))
-all_read text rest rows st so_far none = sym (all_taken text) ∙ ended each text rest rows st so_far none
+pub all_read : (text rest : List ℕ) (rows : List TraceRow) (st : State) → HasLines text rows st (lines_of rest) → length rest ≡ 0 → trace_of true text ≡ whole (Ok (st, rows))
+all_read text rest rows st so_far none = sym (all_taken true text) ∙ ended true each text rest rows st so_far none
 
 -- a text that was read whole is a valid trace
-pub valid : (text : List ℕ) (st : State) (rows : List TraceRow) → trace_of text ≡ whole (Ok (st, rows)) → 2 ≤ st.lines →
+pub valid : (text : List ℕ) (st : State) (rows : List TraceRow) → trace_of true text ≡ whole (Ok (st, rows)) → 2 ≤ st.lines →
     IsTrace (record { header = record { version = st.version; context_size = st.size; rings = st.rings }; first = next_number st - length rows; rows = rows })
 valid text st rows is there = (spelled_if_read text _ (is ∙ header_there st rows there)).1
 
-pub few_rows : (text : List ℕ) (st : State) (rows : List TraceRow) → trace_of text ≡ whole (Ok (st, rows)) → 2 ≤ st.lines → length rows ≤ st.lines
+pub few_rows : (text : List ℕ) (st : State) (rows : List TraceRow) → trace_of true text ≡ whole (Ok (st, rows)) → 2 ≤ st.lines → length rows ≤ st.lines
 few_rows text st rows is there = let first = (valid text st rows is there).first in omega (arith, first)
 
 pub rows_fit : (trace : TraceText) → IsTrace trace → All IsTraceRow trace.rows

@@ -36,9 +36,9 @@ unfoldable pub opened_in : State → List TextLine → List ℕ → Result (Prog
 opened_in st [] text = if nat_lt st.lines 2 then Err (next_number st, BadHeader) else Ok (with_rows st true, text)
 opened_in st (line ∷ lines) text = opened_by st text (read_line st line) (λ next. opened_in next lines (behind_line text))
 
--- what is read of a text before its first row
-unfoldable pub opened : List ℕ → Result (Progress × List ℕ) (ℕ × LineFault)
-opened text = opened_in start (lines_of text) text
+-- what is read of a text before its first row; all rows will be kept, or not
+unfoldable pub opened : Bool → List ℕ → Result (Progress × List ℕ) (ℕ × LineFault)
+opened keeps text = opened_in (start keeps) (lines_of text) text
 
 -- ---- the rows
 

@@ -1,5 +1,5 @@
 -- What is read of the text that a device gives, piece by piece
-use Rattle.std.specs.Prelude.{◌≡◌, ℕ, true, List, [], ◌++◌, map, Option, Some, None, Result, Ok, Err}
+use Rattle.std.specs.Prelude.{◌≡◌, ℕ, Bool, true, List, [], ◌++◌, map, Option, Some, None, Result, Ok, Err}
 use Rattle.line_text.specs.Lines.{lines_of}
 use Rattle.traces.specs.declared.header.Header.{Header}
 use Rattle.traces.specs.declared.trace_row.TraceRow.{TraceRow}
@@ -19,8 +19,8 @@ abbrev pub OfStream : Option (List ℕ) → Option (List ℕ) → (List ℕ → 
 OfStream held held' P = OfText true held held' [] [] (λ text left. P text)
 
 -- this is the first bad line of this text and its least fault, where rows are taken so
-abbrev pub IsBadTaken : {R : Type 0} → (TraceRow → Result R LineFault) → Option (List ℕ) → Option (List ℕ) → ℕ → LineFault → Type 0
-IsBadTaken take held held' line fault = OfStream held held' (λ text. text_taken take text ≡ Err (line, fault))
+abbrev pub IsBadTaken : {R : Type 0} → Bool → (TraceRow → Result R LineFault) → Option (List ℕ) → Option (List ℕ) → ℕ → LineFault → Type 0
+IsBadTaken keeps take held held' line fault = OfStream held held' (λ text. text_taken keeps take text ≡ Err (line, fault))
 
 -- what a bad line says; want of memory and a failure of the device say nothing
 abbrev pub IfBadLine : StreamFault → (ℕ → LineFault → Type 0) → Type 0
@@ -36,10 +36,10 @@ read_with h first done (rows, None) = Ok (record { header = h; first = first; ro
 read_with h first done (rows, Some fault) = Err fault
 
 -- the text says the rows that were taken so, and then what further calls give of what is left
-abbrev pub IsReadTo : {R : Type 0} → (TraceRow → Result R LineFault) → Option (List ℕ) → Option (List ℕ) → Header → ℕ → List R → Progress → List ℕ → Type 0
-IsReadTo take held held' h first done p ahead =
-    OfText p.ended held held' [] ahead (λ text left. text_taken take text ≡ read_with h first done (given_taken take (rows_given (lines_of left) p left)))
+abbrev pub IsReadTo : {R : Type 0} → Bool → (TraceRow → Result R LineFault) → Option (List ℕ) → Option (List ℕ) → Header → ℕ → List R → Progress → List ℕ → Type 0
+IsReadTo keeps take held held' h first done p ahead =
+    OfText p.ended held held' [] ahead (λ text left. text_taken keeps take text ≡ read_with h first done (given_taken take (rows_given (lines_of left) p left)))
 
 -- these rows were read and taken so, and the reader stands behind them
 abbrev pub HasRead : {R : Type 0} → (TraceRow → Result R LineFault) → Option (List ℕ) → Option (List ℕ) → ℕ → List R → RowReader → Type 0
-HasRead take held held' first done r = IsReadTo take held held' r.header first done (progress_of r) (ahead_of r.ahead)
+HasRead take held held' first done r = IsReadTo r.keeps take held held' r.header first done (progress_of r) (ahead_of r.ahead)

@@ -1,5 +1,5 @@
 -- What all calls on a text say together
-use Rattle.std.specs.Prelude.{◌≡◌, ℕ, ◌+◌, List, [], ◌∷◌, length, map, take, Option, Some, None, Result, Ok, Err}
+use Rattle.std.specs.Prelude.{◌≡◌, ℕ, Bool, ◌+◌, List, [], ◌∷◌, length, map, take, Option, Some, None, Result, Ok, Err}
 use Rattle.line_text.specs.Lines.{TextLine, lines_of}
 use Rattle.traces.specs.declared.trace_row.TraceRow.{TraceRow}
 use Rattle.trace_reader.specs.declared.fault.LineFault.{LineFault}
@@ -45,12 +45,12 @@ joined_behind take (Ok (p, left)) = joined p.read (given_taken take (rows_given 
 joined_behind take (Err fault) = Err fault
 
 -- what opening and the calls behind it say of a text, where rows are taken so
-unfoldable pub taken_by_calls : {R : Type 0} → (TraceRow → Result R LineFault) → List ℕ → Result (TextOf R) (ℕ × LineFault)
-taken_by_calls take text = joined_behind take (opened text)
+unfoldable pub taken_by_calls : {R : Type 0} → Bool → (TraceRow → Result R LineFault) → List ℕ → Result (TextOf R) (ℕ × LineFault)
+taken_by_calls keeps take text = joined_behind take (opened keeps text)
 
 -- where each row is taken
-abbrev pub read_by_calls : List ℕ → Result TraceText (ℕ × LineFault)
-read_by_calls text = taken_by_calls (λ row. Ok row) text
+abbrev pub read_by_calls : Bool → List ℕ → Result TraceText (ℕ × LineFault)
+read_by_calls keeps text = taken_by_calls keeps (λ row. Ok row) text
 
 -- ---- where a bad line is told
 

@@ -3,7 +3,7 @@ ghost use Rattle.std.specs.Prelude.{◌≡◌, ◌<◌, ◌≤◌, [], true, len
 ghost use Rattle.trace_reader.specs.Entries.{state_of};
 ghost use Rattle.row_reader.specs.Ahead.{ahead_of};
 ghost use Rattle.row_reader.specs.Answers.{told_failures};
-ghost use Rattle.traces.specs.Limits.{most_lines};
+ghost use Rattle.traces.specs.Limits.{most_streamed_lines};
 ghost use Rattle.row_reader.specs.ReaderState.{IsOpened, IsTold, progress_of};
 
 use crate::ahead::Ahead;
@@ -16,12 +16,17 @@ use trace_reader::{LineFault, TraceSoFar};
 
 impl RowReader {
     /// Reads the lines before the first row: what they say, or the first bad line, and the text that is left are those of the definition. A
-    /// failure of the device is told, and nothing else is told as one.
-    pub fn open<S: Source>(alloc: Global, source: &mut S) -> Result<RowReader, StreamFault>
-        ensures opened { IsOpened (S.held source.old) (S.held source.new) result }
+    /// trace of version 3 may have more lines than another, unless the caller keeps all its rows. A failure of the device is told, and nothing
+    /// else is told as one.
+    pub fn open<S: Source>(
+        alloc: Global,
+        keeps: bool,
+        source: &mut S,
+    ) -> Result<RowReader, StreamFault>
+        ensures opened { IsOpened keeps (S.held source.old) (S.held source.new) result }
         ensures failures { S.failed source.new ≡ told_failures (S.failed source.old) result }
     {
-        let mut so_far = TraceSoFar::new(alloc);
+        let mut so_far = TraceSoFar::new(alloc, keeps);
         let mut ahead = Ahead::new(alloc)?;
         while ahead.fill_line(source)? {
             let lines = so_far.lines;
@@ -42,7 +47,7 @@ impl RowReader {
     /// The reader that stands before the first row, behind so many lines. The line of this row may have been read already.
     fn behind_header(so_far: TraceSoFar, lines: u32, ahead: Ahead, ended: bool) -> RowReader
         requires behind { 2 ≤ lines }
-        requires within { lines ≤ most_lines }
+        requires within { lines ≤ most_streamed_lines }
         ensures read { (progress_of result).read ≡ record (state_of so_far) { lines = lines; begun = true; later = [] } }
         ensures ended { result.ended ≡ ended }
         ensures ahead { result.ahead ≡ ahead }
@@ -51,6 +56,7 @@ impl RowReader {
             alloc: so_far.alloc,
             later: Vec::new(so_far.alloc),
             lines,
+            keeps: so_far.keeps,
             ended,
             ahead,
             header: so_far.into_header(),

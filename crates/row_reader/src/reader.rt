@@ -1,6 +1,6 @@
 ghost use Rattle.std.specs.Prelude.{◌≤◌};
 ghost use Rattle.traces.specs.Header.{IsHeader};
-ghost use Rattle.traces.specs.Limits.{most_lines};
+ghost use Rattle.traces.specs.Limits.{most_streamed_lines};
 
 use crate::ahead::Ahead;
 use std::alloc::Global;
@@ -15,10 +15,12 @@ pub struct RowReader {
     pub(crate) later: Vec<u8>,
     /// How many lines were read.
     pub(crate) lines: u32,
+    /// All rows are kept in memory, so that there may be fewer.
+    pub(crate) keeps: bool,
     /// It has told a fault or the end.
     pub(crate) ended: bool,
     pub(crate) ahead: Ahead,
     pub ghost headed: { IsHeader header },
     pub ghost behind: { 2 ≤ lines },
-    pub ghost within: { lines ≤ most_lines },
+    pub ghost within: { lines ≤ most_streamed_lines },
 }

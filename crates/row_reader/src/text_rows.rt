@@ -1,5 +1,6 @@
-ghost use Rattle.std.specs.Prelude.{All};
+ghost use Rattle.std.specs.Prelude.{◌≡◌, ◌+◌, ◌≤◌, All, length};
 ghost use Rattle.traces.specs.Header.{IsHeader};
+ghost use Rattle.traces.specs.Limits.{most_lines};
 ghost use Rattle.traces.specs.TraceRows.{IsTraceRow};
 ghost use Rattle.row_reader.specs.TraceRowFacts.{trace_rows_are_fact};
 
@@ -17,4 +18,6 @@ pub struct TextRows {
     pub rows: Vec<TraceRow>,
     pub ghost headed: { IsHeader header },
     pub ghost fitting: { All IsTraceRow rows.items } by { trace_rows_are_fact rows.items },
+    pub ghost placed: { first ≡ length header.rings + 3 },
+    pub ghost within: { first + length rows.items ≤ most_lines + 1 },
 }

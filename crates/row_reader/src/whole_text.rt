@@ -1,5 +1,5 @@
 //! All rows of a text at once.
-ghost use Rattle.std.specs.Prelude.{List, ℕ, ◌≡◌, ◌+◌, Err, IfErr, IfOk, Ok, OnOk};
+ghost use Rattle.std.specs.Prelude.{true, List, ℕ, ◌≡◌, ◌+◌, Err, IfErr, IfOk, Ok, OnOk};
 ghost use Rattle.traces.specs.declared.trace_row.TraceRow.{TraceRow};
 ghost use Rattle.trace_reader.specs.Entries.{IfBadLine, IfFault, at_line, state_of, took_in};
 ghost use Rattle.trace_reader.specs.Reading.{read_line, trace_of, whole};
@@ -15,10 +15,10 @@ use traces::TraceRow;
 /// sequence is answered, by what it says or by the first bad line and the least of its faults. `Memory` is answered only where a growth
 /// was refused.
 pub fn read_rows(alloc: Global, text: &[u8]) -> Result<TextRows, ReadFault>
-    ensures read { IfOk result (λ kept. trace_of text.now ≡ Ok (trace_kept kept)) }
-    ensures refused { IfErr result (λ e. IfBadLine e (λ line code. trace_of text.now ≡ Err (line, code))) }
+    ensures read { IfOk result (λ kept. trace_of true text.now ≡ Ok (trace_kept kept)) }
+    ensures refused { IfErr result (λ e. IfBadLine e (λ line code. trace_of true text.now ≡ Err (line, code))) }
 {
-    let mut so_far = TraceSoFar::new(alloc);
+    let mut so_far = TraceSoFar::new(alloc, true);
     let mut rows = Vec::new(alloc);
     let mut rest = text;
     while !rest.is_empty() {
@@ -57,7 +57,7 @@ fn at_line(line: u32, error: LineError) -> ReadFault
 
 /// The rows of the text, where its header is whole.
 fn finish(so_far: TraceSoFar, rows: Vec<TraceRow>) -> Result<TextRows, ReadFault>
-    requires { (text : List ℕ) × (trace_of text ≡ whole (Ok (state_of so_far, rows.items))) }
+    requires { (text : List ℕ) × (trace_of true text ≡ whole (Ok (state_of so_far, rows.items))) }
     ensures read { IfOk result (λ kept. whole (Ok (state_of so_far, rows.items)) ≡ Ok (trace_kept kept)) }
     ensures refused { IfErr result (λ e. IfBadLine e (λ line code. whole {R = TraceRow} (Ok (state_of so_far, rows.items)) ≡ Err (line, code))) }
 {

@@ -1,5 +1,5 @@
 -- A trace all rows of which are the driver's is read as the same trace where only those rows are taken
-use Rattle.std.proofs.Common.{◌≡◌, ◌+◌, ◌-◌, ◌≤◌, ◌∷◌, ◌∙◌, ℕ, true, false, List, [], length, map, Option, Some, None, Result, Ok, Err, All, refl, ap, sym, arith}
+use Rattle.std.proofs.Common.{Bool, ◌≡◌, ◌+◌, ◌-◌, ◌≤◌, ◌∷◌, ◌∙◌, ℕ, true, false, List, [], length, map, Option, Some, None, Result, Ok, Err, All, refl, ap, sym, arith}
 use Rattle.trace_reader.proofs.Words.{All-cons, All-head, All-nil, All-tail, length-map, TextLine, lines_of, LineFault, Ring, Row, TraceRow, Plain, Comes, Goes, Withdraws, Version, IsRow, FitsLine, begins_with_ring, have_new_ids, State, TraceText, DriverText, all_plain, driver_row, driver_trace_of, go_on, next_number, read_line, read_lines, start, take_lines, taken, text_taken, trace_of, whole, with_row, IsTrace, most_lines}
 use Rattle.traces.specs.Header.{IsHeader}
 use Rattle.trace_reader.proofs.ReadSteps.{header_there}
@@ -79,22 +79,22 @@ driver_lines_read (line ∷ lines) st end rows is = driver_step lines (next_numb
 abbrev counted : State → List TraceRow → ℕ → Result TraceText (ℕ × LineFault)
 counted st rows n = Ok (record { header = record { version = st.version; context_size = st.size; rings = st.rings }; first = next_number st - n; rows = rows })
 
-pub plain_trace : (text : List ℕ) (trace : DriverText) → driver_trace_of text ≡ Ok trace → trace_of text ≡ Ok (all_plain trace)
+pub plain_trace : (text : List ℕ) (trace : DriverText) → driver_trace_of text ≡ Ok trace → trace_of true text ≡ Ok (all_plain trace)
 unfolding text_taken trace_of
 plain_trace text trace is =
-    let p = whole_there (take_lines driver_row start (lines_of text)) trace is in
+    let p = whole_there (take_lines driver_row (start true) (lines_of text)) trace is in
     let st = p.0.0 in
     let rows = p.0.1 in
-    ap (λ (r : Result (State × List TraceRow) (ℕ × LineFault)). whole r) (plain_lines (lines_of text) start st rows p.1) ∙ header_there st (map Plain rows) p.2
+    ap (λ (r : Result (State × List TraceRow) (ℕ × LineFault)). whole r) (plain_lines (lines_of text) (start true) st rows p.1) ∙ header_there st (map Plain rows) p.2
     ∙ ap (counted st (map Plain rows)) (length-map rows Plain) ∙ ap (λ (t : DriverText). Ok (all_plain t)) p.3
 
-pub driver_trace : (text : List ℕ) (trace : DriverText) → trace_of text ≡ Ok (all_plain trace) → driver_trace_of text ≡ Ok trace
+pub driver_trace : (text : List ℕ) (trace : DriverText) → trace_of true text ≡ Ok (all_plain trace) → driver_trace_of text ≡ Ok trace
 unfolding text_taken trace_of
 driver_trace text trace is =
-    let p = whole_there (read_lines start (lines_of text)) (all_plain trace) is in
+    let p = whole_there (read_lines (start true) (lines_of text)) (all_plain trace) is in
     let st = p.0.0 in
     let rows_are : p.0.1 ≡ map Plain trace.rows = ap (λ (t : TraceText). t.rows) p.3 in
-    let read = driver_lines_read (lines_of text) start st trace.rows (p.1 ∙ ap (λ (ts : List TraceRow). Ok (st, ts)) rows_are) in
+    let read = driver_lines_read (lines_of text) (start true) st trace.rows (p.1 ∙ ap (λ (ts : List TraceRow). Ok (st, ts)) rows_are) in
     let count : length p.0.1 ≡ length trace.rows = ap (λ (ts : List TraceRow). length ts) rows_are ∙ length-map trace.rows Plain in
     let first_is : next_number st - length trace.rows ≡ trace.first = ap (λ n. next_number st - n) (sym count) ∙ ap (λ (t : TraceText). t.first) p.3 in
     let header_is = ap (λ (t : TraceText). t.header) p.3 in
@@ -168,6 +168,6 @@ unfolding take_lines read_lines
 all_lines [] st = refl
 all_lines (line ∷ lines) st = all_step lines (next_number st) (read_line st line) (λ next. all_lines lines next)
 
-pub all_taken : (text : List ℕ) → text_taken (λ row. Ok row) text ≡ trace_of text
+pub all_taken : (keeps : Bool) (text : List ℕ) → text_taken keeps (λ row. Ok row) text ≡ trace_of keeps text
 unfolding text_taken trace_of
-all_taken text = ap (λ (r : Result (State × List TraceRow) (ℕ × LineFault)). whole r) (all_lines (lines_of text) start)
+all_taken keeps text = ap (λ (r : Result (State × List TraceRow) (ℕ × LineFault)). whole r) (all_lines (lines_of text) (start keeps))

@@ -1,5 +1,5 @@
 -- Texts that are read and printed, on literals
-use Rattle.std.specs.Prelude.{◌≡◌, ℕ, ⊤, List, [], ◌∷◌, ◌++◌, map, Result, Ok, Err, codes, refl}
+use Rattle.std.specs.Prelude.{◌≡◌, ℕ, false, ⊤, List, [], ◌∷◌, ◌++◌, map, Result, Ok, Err, codes, refl}
 use Rattle.hex.proofs.OnLiterals.{hex_on_literals}
 use Rattle.contexts.specs.declared.size.ContextSize.TheVariants.{Bytes32}
 use Rattle.trb.specs.declared.ring_kind.RingKind.TheVariants.{Xfer}
@@ -15,6 +15,7 @@ use Rattle.traces.specs.declared.row.Row.{Row}
 use Rattle.traces.specs.declared.trace_row.TraceRow.{TraceRow}
 use Rattle.traces.specs.declared.trace_row.TraceRow.TheVariants.{Plain, Comes, Goes, Withdraws}
 use Rattle.traces.specs.declared.row.Row.TheVariants.{Sub, Write, Reg, Bell, Read}
+use Rattle.traces.specs.Limits.{most_lines_of}
 use Rattle.trace_reader.specs.Forms.{kind_named, register_named}
 use Rattle.trace_reader.specs.TraceLines.{form_of}
 use Rattle.trace_reader.specs.TraceLines.{said_of}
@@ -23,12 +24,12 @@ use Rattle.trace_reader.specs.Reading.{TraceText, after, form_in, is_bad_number,
 use Rattle.trace_reader.specs.Spelling.{printed_line, printed_trace, ring_fields, row_fields, trace_lines, trace_row_fields}
 
 unfoldable texts_on_literals : ⊤
-unfolding trace_of read_lines read_line line_fault row_fault after lines_of fields_of number_of hex_on_literals form_of kind_named register_named block_of blocks_of register_value_of said_of segment_of segments_of word_address_of form_in is_bad_number is_bad_row is_bad_shape is_past_limit is_too_long version_of said_in size_of printed_trace trace_lines printed_line row_fields ring_fields trace_row_fields digits_of
+unfolding most_lines_of trace_of read_lines read_line line_fault row_fault after lines_of fields_of number_of hex_on_literals form_of kind_named register_named block_of blocks_of register_value_of said_of segment_of segments_of word_address_of form_in is_bad_number is_bad_row is_bad_shape is_past_limit is_too_long version_of said_in size_of printed_trace trace_lines printed_line row_fields ring_fields trace_row_fields digits_of
 texts_on_literals = tt
 
 -- what is read behind the header of one transfer ring
 abbrev behind_header : List ℕ → Result TraceText (ℕ × LineFault)
-behind_header text = trace_of (codes "xtrace 1\nctx 20\nring 02 xfer 0000000000030000:0004\n" ++ text)
+behind_header text = trace_of false (codes "xtrace 1\nctx 20\nring 02 xfer 0000000000030000:0004\n" ++ text)
 
 abbrev ring_2 : Ring
 ring_2 = record { id = 2; shape = record { kind = Xfer; segments = record { base = 0x30000; count = 4 } ∷ [] } }
@@ -39,7 +40,7 @@ with_rows rows = record { header = record { version = One; context_size = Bytes3
 
 -- the same in version 2, also with rows of rings
 abbrev behind_header_2 : List ℕ → Result TraceText (ℕ × LineFault)
-behind_header_2 text = trace_of (codes "xtrace 2\nctx 20\nring 02 xfer 0000000000030000:0004\n" ++ text)
+behind_header_2 text = trace_of false (codes "xtrace 2\nctx 20\nring 02 xfer 0000000000030000:0004\n" ++ text)
 
 abbrev with_trace_rows : List TraceRow → TraceText
 with_trace_rows rows = record { header = record { version = Two; context_size = Bytes32; rings = ring_2 ∷ [] }; first = 4; rows = rows }
@@ -71,11 +72,11 @@ pub an_event : behind_header (codes "ev 00030000 00000000 01000000 01018001\n") 
 unfolding texts_on_literals
 an_event = refl
 
-pub no_text : trace_of [] ≡ Err (1, BadHeader)
+pub no_text : trace_of false [] ≡ Err (1, BadHeader)
 unfolding texts_on_literals
 no_text = refl
 
-pub one_line : trace_of (codes "xtrace 1\n") ≡ Err (2, BadHeader)
+pub one_line : trace_of false (codes "xtrace 1\n") ≡ Err (2, BadHeader)
 unfolding texts_on_literals
 one_line = refl
 

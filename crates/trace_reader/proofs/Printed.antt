@@ -114,5 +114,5 @@ unfolding spells printed_trace
 printed_spells trace = printed_lines (trace_lines trace) (trace_sound trace)
 
 -- a valid trace is read as it was printed
-pub printed_reads : (trace : TraceText) → IsTrace trace → trace_of (printed_trace trace) ≡ Ok trace
+pub printed_reads : (trace : TraceText) → IsTrace trace → trace_of true (printed_trace trace) ≡ Ok trace
 printed_reads trace is = read_if_spelled (printed_trace trace) trace (printed_spells trace) is

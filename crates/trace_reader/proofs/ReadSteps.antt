@@ -31,7 +31,7 @@ module _ {R : Type 0} where
   good rows number (Ok (st, None)) rest next is = without_later rows (rest st) ∙ ap (λ n. prepend n.1 (rest n.0)) (ap (next_of next) is)
   good rows number (Err fault) rest next is = cc is
 
-  module _ (take : TraceRow → Result R LineFault) where
+  module _ (keeps : Bool) (take : TraceRow → Result R LineFault) where
     bad_line : (rows : List R) (st : State) (line : TextLine) (lines : List TextLine) (fault : LineFault) → taken take (read_line st line) ≡ Err fault →
         prepend rows (take_lines take st (line ∷ lines)) ≡ Err (next_number st, fault)
     unfolding take_lines
@@ -43,20 +43,20 @@ module _ {R : Type 0} where
     good_line rows later st next line lines is = good rows (next_number st) (taken take (read_line st line)) (λ s. take_lines take s lines) (next, later) is
 
     pub stopped : (text : List ℕ) (rows : List R) (st : State) (line : TextLine) (lines : List TextLine) (e : LineError) →
-        take_lines take start (lines_of text) ≡ prepend rows (take_lines take st (line ∷ lines)) → IfFault e (λ fault. taken take (read_line st line) ≡ Err fault) →
-        IfBadLine (at_line (next_number st) e) (λ number code. text_taken take text ≡ Err (number, code))
+        take_lines take (start keeps) (lines_of text) ≡ prepend rows (take_lines take st (line ∷ lines)) → IfFault e (λ fault. taken take (read_line st line) ≡ Err fault) →
+        IfBadLine (at_line (next_number st) e) (λ number code. text_taken keeps take text ≡ Err (number, code))
     unfolding text_taken
     stopped text rows st line lines (Fault fault) so_far is = ap whole (so_far ∙ bad_line rows st line lines fault is)
     stopped text rows st line lines Memory so_far is = tt
 
     pub read_on : (text : List ℕ) (rows later : List R) (st next : State) (line : TextLine) (rest : List ℕ) (lines : List TextLine) →
-        take_lines take start (lines_of text) ≡ prepend rows (take_lines take st lines) → lines ≡ line ∷ lines_of rest → took_in rows (taken take (read_line st line)) ≡ Ok (next, later) →
-        take_lines take start (lines_of text) ≡ prepend later (take_lines take next (lines_of rest))
+        take_lines take (start keeps) (lines_of text) ≡ prepend rows (take_lines take st lines) → lines ≡ line ∷ lines_of rest → took_in rows (taken take (read_line st line)) ≡ Ok (next, later) →
+        take_lines take (start keeps) (lines_of text) ≡ prepend later (take_lines take next (lines_of rest))
     read_on text rows later st next line rest lines so_far is took =
         so_far ∙ ap (λ ls. prepend rows (take_lines take st ls)) is ∙ good_line rows later st next line (lines_of rest) took
 
-    pub ended : (text rest : List ℕ) (rows : List R) (st : State) → take_lines take start (lines_of text) ≡ prepend rows (take_lines take st (lines_of rest)) → length rest ≡ 0 →
-        text_taken take text ≡ whole (Ok (st, rows))
+    pub ended : (text rest : List ℕ) (rows : List R) (st : State) → take_lines take (start keeps) (lines_of text) ≡ prepend rows (take_lines take st (lines_of rest)) → length rest ≡ 0 →
+        text_taken keeps take text ≡ whole (Ok (st, rows))
     unfolding text_taken take_lines lines_of
     ended text [] rows st so_far short = ap whole (so_far ∙ ap (λ xs. Ok (st, xs)) (append-nil rows))
     ended text (byte ∷ rest) rows st so_far short = absurd (omega arith)

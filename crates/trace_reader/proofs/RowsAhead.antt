@@ -1,9 +1,9 @@
 -- The row of a text's first line, found by the places of its fields
 use Rattle.std.proofs.Common.{◌≡◌, ◌≤◌, ◌<◌, ◌+◌, ◌∷◌, ◌++◌, ◌∙◌, ℕ, zero, suc, List, [], true, false, Option, None, Some, IfSome, Ok, All, length, take, slice_index, refl, sym, ap, subst, arith, ne_eqb}
-use Rattle.trace_reader.proofs.Words.{nat_tests, and_parts, All-join, All-cons, All-head, All-nil, All-tail, All-weaker, join-fields_of, str_to_ascii_lowercase, to_ascii_lowercase, is_line_feed, fields_of, TextLine, Field, Word, Digits, may_be_written, are_written, Row, Plain, SaysRow, most_lines, is_too_much, next_number, read_line, State, start, said_by_line}
+use Rattle.trace_reader.proofs.Words.{nat_tests, and_parts, All-join, All-cons, All-head, All-nil, All-tail, All-weaker, join-fields_of, str_to_ascii_lowercase, to_ascii_lowercase, is_line_feed, fields_of, TextLine, Field, Word, Digits, may_be_written, are_written, Row, Plain, SaysRow, One, most_of, is_too_much, next_number, read_line, State, start, said_by_line}
 use Rattle.trace_reader.specs.Entries.{SaysAlone}
 use Rattle.trace_reader.specs.RowsAhead.{BeginsWithRow}
-use Rattle.trace_reader.proofs.LineFields.{alone, not_limited}
+use Rattle.trace_reader.proofs.LineFields.{alone, fewer_kept, not_limited}
 use Rattle.trace_reader.proofs.ReadSteps.{line_entry}
 use Rattle.trace_reader.proofs.SpelledFields.{AllSound, IsSound, same_bytes}
 use Rattle.trace_reader.proofs.SpelledLines.{said_sound, step_from_read}
@@ -48,21 +48,21 @@ without_line_feed st line row behind is =
 
 -- ---- the first line
 
-says_behind : (st : State) (content : List ℕ) (row : Row) → SaysAlone row content → is_too_much (SaysRow (Plain row)) ≡ false → 2 ≤ st.lines → next_number st ≤ most_lines →
+says_behind : (st : State) (content : List ℕ) (row : Row) → SaysAlone row content → is_too_much (SaysRow (Plain row)) ≡ false → 2 ≤ st.lines → next_number st ≤ most_of st →
     read_line st (record { content = content; is_ended = true }) ≡ Ok (record st { lines = next_number st; begun = true }, Some (Plain row))
 says_behind st content row says few behind within =
     let line : TextLine = record { content = content; is_ended = true } in
-    let said : said_by_line st line ≡ Ok (SaysRow (Plain row)) = alone st line st.version st.begun refl refl ∙ not_limited (next_number st) (SaysRow (Plain row)) _ (says st.version st.begun) within few in
+    let said : said_by_line st line ≡ Ok (SaysRow (Plain row)) = alone st line st.version st.begun refl refl ∙ not_limited (most_of st) (next_number st) (SaysRow (Plain row)) _ (says st.version st.begun) within few in
     line_entry st line (SaysRow (Plain row)) behind said
 
 abbrev somewhere : State
-somewhere = record start { lines = 2 }
+somewhere = record (start true) { lines = 2 }
 
 pub begins_with : (text content : List ℕ) (count : ℕ) (row : Row) → SaysAlone row content → is_too_much (SaysRow (Plain row)) ≡ false → length content + 1 ≡ count → ((rest : List ℕ) × (text ≡ content ++ 10 ∷ rest)) →
     BeginsWithRow row count text
 begins_with text content count row says few long whole =
     let read = λ (st : State). says_behind st content row says few in
-    let here = read somewhere (omega arith) (omega arith) in
+    let here = read somewhere (omega arith) (omega (arith, fewer_kept One)) in
     (content, whole.0, whole.1, long, without_line_feed somewhere (record { content = content; is_ended = true }) row (omega arith) here, read)
 
 pub if_is : {T : Type 0} (P : T → Type 0) (o : Option T) → ((x : T) → o ≡ Some x → P x) → IfSome o P

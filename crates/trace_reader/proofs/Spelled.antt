@@ -1,6 +1,7 @@
 -- What is read of a text is the valid trace that the text spells
 use Rattle.std.proofs.Common.{◌≡◌, ◌-◌, ◌≤◌, ◌&&◌, ◌↔◌, ◌∷◌, ◌++◌, ◌∙◌, ℕ, Bool, true, false, inl, inr, cond, List, [], length, nat_lt, Option, Some, None, Result, Ok, Err, IsTrue, All, is_none, refl, sym, ap, subst, arith, codes, ltb-false, le-ltb}
 use Rattle.trace_reader.proofs.Words.{Version, One, Two, Three, join_with_byte, list_all, bytes_eq, and_parts, and_from, cases_Bool, ContextSize, Bytes32, Bytes64, fields_of, TextLine, lines_of, join-fields_of, LineFault, BadHeader, Ring, TraceRow, have_new_ids, may_stand_together, most_lines, State, TextOf, TraceText, after, line_fault, next_number, read_line, read_lines, size_of, start, trace_of, version_of, whole, with_size, with_version, Field, Word, are_written, is_written, lines_written, size_fields, size_word, spells, trace_lines, version_fields, version_word, IsTrace}
+use Rattle.trace_reader.proofs.LineFields.{fewer_kept, some_lines}
 use Rattle.trace_reader.proofs.SpelledFields.{same_bytes, then_are}
 use Rattle.trace_reader.proofs.SpelledWords.{word_first}
 use Rattle.trace_reader.proofs.SpelledLines.{ok_there, there}
@@ -95,22 +96,22 @@ size_read line Bytes64 written = let is = two_words (codes "ctx") (size_word Byt
 
 -- the states behind the first line and behind the second
 abbrev behind_version : Version → State
-behind_version version = record start { lines = 1; version = version }
+behind_version version = record (start true) { lines = 1; version = version }
 
 abbrev behind_size : Version → ContextSize → State
-behind_size version size = record start { lines = 2; version = version; size = size }
+behind_size version size = record (start true) { lines = 2; version = version; size = size }
 
 if_some : (t : Bool) (fault : LineFault) → cond t (Some fault) None ≡ None → t ≡ false
 if_some true fault is = cc is
 if_some false fault is = refl
 
-first_from_read : (line : TextLine) (next : State × Option TraceRow) → read_line start line ≡ Ok next →
+first_from_read : (line : TextLine) (next : State × Option TraceRow) → read_line (start true) line ≡ Ok next →
     (version : Version) × (version_of line ≡ Some version) × ((behind_version version, None) ≡ next)
 unfolding read_line line_fault after
 first_from_read line next is =
-    let p = ok_there (line_fault start line) (after start line) next is in
+    let p = ok_there (line_fault (start true) line) (after (start true) line) next is in
     let version = there (version_of line) (if_some (is_none (version_of line)) BadHeader p.0) in
-    (version.0, version.1, ap (λ (o : Option Version). (with_version start o, None)) (sym version.1) ∙ p.1)
+    (version.0, version.1, ap (λ (o : Option Version). (with_version (start true) o, None)) (sym version.1) ∙ p.1)
 
 second_from_read : (version : Version) (line : TextLine) (next : State × Option TraceRow) → read_line (behind_version version) line ≡ Ok next →
     (size : ContextSize) × (size_of line ≡ Some size) × ((behind_size version size, None) ≡ next)
@@ -120,7 +121,7 @@ second_from_read version line next is =
     let size = there (size_of line) (if_some (is_none (size_of line)) BadHeader p.0) in
     (size.0, size.1, ap (λ (o : Option ContextSize). (with_size (behind_version version) o, None)) (sym size.1) ∙ p.1)
 
-first_read : (line : TextLine) (version : Version) → version_of line ≡ Some version → read_line start line ≡ Ok (behind_version version, None)
+first_read : (line : TextLine) (version : Version) → version_of line ≡ Some version → read_line (start true) line ≡ Ok (behind_version version, None)
 unfolding read_line line_fault after
 first_read line version is = rw is refl
 
@@ -151,11 +152,11 @@ record Begins (first second : TextLine) (lines : List TextLine) (r : State × Li
   sized : is_written (size_fields size) second ≡ true
   rest : read_lines (behind_size version size) lines ≡ Ok r
 
-second_state : (first : TextLine) (lines : List TextLine) (r : State × List TraceRow) → read_lines start (first ∷ lines) ≡ Ok r →
+second_state : (first : TextLine) (lines : List TextLine) (r : State × List TraceRow) → read_lines (start true) (first ∷ lines) ≡ Ok r →
     (version : Version) × (is_written (version_fields version) first ≡ true)
     × ((q : State × List TraceRow) × (read_lines (behind_version version) lines ≡ Ok q) × (q.0 ≡ r.0) × (q.1 ≡ r.1))
 second_state first lines r is =
-    let g = lines_go_on start first lines r is in
+    let g = lines_go_on (start true) first lines r is in
     let p = first_from_read first g.next g.step_is in
     let state_is : behind_version p.0 ≡ g.next.0 = ap (λ (x : State × Option TraceRow). x.0) p.2 in
     let row_is : None ≡ g.next.1 = ap (λ (x : State × Option TraceRow). x.1) p.2 in (
@@ -176,7 +177,7 @@ third_state version second lines r is =
       (g.others, ap (λ (x : State). read_lines x lines) state_is ∙ g.rest_is, g.end_is, ap (λ (o : Option TraceRow). with_front o g.others.1) row_is ∙ g.rows_are),
     )
 
-begins : (first second : TextLine) (lines : List TextLine) (r : State × List TraceRow) → read_lines start (first ∷ second ∷ lines) ≡ Ok r → Begins first second lines r
+begins : (first second : TextLine) (lines : List TextLine) (r : State × List TraceRow) → read_lines (start true) (first ∷ second ∷ lines) ≡ Ok r → Begins first second lines r
 begins first second lines r is =
     let p = second_state first (second ∷ lines) r is in
     let q = third_state p.0 second lines p.2.0 p.2.1 in
@@ -196,7 +197,7 @@ lines_spell first second lines r b =
     let size_is : r.0.size ≡ b.size = s.are.size_is in
     let version_is : r.0.version ≡ b.version = s.are.version_is in
     let named : is_written (version_fields r.0.version) first ≡ true = ap (λ (version : Version). is_written (version_fields version) first) version_is ∙ b.named in
-    let within : r.0.lines ≤ most_lines = s.are.within (omega arith) in
+    let within : r.0.lines ≤ most_lines = subst (λ n. r.0.lines ≤ n) (fewer_kept b.version) (s.are.within (some_lines true b.version).0) in
     let rings : lines_written (lines_for r.0.rings r.1) lines ≡ true = ap (λ (rs : List Ring). lines_written (lines_for rs r.1) lines) rings_are ∙ s.are.written in
     let sized : is_written (size_fields r.0.size) second ≡ true = ap (λ (size : ContextSize). is_written (size_fields size) second) size_is ∙ b.sized in
     let shapes : list_all is_line_ring r.0.rings ≡ true = ap (λ (rs : List Ring). list_all is_line_ring rs) rings_are ∙ s.are.shapes in
@@ -217,23 +218,23 @@ lines_spell first second lines r b =
 one_line : (version : Version) (st : State) → behind_version version ≡ st → st.lines ≡ 1
 one_line version st same = sym (ap (λ (st : State). st.lines) same)
 
-read_spells : (lines : List TextLine) (trace : TraceText) → whole (read_lines start lines) ≡ Ok trace → (lines_written (trace_lines trace) lines ≡ true) × IsTrace trace
+read_spells : (lines : List TextLine) (trace : TraceText) → whole (read_lines (start true) lines) ≡ Ok trace → (lines_written (trace_lines trace) lines ≡ true) × IsTrace trace
 read_spells [] trace is =
-    let p = whole_there (read_lines start []) trace is in
-    let same : start ≡ p.0.0 = read_end start p.0 p.1 in
+    let p = whole_there (read_lines (start true) []) trace is in
+    let same : start true ≡ p.0.0 = read_end (start true) p.0 p.1 in
     absurd (omega (arith, p.2, ap (λ (st : State). st.lines) same))
 read_spells (first ∷ []) trace is =
-    let p = whole_there (read_lines start (first ∷ [])) trace is in
+    let p = whole_there (read_lines (start true) (first ∷ [])) trace is in
     let q = second_state first [] p.0 p.1 in
     let same : behind_version q.0 ≡ p.0.0 = read_end (behind_version q.0) q.2.0 q.2.1 ∙ q.2.2 in
     absurd (omega (arith, p.2, one_line q.0 p.0.0 same))
 read_spells (first ∷ second ∷ lines) trace is =
-    let p = whole_there (read_lines start (first ∷ second ∷ lines)) trace is in
+    let p = whole_there (read_lines (start true) (first ∷ second ∷ lines)) trace is in
     let spelled = lines_spell first second lines p.0 (begins first second lines p.0 p.1) in
     subst (λ (t : TraceText). (lines_written (trace_lines t) (first ∷ second ∷ lines) ≡ true) × IsTrace t) p.3 spelled
 
 -- what is read is spelled by the text, and valid
-pub spelled_if_read : (text : List ℕ) (trace : TraceText) → trace_of text ≡ Ok trace → IsTrue (spells trace text) × IsTrace trace
+pub spelled_if_read : (text : List ℕ) (trace : TraceText) → trace_of true text ≡ Ok trace → IsTrue (spells trace text) × IsTrace trace
 unfolding trace_of spells
 spelled_if_read text trace is = read_spells (lines_of text) trace is
 
@@ -246,7 +247,7 @@ whole_of end rows trace some version_is size_is rings_are first_is rows_are =
     λ k. record { header = record { version = version_is k; context_size = size_is k; rings = rings_are k }; first = first_is k; rows = rows_are k } in
     rw (le-ltb end.lines 2 some) (ap (λ (t : TraceText). Ok t) same)
 
-written_reads : (lines : List TextLine) (trace : TraceText) → lines_written (trace_lines trace) lines ≡ true → IsTrace trace → whole (read_lines start lines) ≡ Ok trace
+written_reads : (lines : List TextLine) (trace : TraceText) → lines_written (trace_lines trace) lines ≡ true → IsTrace trace → whole (read_lines (start true) lines) ≡ Ok trace
 unfolding trace_lines
 written_reads [] trace written is = cc written
 written_reads (first ∷ []) trace written is =
@@ -260,22 +261,22 @@ written_reads (first ∷ second ∷ lines) trace written is =
     let h = and_parts (list_all is_line_ring trace.header.rings) (may_stand_together trace.header.rings) is.headed in
     let first_is = is.first in
     let within = is.within in
-    let read = lines_read trace.header.rings trace.rows lines (behind_size version size) (omega arith) refl h.0 h.1 is.rows is.begins is.new_ids q.1 (omega (arith, first_is, within)) in
+    let read = lines_read trace.header.rings trace.rows lines (behind_size version size) (omega arith) refl h.0 h.1 is.rows is.begins is.new_ids q.1 (omega (arith, first_is, within, fewer_kept version)) in
     let third = read_on (behind_version version) (behind_size version size) second lines None read.end trace.rows (second_read version second size (size_read second size q.0)) read.is in
-    let all : read_lines start (first ∷ second ∷ lines) ≡ Ok (read.end, trace.rows) =
-    read_on start (behind_version version) first (second ∷ lines) None read.end trace.rows (first_read first version (version_read first version p.0)) third in
+    let all : read_lines (start true) (first ∷ second ∷ lines) ≡ Ok (read.end, trace.rows) =
+    read_on (start true) (behind_version version) first (second ∷ lines) None read.end trace.rows (first_read first version (version_read first version p.0)) third in
     let count = read.count in
     ap (λ (x : Result (State × List TraceRow) (ℕ × LineFault)). whole x) all
     ∙ whole_of read.end trace.rows trace (omega (arith, count)) read.version_is read.size_is read.rings_are (omega (arith, count, first_is)) refl
 
 -- a valid trace that the text spells is what is read
-pub read_if_spelled : (text : List ℕ) (trace : TraceText) → IsTrue (spells trace text) → IsTrace trace → trace_of text ≡ Ok trace
+pub read_if_spelled : (text : List ℕ) (trace : TraceText) → IsTrue (spells trace text) → IsTrace trace → trace_of true text ≡ Ok trace
 unfolding trace_of spells
 read_if_spelled text trace spelled is = written_reads (lines_of text) trace spelled is
 
 -- ---- the law
 
-pub read_is_spelled : (text : List ℕ) (trace : TraceText) → (trace_of text ≡ Ok trace) ↔ (IsTrue (spells trace text) × IsTrace trace)
+pub read_is_spelled : (text : List ℕ) (trace : TraceText) → (trace_of true text ≡ Ok trace) ↔ (IsTrue (spells trace text) × IsTrace trace)
 read_is_spelled text trace = (spelled_if_read text trace, λ both. read_if_spelled text trace both.0 both.1)
 
 -- a text spells one valid trace

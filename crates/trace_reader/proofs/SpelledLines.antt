@@ -1,6 +1,6 @@
 -- A line without a fault: what it says, and that it spells it
 use Rattle.std.proofs.Common.{◌≡◌, ◌≤◌, ◌||◌, ◌∙◌, ℕ, Bool, true, false, not, cond, List, length, map, nat_lt, Option, Some, None, Ok, Err, is_none, refl, sym, ap, arith, le-ltb, ltb-false, ne_eqb}
-use Rattle.trace_reader.proofs.Words.{list_any, option_and_then, option_map_or, not-false, or_parts, fields_of, has_empty_field, TextLine, length-fields_of, spaced_length, is_shape, LineFault, BadRow, Number, Limit, Shape, Ring, Sub, Write, Reg, Bell, Read, TraceRow, Plain, Comes, Goes, Withdraws, has_used_id, has_ring_rows, trace_row_fields, Form, clash, most_lines, most_bytes, most_declared, State, next_number, form_in, said_in, is_bad_row, is_bad_number, is_too_much, is_past_limit, is_too_long, is_misplaced, is_bad_shape, row_fault, line_fault, with_said, after, read_line, printed, said_of, Said, SaysRow, SaysRing}
+use Rattle.trace_reader.proofs.Words.{list_any, option_and_then, option_map_or, not-false, or_parts, fields_of, has_empty_field, TextLine, length-fields_of, spaced_length, is_shape, LineFault, BadRow, Number, Limit, Shape, Ring, Sub, Write, Reg, Bell, Read, TraceRow, Plain, Comes, Goes, Withdraws, has_used_id, has_ring_rows, trace_row_fields, Form, clash, most_of, most_bytes, most_declared, State, next_number, form_in, said_in, is_bad_row, is_bad_number, is_too_much, is_past_limit, is_too_long, is_misplaced, is_bad_shape, row_fault, line_fault, with_said, after, read_line, printed, said_of, Said, SaysRow, SaysRing}
 use Rattle.trace_reader.proofs.SpelledFields.{AllSound, all_filled, then_there, written_lengths}
 use Rattle.trace_reader.proofs.SpelledSaid.{FitsSaid, IsRead, IsSpelled, fields_said, read_from_spelled, spelled_from_read, stands}
 use Rattle.trace_reader.proofs.SpelledHeaders.{shape_says}
@@ -11,7 +11,7 @@ pub record IsGood (st : State) (line : TextLine) (s : Said) : Type 0 where
   pub ended : line.is_ended ≡ true
   pub spelled : IsSpelled s (fields_of line.content)
   pub ordered : stands (has_ring_rows st.version) st.begun s ≡ true
-  pub within : next_number st ≤ most_lines
+  pub within : next_number st ≤ most_of st
   pub few : is_too_much s ≡ false
   pub placed : is_misplaced st.rings st.later s ≡ false
 
@@ -88,14 +88,14 @@ good_from_none st line none =
     let tests = row_tests st line n.row in
     let is = there (said_in st line) n.number in
     let by = said_by st line is.0 is.1 in
-    let limits = or_parts (nat_lt most_lines (next_number st)) (option_map_or is_too_much (said_in st line) false) n.limit in (
+    let limits = or_parts (nat_lt (most_of st) (next_number st)) (option_map_or is_too_much (said_in st line) false) n.limit in (
       is.0,
       is.1,
       record {
         ended = tests.ended;
         spelled = by.spelled;
         ordered = by.ordered;
-        within = ltb-false most_lines (next_number st) limits.0;
+        within = ltb-false (most_of st) (next_number st) limits.0;
         few = rw is.1 at limits.1;
         placed = rw is.1 at n.shape;
       },
@@ -153,7 +153,7 @@ none_from_good st line s good =
         short = short_line st line s good;
         row = row;
         number = rw says refl;
-        limit = rw (le-ltb most_lines (next_number st) good.within, says) good.few;
+        limit = rw (le-ltb (most_of st) (next_number st) good.within, says) good.few;
         shape = rw says good.placed;
       }),
       says,

@@ -1,6 +1,6 @@
 -- What is read of a text's lines, and what the lines spell
 use Rattle.std.proofs.Common.{◌≡◌, ◌+◌, ◌≤◌, ◌&&◌, ◌∷◌, ◌++◌, ◌∙◌, ℕ, Bool, true, false, not, List, [], length, map, nat_lt, Option, Some, None, Result, Ok, Err, All, refl, sym, ap, subst, arith, append_assoc, append-nil, le-ltb, ltb-true, lt-ltb}
-use Rattle.trace_reader.proofs.Words.{list_any, list_all, and_parts, and_from, not-false, not-true, or_parts, or_from, All-cons, All-head, All-nil, All-tail, fields_of, TextLine, is_shape, LineFault, Ring, Row, Sub, Write, Reg, Bell, Read, TraceRow, Plain, Comes, Goes, Withdraws, Version, has_ring_rows, IsTraceRow, is_of_version, begins_with_ring, has_no_shape, has_used_id, have_new_ids, ids_with, behind_row, clash, may_stand_together, most_lines, most_declared, State, go_on, is_misplaced, is_too_much, next_number, read_line, read_lines, with_row, with_said, IsRow, Field, are_written, is_written, lines_written, ring_fields, trace_row_fields, FitsLine, Said, SaysRow, SaysRing}
+use Rattle.trace_reader.proofs.Words.{list_any, list_all, and_parts, and_from, not-false, not-true, or_parts, or_from, All-cons, All-head, All-nil, All-tail, fields_of, TextLine, is_shape, LineFault, Ring, Row, Sub, Write, Reg, Bell, Read, TraceRow, Plain, Comes, Goes, Withdraws, Version, has_ring_rows, IsTraceRow, is_of_version, begins_with_ring, has_no_shape, has_used_id, have_new_ids, ids_with, behind_row, clash, may_stand_together, most_of, most_declared, State, go_on, is_misplaced, is_too_much, next_number, read_line, read_lines, with_row, with_said, IsRow, Field, are_written, is_written, lines_written, ring_fields, trace_row_fields, FitsLine, Said, SaysRow, SaysRing}
 use Rattle.trace_reader.proofs.SpelledSaid.{FitsRow, FitsText, row_of_version, stands}
 use Rattle.trace_reader.proofs.SpelledHeaders.{no_clash, ring_fits, together_with}
 use Rattle.trace_reader.proofs.SpelledLines.{IsGood, few_blocks, read_from_good, step_from_read}
@@ -93,7 +93,7 @@ pub record IsSpelledAs (st end : State) (rings : List Ring) (rows : List TraceRo
   pub new_ids : have_new_ids (st.rings ++ rings) st.later rows ≡ true
   pub shapes : list_all is_line_ring rings ≡ true
   pub ordered : st.begun ≡ true → rings ≡ []
-  pub within : st.lines ≤ most_lines → end.lines ≤ most_lines
+  pub within : st.lines ≤ most_of st → end.lines ≤ most_of st
   pub together : may_stand_together st.rings ≡ true → may_stand_together (st.rings ++ rings) ≡ true
 
 -- the state behind a ring's line
@@ -262,7 +262,7 @@ written_line fields line rest lines written =
     (q.0, q.1, p.1)
 
 pub rows_read : (rows : List TraceRow) (lines : List TextLine) (st : State) → 2 ≤ st.lines → All (IsLineRow st.version) rows → (st.begun ≡ false → begins_with_ring rows ≡ false) →
-    have_new_ids st.rings st.later rows ≡ true → lines_written (map trace_row_fields rows) lines ≡ true → st.lines + length rows ≤ most_lines → IsReadAs st lines [] rows
+    have_new_ids st.rings st.later rows ≡ true → lines_written (map trace_row_fields rows) lines ≡ true → st.lines + length rows ≤ most_of st → IsReadAs st lines [] rows
 unfolding read_lines
 rows_read [] [] st behind fit begins new_ids written within = record { end = st; is = refl; rings_are = sym (append-nil st.rings); size_is = refl; version_is = refl; count = omega arith }
 rows_read [] (line ∷ lines) st behind fit begins new_ids written within = cc written
@@ -290,7 +290,7 @@ rows_read (row ∷ rows) (line ∷ lines) st behind fit begins new_ids written w
     }
 
 pub lines_read : (rings : List Ring) (rows : List TraceRow) (lines : List TextLine) (st : State) → 2 ≤ st.lines → st.begun ≡ false → list_all is_line_ring rings ≡ true →
-    may_stand_together (st.rings ++ rings) ≡ true → All (IsLineRow st.version) rows → begins_with_ring rows ≡ false → have_new_ids (st.rings ++ rings) st.later rows ≡ true → lines_written (lines_for rings rows) lines ≡ true → st.lines + (length rings + length rows) ≤ most_lines →
+    may_stand_together (st.rings ++ rings) ≡ true → All (IsLineRow st.version) rows → begins_with_ring rows ≡ false → have_new_ids (st.rings ++ rings) st.later rows ≡ true → lines_written (lines_for rings rows) lines ≡ true → st.lines + (length rings + length rows) ≤ most_of st →
     IsReadAs st lines rings rows
 lines_read [] rows lines st behind fresh shapes together fit begins new_ids written within = rows_read rows lines st behind fit (λ e. begins) (rw (append-nil st.rings) at new_ids) written (omega (arith, within))
 lines_read (ring ∷ rings) rows [] st behind fresh shapes together fit begins new_ids written within = cc written

@@ -39,7 +39,7 @@ unfoldable pub use Rattle.trace_reader.specs.PlanSpelling.{plan_line_fields, pla
 pub use Rattle.trace_reader.specs.Plans.{PlanText, declares_too_much, is_no_plan_ring, is_past_plan_limit, plan_behind, plan_in, plan_line, plan_line_fault, plan_ring, plan_ring_fault, plan_sub_line, ret_line, ring_alone, with_ring}
 unfoldable pub use Rattle.trace_reader.specs.Plans.{is_plan_version, plan_form_of, plan_of, plan_value, ring_line_form, ring_value}
 pub use Rattle.trace_reader.specs.Printing.{in_a_row, spaced}
-pub use Rattle.trace_reader.specs.Reading.{State, TextOf, TraceText, behind_row, go_on, has_no_shape, is_misplaced, is_too_much, next_number, start, whole, with_row, with_said, with_size, with_version}
+pub use Rattle.trace_reader.specs.Reading.{State, TextOf, TraceText, behind_row, go_on, has_no_shape, is_misplaced, is_too_much, most_of, next_number, start, whole, with_row, with_said, with_size, with_version}
 unfoldable pub use Rattle.trace_reader.specs.Reading.{after, form_in, is_bad_number, is_bad_row, is_bad_shape, is_past_limit, is_too_long, line_fault, read_line, read_lines, row_fault, said_in, size_of, trace_of, version_of}
 pub use Rattle.trace_reader.specs.ScheduleSpelling.{IsSchedule, schedule_version_fields}
 unfoldable pub use Rattle.trace_reader.specs.ScheduleSpelling.{printed_schedule, schedule_lines, spells_schedule, step_fields}
@@ -61,7 +61,8 @@ pub use Rattle.trace_reader.specs.declared.fault.LineFault.{LineFault}
 pub use Rattle.trace_reader.specs.declared.fault.LineFault.TheVariants.{Header as BadHeader, Limit, Number, Row as BadRow, Shape}
 pub use Rattle.trace_reader.specs.declared.fault.ReadFault.{ReadFault}
 pub use Rattle.traces.specs.Header.{clash, is_command_kind, is_event_kind, may_stand_together}
-pub use Rattle.traces.specs.Limits.{most_bytes, most_declared, most_lines, most_schedule_lines}
+pub use Rattle.traces.specs.Limits.{most_bytes, most_declared, most_lines, most_schedule_lines, most_streamed_lines}
+unfoldable pub use Rattle.traces.specs.Limits.{most_lines_of}
 pub use Rattle.traces.specs.PlanLines.{IsPlanLine}
 pub use Rattle.traces.specs.Register.{is_wide, register_name}
 pub use Rattle.traces.specs.Rows.{FitsLine, IsRow, IsStep, IsWordAddress}

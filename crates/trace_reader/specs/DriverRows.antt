@@ -1,5 +1,5 @@
 -- How a trace is read where not all of its rows are taken: a row that isn't taken is a bad line
-use Rattle.std.specs.Prelude.{ℕ, List, [], ◌∷◌, map, Option, Some, None, Result, Ok, Err}
+use Rattle.std.specs.Prelude.{ℕ, Bool, true, List, [], ◌∷◌, map, Option, Some, None, Result, Ok, Err}
 use Rattle.line_text.specs.Lines.{TextLine, lines_of}
 use Rattle.traces.specs.declared.row.Row.{Row}
 use Rattle.traces.specs.declared.trace_row.TraceRow.{TraceRow}
@@ -25,8 +25,8 @@ unfoldable pub take_lines : {R : Type 0} → (TraceRow → Result R LineFault) �
 take_lines take st [] = Ok (st, [])
 take_lines take st (line ∷ lines) = go_on (next_number st) (taken take (read_line st line)) (λ after. take_lines take after lines)
 
-unfoldable pub text_taken : {R : Type 0} → (TraceRow → Result R LineFault) → List ℕ → Result (TextOf R) (ℕ × LineFault)
-text_taken take text = whole (take_lines take start (lines_of text))
+unfoldable pub text_taken : {R : Type 0} → Bool → (TraceRow → Result R LineFault) → List ℕ → Result (TextOf R) (ℕ × LineFault)
+text_taken keeps take text = whole (take_lines take (start keeps) (lines_of text))
 
 -- ---- the driver's rows alone
 
@@ -41,9 +41,9 @@ driver_row (Withdraws ring position) = Err BadRow
 abbrev pub DriverText : Type 0
 DriverText = TextOf Row
 
--- the trace of a text all rows of which are the driver's; or its first bad line and the least fault there
+-- the trace of a text all rows of which are the driver's, and are kept; or its first bad line and the least fault there
 abbrev pub driver_trace_of : List ℕ → Result DriverText (ℕ × LineFault)
-driver_trace_of text = text_taken driver_row text
+driver_trace_of text = text_taken true driver_row text
 
 -- the same trace
 abbrev pub all_plain : DriverText → TraceText

@@ -142,7 +142,7 @@ text_of trace = record { header = trace.header; first = trace.first; rows = trac
 
 -- what the reader holds
 abbrev pub state_of : TraceSoFar → State
-state_of r = record { lines = r.lines; version = r.version; size = r.size; rings = r.rings.items; begun = r.begun; later = r.later.items }
+state_of r = record { lines = r.lines; version = r.version; size = r.size; rings = r.rings.items; begun = r.begun; later = r.later.items; keeps = r.keeps }
 
 -- the rows so far, and the row of the next line, if it says one
 abbrev pub took_in : {R : Type 0} → List R → Result (State × Option R) LineFault → Result (State × List R) LineFault

@@ -20,7 +20,7 @@ use Rattle.traces.specs.declared.row.Row.TheVariants.{Sub}
 use Rattle.traces.specs.TraceRows.{has_used_id, ids_with}
 use Rattle.trace_reader.specs.TraceLines.{Form, form_of, said_of}
 use Rattle.traces.specs.Header.{clash}
-use Rattle.traces.specs.Limits.{most_lines, most_bytes, most_declared}
+use Rattle.traces.specs.Limits.{most_lines_of, most_bytes, most_declared}
 use Rattle.trace_reader.specs.Values.{Said, SaysRow, SaysRing}
 
 -- what was read so far
@@ -35,13 +35,19 @@ pub record State : Type 0 where
   pub begun : Bool
   -- the IDs of the rings that came behind the first row
   pub later : List ℕ
+  -- all rows are kept in memory
+  pub keeps : Bool
 
-abbrev pub start : State
-start = record { lines = 0; version = One; size = Bytes32; rings = []; begun = false; later = [] }
+abbrev pub start : Bool → State
+start keeps = record { lines = 0; version = One; size = Bytes32; rings = []; begun = false; later = []; keeps = keeps }
 
 -- the number of the next line
 abbrev pub next_number : State → ℕ
 next_number st = st.lines + 1
+
+-- how many lines there may be
+abbrev pub most_of : State → ℕ
+most_of st = most_lines_of st.keeps st.version
 
 -- 1 Header: the first line is `xtrace 1`, `xtrace 2` or `xtrace 3`, the second `ctx 20` or `ctx 40`, as the contexts have
 -- 32 bytes or 64
@@ -79,7 +85,7 @@ is_too_much _ = false
 
 -- 4 Limit: a line past the limit, or too many blocks in one declaration; a line of too many bytes has this fault alone
 unfoldable pub is_past_limit : State → TextLine → Bool
-is_past_limit st line = nat_lt most_lines (next_number st) || option_map_or is_too_much (said_in st line) false
+is_past_limit st line = nat_lt (most_of st) (next_number st) || option_map_or is_too_much (said_in st line) false
 
 unfoldable pub is_too_long : TextLine → Bool
 is_too_long line = nat_lt most_bytes (length line.content)
@@ -177,6 +183,6 @@ whole (Ok (st, rows)) =
     else Ok (record { header = record { version = st.version; context_size = st.size; rings = st.rings }; first = next_number st - length rows; rows = rows })
 whole (Err fault) = Err fault
 
--- the trace of a text, or its first bad line and the least fault there
-unfoldable pub trace_of : List ℕ → Result TraceText (ℕ × LineFault)
-trace_of text = whole (read_lines start (lines_of text))
+-- the trace of a text, whose rows are all kept or not; or its first bad line and the least fault there
+unfoldable pub trace_of : Bool → List ℕ → Result TraceText (ℕ × LineFault)
+trace_of keeps text = whole (read_lines (start keeps) (lines_of text))

@@ -21,7 +21,7 @@ pub use driver_rows::driver_row;
 pub use entry::block_of;
 pub use fault::{LineError, LineFault, ReadFault};
 pub use later::note_id;
-pub use line::{MOST_BYTES, MOST_LINES, row_in};
+pub use line::{MOST_BYTES, MOST_LINES, MOST_STREAMED_LINES, most_lines_of, row_in};
 pub use plans::read_plan;
 pub use print::{print_trace, with_ring, with_row, with_sub, with_write};
 pub use quick::{bell_ahead, declaration_ahead, erdp_ahead, event_ahead, write_ahead};

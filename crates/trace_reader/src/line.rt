@@ -1,7 +1,7 @@
 ghost use Rattle.std.specs.Prelude.{◌≡◌, ◌≤◌, ◌+◌, Some, None, true, OnOk, IfOk, IfErr};
 ghost use Rattle.trace_reader.specs.Entries.{Answers, AnswersRow, content_fault, said_alone, said_by_line, value_of};
 ghost use Rattle.trace_reader.specs.Values.{SaysRow};
-ghost use Rattle.traces.specs.Limits.{most_lines};
+ghost use Rattle.traces.specs.Limits.{most_lines_of};
 ghost use Rattle.traces.specs.declared.trace_row.TraceRow.TheVariants.{Plain};
 ghost use Rattle.trace_reader.specs.Reading.{State, is_too_much, size_of, version_of};
 
@@ -14,8 +14,11 @@ use line_text::{Fields, Line, Survey};
 use std::alloc::Global;
 use traces::{Header, Row, TraceRow, Version};
 
-/// Lines of a trace or a plan.
+/// Lines of a plan, and of a trace all rows of which are kept in memory.
 pub const MOST_LINES: u32 = 1048576;
+
+/// Lines of a trace of version 3 whose rows are read one by one.
+pub const MOST_STREAMED_LINES: u32 = 4294967294;
 
 /// Lines of a schedule.
 pub const MOST_SCHEDULE_LINES: u32 = 4194304;
@@ -25,6 +28,20 @@ pub const MOST_BYTES: usize = 16384;
 
 /// Blocks of one declaration.
 pub const MOST_BLOCKS: usize = 256;
+
+/// Lines of a trace of a version, whose rows are all kept in memory or not.
+#[tactic(auto, unfolding(traces::specs::Limits::most_lines_of))]
+pub fn most_lines_of(keeps: bool, version: Version) -> u32
+    ensures { result ≡ most_lines_of keeps version }
+{
+    if keeps {
+        return MOST_LINES;
+    }
+    match version {
+        Version::One | Version::Two => MOST_LINES,
+        Version::Three => MOST_STREAMED_LINES,
+    }
+}
 
 /// The first line of a trace.
 #[tactic(auto, unfolding(crate::specs::Reading::version_of))]
@@ -59,16 +76,18 @@ pub fn size_of(line: &Line) -> Option<ContextSize>
 /// What a line behind the header says; `lines` were read before it, and rows if they have `begun`.
 pub fn entry_in(
     alloc: Global,
+    keeps: bool,
     version: Version,
     lines: u32,
     begun: bool,
     line: &Line,
 ) -> Result<Entry, LineError>
-    ensures answer { (st : State) → st.version ≡ version → st.lines ≡ lines → st.begun ≡ begun → Answers result (said_by_line st line.now) }
-    ensures within { OnOk result (lines + 1 ≤ most_lines) }
+    ensures answer { (st : State) → st.keeps ≡ keeps → st.version ≡ version → st.lines ≡ lines → st.begun ≡ begun → Answers result (said_by_line st line.now) }
+    ensures within { OnOk result (lines + 1 ≤ most_lines_of keeps version) }
 {
     let entry = entry_alone(alloc, version, begun, line)?;
-    if lines >= MOST_LINES {
+    let most = most_lines_of(keeps, version);
+    if lines >= most {
         return Err(LineFault::Limit.into());
     }
     if is_too_much(&entry) {
@@ -81,16 +100,17 @@ pub fn entry_in(
 /// came later.
 pub fn row_in(
     alloc: Global,
+    keeps: bool,
     header: &Header,
     later: &[u8],
     lines: u32,
     line: &Line,
 ) -> Result<TraceRow, LineError>
     requires { 2 ≤ lines }
-    ensures answer { (st : State) → st.version ≡ header.now.version → st.rings ≡ header.now.rings → st.later ≡ later.now → st.lines ≡ lines → st.begun ≡ true → AnswersRow st result line.now }
-    ensures within { OnOk result (lines + 1 ≤ most_lines) }
+    ensures answer { (st : State) → st.keeps ≡ keeps → st.version ≡ header.now.version → st.rings ≡ header.now.rings → st.later ≡ later.now → st.lines ≡ lines → st.begun ≡ true → AnswersRow st result line.now }
+    ensures within { OnOk result (lines + 1 ≤ most_lines_of keeps header.now.version) }
 {
-    match entry_in(alloc, header.version, lines, true, line)? {
+    match entry_in(alloc, keeps, header.version, lines, true, line)? {
         Entry::Row(row) => placed_row(alloc, header.rings.as_slice(), later, row),
         Entry::Ring(_) => unreachable!(),
     }

@@ -6,7 +6,7 @@ ghost use Rattle.trace_reader.specs.Reading.{TraceText, read_line, start, whole}
 ghost use Rattle.trace_reader.specs.Spelling.{printed_trace, spells};
 ghost use Rattle.trace_reader.specs.Valid.{IsTrace};
 ghost use Rattle.traces.specs.Header.{IsHeader};
-ghost use Rattle.traces.specs.Limits.{most_lines};
+ghost use Rattle.traces.specs.Limits.{most_lines_of};
 ghost use Rattle.trace_reader.specs.Values.{SaysRing, SaysRow};
 ghost use Rattle.traces.specs.declared.row.Row.{Row};
 
@@ -40,7 +40,7 @@ pub fn read_trace(alloc: Global, text: &[u8]) -> Result<Trace, ReadFault>
     // A refused text spells no trace with the driver's rows alone.
     ensures unspelled { IfErr result (λ e. IfBadLine e (λ line code. (trace : DriverText) → IsTrace (all_plain trace) → spells (all_plain trace) text.now ≡ false)) }
 {
-    let mut so_far = TraceSoFar::new(alloc);
+    let mut so_far = TraceSoFar::new(alloc, true);
     let mut rows = Vec::new(alloc);
     let mut rest = text;
     while !rest.is_empty() {
@@ -102,9 +102,9 @@ fn finish(so_far: TraceSoFar, rows: Vec<Row>) -> Result<Trace, ReadFault>
 }
 
 impl TraceSoFar {
-    /// No line was read.
-    pub fn new(alloc: Global) -> TraceSoFar
-        ensures { state_of result ≡ start }
+    /// No line was read. All rows will be kept, or not.
+    pub fn new(alloc: Global, keeps: bool) -> TraceSoFar
+        ensures { state_of result ≡ start keeps }
     {
         TraceSoFar {
             alloc,
@@ -116,6 +116,7 @@ impl TraceSoFar {
             begun: false,
             later: Vec::new(alloc),
             lines: 0,
+            keeps,
         }
     }
 
@@ -175,7 +176,14 @@ impl TraceSoFar {
         ensures err { IfErr result (λ e. IfFault e (λ f. read_line (state_of self.old) line.now ≡ Err f)) }
         ensures more { OnOk result (self.new.lines ≡ self.old.lines + 1) }
     {
-        match entry_in(self.alloc, self.version, self.lines, self.begun, line)? {
+        match entry_in(
+            self.alloc,
+            self.keeps,
+            self.version,
+            self.lines,
+            self.begun,
+            line,
+        )? {
             Entry::Row(row) => self.add_row(row),
             Entry::Ring(ring) => {
                 self.add_ring(ring)?;
@@ -185,7 +193,7 @@ impl TraceSoFar {
     }
 
     fn add_row(&mut self, row: RowEntry) -> Result<Option<TraceRow>, LineError>
-        requires { self.old.lines + 1 ≤ most_lines }
+        requires { self.old.lines + 1 ≤ most_lines_of self.old.keeps self.old.version }
         ensures ok { IfOk result (λ said. placed (state_of self.old) (Ok (SaysRow (row_of row))) ≡ Ok (state_of self.new, said)) }
         ensures err { IfErr result (λ e. IfFault e (λ f. placed (state_of self.old) (Ok (SaysRow (row_of row))) ≡ Err f)) }
         ensures more { OnOk result (self.new.lines ≡ self.old.lines + 1) }
@@ -203,7 +211,7 @@ impl TraceSoFar {
     }
 
     fn add_ring(&mut self, ring: RingEntry) -> Result<(), LineError>
-        requires { self.old.lines + 1 ≤ most_lines }
+        requires { self.old.lines + 1 ≤ most_lines_of self.old.keeps self.old.version }
         ensures ok { OnOk result (placed (state_of self.old) (Ok (SaysRing (ring_of ring))) ≡ Ok (state_of self.new, None)) }
         ensures err { IfErr result (λ e. IfFault e (λ f. placed (state_of self.old) (Ok (SaysRing (ring_of ring))) ≡ Err f)) }
         ensures more { OnOk result (self.new.lines ≡ self.old.lines + 1) }

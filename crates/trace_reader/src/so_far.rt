@@ -1,7 +1,7 @@
 ghost use Rattle.std.specs.Prelude.{◌≡◌, ◌≤◌, true};
 ghost use Rattle.trace_reader.specs.SegmentsApart.{AreSegmentsOf};
 ghost use Rattle.traces.specs.Header.{IsHeader};
-ghost use Rattle.traces.specs.Limits.{most_lines};
+ghost use Rattle.traces.specs.Limits.{most_lines_of, most_streamed_lines};
 
 use crate::segments_so_far::SegmentsSoFar;
 use contexts::ContextSize;
@@ -25,7 +25,10 @@ pub struct TraceSoFar {
     pub later: Vec<u8>,
     /// How many lines were read.
     pub lines: u32,
-    pub ghost within: { lines ≤ most_lines },
+    /// All rows are kept in memory: there may be fewer.
+    pub keeps: bool,
+    pub ghost within: { lines ≤ most_lines_of keeps version },
+    pub ghost counted: { lines ≤ most_streamed_lines },
     pub ghost headed: { IsHeader (record { version = version; context_size = size; rings = rings.items }) },
     pub ghost searched: { has_all_segments ≡ true → AreSegmentsOf rings.items segments },
 }

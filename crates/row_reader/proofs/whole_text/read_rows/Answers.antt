@@ -1,4 +1,4 @@
-use Rattle.std.proofs.Common.{eqb-true, length, sym}
+use Rattle.std.proofs.Common.{true, eqb-true, length, sym}
 use Rattle.line_text.specs.Lines.{lines_of}
 use Rattle.trace_reader.specs.DriverRows.{take_lines}
 use Rattle.trace_reader.specs.Entries.{state_of}
@@ -8,7 +8,7 @@ use Rattle.row_reader.proofs.TextLines.{all_read, each, line_bad, line_more}
 use Rattle.row_reader.proofs.whole_text.read_rows.Goals as goal
 
 pub loop-rest-init : goal.loop-rest-init
-loop-rest-init c = rw (c.new-so_far.ensures, c.new-rows.ensures.items) (sym (nothing_before (take_lines each start (lines_of c.args.text.now))))
+loop-rest-init c = rw (c.new-so_far.ensures, c.new-rows.ensures.items) (sym (nothing_before (take_lines each (start true) (lines_of c.args.text.now))))
 
 pub loop-rest-preserved : goal.loop-rest-preserved
 loop-rest-preserved c =

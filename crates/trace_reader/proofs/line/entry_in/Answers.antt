@@ -1,27 +1,29 @@
 use Rattle.std.proofs.Common.{◌≤◌, ◌<◌, ◌∙◌, sym, arith}
-use Rattle.trace_reader.proofs.Words.{err_from_is_err_and, said_alone, value_of, most_lines, next_number}
-use Rattle.trace_reader.proofs.LineFields.{alone, passed_on, past_limit, too_much, not_limited}
+use Rattle.trace_reader.proofs.Words.{err_from_is_err_and, said_alone, value_of, most_of, next_number}
+use Rattle.trace_reader.proofs.LineFields.{alone, same_most, passed_on, past_limit, too_much, not_limited}
 use Rattle.trace_reader.proofs.line.entry_in.Goals as goal
 
 pub returns-in_err-entry-clause-answer : goal.returns-in_err-entry-clause-answer
-returns-in_err-entry-clause-answer c st of at started =
+returns-in_err-entry-clause-answer c st keeps of at started =
     let p = err_from_is_err_and c.from_residual.result c.from_residual.ensures.1 in
-    let passed = passed_on (next_number st) c.in_err-entry.field-0.0 (said_alone c.args.version c.args.begun c.args.line.now) c.in_err-entry.ensures in
+    let passed = passed_on (most_of st) (next_number st) c.in_err-entry.field-0.0 (said_alone c.args.version c.args.begun c.args.line.now) c.in_err-entry.ensures in
     rw (p.1, p.2, alone st c.args.line.now c.args.version c.args.begun of started) passed
 
-pub returns-then-lines-ge-MOST_LINES-clause-answer : goal.returns-then-lines-ge-MOST_LINES-clause-answer
-returns-then-lines-ge-MOST_LINES-clause-answer c st of at started =
-    let past : most_lines < next_number st = omega (arith, at, c.if-lines-ge-MOST_LINES.true) in
+pub returns-then-lines-most-clause-answer : goal.returns-then-lines-most-clause-answer
+returns-then-lines-most-clause-answer c st keeps of at started =
+    let most = same_most st c.args.keeps c.args.version keeps of ∙ sym c.most_lines_of-most.ensures in
+    let past : most_of st < next_number st = rw most (omega (arith, at, c.if-lines-most.true)) in
     rw (c.into.ensures, alone st c.args.line.now c.args.version c.args.begun of started)
-    (past_limit (next_number st) (value_of c.in_ok-entry.entry) (said_alone c.args.version c.args.begun c.args.line.now) c.in_ok-entry.ensures past)
+    (past_limit (most_of st) (next_number st) (value_of c.in_ok-entry.entry) (said_alone c.args.version c.args.begun c.args.line.now) c.in_ok-entry.ensures past)
 
 pub returns-then-is_too_much-clause-answer : goal.returns-then-is_too_much-clause-answer
-returns-then-is_too_much-clause-answer c st of at started =
+returns-then-is_too_much-clause-answer c st keeps of at started =
     rw (c.into-then-is_too_much.ensures, alone st c.args.line.now c.args.version c.args.begun of started)
-    (too_much (next_number st) (value_of c.in_ok-entry.entry) (said_alone c.args.version c.args.begun c.args.line.now) c.in_ok-entry.ensures (sym c.is_too_much.ensures ∙ c.if-is_too_much.true))
+    (too_much (most_of st) (next_number st) (value_of c.in_ok-entry.entry) (said_alone c.args.version c.args.begun c.args.line.now) c.in_ok-entry.ensures (sym c.is_too_much.ensures ∙ c.if-is_too_much.true))
 
 pub returns-clause-answer : goal.returns-clause-answer
-returns-clause-answer c st of at started =
-    let within : next_number st ≤ most_lines = omega (arith, at, c.if-lines-ge-MOST_LINES.false) in
+returns-clause-answer c st keeps of at started =
+    let most = same_most st c.args.keeps c.args.version keeps of ∙ sym c.most_lines_of-most.ensures in
+    let within : next_number st ≤ most_of st = rw most (omega (arith, at, c.if-lines-most.false)) in
     alone st c.args.line.now c.args.version c.args.begun of started
-    ∙ not_limited (next_number st) (value_of c.in_ok-entry.entry) (said_alone c.args.version c.args.begun c.args.line.now) c.in_ok-entry.ensures within (sym c.is_too_much.ensures ∙ c.if-is_too_much.false)
+    ∙ not_limited (most_of st) (next_number st) (value_of c.in_ok-entry.entry) (said_alone c.args.version c.args.begun c.args.line.now) c.in_ok-entry.ensures within (sym c.is_too_much.ensures ∙ c.if-is_too_much.false)

@@ -1,4 +1,4 @@
-use Rattle.std.proofs.Common.{◌∙◌, ap, sym, length, eqb-true}
+use Rattle.std.proofs.Common.{true, ◌∙◌, ap, sym, length, eqb-true}
 use Rattle.trace_reader.proofs.Words.{lines_of, state_of, text_of, all_plain, driver_row, start, take_lines}
 use Rattle.trace_reader.proofs.DriverTraces.{plain_trace}
 use Rattle.trace_reader.proofs.Lowered.{lowered}
@@ -8,35 +8,35 @@ use Rattle.trace_reader.proofs.Unspelled.{err_also, ok_also, refused_unspelled}
 use Rattle.trace_reader.proofs.read.read_trace.Goals as goal
 
 pub loop-rest-init : goal.loop-rest-init
-loop-rest-init c = rw (c.new-so_far.ensures, c.new-rows.ensures.items) (sym (nothing_before (take_lines driver_row start (lines_of c.args.text.now))))
+loop-rest-init c = rw (c.new-so_far.ensures, c.new-rows.ensures.items) (sym (nothing_before (take_lines driver_row (start true) (lines_of c.args.text.now))))
 
 pub loop-rest-preserved : goal.loop-rest-preserved
 loop-rest-preserved c =
     let r = c.loop-rest.so_far in
-    read_on driver_row c.args.text.now c.loop-rest.rows.items c.add_driver_line.new.rows.items (state_of r) (state_of c.add_driver_line.new.so_far) c.first_line-line.result.0 c.first_line-line.result.1.now
+    read_on true driver_row c.args.text.now c.loop-rest.rows.items c.add_driver_line.new.rows.items (state_of r) (state_of c.add_driver_line.new.so_far) c.first_line-line.result.0 c.first_line-line.result.1.now
     (lines_of c.loop-rest.rest.now) c.loop-rest.invariant c.first_line-line.ensures.lines c.in_default.ensures.ok
 
 pub returns-in-Err-clause-refused : goal.returns-in-Err-clause-refused
 returns-in-Err-clause-refused c =
     let r = c.loop-rest.so_far in
     rw c.at_line.ensures
-    (stopped driver_row c.args.text.now c.loop-rest.rows.items (state_of r) c.first_line-line.result.0 (lines_of c.first_line-line.result.1.now) c.in-Err.error
+    (stopped true driver_row c.args.text.now c.loop-rest.rows.items (state_of r) c.first_line-line.result.0 (lines_of c.first_line-line.result.1.now) c.in-Err.error
     (c.loop-rest.invariant ∙ ap (λ ls. prepend c.loop-rest.rows.items (take_lines driver_row (state_of r) ls)) c.first_line-line.ensures.lines) c.in-Err.ensures.err)
 
 pub finish-requires : goal.finish-requires
 finish-requires c =
     let r = c.loop-rest.so_far in
-    (c.args.text.now, ended driver_row c.args.text.now c.loop-rest.rest.now c.loop-rest.rows.items (state_of r) c.loop-rest.invariant (eqb-true (length c.loop-rest.rest.now) 0 (sym c.loop-rest-test.ensures)))
+    (c.args.text.now, ended true driver_row c.args.text.now c.loop-rest.rest.now c.loop-rest.rows.items (state_of r) c.loop-rest.invariant (eqb-true (length c.loop-rest.rest.now) 0 (sym c.loop-rest-test.ensures)))
 
 pub returns-clause-read : goal.returns-clause-read
 returns-clause-read c =
     let r = c.loop-rest.so_far in
-    rw (ended driver_row c.args.text.now c.loop-rest.rest.now c.loop-rest.rows.items (state_of r) c.loop-rest.invariant (eqb-true (length c.loop-rest.rest.now) 0 (sym c.loop-rest-test.ensures))) c.finish.ensures.read
+    rw (ended true driver_row c.args.text.now c.loop-rest.rest.now c.loop-rest.rows.items (state_of r) c.loop-rest.invariant (eqb-true (length c.loop-rest.rest.now) 0 (sym c.loop-rest-test.ensures))) c.finish.ensures.read
 
 pub returns-clause-refused : goal.returns-clause-refused
 returns-clause-refused c =
     let r = c.loop-rest.so_far in
-    rw (ended driver_row c.args.text.now c.loop-rest.rest.now c.loop-rest.rows.items (state_of r) c.loop-rest.invariant (eqb-true (length c.loop-rest.rest.now) 0 (sym c.loop-rest-test.ensures))) c.finish.ensures.refused
+    rw (ended true driver_row c.args.text.now c.loop-rest.rest.now c.loop-rest.rows.items (state_of r) c.loop-rest.invariant (eqb-true (length c.loop-rest.rest.now) 0 (sym c.loop-rest-test.ensures))) c.finish.ensures.refused
 
 pub returns-in-Err-clause-unspelled : goal.returns-in-Err-clause-unspelled
 returns-in-Err-clause-unspelled c = refused_unspelled c.args.text.now c.at_line.result (returns-in-Err-clause-refused c)

@@ -1,4 +1,4 @@
-use Rattle.std.proofs.Common.{◌≡◌, length}
+use Rattle.std.proofs.Common.{true, ◌≡◌, length}
 use Rattle.trace_reader.proofs.Words.{lines_of, state_of, driver_row, start, take_lines}
 use Rattle.trace_reader.proofs.ReadSteps.{prepend}
 use Rattle.trace_reader.proofs.read.read_trace.Given as goal
@@ -8,4 +8,4 @@ abbrev pub decreases-loop-rest : goal.decreases-loop-rest
 decreases-loop-rest l = length l.rest
 
 abbrev pub invariant-loop-rest : goal.invariant-loop-rest
-invariant-loop-rest l = take_lines driver_row start (lines_of l.text) ≡ prepend l.rows.items (take_lines driver_row (state_of l.so_far) (lines_of l.rest))
+invariant-loop-rest l = take_lines driver_row (start true) (lines_of l.text) ≡ prepend l.rows.items (take_lines driver_row (state_of l.so_far) (lines_of l.rest))

@@ -1,4 +1,3 @@
-use Rattle.std.proofs.Common.{arith}
 use Rattle.row_reader.specs.Ahead.{ahead_of}
 use Rattle.row_reader.specs.ReaderState.{progress_of}
 use Rattle.row_reader.proofs.Calls.{row_begins}
@@ -8,8 +7,8 @@ use Rattle.row_reader.proofs.reader.RowReader.next_row.Goals as goal
 pub returns-in-Some-clause-answer : goal.returns-in-Some-clause-answer
 returns-in-Some-clause-answer g c =
     let r = c.args.self.now in
-    let few = c.if-self-ge-MOST_LINES.false in
-    row_begins (progress_of r).read r.ended (g.S.Source.held c.args.source.now) (ahead_of r.ahead) (ahead_of c.skip.new.self) _ 28 (rw c.as_slice.ensures at c.in-Some.ensures) r.behind (omega (arith, few)) c.if-self.false c.skip.ensures
+    let few = c.is_full.ensures.within c.if-is_full.false in
+    row_begins (progress_of r).read r.ended (g.S.Source.held c.args.source.now) (ahead_of r.ahead) (ahead_of c.skip.new.self) _ 28 (rw c.as_slice.ensures at c.in-Some.ensures) r.behind few c.if-self.false c.skip.ensures
 
 pub returns-then-self-clause-fits : goal.returns-then-self-clause-fits
 returns-then-self-clause-fits g c =

@@ -1,12 +1,12 @@
 use Rattle.std.proofs.Common.{◌≡◌, ◌-◌}
-use Rattle.traces.specs.Limits.{most_lines}
+use Rattle.traces.specs.Limits.{most_streamed_lines}
 use Rattle.row_reader.specs.Ahead.{ahead_of}
 use Rattle.row_reader.proofs.Openings.{HasRead}
 use Rattle.row_reader.proofs.reader.RowReader.open.Given as goal
 
 abbrev pub invariant-loop-ahead : goal.invariant-loop-ahead
-invariant-loop-ahead g l = HasRead (g.S.Source.held l.fn.source) (g.S.Source.held l.source) l.so_far (ahead_of l.ahead) × (g.S.Source.failed l.source ≡ g.S.Source.failed l.fn.source)
+invariant-loop-ahead g l = HasRead l.fn.keeps (g.S.Source.held l.fn.source) (g.S.Source.held l.source) l.so_far (ahead_of l.ahead) × (g.S.Source.failed l.source ≡ g.S.Source.failed l.fn.source)
 
 -- the lines that a trace may still have
 abbrev pub decreases-loop-ahead : goal.decreases-loop-ahead
-decreases-loop-ahead g l = most_lines - l.so_far.lines
+decreases-loop-ahead g l = most_streamed_lines - l.so_far.lines

@@ -1,6 +1,7 @@
-use Rattle.std.proofs.Common.{◌≡◌, ◌<◌, ◌||◌, ◌∙◌, false, ap, rules, sym}
+use Rattle.std.proofs.Common.{arith, ◌≡◌, ◌<◌, ◌||◌, ◌∙◌, false, ap, rules, sym}
 use Rattle.trace_reader.proofs.Words.{clash, list_any}
 use Rattle.trace_reader.specs.SegmentsApart.{segments_of}
+use Rattle.trace_reader.proofs.LineFields.{some_lines}
 use Rattle.trace_reader.proofs.RingsClash.{all_with, none_overlapped}
 use Rattle.trace_reader.proofs.RingsGrow.{its_segments, one_ring_more, placed_well}
 use Rattle.trace_reader.proofs.so_far.TraceSoFar.add_ring.Goals as goal
@@ -30,3 +31,9 @@ invariant_of-self-2-clause-searched c = λ same p.
     all_with r.rings.items ring r.segments c.add_all.new.self (r.searched c.if-not-self.false)
     (λ q. c.in_ok-add_all.ensures q ∙ ap (λ ss. list_any q ss || list_any q r.segments) c.segments.ensures) p
     ∙ ap (λ rs. list_any p (segments_of rs)) (sym c.in_ok-push.ensures.items)
+
+pub overflow_add-self : goal.overflow_add-self
+overflow_add-self c = let most = (some_lines c.args.self.now.keeps c.args.self.now.version).1 in let few = c.requires in omega (arith, most, few)
+
+pub invariant_of-self-2-clause-counted : goal.invariant_of-self-2-clause-counted
+invariant_of-self-2-clause-counted c = let most = (some_lines c.args.self.now.keeps c.args.self.now.version).1 in let few = c.requires in omega (arith, most, few)

@@ -1,5 +1,6 @@
-use Rattle.std.proofs.Common.{◌∙◌, sym}
+use Rattle.std.proofs.Common.{arith, ◌∙◌, sym}
 use Rattle.trace_reader.proofs.Words.{err_from_is_err_and, row_of, state_of, SaysRow}
+use Rattle.trace_reader.proofs.LineFields.{some_lines}
 use Rattle.trace_reader.proofs.RowLines.{behind_noted, placed_error}
 use Rattle.trace_reader.proofs.so_far.TraceSoFar.add_row.Goals as goal
 
@@ -13,3 +14,9 @@ pub returns-clause-ok : goal.returns-clause-ok
 returns-clause-ok c =
     let st = state_of c.args.self.now in
     c.in_ok-row.ensures st (sym c.as_slice.ensures.value) (sym c.as_slice-2.ensures.value) ∙ behind_noted st c.in_ok-row.row _ c.in_ok-note_id.ensures
+
+pub overflow_add-self : goal.overflow_add-self
+overflow_add-self c = let most = (some_lines c.args.self.now.keeps c.args.self.now.version).1 in let few = c.requires in omega (arith, most, few)
+
+pub invariant_of-self-2-clause-counted : goal.invariant_of-self-2-clause-counted
+invariant_of-self-2-clause-counted c = let most = (some_lines c.args.self.now.keeps c.args.self.now.version).1 in let few = c.requires in omega (arith, most, few)
