@@ -6,7 +6,7 @@ ghost use Rattle.guest_memory.specs.Memory.{long_at};
 ghost use Rattle.commands.specs.Command.{command_of};
 ghost use Rattle.contexts.specs.Contexts.{device_context_bytes, input_context_bytes};
 ghost use Rattle.segments.specs.ShapeValue.{Shape};
-ghost use Rattle.segments.specs.RingView.{RingView};
+ghost use Rattle.segments.specs.RingView.{RingView, floor_number};
 ghost use Rattle.traces.specs.Header.{command_id, shape_of};
 ghost use Rattle.ring_knowledge.specs.Known.{Known};
 ghost use Rattle.ring_knowledge.specs.RegisterRecords.{FollowsRegisters};
@@ -33,9 +33,9 @@ use trb::Block;
 /// How many bytes the entry of a slot has in the Device Context Base Address Array.
 const ENTRY_BYTES: u32 = 8;
 
-/// The command that is declared at a position of a ring.
+/// The command that is declared at a position of a ring from the floor on.
 pub(crate) fn command_at(known: &RingRecord, position: u64) -> Option<Command>
-    ensures { (shape : Shape) (v : RingView) → FollowsRing shape v known.now → result ≡ option_and_then command_of (slice_get v.queue position) }
+    ensures { (shape : Shape) (v : RingView) → FollowsRing shape v known.now → floor_number v ≤ position → result ≡ option_and_then command_of (slice_get v.queue position) }
 {
     match known.declared(position) {
         Some(block) => command_in(block),

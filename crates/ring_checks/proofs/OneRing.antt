@@ -1,19 +1,23 @@
 -- Something happens on a transfer ring that leaves all else as it is: the record follows
-use Rattle.std.proofs.Common.{◌≡◌, ◌∙◌, ℕ, Bool, List, true, false, inl, inr, Option, Some, None, refl, ap, sym, set, subst}
+use Rattle.std.proofs.Common.{◌≤◌, ◌≡◌, ◌∙◌, ℕ, Bool, List, true, false, inl, inr, Option, Some, None, refl, ap, sym, set, subst}
 use Rattle.std.specs.Prelude.{slice_get}
 use Rattle.std.specs.Vec.{with_item}
 use Rattle.std.proofs.Math.ListN.{length-set}
 use Rattle.trb.specs.declared.ring_kind.RingKind.{RingKind}
 use Rattle.trb.specs.declared.ring_kind.RingKind.TheVariants.{Cmd, Evt, Xfer}
 use Rattle.segments.specs.Givings.{is_not_restored}
-use Rattle.segments.specs.RingView.{RingChange, RingView, Restores, Withdraws, changed}
+use Rattle.segments.specs.Ceiling.{ceiling}
+use Rattle.segments.specs.Shape.{IsShape}
+use Rattle.segments.specs.RingView.{RingChange, RingView, Restores, Withdraws, changed, floor_number}
+use Rattle.segments.proofs.Named.{ceiling_within}
+use Rattle.safety.specs.Keeps.{DriverKeeps, IsDriverRing}
 use Rattle.segments.specs.ShapeValue.{Shape}
 use Rattle.contexts.specs.Contexts.{input_context_bytes}
 use Rattle.commands.specs.declared.command.Command.{Command}
 use Rattle.event_ring.specs.EventPlaceValue.{EventState}
 use Rattle.traces.specs.declared.header.Header.{Header}
 use Rattle.traces.specs.declared.ring.Ring.{Ring}
-use Rattle.traces.specs.Header.{IsHeader, command_id, is_command_kind, is_driver_kind, is_transfer_kind, shape_of}
+use Rattle.traces.specs.Header.{IsHeader, command_id, is_command_kind, is_driver_kind, is_transfer_kind, ring_with, shape_of}
 use Rattle.ring_knowledge.specs.declared.ring_record.RingRecord.{RingRecord}
 use Rattle.ring_knowledge.specs.RingRecords.{FollowsRing}
 use Rattle.ring_knowledge.specs.Known.{Known}
@@ -23,7 +27,7 @@ use Rattle.device_record.proofs.UnfinishedSame.{ring_elsewhere, ring_here, same_
 use Rattle.range_words.specs.Holding.{HoldsAreas}
 use Rattle.ring_finder.specs.RecordsOfRings.{FollowsRings}
 use Rattle.ring_finder.proofs.RingsApart.{IsAmong, Apart, among_at, numbers_apart}
-use Rattle.ring_finder.proofs.HeaderRings.{no_command_here, shape_there, together}
+use Rattle.ring_finder.proofs.HeaderRings.{no_command_here, ring_found, shape_allowed, shape_there, together}
 use Rattle.trace_record.specs.declared.trace_record.TraceRecord.{TraceRecord}
 use Rattle.trace_record.specs.FollowsTrace.{FollowsEvents, FollowsTrace, inputs_of}
 use Rattle.trace_record.proofs.BoundRings.{binds_same, bound_same}
@@ -141,6 +145,14 @@ module _ (h : Header) (headed : IsHeader h) (id n : ℕ) (there : IsTransferAt h
     shape_read : shape ≡ shape_of h id
     shape_read = read ∙ sym (shape_there h headed ring among) ∙ ap (λ i. shape_of h i) there.named
 
+    -- the floor lies no higher than the ceiling
+    pub floor_below : DriverKeeps h k → floor_number (k.ring id) ≤ ceiling shape (k.ring id)
+    floor_below keeps =
+        let found : ring_with h id ≡ Some there.ring = ap (ring_with h) (sym there.named) ∙ ring_found h headed there.ring among in
+        let allowed : IsShape (shape_of h id) = subst (λ (s : Shape). IsShape s) (sym read ∙ shape_read) (shape_allowed h headed there.ring among) in
+        let is : IsDriverRing h id = record { ring = there.ring; found = found; kind = driver there.ring.shape.kind there.kind } in
+        subst (λ (s : Shape). floor_number (k.ring id) ≤ ceiling s (k.ring id)) (sym shape_read) (ceiling_within (shape_of h id) allowed k.memory (k.ring id) (keeps.rings id is)).0
+
     -- whether it is left, and its record behind that
     pub left_so : (result : Bool) → ((v : RingView) → FollowsRing shape v old → result ≡ is_not_restored shape v m) → result ≡ is_left h k (Some id)
     unfolding is_left
@@ -158,6 +170,6 @@ module _ (h : Header) (headed : IsHeader h) (id n : ℕ) (there : IsTransferAt h
       pub passed_so : {b : Bool} → is_passed h shape (k.ring id) p ≡ b → is_passed h (shape_of h id) (k.ring id) p ≡ b
       passed_so told = ap (λ s. is_passed h s (k.ring id) p) (sym shape_read) ∙ told
 
-      pub withdrawn_so : (new : RingRecord) → ((v : RingView) → FollowsRing shape v old → FollowsRing shape (changed shape v (Withdraws p)) new) → FollowsTrace h (on_ring h k id (Withdraws p)) (with_ring kept n new) m
+      pub withdrawn_so : (new : RingRecord) → FollowsRing shape (changed shape (k.ring id) (Withdraws p)) new → FollowsTrace h (on_ring h k id (Withdraws p)) (with_ring kept n new) m
       withdrawn_so new noted =
-          changed_there (Withdraws p) new (subst (λ (s : Shape). FollowsRing s (changed s (k.ring id) (Withdraws p)) new) read (noted (k.ring id) known_read))
+          changed_there (Withdraws p) new (subst (λ (s : Shape). FollowsRing s (changed s (k.ring id) (Withdraws p)) new) read noted)

@@ -1,6 +1,10 @@
 -- The rule of a descriptor that is withdrawn, from its parts
-use Rattle.std.proofs.Common.{◌≡◌, ◌∙◌, ◌⊎◌, ◌||◌, ℕ, Bool, true, false, refl, ap, inl, inr, Result, Ok, Err}
+use Rattle.std.proofs.Common.{◌≡◌, ◌∙◌, ◌⊎◌, ◌||◌, ◌≤◌, ℕ, Bool, true, false, refl, ap, arith, inl, inr, nat_lt, if◌then◌else◌, ltb-false, Result, Ok, Err}
 use Rattle.std.specs.Prelude.{IfErr, OnOk}
+use Rattle.segments.specs.Ceiling.{ceiling}
+use Rattle.segments.specs.RingView.{RingView, floor_number}
+use Rattle.segments.specs.ShapeValue.{Shape}
+use Rattle.traces.specs.Versions.{is_three}
 use Rattle.traces.specs.declared.header.Header.{Header}
 use Rattle.traces.specs.Header.{shape_of}
 use Rattle.ring_knowledge.specs.Known.{Known}
@@ -14,6 +18,15 @@ use Rattle.ring_checks.specs.Withdrawing.{is_no_descriptor, is_passed, withdraws
 or_true : (b : Bool) → (b || true) ≡ true
 or_true true = refl
 or_true false = refl
+
+-- a position that the version lets withdraw isn't below the floor
+pub not_passed : (h : Header) (shape : Shape) (v : RingView) (p : ℕ) → floor_number v ≤ ceiling shape v → is_passed h shape v p ≡ false → floor_number v ≤ p
+unfolding is_passed
+not_passed h shape v p low ahead = by (is_three h.version) ahead
+  where
+    by : (three : Bool) → nat_lt p (if three then floor_number v else ceiling shape v) ≡ false → floor_number v ≤ p
+    by true ahead = ltb-false p (floor_number v) ahead
+    by false ahead = omega (arith, low, ltb-false p (ceiling shape v) ahead)
 
 module _ (h : Header) (k : Known) (r p : ℕ) where
   -- no endpoint that has the ring has stopped
@@ -40,14 +53,14 @@ module _ (h : Header) (k : Known) (r p : ℕ) where
 
 -- what a success says, and a refusal
 pub if_ok : {X : Type 0} {P Q : Type 0} (result : Result X StepFault) → (P → Q) → OnOk result P → OnOk result Q
-if_ok (Ok x) then it = then it
-if_ok (Err e) then it = it
+if_ok (Ok x) onward it = onward it
+if_ok (Err e) onward it = it
 
 pub if_refused : {X : Type 0} {P Q : Refusal → Type 0} (result : Result X StepFault) → ((c : Refusal) → P c → Q c) → IfErr result (λ e. IfRefused e P) → IfErr result (λ e. IfRefused e Q)
-if_refused (Ok x) then it = it
-if_refused (Err (Refused c)) then it = then c it
-if_refused (Err Memory) then it = it
+if_refused (Ok x) onward it = it
+if_refused (Err (Refused c)) onward it = onward c it
+if_refused (Err Memory) onward it = it
 
 pub if_both : {X : Type 0} {P Q R : Type 0} (result : Result X StepFault) → (P → Q → R) → OnOk result P → OnOk result Q → OnOk result R
-if_both (Ok x) then one two = then one two
-if_both (Err e) then one two = one
+if_both (Ok x) onward one two = onward one two
+if_both (Err e) onward one two = one

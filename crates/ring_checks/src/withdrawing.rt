@@ -1,5 +1,6 @@
-ghost use Rattle.std.specs.Prelude.{◌≡◌, ◌⊎◌, ℕ, true, false, length, IfErr, OnOk};
-ghost use Rattle.segments.specs.RingView.{RingView, changed, Withdraws as WithdrawsAt};
+ghost use Rattle.std.specs.Prelude.{◌≡◌, ◌≤◌, ◌⊎◌, ℕ, true, false, length, IfErr, OnOk};
+ghost use Rattle.segments.specs.Ceiling.{ceiling};
+ghost use Rattle.segments.specs.RingView.{RingView, changed, floor_number, Withdraws as WithdrawsAt};
 ghost use Rattle.segments.specs.ShapeValue.{Shape};
 ghost use Rattle.traces.specs.Header.{IsHeader};
 ghost use Rattle.traces.specs.declared.trace_row.TraceRow.TheVariants.{Withdraws};
@@ -40,6 +41,8 @@ pub fn check_withdrawing<M: WordMemory>(
         IsRingStep header.now k (Withdraws id position) kept.new (M.words memory.now)) }
     ensures version { OnOk result ((k : Known) → FollowsTrace header.now k kept.old (M.words memory.now) → DriverKeeps header.now k → ContextsFit header.now k →
         withdraws_badly header.now k id position ≡ false) }
+    ensures from { OnOk result ((k : Known) → FollowsTrace header.now k kept.old (M.words memory.now) → DriverKeeps header.now k → ContextsFit header.now k →
+        floor_number (k.ring id) ≤ position) }
     ensures refused { IfErr result (λ e. IfRefused e (λ c. (c ≡ BadWithdraw) × ((k : Known) → FollowsTrace header.now k kept.old (M.words memory.now) →
         DriverKeeps header.now k → ContextsFit header.now k → withdraws_badly header.now k id position ≡ true))) }
     ensures events { kept.new.events ≡ kept.old.events }
@@ -63,9 +66,10 @@ fn withdraw_on(
     known: &mut RingRecord,
     position: u64,
 ) -> Result<(), StepFault>
-    ensures rule { OnOk result ((v : RingView) → FollowsRing shape.now v known.old → (is_passed header.now shape.now v position ≡ false) × (is_no_descriptor v position ≡ false)) }
-    ensures ok { OnOk result ((v : RingView) → FollowsRing shape.now v known.old → FollowsRing shape.now (changed shape.now v (WithdrawsAt position)) known.new) }
-    ensures refused { IfErr result (λ e. IfRefused e (λ c. (c ≡ BadWithdraw) × ((v : RingView) → FollowsRing shape.now v known.old →
+    ensures from { OnOk result ((v : RingView) → FollowsRing shape.now v known.old → floor_number v ≤ ceiling shape.now v → floor_number v ≤ position) }
+    ensures rule { OnOk result ((v : RingView) → FollowsRing shape.now v known.old → floor_number v ≤ ceiling shape.now v → (is_passed header.now shape.now v position ≡ false) × (is_no_descriptor v position ≡ false)) }
+    ensures ok { OnOk result ((v : RingView) → FollowsRing shape.now v known.old → floor_number v ≤ ceiling shape.now v → FollowsRing shape.now (changed shape.now v (WithdrawsAt position)) known.new) }
+    ensures refused { IfErr result (λ e. IfRefused e (λ c. (c ≡ BadWithdraw) × ((v : RingView) → FollowsRing shape.now v known.old → floor_number v ≤ ceiling shape.now v →
         (is_passed header.now shape.now v position ≡ true) ⊎ (is_no_descriptor v position ≡ true)))) }
 {
     if is_passed(header, known, position) {

@@ -1,5 +1,5 @@
 -- Borders between descriptors, by how long the descriptor is that begins at a position
-use Rattle.ring_knowledge.proofs.Words.{◌≡◌, ◌+◌, ◌<◌, ◌∷◌, ◌∙◌, ◌==◌, ◌||◌, ℕ, List, [], true, ap, sym, arith, inl, inr, length, slice_index, sum, eq-eqb, ne_eqb, cases_eq, cond-true, cond-false, or_left, Shape, RingView, is_border, length_from, RingRecord, ArePositive, FollowsMarks}
+use Rattle.ring_knowledge.proofs.Words.{◌≡◌, ◌≤◌, ◌-◌, ◌+◌, ◌<◌, ◌∷◌, ◌∙◌, ◌==◌, ◌||◌, ℕ, List, [], true, ap, sym, arith, inl, inr, length, slice_index, sum, eq-eqb, ne_eqb, cases_eq, cond-true, cond-false, or_left, Shape, RingView, is_border, length_from, RingRecord, ArePositive, FollowsMarks}
 use Rattle.ring_knowledge.proofs.DeclaredMore.{sum-cons}
 
 -- where a descriptor begins, there is a border
@@ -35,10 +35,10 @@ ends (n ∷ rest) start p positive none =
     ]
 
 module _ (shape : Shape) (v : RingView) (r : RingRecord) (follows : FollowsMarks shape v r) where
-  pub border_begins : (p : ℕ) → 0 < slice_index r.lengths.items p → true ≡ is_border v.lengths 0 p
-  border_begins p some = sym (begins v.lengths 0 p (omega (arith, follows.begins p)))
+  pub border_begins : (p : ℕ) → r.forgotten ≤ p → 0 < slice_index r.lengths.items (p - r.forgotten) → true ≡ is_border v.lengths 0 p
+  border_begins p kept some = sym (begins v.lengths 0 p (omega (arith, follows.begins p kept, some)))
 
-  pub border_ends : (p : ℕ) → slice_index r.lengths.items p ≡ 0 → (p == length r.blocks.items) ≡ is_border v.lengths 0 p
-  border_ends p none =
-      let end : length r.blocks.items ≡ 0 + sum v.lengths = omega (arith, follows.whole) in
-      ap (λ m. p == m) end ∙ ends v.lengths 0 p follows.positive (follows.begins p ∙ none)
+  pub border_ends : (p : ℕ) → r.forgotten ≤ p → slice_index r.lengths.items (p - r.forgotten) ≡ 0 → (p == length v.queue) ≡ is_border v.lengths 0 p
+  border_ends p kept none =
+      let end : length v.queue ≡ 0 + sum v.lengths = omega (arith, follows.whole) in
+      ap (λ m. p == m) end ∙ ends v.lengths 0 p follows.positive (follows.begins p kept ∙ none)

@@ -1,5 +1,6 @@
 -- A record with one descriptor more follows what is declared with it
-use Rattle.ring_knowledge.proofs.Words.{◌≡◌, ◌+◌, ◌-◌, ◌<◌, ◌≤◌, ◌∷◌, ◌++◌, ◌∙◌, ◌==◌, ℕ, suc, zero, List, [], true, false, refl, ap, sym, arith, length, set, inl, inr, length-append, not, sum, slice_index, replicate, nat_le, take, ltb-false, lt-ltb, le-ltb, le-leb, sum_by-cons, cases_eq, cases_lt, lt-leb, nat_tests, common_steps, Block, Shape, place_count, place_count_pos, RingView, Declares, changed, declared, floor_number, length_from, has_no_room, RingRecord, ArePositive, FollowsMarks, contains, nat_cmp}
+use Rattle.ring_knowledge.proofs.Forgotten.{drop_append}
+use Rattle.ring_knowledge.proofs.Words.{drop, ◌≡◌, ◌+◌, ◌-◌, ◌<◌, ◌≤◌, ◌∷◌, ◌++◌, ◌∙◌, ◌==◌, ℕ, suc, zero, List, [], true, false, refl, ap, sym, arith, length, set, inl, inr, length-append, not, sum, slice_index, replicate, nat_le, take, ltb-false, lt-ltb, le-ltb, le-leb, sum_by-cons, cases_eq, cases_lt, lt-leb, nat_tests, common_steps, Block, Shape, place_count, place_count_pos, RingView, Declares, changed, declared, floor_number, length_from, has_no_room, RingRecord, ArePositive, FollowsMarks, contains, nat_cmp}
 
 pub sum-cons : (d : ℕ) (ds : List ℕ) → sum (d ∷ ds) ≡ d + sum ds
 sum-cons d ds = sum_by-cons (λ x. x) d ds
@@ -72,59 +73,63 @@ lengths_more [] (suc n) h = let less : suc n - 1 ≡ n = omega arith in rw less 
 lengths_more (l ∷ ls) n h = ap (λ xs. l ∷ xs) (lengths_more ls n h)
 
 module _ (shape : Shape) (v : RingView) (r : RingRecord) (follows : FollowsMarks shape v r) (blocks : List Block) where
-  room_left : has_no_room shape v (length blocks) ≡ false → length r.blocks.items + length blocks + 1 ≤ floor_number v + place_count shape
+  room_left : has_no_room shape v (length blocks) ≡ false → length v.queue + length blocks + 1 ≤ floor_number v + place_count shape
   unfolding has_no_room
   room_left fits =
       let most = ltb-false (place_count shape - 1 + floor_number v) (declared v + length blocks) fits in
-      omega (arith, ap length follows.queue, follows.room, place_count_pos shape follows.allowed)
+      omega (arith, follows.room, place_count_pos shape follows.allowed)
 
-  begins_now : (ls : List ℕ) → 0 < length blocks → ls ≡ r.lengths.items ++ (length blocks ∷ replicate (length blocks - 1) 0) → (p : ℕ) →
-      length_from (v.lengths ++ length blocks ∷ []) 0 p ≡ slice_index ls p
-  begins_now ls some e p =
-      let whole = follows.whole in
+  begins_now : (ls : List ℕ) → 0 < length blocks → ls ≡ r.lengths.items ++ (length blocks ∷ replicate (length blocks - 1) 0) → (p : ℕ) → r.forgotten ≤ p →
+      length_from (v.lengths ++ length blocks ∷ []) 0 p ≡ slice_index ls (p - r.forgotten)
+  begins_now ls some e p kept =
+      let whole : sum v.lengths ≡ r.forgotten + length r.blocks.items = follows.whole ∙ follows.count in
       let as_many = follows.as_many in
       let split : (r.lengths.items ++ (length blocks ∷ replicate (length blocks - 1) 0)) ≡ ls = sym e in
       elim (cases_lt p (sum v.lengths)) [
         | inl before ↦
-            earlier v.lengths (length blocks) 0 p (omega arith) ∙ follows.begins p
-            ∙ sym (index_before r.lengths.items (length blocks ∷ replicate (length blocks - 1) 0) p (omega arith)) ∙ ap (λ xs. slice_index xs p) split
+            earlier v.lengths (length blocks) 0 p (omega arith) ∙ follows.begins p kept
+            ∙ sym (index_before r.lengths.items (length blocks ∷ replicate (length blocks - 1) 0) (p - r.forgotten) (omega arith)) ∙ ap (λ xs. slice_index xs (p - r.forgotten)) split
         | inr from ↦ elim (cases_eq p (sum v.lengths)) [
           | inl at ↦
               at_end v.lengths (length blocks) 0 p follows.positive (omega arith)
-              ∙ sym (index_at r.lengths.items (replicate (length blocks - 1) 0) (length blocks) p (omega arith)) ∙ ap (λ xs. slice_index xs p) split
+              ∙ sym (index_at r.lengths.items (replicate (length blocks - 1) 0) (length blocks) (p - r.forgotten) (omega arith)) ∙ ap (λ xs. slice_index xs (p - r.forgotten)) split
           | inr other ↦
               past_end v.lengths (length blocks) 0 p (omega arith)
-              ∙ sym (index_past r.lengths.items (length blocks) (length blocks - 1) p (omega arith)) ∙ ap (λ xs. slice_index xs p) split
+              ∙ sym (index_past r.lengths.items (length blocks) (length blocks - 1) (p - r.forgotten) (omega arith)) ∙ ap (λ xs. slice_index xs (p - r.forgotten)) split
         ]
       ]
 
   -- the record with the blocks and their length
   pub declared_marks : has_no_room shape v (length blocks) ≡ false → 0 < length blocks → (n : RingRecord) → n.blocks.items ≡ r.blocks.items ++ blocks
       → n.lengths.items ≡ r.lengths.items ++ (length blocks ∷ replicate (length blocks - 1) 0)
-      → n.given.items ≡ r.given.items → n.crossed.items ≡ r.crossed.items → n.floor ≡ r.floor → n.held ≡ r.held → n.withdrawn ≡ r.withdrawn → n.free ≡ r.free
+      → n.given.items ≡ r.given.items → n.crossed.items ≡ r.crossed.items → n.floor ≡ r.floor → n.held ≡ r.held → n.withdrawn ≡ r.withdrawn → n.free ≡ r.free → n.forgotten ≡ r.forgotten
       → FollowsMarks shape (changed shape v (Declares blocks)) n
-  declared_marks fits some n more lengths given crossed floor held withdrawn free =
+  declared_marks fits some n more lengths given crossed floor held withdrawn free forgotten =
       let many : length n.blocks.items ≡ length r.blocks.items + length blocks = ap length more ∙ length-append r.blocks.items blocks in
       let long : length n.lengths.items ≡ length r.lengths.items + length blocks =
       ap length lengths ∙ length-append r.lengths.items (length blocks ∷ replicate (length blocks - 1) 0) ∙ grind (arith, common_steps, some) in
-      let room : length r.blocks.items + length blocks + 1 ≤ floor_number v + place_count shape = room_left fits in
+      let room : length v.queue + length blocks + 1 ≤ floor_number v + place_count shape = room_left fits in
+      let all : length (v.queue ++ blocks) ≡ length v.queue + length blocks = length-append v.queue blocks in
+      let before = follows.count in
       let as_many = follows.as_many in
       let whole = follows.whole in
       record {
         allowed = follows.allowed;
-        queue = ap (λ q. q ++ blocks) follows.queue ∙ sym more;
+        passed = rw forgotten follows.passed;
+        queue = ap (λ k. drop k (v.queue ++ blocks)) forgotten ∙ drop_append v.queue blocks r.forgotten (omega (arith, before)) ∙ ap (λ q. q ++ blocks) follows.queue ∙ sym more;
+        count = omega (arith, forgotten);
         floor = follows.floor ∙ sym floor;
         held = follows.held ∙ sym held;
-        begins = begins_now n.lengths.items some lengths;
+        begins = rw forgotten (begins_now n.lengths.items some lengths);
         as_many = omega arith;
-        whole = sum_push v.lengths (length blocks) ∙ omega arith;
+        whole = sum_push v.lengths (length blocks) ∙ ap (λ n. n + length blocks) follows.whole ∙ sym all;
         positive = positive_push v.lengths (length blocks) follows.positive some;
         room = omega arith;
         places = ap length given ∙ follows.places;
         given = rw given follows.given;
         segments = rw crossed follows.segments;
         crossed = rw crossed follows.crossed;
-        withdrawn = λ p. follows.withdrawn p ∙ ap (λ s. contains nat_cmp s p) (sym withdrawn);
+        withdrawn = λ p kept. follows.withdrawn p (omega (arith, forgotten, kept)) ∙ ap (λ s. contains nat_cmp s p) (sym withdrawn);
         free = λ p. follows.free p ∙ ap (λ s. contains nat_cmp s p) (sym free);
         free_withdrawn = follows.free_withdrawn;
         free_given = follows.free_given;
@@ -144,11 +149,11 @@ lengths_grown ls ms start len n same all some e =
     take-all xs k h = grind (arith, common_steps, h)
 
 -- whether there is room, as the code tests it
-pub room_test : (shape : Shape) (v : RingView) (r : RingRecord) → FollowsMarks shape v r → (count len most : ℕ) → len ≡ length r.blocks.items →
+pub room_test : (shape : Shape) (v : RingView) (r : RingRecord) → FollowsMarks shape v r → (count len most : ℕ) → len ≡ declared v →
     most ≡ place_count shape - 1 + floor_number v - len → nat_le count most ≡ not (has_no_room shape v count)
 unfolding has_no_room
 room_test shape v r follows count len most len_is most_is =
-    let many : declared v ≡ len = ap length follows.queue ∙ sym len_is in
+    let many : declared v ≡ len = sym len_is in
     let some = place_count_pos shape follows.allowed in
     let room = follows.room in
     elim (cases_lt (place_count shape - 1 + floor_number v) (declared v + count)) [

@@ -1,9 +1,10 @@
 -- The free positions of a ring that a record follows, as its set has them
-use Rattle.ring_knowledge.proofs.Words.{◌≡◌, ◌≢◌, ◌+◌, ◌<◌, ◌∷◌, ◌∙◌, ◌&&◌, ◌||◌, ℕ, suc, zero, List, [], Bool, true, false, refl, ap, sym, arith, inl, inr, length, filter, not, nat_le, nat_lt, cases_lt, cases_eq, cases_Bool, false≢true, nat_tests, list_any, range_with_len, contains, is_at, nat_cmp, Shape, place_count, RingView, floor_number, unrestored, due_positions, is_not_restored, is_declared_as, address_of, cycle_of, ◌++◌, common_steps, FollowsMarks, RingRecord, ◌%◌}
+use Rattle.ring_knowledge.proofs.Words.{◌-◌, ◌≤◌, leb-true, ◌≡◌, ◌≢◌, ◌+◌, ◌<◌, ◌∷◌, ◌∙◌, ◌&&◌, ◌||◌, ℕ, suc, zero, List, [], Bool, true, false, refl, ap, sym, arith, inl, inr, length, filter, not, nat_le, nat_lt, cases_lt, cases_eq, cases_Bool, false≢true, nat_tests, list_any, range_with_len, contains, is_at, nat_cmp, Shape, place_count, RingView, floor_number, unrestored, due_positions, is_not_restored, is_declared_as, address_of, cycle_of, ◌++◌, common_steps, FollowsMarks, RingRecord, ◌%◌}
 use Rattle.std.specs.Prelude.{slice_get}
 use Rattle.trb.specs.Block.{block_at}
 use Rattle.ring_knowledge.proofs.Noted.{noted_past}
-use Rattle.ring_knowledge.proofs.Ranges.{any_filtered}
+use Rattle.ring_knowledge.proofs.Forgotten.{get_kept}
+use Rattle.ring_knowledge.proofs.Ranges.{any_filtered, any_same}
 use Rattle.std.specs.BTreeSet.{BTreeSet, IsOrdered}
 use Rattle.std.specs.List.{AllByRecursion}
 use Rattle.std.specs.List.Sorted.{IsStrictlySortedBy}
@@ -89,15 +90,25 @@ module _ (shape : Shape) (v : RingView) (r : RingRecord) (follows : FollowsMarks
       ∙ sym (in_filter (nat_le (floor_number v)) q r.free.keys))
       exact_unsigned
 
+  -- what is declared from the floor on is kept
+  pub declared_kept : (p : ℕ) → floor_number v ≤ p → slice_get v.queue p ≡ slice_get r.blocks.items (p - r.forgotten)
+  declared_kept p from = get_kept v.queue r.forgotten p (omega (arith, follows.passed, from)) ∙ ap (λ xs. slice_get xs (p - r.forgotten)) follows.queue
+
   -- what doesn't stand as declared is looked for among them
   pub not_restored_is : IsOrdered nat_cmp r.free → (memory : ℕ → ℕ) (floor : ℕ) → floor ≡ floor_number v → is_not_restored shape v memory
-      ≡ list_any (λ p. nat_le floor p && not (is_declared_as (block_at memory (address_of shape p)) (cycle_of shape p) (slice_get r.blocks.items p))) r.free.keys
+      ≡ list_any (λ p. nat_le floor p && not (is_declared_as (block_at memory (address_of shape p)) (cycle_of shape p) (slice_get r.blocks.items (p - r.forgotten)))) r.free.keys
   unfolding is_not_restored
   not_restored_is ordered memory floor same =
       ap (λ ps. list_any (λ p. not (is_declared_as (block_at memory (address_of shape p)) (cycle_of shape p) (slice_get v.queue p))) ps) (unrestored_is ordered)
       ∙ any_filtered (λ p. not (is_declared_as (block_at memory (address_of shape p)) (cycle_of shape p) (slice_get v.queue p))) (nat_le (floor_number v)) r.free.keys
       ∙ ap (λ n. list_any (λ p. nat_le n p && not (is_declared_as (block_at memory (address_of shape p)) (cycle_of shape p) (slice_get v.queue p))) r.free.keys) (sym same)
-      ∙ ap (λ xs. list_any (λ p. nat_le floor p && not (is_declared_as (block_at memory (address_of shape p)) (cycle_of shape p) (slice_get xs p))) r.free.keys) follows.queue
+      ∙ any_same (λ p. nat_le floor p && not (is_declared_as (block_at memory (address_of shape p)) (cycle_of shape p) (slice_get v.queue p)))
+      (λ p. nat_le floor p && not (is_declared_as (block_at memory (address_of shape p)) (cycle_of shape p) (slice_get r.blocks.items (p - r.forgotten)))) r.free.keys
+      (λ p. from_floor (nat_le floor p) _ _ (λ late. ap (λ d. not (is_declared_as (block_at memory (address_of shape p)) (cycle_of shape p) d)) (declared_kept p (omega (arith, same, leb-true floor p late)))))
+    where
+      from_floor : (b x y : Bool) → (b ≡ true → x ≡ y) → (b && x) ≡ (b && y)
+      from_floor true x y is = is refl
+      from_floor false x y is = refl
 
 -- one number of a list more
 pub first_passes : (f : ℕ → Bool) (x : ℕ) (xs ys : List ℕ) → ys ≡ x ∷ xs → f x ≡ true → list_any f ys ≡ true

@@ -1,5 +1,7 @@
 -- What a write gives of a ring that a record follows
-use Rattle.ring_knowledge.proofs.Words.{◌≡◌, ◌+◌, ◌%◌, ◌<◌, ◌≤◌, ◌∷◌, ◌∙◌, ◌&&◌, ℕ, [], Bool, true, false, Option, None, Some, refl, ap, sym, arith, get_or, cond, not, max, option_map, IfSome, eq-eqb, ne_eqb, and_parts, AtData, AtLink, Shape, place_count, link_crossed, place_at, number, RingView, floor_number, gives, gives_crossing, due_positions, due_crossings, positions_given, crossings_given, link_of, is_crossing-from, RingRecord, is_noted, Position, Crossing, FollowsMarks, is_the, least_crossing, positions_of, crossings_of}
+use Rattle.ring_knowledge.specs.RingRecords.{IsFromFloor}
+use Rattle.ring_knowledge.specs.declared.ring_record.RingGiving.{RingGiving}
+use Rattle.ring_knowledge.proofs.Words.{List, Contains, nat_le, nat_lt, leb-true, subst, gives_is, position_given_is, ◌≡◌, ◌+◌, ◌%◌, ◌<◌, ◌≤◌, ◌∷◌, ◌∙◌, ◌&&◌, ℕ, [], Bool, true, false, Option, None, Some, refl, ap, sym, arith, get_or, cond, not, max, option_map, IfSome, eq-eqb, ne_eqb, and_parts, AtData, AtLink, Shape, place_count, link_crossed, place_at, number, RingView, floor_number, gives, gives_crossing, due_positions, due_crossings, positions_given, crossings_given, link_of, is_crossing-from, RingRecord, is_noted, Position, Crossing, FollowsMarks, is_the, least_crossing, positions_of, crossings_of}
 use Rattle.ring_knowledge.proofs.Noted.{noted_due, false_unless}
 use Rattle.ring_knowledge.proofs.Ranges.{filter_none, filter_only}
 use Rattle.ring_knowledge.proofs.DueNumbers.{link_of-crossed}
@@ -129,3 +131,15 @@ no_crossing_named (Some p) = refl
 pub no_position_named : (o : Option ℕ) → [] ≡ positions_of (option_map Crossing o)
 no_position_named None = refl
 no_position_named (Some q) = refl
+
+-- a position that a write gives isn't below the floor
+pub given_at : (shape : Shape) (v : RingView) (a w : ℕ) (giving : Option RingGiving) (p : ℕ) → positions_given shape v a w ≡ positions_of giving → giving ≡ Some (Position p) → floor_number v ≤ p
+given_at shape v a w giving p is at =
+    let named : Contains (positions_given shape v a w) p = subst (λ (xs : List ℕ). Contains xs p) (sym (is ∙ ap positions_of at)) (0, omega arith, refl) in
+    let due = (gives_is shape v.floor p a w (position_given_is shape v a w p named).1).due in
+    leb-true (floor_number v) p (and_parts (nat_le (floor_number v) p) (nat_lt p (floor_number v + place_count shape)) due).0
+
+pub given_from : (shape : Shape) (v : RingView) (a w : ℕ) (giving : Option RingGiving) → positions_given shape v a w ≡ positions_of giving → IsFromFloor v giving
+given_from shape v a w None is = tt
+given_from shape v a w (Some (Position p)) is = given_at shape v a w (Some (Position p)) p is refl
+given_from shape v a w (Some (Crossing q)) is = tt

@@ -4,6 +4,7 @@ pub mod DueNumbers
 pub mod DueWrites
 pub mod LastPlaces
 pub mod NewRecord
+pub mod Forgotten
 pub mod DeclaredMore
 pub mod OwnedWords
 pub mod GivenWords

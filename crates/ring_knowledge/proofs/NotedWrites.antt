@@ -1,5 +1,5 @@
 -- A record with the mark of what a write gives follows what is known after the write
-use Rattle.ring_knowledge.proofs.Words.{◌≡◌, ◌+◌, ◌%◌, ◌<◌, ◌≤◌, ◌∷◌, ◌∙◌, ◌==◌, ◌&&◌, ◌||◌, ℕ, suc, zero, List, [], Bool, true, false, None, Some, refl, get_or, ap, sym, arith, inl, inr, length, set, subst, not, Contains, eq-eqb, ne_eqb, length-set, mod-lt, cases_Bool, cases_eq, false≢true, Shape, place_count, links, link_crossed, is_crossing, RingView, Writes, changed, floor_number, gives, gives_crossing, positions_given, crossings_given, is_step_given, is_way_given, link_of, place_count_pos, crossed_link, is_crossing-from, gives_is, position_given, position_given_is, crossing_given, crossing_given_is, RingRecord, is_noted, FollowsMarks, FollowsRing, least_crossing, contains, nat_cmp, or_left}
+use Rattle.ring_knowledge.proofs.Words.{drop, ◌≡◌, ◌+◌, ◌%◌, ◌<◌, ◌≤◌, ◌∷◌, ◌∙◌, ◌==◌, ◌&&◌, ◌||◌, ℕ, suc, zero, List, [], Bool, true, false, None, Some, refl, get_or, ap, sym, arith, inl, inr, length, set, subst, not, Contains, eq-eqb, ne_eqb, length-set, mod-lt, cases_Bool, cases_eq, false≢true, Shape, place_count, links, link_crossed, is_crossing, RingView, Writes, changed, floor_number, gives, gives_crossing, positions_given, crossings_given, is_step_given, is_way_given, link_of, place_count_pos, crossed_link, is_crossing-from, gives_is, position_given, position_given_is, crossing_given, crossing_given_is, RingRecord, is_noted, FollowsMarks, FollowsRing, least_crossing, contains, nat_cmp, or_left}
 use Rattle.ring_knowledge.proofs.Noted.{false_unless, noted_more}
 use Rattle.ring_knowledge.proofs.DueNumbers.{same_due, same_due_crossing, link_of-crossed}
 use Rattle.ring_knowledge.proofs.DueWrites.{GivesCrossing, gives_crossing-true}
@@ -36,6 +36,7 @@ module _ (given gives_it : ℕ → Bool) (now : List ℕ) (there : (n : ℕ) →
 
 -- a record with other marks and all else the same
 pub record HasMarks (r n : RingRecord) (given crossed : List Bool) : Type 0 where
+  pub forgotten : n.forgotten ≡ r.forgotten
   pub blocks : n.blocks.items ≡ r.blocks.items
   pub lengths : n.lengths.items ≡ r.lengths.items
   pub floor : n.floor ≡ r.floor
@@ -73,19 +74,21 @@ module _ (shape : Shape) (v : RingView) (a w : ℕ) where
         (n : RingRecord) → HasMarks r n given crossed → FollowsMarks shape (changed shape v (Writes a w)) n
     with_marks given crossed places segments positions crossings n has = record {
       allowed = follows.allowed;
-      queue = follows.queue ∙ sym has.blocks;
+      passed = rw has.forgotten follows.passed;
+      queue = ap (λ k. drop k v.queue) has.forgotten ∙ follows.queue ∙ sym has.blocks;
+      count = omega (arith, follows.count, has.forgotten, ap length has.blocks);
       floor = follows.floor ∙ sym has.floor;
       held = follows.held ∙ sym has.held;
-      begins = rw has.lengths follows.begins;
+      begins = rw (has.lengths, has.forgotten) follows.begins;
       as_many = ap length has.lengths ∙ follows.as_many ∙ sym (ap length has.blocks);
-      whole = follows.whole ∙ sym (ap length has.blocks);
+      whole = follows.whole;
       positive = follows.positive;
-      room = rw has.blocks follows.room;
+      room = follows.room;
       places = ap length has.given_is ∙ places ∙ follows.places;
       given = λ p. positions p ∙ ap (λ marks. is_noted (floor_number v) (place_count shape) marks (p % place_count shape) p) (sym has.given_is);
       segments = omega (arith, follows.segments, segments, ap length has.crossed_is);
       crossed = λ q. crossings q ∙ ap (λ marks. is_crossing shape q && is_noted (least_crossing v) (place_count shape) marks (link_of shape q) q) (sym has.crossed_is);
-      withdrawn = λ p. follows.withdrawn p ∙ ap (λ s. contains nat_cmp s p) (sym has.withdrawn);
+      withdrawn = λ p kept. follows.withdrawn p (omega (arith, has.forgotten, kept)) ∙ ap (λ s. contains nat_cmp s p) (sym has.withdrawn);
       free = λ p. follows.free p ∙ ap (λ s. contains nat_cmp s p) (sym has.free);
       free_withdrawn = follows.free_withdrawn;
       free_given = λ p free. or_left (v.given p) (gives shape v.floor p a w) (follows.free_given p free);
@@ -96,7 +99,7 @@ module _ (shape : Shape) (v : RingView) (a w : ℕ) where
     unfolding is_step_given is_way_given
     nothing_noted known no_position no_crossing = record {
       marks = with_marks r.given.items r.crossed.items refl refl (λ p. positions_still no_position p ∙ follows.given p) (λ q. crossings_still no_crossing q ∙ follows.crossed q)
-          r (record { blocks = refl; lengths = refl; floor = refl; held = refl; withdrawn = refl; free = refl; given_is = refl; crossed_is = refl });
+          r (record { forgotten = refl; blocks = refl; lengths = refl; floor = refl; held = refl; withdrawn = refl; free = refl; given_is = refl; crossed_is = refl });
       steps = λ q h. same q ∙ known.steps q h;
       stop = same r.count ∙ known.stop;
     }

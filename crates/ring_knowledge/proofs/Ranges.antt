@@ -112,3 +112,9 @@ any_at f a (suc n) p l u h =
 pub any_same : (f g : ℕ → Bool) (xs : List ℕ) → ((p : ℕ) → f p ≡ g p) → list_any f xs ≡ list_any g xs
 any_same f g [] same = refl
 any_same f g (x ∷ xs) same = ap (λ b. b || list_any f xs) (same x) ∙ ap (λ b. g x || b) (any_same f g xs same)
+
+-- the same of the numbers of a run
+pub any_same_from : (f g : ℕ → Bool) (a n : ℕ) → ((p : ℕ) → a ≤ p → f p ≡ g p) → list_any f (range_with_len a n) ≡ list_any g (range_with_len a n)
+any_same_from f g a zero same = refl
+any_same_from f g a (suc n) same =
+    ap (λ b. b || list_any f (range_with_len (a + 1) n)) (same a (omega arith)) ∙ ap (λ b. g a || b) (any_same_from f g (a + 1) n (λ p late. same p (omega arith)))

@@ -1,5 +1,5 @@
 -- A record whose floor has moved on: the marks of what the controller has passed are cleared
-use Rattle.ring_knowledge.proofs.Words.{◌≡◌, ◌+◌, ◌-◌, ◌%◌, ◌<◌, ◌≤◌, ◌∙◌, ◌&&◌, ◌||◌, ℕ, List, Bool, true, false, Some, ap, sym, arith, inl, inr, length, not, max, cases_lt, cases_Bool, and_parts, false≢true, add-mod_right, Spot, Data, Link, Shape, place_count, link_crossed, is_crossing, number, RingView, Reaches, changed, floor_number, is_way_given, is_reached, are_given, are_ways_given, link_of, place_count_pos, crossed_link, crossing_positive, is_crossing-from, link_crossed-lap, RingRecord, AreCleared, is_noted, FollowsMarks, least_crossing, contains, nat_cmp}
+use Rattle.ring_knowledge.proofs.Words.{drop, ◌≡◌, ◌+◌, ◌-◌, ◌%◌, ◌<◌, ◌≤◌, ◌∙◌, ◌&&◌, ◌||◌, ℕ, List, Bool, true, false, Some, ap, sym, arith, inl, inr, length, not, max, cases_lt, cases_Bool, and_parts, false≢true, add-mod_right, Spot, Data, Link, Shape, place_count, link_crossed, is_crossing, number, RingView, Reaches, changed, floor_number, is_way_given, is_reached, are_given, are_ways_given, link_of, place_count_pos, crossed_link, crossing_positive, is_crossing-from, link_crossed-lap, RingRecord, AreCleared, is_noted, FollowsMarks, least_crossing, contains, nat_cmp}
 use Rattle.ring_knowledge.proofs.Ranges.{all_each}
 use Rattle.ring_knowledge.proofs.Noted.{noted_below, noted_due, noted_past}
 use Rattle.ring_knowledge.proofs.DueNumbers.{same_due, same_due_crossing, link_of-crossed}
@@ -28,6 +28,7 @@ reached_crossed shape v (Link n) reached q crossing positive below =
 
 -- a record with another floor and other marks, and all else the same
 pub record HasFloor (r n : RingRecord) (spot : Spot) : Type 0 where
+  pub forgotten : n.forgotten ≡ r.forgotten
   pub blocks : n.blocks.items ≡ r.blocks.items
   pub lengths : n.lengths.items ≡ r.lengths.items
   pub floor : n.floor ≡ spot
@@ -120,19 +121,21 @@ module _ (shape : Shape) (v : RingView) (r : RingRecord) (follows : FollowsMarks
       AreCleared (λ q j. link_crossed shape q ≡ Some j) r.crossed.items n.crossed.items (floor_number v) (number spot) → FollowsMarks shape (changed shape v (Reaches spot)) n
   reached_marks n has given crossed = record {
     allowed = follows.allowed;
-    queue = follows.queue ∙ sym has.blocks;
+    passed = omega (arith, follows.passed, has.forgotten, later);
+    queue = ap (λ k. drop k v.queue) has.forgotten ∙ follows.queue ∙ sym has.blocks;
+    count = omega (arith, follows.count, has.forgotten, ap length has.blocks);
     floor = sym has.floor;
     held = follows.held ∙ sym has.held;
-    begins = rw has.lengths follows.begins;
+    begins = rw (has.lengths, has.forgotten) follows.begins;
     as_many = ap length has.lengths ∙ follows.as_many ∙ sym (ap length has.blocks);
-    whole = follows.whole ∙ sym (ap length has.blocks);
+    whole = follows.whole;
     positive = follows.positive;
-    room = omega (arith, follows.room, ap length has.blocks);
+    room = omega (arith, follows.room);
     places = given.as_many ∙ follows.places;
     given = given_now n.given.items given;
     segments = omega (arith, follows.segments, crossed.as_many);
     crossed = crossed_now n.crossed.items crossed;
-    withdrawn = λ p. follows.withdrawn p ∙ ap (λ s. contains nat_cmp s p) (sym has.withdrawn);
+    withdrawn = λ p kept. follows.withdrawn p (omega (arith, has.forgotten, kept)) ∙ ap (λ s. contains nat_cmp s p) (sym has.withdrawn);
     free = λ p. follows.free p ∙ ap (λ s. contains nat_cmp s p) (sym has.free);
     free_withdrawn = follows.free_withdrawn;
     free_given = follows.free_given;

@@ -23,30 +23,33 @@ module _ (shape : Shape) (v : RingView) (r : RingRecord) (follows : FollowsMarks
       ∙ follows.crossed q ∙ ap (λ b. b && is_noted (least_crossing v) (place_count shape) r.crossed.items (link_of shape q) q) (is_crossing-from shape q j over)
       ∙ ap (λ i. is_noted (least_crossing v) (place_count shape) r.crossed.items i q) (link_of-crossed shape q j over))
 
-  is_not_whole-is : (p : ℕ) → is_not_whole shape v p ≡ not (list_all (λ q. is_step_given shape v q) (range_with_len (p + 1) (slice_index r.lengths.items p - 1)))
+  abbrev length_of : ℕ → ℕ
+  length_of p = slice_index r.lengths.items (p - r.forgotten)
+
+  is_not_whole-is : (p : ℕ) → r.forgotten ≤ p → is_not_whole shape v p ≡ not (list_all (λ q. is_step_given shape v q) (range_with_len (p + 1) (length_of p - 1)))
   unfolding is_not_whole descriptor_length
-  is_not_whole-is p = ap (λ n. not (list_all (λ q. is_step_given shape v q) (range_with_len (p + 1) (n - 1)))) (follows.begins p)
+  is_not_whole-is p kept = ap (λ n. not (list_all (λ q. is_step_given shape v q) (range_with_len (p + 1) (n - 1)))) (follows.begins p kept)
 
   not_not : (b : Bool) → b ≡ not (not b)
   not_not true = refl
   not_not false = refl
 
   -- all further steps of the descriptor are given
-  pub whole : (p : ℕ) → ((o : ℕ) → 1 ≤ o → o < slice_index r.lengths.items p → is_step_given shape v (p + o) ≡ true) → true ≡ not (is_not_whole shape v p)
-  whole p h =
-      let all : list_all (λ q. is_step_given shape v q) (range_with_len (p + 1) (slice_index r.lengths.items p - 1)) ≡ true =
-      all_from (λ q. is_step_given shape v q) (p + 1) (slice_index r.lengths.items p - 1)
+  pub whole : (p : ℕ) → r.forgotten ≤ p → ((o : ℕ) → 1 ≤ o → o < length_of p → is_step_given shape v (p + o) ≡ true) → true ≡ not (is_not_whole shape v p)
+  whole p kept h =
+      let all : list_all (λ q. is_step_given shape v q) (range_with_len (p + 1) (length_of p - 1)) ≡ true =
+      all_from (λ q. is_step_given shape v q) (p + 1) (length_of p - 1)
       (λ q low high. let at : p + (q - p) ≡ q = omega arith in rw at at (h (q - p) (omega arith) (omega arith))) in
-      sym (ap not (is_not_whole-is p) ∙ sym (not_not (list_all (λ q. is_step_given shape v q) (range_with_len (p + 1) (slice_index r.lengths.items p - 1)))) ∙ all)
+      sym (ap not (is_not_whole-is p kept) ∙ sym (not_not (list_all (λ q. is_step_given shape v q) (range_with_len (p + 1) (length_of p - 1)))) ∙ all)
 
   -- one of them isn't
-  pub not_whole : (p o : ℕ) → 1 ≤ o → o < slice_index r.lengths.items p → is_step_given shape v (p + o) ≡ false → false ≡ not (is_not_whole shape v p)
-  not_whole p o low high fails =
-      let some : list_all (λ q. is_step_given shape v q) (range_with_len (p + 1) (slice_index r.lengths.items p - 1)) ≡ false =
-      some_fails (list_all (λ q. is_step_given shape v q) (range_with_len (p + 1) (slice_index r.lengths.items p - 1)))
+  pub not_whole : (p o : ℕ) → r.forgotten ≤ p → 1 ≤ o → o < length_of p → is_step_given shape v (p + o) ≡ false → false ≡ not (is_not_whole shape v p)
+  not_whole p o kept low high fails =
+      let some : list_all (λ q. is_step_given shape v q) (range_with_len (p + 1) (length_of p - 1)) ≡ false =
+      some_fails (list_all (λ q. is_step_given shape v q) (range_with_len (p + 1) (length_of p - 1)))
       (λ all. yes_no (is_step_given shape v (p + o))
-      (all_each (λ q. is_step_given shape v q) (p + 1) (slice_index r.lengths.items p - 1) all (p + o) (omega arith) (omega arith)) fails) in
-      sym (ap not (is_not_whole-is p) ∙ sym (not_not (list_all (λ q. is_step_given shape v q) (range_with_len (p + 1) (slice_index r.lengths.items p - 1)))) ∙ some)
+      (all_each (λ q. is_step_given shape v q) (p + 1) (length_of p - 1) all (p + o) (omega arith) (omega arith)) fails) in
+      sym (ap not (is_not_whole-is p kept) ∙ sym (not_not (list_all (λ q. is_step_given shape v q) (range_with_len (p + 1) (length_of p - 1)))) ∙ some)
     where
       yes_no : (b : Bool) → b ≡ true → b ≡ false → ⊥
       yes_no b y n = cc

@@ -1,14 +1,15 @@
 -- A record that follows a ring of which a descriptor is withdrawn, or what is free is restored
-use Rattle.ring_knowledge.proofs.Words.{◌≡◌, ◌+◌, ◌<◌, ◌≤◌, ◌∷◌, ◌++◌, ◌∙◌, ◌==◌, ◌&&◌, ◌||◌, ℕ, suc, zero, List, [], Bool, true, false, refl, ap, sym, arith, inl, inr, length, slice_index, replicate, sum, not, set, nat_le, nat_lt, if◌then◌else◌, cases_eq, cases_lt, cases_Bool, eq-eqb, ne_eqb, nat_tests, common_steps, and_parts, or_cases, Block, Shape, RingView, length_from, descriptor_length, no_ops, split_at, FollowsMarks, FollowsRing, RingRecord, ArePositive, ◌%◌, no_op, is_in, place_count, floor_number, is_step_given, is_way_given, changed, Withdraws, Restores, list_any, range_with_len, contains, nat_cmp, is_at, is_noted, false≢true, or_left, or_right, leb-true, ltb-true}
+use Rattle.ring_knowledge.proofs.Forgotten.{drop_no_ops}
+use Rattle.ring_knowledge.proofs.Words.{drop, ◌-◌, ◌≡◌, ◌+◌, ◌<◌, ◌≤◌, ◌∷◌, ◌++◌, ◌∙◌, ◌==◌, ◌&&◌, ◌||◌, ℕ, suc, zero, List, [], Bool, true, false, refl, ap, sym, arith, inl, inr, length, slice_index, replicate, sum, not, set, nat_le, nat_lt, if◌then◌else◌, cases_eq, cases_lt, cases_Bool, eq-eqb, ne_eqb, nat_tests, common_steps, and_parts, or_cases, Block, Shape, RingView, length_from, descriptor_length, no_ops, split_at, FollowsMarks, FollowsRing, RingRecord, ArePositive, ◌%◌, no_op, is_in, place_count, floor_number, is_step_given, is_way_given, changed, Withdraws, Restores, list_any, range_with_len, contains, nat_cmp, is_at, is_noted, false≢true, or_left, or_right, leb-true, ltb-true}
 use Rattle.segments.proofs.Withdrawing.{length-no_ops, split_sum}
 use Rattle.ring_knowledge.proofs.Ranges.{none_each}
 use Rattle.ring_knowledge.proofs.Noted.{false_unless}
 use Rattle.ring_knowledge.proofs.DeclaredMore.{sum-cons}
 
 -- a descriptor's length, as the record has it
-pub length_is : (shape : Shape) (v : RingView) (r : RingRecord) → FollowsMarks shape v r → (p : ℕ) → descriptor_length v p ≡ slice_index r.lengths.items p
+pub length_is : (shape : Shape) (v : RingView) (r : RingRecord) → FollowsMarks shape v r → (p : ℕ) → r.forgotten ≤ p → descriptor_length v p ≡ slice_index r.lengths.items (p - r.forgotten)
 unfolding descriptor_length
-length_is shape v r follows p = follows.begins p
+length_is shape v r follows p kept = follows.begins p kept
 
 -- none yet
 pub none_no_op : (xs : List Block) (p : ℕ) → no_ops xs p 0 ≡ xs
@@ -151,32 +152,40 @@ ends_within (n ∷ rest) start p some =
           rw later (omega arith)
     ]
 
+-- whether a number is one of some, behind so many that are forgotten
+moved_in : (q p n k : ℕ) → k ≤ p → k ≤ q → is_in q p n ≡ is_in (q - k) (p - k) n
+moved_in q p n k a b = grind (arith, nat_tests, a, b)
+
+-- what is one of some isn't forgotten, where the first isn't
+pub from_in : (q p n : ℕ) {k : ℕ} → k ≤ p → is_in q p n ≡ true → k ≤ q
+from_in q p n kept inside = let parts = and_parts (nat_le p q) (nat_lt q (p + n)) inside in omega (arith, kept, leb-true p q parts.0)
+
 -- ---- a descriptor is withdrawn
 
 module _ (shape : Shape) (v : RingView) (r : RingRecord) (known : FollowsRing shape v r) where
   abbrev follows : FollowsMarks shape v r
   follows = known.marks
 
-  module _ (p : ℕ) where
+  module _ (p : ℕ) (kept : r.forgotten ≤ p) where
     abbrev count : ℕ
-    count = slice_index r.lengths.items p
+    count = slice_index r.lengths.items (p - r.forgotten)
 
     -- its blocks lie among the declared ones
-    pub ends : 0 < count → p + count ≤ length r.lengths.items
+    pub ends : 0 < count → p - r.forgotten + count ≤ length r.lengths.items
     ends some =
-        let same : length_from v.lengths 0 p ≡ count = follows.begins p in
+        let same : length_from v.lengths 0 p ≡ count = follows.begins p kept in
         let within = ends_within v.lengths 0 p (omega arith) in
-        omega (arith, follows.whole, follows.as_many)
+        omega (arith, follows.whole, follows.count, follows.as_many)
 
     -- so their lengths are among those that are kept
     pub begins_at : (ls : List ℕ) → length ls ≡ length r.lengths.items →
-        ((q : ℕ) → q < length r.lengths.items → slice_index ls q ≡ (if is_in q p count then 1 else slice_index r.lengths.items q)) →
-        (q : ℕ) → slice_index ls q ≡ (if is_in q p count then 1 else slice_index r.lengths.items q)
+        ((q : ℕ) → q < length r.lengths.items → slice_index ls q ≡ (if is_in q (p - r.forgotten) count then 1 else slice_index r.lengths.items q)) →
+        (q : ℕ) → slice_index ls q ≡ (if is_in q (p - r.forgotten) count then 1 else slice_index r.lengths.items q)
     begins_at ls many here q =
         elim (cases_lt q (length r.lengths.items)) [
           | inl below ↦ here q below
           | inr past ↦
-              let out : is_in q p count ≡ false = beyond count ends q past in
+              let out : is_in q (p - r.forgotten) count ≡ false = beyond count ends q past in
               index_past ls q (omega arith) ∙ sym (index_past r.lengths.items q past)
               ∙ sym (ap (λ b. if b then 1 else slice_index r.lengths.items q) out)
         ]
@@ -184,38 +193,46 @@ module _ (shape : Shape) (v : RingView) (r : RingRecord) (known : FollowsRing sh
         index_past : (xs : List ℕ) (q : ℕ) → length xs ≤ q → slice_index xs q ≡ 0
         index_past xs q h = grind (arith, common_steps, h)
 
-        beyond : (n : ℕ) → (0 < n → p + n ≤ length r.lengths.items) → (q : ℕ) → length r.lengths.items ≤ q → is_in q p n ≡ false
+        beyond : (n : ℕ) → (0 < n → p - r.forgotten + n ≤ length r.lengths.items) → (q : ℕ) → length r.lengths.items ≤ q → is_in q (p - r.forgotten) n ≡ false
         beyond zero within q past = grind (arith, nat_tests)
         beyond (suc n) within q past = let end = within (omega arith) in grind (arith, nat_tests, end, past)
 
     -- No Ops in their place, and those that were given are free
-    pub withdrawn_here : (n : RingRecord) → n.blocks.items ≡ no_ops r.blocks.items p count → length n.lengths.items ≡ length r.lengths.items →
-        ((q : ℕ) → slice_index n.lengths.items q ≡ (if is_in q p count then 1 else slice_index r.lengths.items q)) →
+    pub withdrawn_here : (n : RingRecord) → n.forgotten ≡ r.forgotten → n.blocks.items ≡ no_ops r.blocks.items (p - r.forgotten) count → length n.lengths.items ≡ length r.lengths.items →
+        ((q : ℕ) → slice_index n.lengths.items q ≡ (if is_in q (p - r.forgotten) count then 1 else slice_index r.lengths.items q)) →
         n.given.items ≡ r.given.items → n.crossed.items ≡ r.crossed.items → n.floor ≡ r.floor → n.held ≡ r.held → n.count ≡ r.count →
         ((q : ℕ) → contains nat_cmp n.withdrawn q ≡ (contains nat_cmp r.withdrawn q || is_in q p count)) →
         ((q : ℕ) → contains nat_cmp n.free q ≡ (contains nat_cmp r.free q || (is_in q p count && is_noted (floor_number v) (place_count shape) r.given.items (q % place_count shape) q))) →
         FollowsRing shape (changed shape v (Withdraws p)) n
     unfolding is_step_given is_way_given
-    withdrawn_here n queue many begins given crossed floor held counted withdrawn free =
-        let same : length_from v.lengths 0 p ≡ count = follows.begins p in
-        let long = length-no_ops r.blocks.items p count in
+    withdrawn_here n forgotten queue many begins given crossed floor held counted withdrawn free =
+        let same : length_from v.lengths 0 p ≡ count = follows.begins p kept in
+        let long = length-no_ops r.blocks.items (p - r.forgotten) count in
+        let all = length-no_ops v.queue p (length_from v.lengths 0 p) in
         record {
           marks = record {
             allowed = follows.allowed;
-            queue = ap (λ m. no_ops v.queue p m) same ∙ ap (λ xs. no_ops xs p count) follows.queue ∙ sym queue;
+            passed = rw forgotten follows.passed;
+            queue = ap (λ k. drop k (no_ops v.queue p (length_from v.lengths 0 p))) forgotten ∙ ap (λ m. drop r.forgotten (no_ops v.queue p m)) same ∙ drop_no_ops v.queue r.forgotten p count kept
+                ∙ ap (λ xs. no_ops xs (p - r.forgotten) count) follows.queue ∙ sym queue;
+            count = omega (arith, all, follows.count, forgotten, long, ap length queue);
             floor = follows.floor ∙ sym floor;
             held = follows.held ∙ sym held;
-            begins = λ q. split_begins v.lengths 0 p q follows.positive ∙ ap (λ m. if is_in q p m then 1 else length_from v.lengths 0 q) same
-                ∙ ap (λ m. if is_in q p count then 1 else m) (follows.begins q) ∙ sym (begins q);
+            begins = λ q late.
+                let from : r.forgotten ≤ q = omega (arith, forgotten, late) in
+                split_begins v.lengths 0 p q follows.positive ∙ ap (λ m. if is_in q p m then 1 else length_from v.lengths 0 q) same
+                ∙ ap (λ m. if is_in q p count then 1 else m) (follows.begins q from)
+                ∙ ap (λ b. if b then 1 else slice_index r.lengths.items (q - r.forgotten)) (moved_in q p count r.forgotten kept from)
+                ∙ sym (begins (q - r.forgotten)) ∙ ap (λ k. slice_index n.lengths.items (q - k)) (sym forgotten);
             as_many = many ∙ follows.as_many ∙ sym long ∙ sym (ap length queue);
-            whole = split_sum v.lengths 0 p ∙ follows.whole ∙ sym long ∙ sym (ap length queue);
+            whole = split_sum v.lengths 0 p ∙ follows.whole ∙ sym all;
             positive = split_positive v.lengths 0 p follows.positive;
-            room = omega (arith, follows.room, long, ap length queue);
+            room = omega (arith, follows.room, all);
             places = ap length given ∙ follows.places;
             given = rw given follows.given;
             segments = rw crossed follows.segments;
             crossed = rw crossed follows.crossed;
-            withdrawn = λ q. ap (λ b. b || is_in q p (length_from v.lengths 0 p)) (follows.withdrawn q) ∙ ap (λ m. contains nat_cmp r.withdrawn q || is_in q p m) same ∙ sym (withdrawn q);
+            withdrawn = λ q late. ap (λ b. b || is_in q p (length_from v.lengths 0 p)) (follows.withdrawn q (omega (arith, forgotten, late))) ∙ ap (λ m. contains nat_cmp r.withdrawn q || is_in q p m) same ∙ sym (withdrawn q);
             free = λ q. ap (λ b. b || (is_in q p (length_from v.lengths 0 p) && v.given q)) (follows.free q) ∙ ap (λ m. contains nat_cmp r.free q || (is_in q p m && v.given q)) same
                 ∙ ap (λ b. contains nat_cmp r.free q || (is_in q p count && b)) (follows.given q) ∙ sym (free q);
             free_withdrawn = λ q now. elim (or_cases (v.free q) (is_in q p (length_from v.lengths 0 p) && v.given q) now) [
@@ -235,7 +252,7 @@ module _ (shape : Shape) (v : RingView) (r : RingRecord) (known : FollowsRing sh
     pub none_before : list_any v.withdrawn (range_with_len p (descriptor_length v p)) ≡ false → (q : ℕ) → is_in q p count ≡ true → v.withdrawn q ≡ false
     unfolding descriptor_length
     none_before none q inside =
-        let same : length_from v.lengths 0 p ≡ count = follows.begins p in
+        let same : length_from v.lengths 0 p ≡ count = follows.begins p kept in
         let parts = and_parts (nat_le p q) (nat_lt q (p + count)) inside in
         none_each v.withdrawn p (length_from v.lengths 0 p) none q (leb-true p q parts.0) (omega (arith, ltb-true q (p + count) parts.1))
 
@@ -243,25 +260,27 @@ module _ (shape : Shape) (v : RingView) (r : RingRecord) (known : FollowsRing sh
     none_free_before none q inside = false_unless (v.free q) (λ free. false≢true (sym (none_before none q inside) ∙ follows.free_withdrawn q free))
 
   -- the same record with sets of the same numbers
-  pub same_sets : (n : RingRecord) → n.blocks.items ≡ r.blocks.items → n.lengths.items ≡ r.lengths.items → n.given.items ≡ r.given.items → n.crossed.items ≡ r.crossed.items →
+  pub same_sets : (n : RingRecord) → n.forgotten ≡ r.forgotten → n.blocks.items ≡ r.blocks.items → n.lengths.items ≡ r.lengths.items → n.given.items ≡ r.given.items → n.crossed.items ≡ r.crossed.items →
       n.floor ≡ r.floor → n.held ≡ r.held → n.count ≡ r.count → ((q : ℕ) → contains nat_cmp n.withdrawn q ≡ contains nat_cmp r.withdrawn q) →
       ((q : ℕ) → contains nat_cmp n.free q ≡ contains nat_cmp r.free q) → FollowsRing shape v n
-  same_sets n blocks lengths given crossed floor held counted withdrawn free = record {
+  same_sets n forgotten blocks lengths given crossed floor held counted withdrawn free = record {
     marks = record {
       allowed = follows.allowed;
-      queue = follows.queue ∙ sym blocks;
+      passed = rw forgotten follows.passed;
+      queue = ap (λ k. drop k v.queue) forgotten ∙ follows.queue ∙ sym blocks;
+      count = omega (arith, follows.count, forgotten, ap length blocks);
       floor = follows.floor ∙ sym floor;
       held = follows.held ∙ sym held;
-      begins = rw lengths follows.begins;
+      begins = rw (lengths, forgotten) follows.begins;
       as_many = ap length lengths ∙ follows.as_many ∙ sym (ap length blocks);
-      whole = follows.whole ∙ sym (ap length blocks);
+      whole = follows.whole;
       positive = follows.positive;
-      room = rw blocks follows.room;
+      room = follows.room;
       places = ap length given ∙ follows.places;
       given = rw given follows.given;
       segments = rw crossed follows.segments;
       crossed = rw crossed follows.crossed;
-      withdrawn = λ q. follows.withdrawn q ∙ sym (withdrawn q);
+      withdrawn = λ q late. follows.withdrawn q (omega (arith, forgotten, late)) ∙ sym (withdrawn q);
       free = λ q. follows.free q ∙ sym (free q);
       free_withdrawn = follows.free_withdrawn;
       free_given = follows.free_given;
@@ -271,25 +290,27 @@ module _ (shape : Shape) (v : RingView) (r : RingRecord) (known : FollowsRing sh
   }
 
   -- all that was free is restored
-  pub restored_now : (n : RingRecord) → n.blocks.items ≡ r.blocks.items → n.lengths.items ≡ r.lengths.items → n.given.items ≡ r.given.items → n.crossed.items ≡ r.crossed.items →
+  pub restored_now : (n : RingRecord) → n.forgotten ≡ r.forgotten → n.blocks.items ≡ r.blocks.items → n.lengths.items ≡ r.lengths.items → n.given.items ≡ r.given.items → n.crossed.items ≡ r.crossed.items →
       n.floor ≡ r.floor → n.held ≡ r.held → n.count ≡ r.count → n.withdrawn ≡ r.withdrawn → n.free.keys ≡ [] → FollowsRing shape (changed shape v Restores) n
   unfolding is_step_given is_way_given
-  restored_now n blocks lengths given crossed floor held counted withdrawn none = record {
+  restored_now n forgotten blocks lengths given crossed floor held counted withdrawn none = record {
     marks = record {
       allowed = follows.allowed;
-      queue = follows.queue ∙ sym blocks;
+      passed = rw forgotten follows.passed;
+      queue = ap (λ k. drop k v.queue) forgotten ∙ follows.queue ∙ sym blocks;
+      count = omega (arith, follows.count, forgotten, ap length blocks);
       floor = follows.floor ∙ sym floor;
       held = follows.held ∙ sym held;
-      begins = rw lengths follows.begins;
+      begins = rw (lengths, forgotten) follows.begins;
       as_many = ap length lengths ∙ follows.as_many ∙ sym (ap length blocks);
-      whole = follows.whole ∙ sym (ap length blocks);
+      whole = follows.whole;
       positive = follows.positive;
-      room = rw blocks follows.room;
+      room = follows.room;
       places = ap length given ∙ follows.places;
       given = rw given follows.given;
       segments = rw crossed follows.segments;
       crossed = rw crossed follows.crossed;
-      withdrawn = λ q. follows.withdrawn q ∙ ap (λ s. contains nat_cmp s q) (sym withdrawn);
+      withdrawn = λ q late. follows.withdrawn q (omega (arith, forgotten, late)) ∙ ap (λ s. contains nat_cmp s q) (sym withdrawn);
       free = λ q. sym (ap (λ ks. list_any (is_at (nat_cmp q)) ks) none);
       free_withdrawn = λ q free. absurd (false≢true free);
       free_given = λ q free. absurd (false≢true free);

@@ -31,7 +31,7 @@ pub use Rattle.segments.specs.declared.place.Place.TheVariants.{Data as AtData, 
 pub use Rattle.segments.specs.declared.segment.Segment.{Segment}
 pub use Rattle.segments.specs.declared.spot.Spot.{Spot}
 pub use Rattle.segments.specs.declared.spot.Spot.TheVariants.{Data, Link}
-pub use Rattle.std.proofs.Common.{All, Bool, Contains, IfSome, List, None, Option, Some, [], ap, arith, cond, eq-eqb, eqb-true, false, filter, find, get_or, get_or-set_other, get_or-set_same, if◌then◌else◌, inl, inr, is_some, le-leb, le-ltb, leb-true, length, length-append, lt-ltb, ltb-false, ltb-true, max, nat_le, nat_lt, ne_eqb, not, option_map, refl, replicate, rules, set, slice_index, subst, suc, sum, sym, take, true, zero, ℕ, ◌%◌, ◌&&◌, ◌*◌, ◌++◌, ◌+◌, ◌-◌, ◌/◌, ◌<◌, ◌==◌, ◌^◌, ◌||◌, ◌∙◌, ◌∷◌, ◌≡◌, ◌≢◌, ◌≤◌}
+pub use Rattle.std.proofs.Common.{All, Bool, Contains, IfSome, List, None, Option, Some, [], ap, arith, cond, drop, eq-eqb, eqb-true, false, filter, find, get_or, get_or-set_other, get_or-set_same, if◌then◌else◌, inl, inr, is_some, le-leb, le-ltb, leb-true, length, length-append, lt-ltb, ltb-false, ltb-true, max, nat_le, nat_lt, ne_eqb, not, option_map, refl, replicate, rules, set, slice_index, subst, suc, sum, sym, take, true, zero, ℕ, ◌%◌, ◌&&◌, ◌*◌, ◌++◌, ◌+◌, ◌-◌, ◌/◌, ◌<◌, ◌==◌, ◌^◌, ◌||◌, ◌∙◌, ◌∷◌, ◌≡◌, ◌≢◌, ◌≤◌}
 pub use Rattle.std.proofs.Math.ListN.{length-set}
 pub use Rattle.std.proofs.lemmas.Bool.{eqb-false, lt-leb}
 pub use Rattle.std.proofs.lemmas.Grind.{common_steps}

@@ -1,5 +1,5 @@
 -- What a record of one command or transfer ring holds, in terms of what is known of the ring
-use Rattle.std.specs.Prelude.{◌≡◌, ℕ, ◌+◌, ◌<◌, ◌≤◌, ◌%◌, ◌==◌, ◌&&◌, Bool, true, false, List, [], ◌∷◌, length, slice_index, sum, max, Option, Some, None}
+use Rattle.std.specs.Prelude.{◌≡◌, ℕ, ◌+◌, ◌-◌, ◌<◌, ◌≤◌, ◌%◌, ◌==◌, ◌&&◌, Bool, true, false, List, [], ◌∷◌, drop, length, slice_index, sum, max, Option, Some, None}
 use Rattle.std.specs.BTreeSet.{contains}
 use Rattle.std.specs.Ordering.{nat_cmp}
 use Rattle.segments.specs.Shape.{IsShape}
@@ -25,6 +25,12 @@ crossings_of None = []
 crossings_of (Some (Position p)) = []
 crossings_of (Some (Crossing q)) = q ∷ []
 
+-- a position that an answer names isn't below the floor
+abbrev pub IsFromFloor : RingView → Option RingGiving → Type 0
+IsFromFloor v None = Unit {0}
+IsFromFloor v (Some (Position p)) = floor_number v ≤ p
+IsFromFloor v (Some (Crossing q)) = Unit {0}
+
 -- the number is the one that is named, if one is
 abbrev pub is_the : Option ℕ → ℕ → Bool
 is_the None n = false
@@ -39,26 +45,28 @@ ArePositive (n ∷ ns) = (0 < n) × ArePositive ns
 abbrev pub least_crossing : RingView → ℕ
 least_crossing v = max (floor_number v) 1
 
--- the record holds what is declared, given and withdrawn, the floor, and where the ring is held
+-- the record holds what is declared, given and withdrawn, the floor, and where the ring is held; what the floor has passed may be forgotten
 pub record FollowsMarks (shape : Shape) (v : RingView) (r : RingRecord) : Type 0 where
   pub allowed : IsShape shape
-  pub queue : v.queue ≡ r.blocks.items
+  pub passed : r.forgotten ≤ floor_number v
+  pub queue : drop r.forgotten v.queue ≡ r.blocks.items
+  pub count : length v.queue ≡ r.forgotten + length r.blocks.items
   pub floor : v.floor ≡ r.floor
   pub held : v.held ≡ r.held
   -- how long the descriptor is that begins at a position
-  pub begins : (p : ℕ) → length_from v.lengths 0 p ≡ slice_index r.lengths.items p
+  pub begins : (p : ℕ) → r.forgotten ≤ p → length_from v.lengths 0 p ≡ slice_index r.lengths.items (p - r.forgotten)
   pub as_many : length r.lengths.items ≡ length r.blocks.items
-  pub whole : sum v.lengths ≡ length r.blocks.items
+  pub whole : sum v.lengths ≡ length v.queue
   pub positive : ArePositive v.lengths
   -- one place stays empty
-  pub room : length r.blocks.items + 1 ≤ floor_number v + place_count shape
+  pub room : length v.queue + 1 ≤ floor_number v + place_count shape
   -- a mark for each data place, and one for each Link
   pub places : length r.given.items ≡ place_count shape
   pub given : (p : ℕ) → v.given p ≡ is_noted (floor_number v) (place_count shape) r.given.items (p % place_count shape) p
   pub segments : length (links shape) ≤ length r.crossed.items
   pub crossed : (q : ℕ) → v.crossed q ≡ (is_crossing shape q && is_noted (least_crossing v) (place_count shape) r.crossed.items (link_of shape q) q)
   -- what was withdrawn, and what of it is free: it was given
-  pub withdrawn : (p : ℕ) → v.withdrawn p ≡ contains nat_cmp r.withdrawn p
+  pub withdrawn : (p : ℕ) → r.forgotten ≤ p → v.withdrawn p ≡ contains nat_cmp r.withdrawn p
   pub free : (p : ℕ) → v.free p ≡ contains nat_cmp r.free p
   pub free_withdrawn : (p : ℕ) → v.free p ≡ true → v.withdrawn p ≡ true
   pub free_given : (p : ℕ) → v.free p ≡ true → v.given p ≡ true

@@ -1,4 +1,4 @@
-ghost use Rattle.std.specs.Prelude.{◌≡◌, ◌+◌, ◌%◌, ◌<◌, ◌≤◌, ◌^◌, ◌==◌, ◌||◌, not, ℕ, max, true, false, [], ◌∷◌, length, slice_get, slice_index, slice_index_or, slice_set, IfOk, IfSome, OnOk, OnErr};
+ghost use Rattle.std.specs.Prelude.{◌≡◌, ◌+◌, ◌-◌, ◌%◌, ◌<◌, ◌≤◌, ◌^◌, ◌==◌, ◌||◌, not, ℕ, max, true, false, [], ◌∷◌, length, slice_get, slice_index, slice_index_or, slice_set, IfOk, IfSome, OnOk, OnErr};
 ghost use Rattle.std.specs.List.{list_any};
 ghost use Rattle.segments.specs.Spots.{number};
 ghost use Rattle.segments.specs.ShapeValue.{Shape};
@@ -12,6 +12,7 @@ ghost use Rattle.segments.specs.RingView.{RingView, Declares, Holds, Opens, Reac
 ghost use Rattle.ring_knowledge.specs.Marks.{AreCleared, is_noted};
 
 mod changes;
+mod forgetting;
 mod moves;
 mod spots;
 mod withdrawals;
@@ -22,6 +23,9 @@ use segments::{Place, RingShape, Spot};
 use std::alloc::{AllocError, Global};
 use std::collections::BTreeSet;
 use trb::Block;
+
+/// More positions than a ring ever has.
+const MOST_DECLARED: usize = 1 << 62;
 
 /// What a write gives of one ring (xHCI 4.9.2).
 #[derive(Clone, Copy, Debug, PartialEq, Eq)]
@@ -45,9 +49,11 @@ pub struct WordStanding {
 /// controller's dequeue pointer has surely come. Contracts compare it with the `RingView` that it follows.
 #[derive(Drop)]
 pub struct RingRecord {
-    /// The declared blocks.
+    /// So many positions are forgotten, which the floor has passed.
+    forgotten: u64,
+    /// The blocks that are declared behind them.
     blocks: Vec<Block>,
-    /// By position: how many blocks the descriptor has that begins there; 0 where none begins.
+    /// Of each of these: how many blocks the descriptor has that begins there; 0 where none begins.
     lengths: Vec<u32>,
     /// By data place: its due position is given.
     given: Vec<bool>,
@@ -62,6 +68,8 @@ pub struct RingRecord {
     /// The least number at which the position, or the crossing to it, isn't given.
     count: u64,
     ghost floor_fits: { number floor < 2 ^ 63 },
+    ghost forgotten_fits: { forgotten ≤ 2 ^ 61 },
+    ghost end_fits: { forgotten + length blocks.items ≤ 2 ^ 62 + 256 },
 }
 
 impl RingRecord {
@@ -74,6 +82,7 @@ impl RingRecord {
         let places = shape.places() as usize;
         let segments = shape.segments().len();
         Ok(RingRecord {
+            forgotten: 0,
             blocks: Vec::new(alloc),
             lengths: Vec::new(alloc),
             given: vec![in alloc; false; places]?,
@@ -91,7 +100,7 @@ impl RingRecord {
         ensures { (v : RingView) → FollowsRing shape.now v self.now → result ≡ not (has_no_room shape.now v count) }
     {
         let most = u64::from(shape.places()) - 1 + number(self.floor);
-        count as u64 <= most.saturating_sub(self.blocks.len() as u64)
+        count as u64 <= most.saturating_sub(self.end() as u64)
     }
 
     /// Adds the blocks of one descriptor, for which there is room, to what is declared. Want of memory changes nothing
@@ -103,6 +112,10 @@ impl RingRecord {
             has_no_room shape v (length blocks.now) ≡ false → FollowsRing shape (changed shape v (Declares blocks.now)) self.new) }
         ensures err { OnErr result ((shape : Shape) (v : RingView) → FollowsRing shape v self.old → FollowsRing shape v self.new) }
     {
+        // no trace has so many lines
+        if self.end() > MOST_DECLARED {
+            return Err(AllocError);
+        }
         match blocks {
             [block] => self.declare_one(*block),
             _ => self.declare_several(blocks),
@@ -111,6 +124,7 @@ impl RingRecord {
 
     /// The same of a descriptor of one block, as most are.
     fn declare_one(&mut self, block: Block) -> Result<(), AllocError>
+        requires room { self.old.forgotten + length self.old.blocks.items ≤ 2 ^ 62 }
         ensures ok { OnOk result ((shape : Shape) (v : RingView) → FollowsRing shape v self.old →
             has_no_room shape v 1 ≡ false → FollowsRing shape (changed shape v (Declares (block ∷ []))) self.new) }
         ensures err { OnErr result ((shape : Shape) (v : RingView) → FollowsRing shape v self.old → FollowsRing shape v self.new) }
@@ -127,6 +141,7 @@ impl RingRecord {
     /// The same of a descriptor of any blocks.
     #[inline(never)]
     fn declare_several(&mut self, blocks: &[Block]) -> Result<(), AllocError>
+        requires room { self.old.forgotten + length self.old.blocks.items ≤ 2 ^ 62 }
         requires some { 0 < length blocks.now }
         requires few { length blocks.now ≤ 256 }
         ensures ok { OnOk result ((shape : Shape) (v : RingView) → FollowsRing shape v self.old →
@@ -249,20 +264,28 @@ impl RingRecord {
     pub fn declared_count(&self) -> usize
         ensures { (shape : Shape) (v : RingView) → FollowsRing shape v self.now → result ≡ declared v }
     {
-        self.blocks.len()
+        self.end()
     }
 
-    /// The block that is declared at a position.
+    /// The number behind all positions that are declared.
+    fn end(&self) -> usize
+        ensures value { result ≡ self.now.forgotten + length self.now.blocks.items }
+        ensures few { result < 2 ^ 63 }
+    {
+        self.forgotten as usize + self.blocks.len()
+    }
+
+    /// The block that is declared at a position from the floor on.
     pub fn declared(&self, position: u64) -> Option<Block>
-        ensures value { (shape : Shape) (v : RingView) → FollowsRing shape v self.now → result ≡ slice_get v.queue position }
+        ensures value { (shape : Shape) (v : RingView) → FollowsRing shape v self.now → floor_number v ≤ position → result ≡ slice_get v.queue position }
         ensures few { IfSome result (λ block. position + 1 < 2 ^ 63) }
     {
-        self.blocks.get(position as usize).copied()
+        self.declared_block(position)
     }
 
-    /// Whether no descriptor begins at a position, or all its further blocks, and the crossings between its blocks, are given.
+    /// Whether no descriptor begins at a position from the floor on, or all its further blocks, and the crossings between its blocks, are given.
     pub fn is_whole(&self, shape: &RingShape, position: u64) -> bool
-        ensures { (v : RingView) → FollowsRing shape.now v self.now → result ≡ not (is_not_whole shape.now v position) }
+        ensures { (v : RingView) → FollowsRing shape.now v self.now → floor_number v ≤ position → result ≡ not (is_not_whole shape.now v position) }
     {
         let length = self.length_at(position);
         for offset in 1..length {
@@ -273,12 +296,16 @@ impl RingRecord {
         true
     }
 
-    /// How many blocks the descriptor has that begins at a position; 0 where none begins.
+    /// How many blocks the descriptor has that begins at a position that isn't forgotten; 0 where none begins.
     fn length_at(&self, position: u64) -> u32
-        ensures value { result ≡ slice_index self.now.lengths.items position }
-        ensures fits { 0 < result → position < 2 ^ 63 }
+        ensures value { self.now.forgotten ≤ position → result ≡ slice_index self.now.lengths.items (position - self.now.forgotten) }
+        ensures fits { 0 < result → (self.now.forgotten ≤ position) × (position < 2 ^ 63) }
     {
-        self.lengths.get(position as usize).copied().unwrap_or(0)
+        if position < self.forgotten {
+            return 0;
+        }
+        let at = (position - self.forgotten) as usize;
+        self.lengths.get(at).copied().unwrap_or(0)
     }
 
     /// A position, and the crossing on the way to it, are given.
@@ -395,6 +422,7 @@ impl RingRecord {
         clear_places(&mut self.given, places, passed, number(spot));
         clear_links(&mut self.crossed, shape, passed, number(spot));
         self.floor = spot;
+        self.forget_passed(places);
     }
 }
 

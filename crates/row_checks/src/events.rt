@@ -4,7 +4,7 @@ ghost use Rattle.std.specs.Bool.{OnTrue};
 ghost use Rattle.trb.specs.Block.{kind};
 ghost use Rattle.trb.specs.Kind.{is_transfer_event};
 ghost use Rattle.traces.specs.Header.{IsHeader};
-ghost use Rattle.traces.specs.Limits.{most_lines};
+ghost use Rattle.traces.specs.Limits.{most_streamed_lines};
 ghost use Rattle.traces.specs.declared.row.Row.TheVariants.{Read};
 ghost use Rattle.ring_knowledge.specs.Known.{Known};
 ghost use Rattle.ring_knowledge.specs.Learned.{event_read};
@@ -39,7 +39,7 @@ pub fn check_event<M: WordMemory>(
     requires headed { IsHeader header.now }
     requires found { IsFinder header.now.rings finder.now }
     requires as_many { length kept.now.rings.items ≡ length header.now.rings }
-    requires few_reads { IsWithin kept.now.events most_lines }
+    requires few_reads { IsWithin kept.now.events most_streamed_lines }
     ensures ok { OnOk result (IsStepFrom header.now kept.old (M.words memory.now) (Read event) kept.new (M.words memory.now)) }
     ensures refused { IfErr result (λ e. IfRefused e (IsLeastFrom header.now kept.old (M.words memory.now) (Read event))) }
     ensures reads { OnOk result ((n : ℕ) → IsWithin kept.old.events n → IsWithin kept.new.events (n + 1)) }

@@ -1,7 +1,7 @@
 //! A row, by its kind.
 ghost use Rattle.std.specs.Prelude.{◌≡◌, ◌+◌, ℕ, false, length, None, IfErr, OnOk};
 ghost use Rattle.traces.specs.Header.{IsHeader};
-ghost use Rattle.traces.specs.Limits.{most_lines};
+ghost use Rattle.traces.specs.Limits.{most_streamed_lines};
 ghost use Rattle.traces.specs.declared.row.Row.TheVariants.{Bell, Write};
 ghost use Rattle.ring_knowledge.specs.Known.{Known};
 ghost use Rattle.ring_finder.specs.Finding.{IsFinder};
@@ -40,7 +40,7 @@ pub fn check_row<M: WordMemory>(
     requires headed { IsHeader header.now }
     requires found { IsFinder header.now.rings finder.now }
     requires as_many { length kept.now.rings.items ≡ length header.now.rings }
-    requires few_reads { IsWithin kept.now.events most_lines }
+    requires few_reads { IsWithin kept.now.events most_streamed_lines }
     ensures ok { OnOk result ((k : Known) → IsTracked header.now k kept.old (M.words memory.old) →
         IsPlaced header.now k row.now place → IsOwnedSo header.now k row.now owned →
         IsRowStep header.now k row.now kept.new (M.words memory.new)) }

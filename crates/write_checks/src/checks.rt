@@ -4,7 +4,7 @@ ghost use Rattle.traces.specs.Header.{IsHeader};
 ghost use Rattle.traces.specs.declared.header.Header.{Header as HeaderValue};
 ghost use Rattle.traces.specs.declared.row.Row.TheVariants.{Write};
 ghost use Rattle.ring_knowledge.specs.Known.{Known};
-ghost use Rattle.ring_knowledge.specs.RingRecords.{FollowsRing};
+ghost use Rattle.ring_knowledge.specs.RingRecords.{FollowsRing, IsFromFloor};
 ghost use Rattle.ring_finder.specs.Finding.{IsFinder};
 ghost use Rattle.ownership_rules.specs.Older.{writes_to_owned};
 ghost use Rattle.ownership_rules.specs.Refusal.{first_broken};
@@ -103,7 +103,7 @@ fn giving_refusal<M: WordMemory>(
     requires aligned { IfSome command IsAligned }
     requires quiet { GivesOnPosition giving command }
     ensures first { (k : Known) → FollowsTrace header.now k t.now (M.words memory.now) → DriverKeeps header.now k → ContextsFit header.now k →
-        FollowsRing ring.now.shape (k.ring ring.now.id) known.now →
+        FollowsRing ring.now.shape (k.ring ring.now.id) known.now → IsFromFloor (k.ring ring.now.id) giving →
         result ≡ first_broken (given_tests header.now k ring.now (M.words memory.now) at word giving command) }
     ensures fits { IfNone result (IfSome command (FitsMemory header.now.context_size)) }
 {

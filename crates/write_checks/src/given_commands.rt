@@ -1,11 +1,11 @@
 //! The command that a write gives, and its rules: xHCI 4.6.
-ghost use Rattle.std.specs.Prelude.{◌≡◌, ◌&&◌, ℕ, not, if◌then◌else◌, None, IfNone, IfSome};
+ghost use Rattle.std.specs.Prelude.{◌≡◌, ◌≤◌, ◌&&◌, ℕ, not, if◌then◌else◌, None, IfNone, IfSome};
 ghost use Rattle.segments.specs.ShapeValue.{Shape};
-ghost use Rattle.segments.specs.RingView.{RingView};
+ghost use Rattle.segments.specs.RingView.{RingView, floor_number};
 ghost use Rattle.traces.specs.Header.{IsHeader, is_command_kind};
 ghost use Rattle.commands.specs.Command.{command_of};
 ghost use Rattle.ring_knowledge.specs.Known.{Known};
-ghost use Rattle.ring_knowledge.specs.RingRecords.{FollowsRing, positions_of};
+ghost use Rattle.ring_knowledge.specs.RingRecords.{FollowsRing, IsFromFloor, positions_of};
 ghost use Rattle.ring_finder.specs.Finding.{IsFinder};
 ghost use Rattle.traces.specs.Versions.{is_three};
 ghost use Rattle.ownership_rules.specs.Moves.{binds_again};
@@ -28,9 +28,9 @@ use trace_record::TraceRecord;
 use traces::{Header, Ring};
 use trb::Block;
 
-/// The command that a write gives which gives this of a ring.
+/// The command that a write gives which gives this of a ring, from its floor on.
 pub fn given_command(ring: &Ring, known: &RingRecord, giving: Option<RingGiving>) -> Option<Command>
-    ensures value { (v : RingView) → FollowsRing ring.now.shape v known.now →
+    ensures value { (v : RingView) → FollowsRing ring.now.shape v known.now → IsFromFloor v giving →
         result ≡ (if is_command_kind ring.now.shape.kind then command_on v (positions_of giving) else None) }
     ensures aligned { IfSome result IsAligned }
     ensures quiet { GivesOnPosition giving result }
@@ -47,7 +47,7 @@ pub fn given_command(ring: &Ring, known: &RingRecord, giving: Option<RingGiving>
 
 /// The command that is declared at a position.
 fn declared_command(known: &RingRecord, position: u64) -> Option<Command>
-    ensures value { (shape : Shape) (v : RingView) → FollowsRing shape v known.now → result ≡ command_in v.queue position }
+    ensures value { (shape : Shape) (v : RingView) → FollowsRing shape v known.now → floor_number v ≤ position → result ≡ command_in v.queue position }
     ensures aligned { IfSome result IsAligned }
 {
     match known.declared(position) {

@@ -1,7 +1,7 @@
 //! The rules of a position that a write gives: xHCI 4.9.2, 4.11.
-ghost use Rattle.std.specs.Prelude.{◌≡◌, [], ◌∷◌};
+ghost use Rattle.std.specs.Prelude.{◌≡◌, ◌≤◌, [], ◌∷◌};
 ghost use Rattle.trb.specs.Block.{same_words};
-ghost use Rattle.segments.specs.RingView.{RingView};
+ghost use Rattle.segments.specs.RingView.{RingView, floor_number};
 ghost use Rattle.segments.specs.Shape.{IsShape};
 ghost use Rattle.ring_knowledge.specs.RingRecords.{FollowsRing};
 ghost use Rattle.ownership_rules.specs.Refusal.{first_broken};
@@ -14,7 +14,7 @@ use ring_knowledge::RingRecord;
 use segments::RingShape;
 use trb::Block;
 
-/// Which rule of its ring a write breaks first that gives a position.
+/// Which rule of its ring a write breaks first that gives a position, which isn't below the floor.
 pub fn position_refusal<M: WordMemory>(
     shape: &RingShape,
     known: &RingRecord,
@@ -24,7 +24,7 @@ pub fn position_refusal<M: WordMemory>(
     position: u64,
 ) -> Option<Refusal>
     requires { IsShape shape.now }
-    ensures { (v : RingView) → FollowsRing shape.now v known.now →
+    ensures { (v : RingView) → FollowsRing shape.now v known.now → floor_number v ≤ position →
         result ≡ first_broken (position_tests shape.now v (M.words memory.now) at word (position ∷ [])) }
 {
     let Some(declared) = known.declared(position) else {

@@ -18,7 +18,7 @@ impl RingRecord {
             FollowsRing shape.now (changed shape.now v (Reaches (after shape.now (number spot)))) self.new }
     {
         let position = number(spot);
-        if position >= self.blocks.len() as u64 {
+        if position >= self.end() as u64 {
             return;
         }
         let behind = after(shape, position);

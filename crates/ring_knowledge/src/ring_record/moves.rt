@@ -1,6 +1,7 @@
 ghost use Rattle.std.specs.Prelude.{◌≡◌, ◌+◌, ◌<◌, ◌≤◌, ◌^◌};
 ghost use Rattle.segments.specs.ShapeValue.{Shape};
 ghost use Rattle.segments.specs.Places.{place_count};
+ghost use Rattle.segments.specs.Spots.{number};
 ghost use Rattle.segments.specs.RingView.{RingView, declared, floor_number};
 ghost use Rattle.segments.specs.Ceiling.{ceiling, is_data_below, is_stop_spot, is_way_given, stopped_number};
 ghost use Rattle.segments.specs.Descriptors.{is_border};
@@ -20,7 +21,7 @@ impl RingRecord {
             result ≡ is_move shape.now v pointer cycle (ceiling shape.now v) (declared v) }
     {
         let least = self.ceiling();
-        let most = self.blocks.len() as u64;
+        let most = self.end() as u64;
         if most < least {
             return false;
         }
@@ -30,9 +31,9 @@ impl RingRecord {
     /// Whether a pointer and a cycle state stand at the end of what is declared, before which all is given: there a second
     /// Address Device leaves the dequeue pointer (xHCI 4.6.5).
     pub fn may_stay(&self, shape: &RingShape, pointer: u64, cycle: bool) -> bool
-        ensures { (v : RingView) → FollowsRing shape.now v self.now → result ≡ is_move shape.now v pointer cycle (declared v) (declared v) }
+        ensures { (v : RingView) → FollowsRing shape.now v self.now → floor_number v ≤ declared v → result ≡ is_move shape.now v pointer cycle (declared v) (declared v) }
     {
-        let end = self.blocks.len() as u64;
+        let end = self.end() as u64;
         self.is_move(shape, pointer, cycle, end, end)
     }
 
@@ -52,7 +53,7 @@ impl RingRecord {
     /// Whether a pointer and a cycle state stand at a spot, with a number from least to most, to which the ring may be moved.
     fn is_move(&self, shape: &RingShape, pointer: u64, cycle: bool, least: u64, most: u64) -> bool
         requires { least < 2 ^ 63 }
-        ensures { (v : RingView) → FollowsRing shape.now v self.now → most < least + place_count shape.now → result ≡ is_move shape.now v pointer cycle least most }
+        ensures { (v : RingView) → FollowsRing shape.now v self.now → floor_number v ≤ least → most < least + place_count shape.now → result ≡ is_move shape.now v pointer cycle least most }
     {
         match spot_between(shape, pointer, cycle, least, most) {
             None => false,
@@ -60,9 +61,9 @@ impl RingRecord {
         }
     }
 
-    /// Whether a spot is a border between descriptors before which all is given.
+    /// Whether a spot from the floor on is a border between descriptors before which all is given.
     fn may_move_to(&self, shape: &RingShape, spot: Spot) -> bool
-        ensures { (v : RingView) → FollowsRing shape.now v self.now → result ≡ may_move_to shape.now v spot }
+        ensures { (v : RingView) → FollowsRing shape.now v self.now → floor_number v ≤ number spot → result ≡ may_move_to shape.now v spot }
     {
         if self.is_border(number(spot)) {
             self.is_stop_spot(shape, spot)
@@ -71,14 +72,14 @@ impl RingRecord {
         }
     }
 
-    /// Whether a descriptor begins at a position, or ends right before it.
+    /// Whether a descriptor begins at a position from the floor on, or ends right before it.
     fn is_border(&self, position: u64) -> bool
-        ensures { (shape : Shape) (v : RingView) → FollowsMarks shape v self.now → result ≡ is_border v.lengths 0 position }
+        ensures { (shape : Shape) (v : RingView) → FollowsMarks shape v self.now → floor_number v ≤ position → result ≡ is_border v.lengths 0 position }
     {
         if self.length_at(position) > 0 {
             return true;
         }
-        position == self.blocks.len() as u64
+        position == self.end() as u64
     }
 
     /// Whether a controller may have stopped at a spot (xHCI 4.6.9): all before it is given, and for a block the crossing to it.

@@ -24,7 +24,7 @@ impl RingRecord {
         match spot_from(shape, self.floor, address) {
             None => None,
             Some(spot) => {
-                if number(spot) <= self.blocks.len() as u64 {
+                if number(spot) <= self.end() as u64 {
                     Some(spot)
                 } else {
                     None
@@ -39,13 +39,7 @@ impl RingRecord {
         ensures value { (v : RingView) → FollowsRing shape.now v self.now → result ≡ target shape.now v pointer cycle }
         ensures few { IfSome result (λ spot. number spot < 2 ^ 63) }
     {
-        spot_between(
-            shape,
-            pointer,
-            cycle,
-            number(self.floor),
-            self.blocks.len() as u64,
-        )
+        spot_between(shape, pointer, cycle, number(self.floor), self.end() as u64)
     }
 }
 
@@ -59,6 +53,7 @@ pub(crate) fn spot_between(
 ) -> Option<Spot>
     requires { least < 2 ^ 63 }
     ensures value { most < least + place_count shape.now → result ≡ find (is_target shape.now pointer cycle) (spots_between least most) }
+    ensures from { IfSome result (λ spot. least ≤ number spot) }
     ensures within { IfSome result (λ spot. number spot ≤ most) }
 {
     match spot_from(shape, Spot::Link(least), pointer) {

@@ -1,4 +1,4 @@
-ghost use Rattle.std.specs.Prelude.{◌≡◌, ◌+◌, ◌%◌, ◌<◌, ◌≤◌, ◌^◌, ◌==◌, ◌&&◌, ◌||◌, not, ℕ, true, false, length, slice_get, slice_index, slice_set, if◌then◌else◌, IfOk, OnOk, OnErr};
+ghost use Rattle.std.specs.Prelude.{◌≡◌, ◌+◌, ◌-◌, ◌%◌, ◌<◌, ◌≤◌, ◌^◌, ◌==◌, ◌&&◌, ◌||◌, not, ℕ, true, false, length, slice_get, slice_index, slice_set, if◌then◌else◌, IfOk, IfSome, OnOk, OnErr};
 ghost use Rattle.std.specs.BTreeSet.{contains};
 ghost use Rattle.std.specs.List.{list_any, range_with_len};
 ghost use Rattle.std.specs.Ordering.{nat_cmp};
@@ -7,7 +7,7 @@ ghost use Rattle.segments.specs.Descriptors.{no_ops};
 ghost use Rattle.segments.specs.Givings.{descriptor_length, flips_passed, is_declared_as, is_not_restored, unrestored};
 ghost use Rattle.segments.specs.Places.{address_of, cycle_of, is_in, place_count};
 ghost use Rattle.segments.specs.RingKeeps.{IsRestored};
-ghost use Rattle.segments.specs.RingView.{RingView, Restores, Withdraws, changed, is_handed_over};
+ghost use Rattle.segments.specs.RingView.{RingView, Restores, Withdraws, changed, floor_number, is_handed_over};
 ghost use Rattle.segments.specs.Shape.{IsShape};
 ghost use Rattle.segments.specs.ShapeValue.{Shape};
 ghost use Rattle.segments.specs.Spots.{number};
@@ -28,27 +28,27 @@ const NO_OP: Block = Block {
 impl RingRecord {
     ghost use Rattle.ring_knowledge.specs.RingRecords.{FollowsRing};
 
-    /// How many blocks the descriptor has that begins at a position; 0 where none begins.
+    /// How many blocks the descriptor has that begins at a position from the floor on; 0 where none begins.
     pub fn descriptor_length(&self, position: u64) -> u32
-        ensures { (shape : Shape) (v : RingView) → FollowsRing shape v self.now → result ≡ descriptor_length v position }
+        ensures { (shape : Shape) (v : RingView) → FollowsRing shape v self.now → floor_number v ≤ position → result ≡ descriptor_length v position }
     {
         self.length_at(position)
     }
 
-    /// Whether a descriptor begins at a position, none of whose blocks was withdrawn before.
+    /// Whether a descriptor begins at a position from the floor on, none of whose blocks was withdrawn before.
     pub fn may_withdraw(&self, position: u64) -> bool
-        ensures { (shape : Shape) (v : RingView) → FollowsRing shape v self.now →
+        ensures { (shape : Shape) (v : RingView) → FollowsRing shape v self.now → floor_number v ≤ position →
             result ≡ not (descriptor_length v position == 0 || list_any v.withdrawn (range_with_len position (descriptor_length v position))) }
     {
         let count = u64::from(self.length_at(position));
         count != 0 && !has_some(&self.withdrawn, position, count)
     }
 
-    /// Notes that the descriptor that begins at a position is withdrawn (xHCI 4.6.9): No Ops stand in place of its blocks, and those
+    /// Notes that the descriptor that begins at a position from the floor on is withdrawn (xHCI 4.6.9): No Ops stand in place of its blocks, and those
     /// that were given are free. Want of memory changes nothing of what is known where none of its blocks was withdrawn before.
     pub fn withdraw(&mut self, shape: &RingShape, position: u64) -> Result<(), AllocError>
-        ensures ok { OnOk result ((v : RingView) → FollowsRing shape.now v self.old → FollowsRing shape.now (changed shape.now v (Withdraws position)) self.new) }
-        ensures err { OnErr result ((v : RingView) → FollowsRing shape.now v self.old →
+        ensures ok { OnOk result ((v : RingView) → FollowsRing shape.now v self.old → floor_number v ≤ position → FollowsRing shape.now (changed shape.now v (Withdraws position)) self.new) }
+        ensures err { OnErr result ((v : RingView) → FollowsRing shape.now v self.old → floor_number v ≤ position →
             list_any v.withdrawn (range_with_len position (descriptor_length v position)) ≡ false → FollowsRing shape.now v self.new) }
     {
         let count = u64::from(self.length_at(position));
@@ -70,8 +70,9 @@ impl RingRecord {
             remove_numbers(&mut self.free, position, count);
             return Err(refused);
         }
-        put_no_ops(&mut self.blocks, position, count);
-        put_ones(&mut self.lengths, position, count);
+        let at = position.saturating_sub(self.forgotten);
+        put_no_ops(&mut self.blocks, at, count);
+        put_ones(&mut self.lengths, at, count);
         Ok(())
     }
 
@@ -135,7 +136,7 @@ impl RingRecord {
     /// Whether a position stands in memory as it is declared, with its cycle.
     fn stands_declared<M: WordMemory>(&self, shape: &RingShape, memory: &M, position: u64) -> bool
         requires { IsShape shape.now }
-        ensures { result ≡ is_declared_as (block_at (M.words memory.now) (address_of shape.now position)) (cycle_of shape.now position) (slice_get self.now.blocks.items position) }
+        ensures { self.now.forgotten ≤ position → result ≡ is_declared_as (block_at (M.words memory.now) (address_of shape.now position)) (cycle_of shape.now position) (slice_get self.now.blocks.items (position - self.now.forgotten)) }
     {
         let Some(declared) = self.declared_block(position) else {
             return true;
@@ -144,11 +145,16 @@ impl RingRecord {
         have_same_words(standing, declared.with_cycle(shape.cycle(position)))
     }
 
-    /// The block that is declared at a position, as the record has it.
-    fn declared_block(&self, position: u64) -> Option<Block>
-        ensures { result ≡ slice_get self.now.blocks.items position }
+    /// The block that is declared at a position, if it isn't forgotten.
+    pub(super) fn declared_block(&self, position: u64) -> Option<Block>
+        ensures kept { self.now.forgotten ≤ position → result ≡ slice_get self.now.blocks.items (position - self.now.forgotten) }
+        ensures few { IfSome result (λ block. position + 1 < 2 ^ 63) }
     {
-        self.blocks.get(position as usize).copied()
+        if position < self.forgotten {
+            return None;
+        }
+        let at = (position - self.forgotten) as usize;
+        self.blocks.get(at).copied()
     }
 
     /// Whether the write of a word flips the Cycle bit of a free position that the controller may have passed.
@@ -266,7 +272,7 @@ fn add_given(
 }
 
 /// Removes the numbers from one on.
-fn remove_numbers(set: &mut BTreeSet<u64>, from: u64, count: u64)
+pub(super) fn remove_numbers(set: &mut BTreeSet<u64>, from: u64, count: u64)
     requires { from + count < 2 ^ 64 }
     ensures { (q : ℕ) → contains nat_cmp set.new q ≡ (contains nat_cmp set.old q && not (is_in q from count)) }
 {

@@ -1,4 +1,4 @@
-use Rattle.std.proofs.Common.{◌≡◌, ◌∙◌, Some, get_or, ap, sym, refl, length}
+use Rattle.std.proofs.Common.{arith, ◌≡◌, ◌∙◌, Some, get_or, ap, sym, refl, length}
 use Rattle.std.specs.Prelude.{not, slice_get}
 use Rattle.std.proofs.lemmas.Option.{slice_get_read}
 use Rattle.segments.specs.RingView.{declared, floor_number}
@@ -43,5 +43,5 @@ returns c = λ k m f keeps.
     let followed = follows h c.requires.headed k records f.rings keeps c.in-Some.id transfer number ring at item c.index-known.result.now there in
     let nothing : declared (k.ring c.in-Some.id) ≡ floor_number (k.ring c.in-Some.id) =
     sym (c.declared_count.ensures ring.shape (k.ring c.in-Some.id) followed) ∙ c.if-declared_count-floor_number.false ∙ c.floor_number.ensures.value ring.shape (k.ring c.in-Some.id) followed in
-    ap not (c.may_stay.ensures (k.ring c.in-Some.id) followed)
+    ap not (c.may_stay.ensures (k.ring c.in-Some.id) followed (omega (arith, nothing)))
     ∙ bad_stay h c.requires.headed k records f.rings keeps c.in-Some.id transfer number ring at item (k.ring_of c.args.slot 1) has (record { pointer = c.args.dequeue.pointer; cycle = c.args.dequeue.cycle }) nothing

@@ -25,7 +25,7 @@ returns-in-None g c = λ list k ts memory completes next all.
     let p : ℕ = c.floor_number-next.result in
     let at : p ≡ next_command h k = c.floor_number-next.ensures.value q.shape (k.ring q.id) follows ∙ sym (next_here h c.requires.headed k ts c.args.event c.args.number c.args.t.now memory next completes moves q among here.1 drives) in
     let ring = id h c.requires.headed k ts c.args.event c.args.number c.args.t.now memory next completes moves q among here.1 drives in
-    let said = command_at_is h k q p _ ring (c.command_at.ensures q.shape (k.ring q.id) follows) in
+    let said = command_at_is h k q p _ ring (c.command_at.ensures q.shape (k.ring q.id) follows (omega (arith, c.floor_number-next.ensures.value q.shape (k.ring q.id) follows))) in
     completion_ends h c.requires.headed k ts c.args.event c.args.number c.args.t.now memory next completes moves q among here.1 drives c.end_passed.new.self c.args.ranges.now p q.id (code c.args.event == 1) None at (sym ring) refl
     (sym (said ∙ c.in-None.is) ∙ ap (command_at h k) at)
     (subst (λ (us : List Lent). HoldsAll (g.B.LeaseLog.holds list) h (map (ended_where (is_passed q.id p (p + 1)) c.args.number) us) c.end_passed.new.self c.args.ranges.now)
@@ -49,7 +49,7 @@ returns-in-Some-command_at g c = λ list k ts memory completes next all.
     let p : ℕ = c.floor_number-next.result in
     let at : p ≡ next_command h k = c.floor_number-next.ensures.value q.shape (k.ring q.id) follows ∙ sym (next_here h c.requires.headed k ts c.args.event c.args.number c.args.t.now memory next completes moves q among here.1 drives) in
     let ring = id h c.requires.headed k ts c.args.event c.args.number c.args.t.now memory next completes moves q among here.1 drives in
-    let said = command_at_is h k q p _ ring (c.command_at.ensures q.shape (k.ring q.id) follows) in
+    let said = command_at_is h k q p _ ring (c.command_at.ensures q.shape (k.ring q.id) follows (omega (arith, c.floor_number-next.ensures.value q.shape (k.ring q.id) follows))) in
     let s : Bool = c.code-success.result == 1 in
     let tells : s ≡ (code c.args.event == 1) = ap (λ (x : ℕ). x == 1) c.code-success.ensures in
     let says = sym (said ∙ c.in-Some-command_at.is) ∙ ap (command_at h k) at in

@@ -1,4 +1,5 @@
 use Rattle.std.proofs.Common.{◌≡◌, ◌∙◌, ◌∷◌, List, get_or, refl, sym, subst, ap, Some, []}
+use Rattle.ring_knowledge.proofs.GivenWords.{given_at}
 use Rattle.lease_rows.proofs.Words.{touches, Position, Crossing, Lent, with_begun, Block, Link, others_begin, none_here, ring_here, shape_there, among_at, HoldsAll}
 use Rattle.lease_rows.proofs.OtherRows.{held_still, on_more}
 use Rattle.lease_rows.proofs.GivenHere.{in_events, not_touched}
@@ -71,7 +72,7 @@ returns-in-None-command_at g c = λ list k ts a w placed next all.
     let stands : c.in-Some-Position.field-0 ≡ Position p = rw c.in-Some-Position.is at c.in-Some-Position.field-0-is in
     let is = c.in-Some-Position.is ∙ ap (λ g. Some g) stands in
     let command = sym c.is_command_ring.ensures ∙ c.if-not-is_command_ring.false in
-    let none = command_at_is h k q p _ (is_there h c.requires k ts a w c.args.number c.args.t.now _ next placed.aligned q at.among at.driver at.has c.args.place.giving at.positions at.crossings p is command) (c.command_at.ensures q.shape (k.ring q.id) at.follows) ∙ c.in-None-command_at.is in
+    let none = command_at_is h k q p _ (is_there h c.requires k ts a w c.args.number c.args.t.now _ next placed.aligned q at.among at.driver at.has c.args.place.giving at.positions at.crossings p is command) (c.command_at.ensures q.shape (k.ring q.id) at.follows (given_at q.shape (k.ring q.id) a w _ p at.positions is)) ∙ c.in-None-command_at.is in
     subst (λ (us : List Lent). HoldsAll (g.B.LeaseLog.holds list) h us c.begin_block.new.self c.args.ranges.now) (sym (lent_undeclared h c.requires k ts a w c.args.number c.args.t.now _ next placed.aligned q at.among at.driver at.has c.args.place.giving at.positions at.crossings p is command none))
     (record {
       held = c.in_ok-begin_block-in-Some-Position.ensures list h ts (shape_there h c.requires q at.among) all.held (place_free h c.requires k ts a w c.args.number c.args.t.now _ next placed.aligned q at.among at.driver at.has c.args.place.giving at.positions at.crossings p is);
@@ -88,7 +89,7 @@ returns-in-Some-command_at g c = on_more c.begin_command.result (λ begins. λ l
     let stands : c.in-Some-Position.field-0 ≡ Position p = rw c.in-Some-Position.is at c.in-Some-Position.field-0-is in
     let is = c.in-Some-Position.is ∙ ap (λ g. Some g) stands in
     let command = sym c.is_command_ring.ensures ∙ c.if-not-is_command_ring.false in
-    let some = command_at_is h k q p _ (is_there h c.requires k ts a w c.args.number c.args.t.now _ next placed.aligned q at.among at.driver at.has c.args.place.giving at.positions at.crossings p is command) (c.command_at.ensures q.shape (k.ring q.id) at.follows) ∙ c.in-Some-command_at.is in
+    let some = command_at_is h k q p _ (is_there h c.requires k ts a w c.args.number c.args.t.now _ next placed.aligned q at.among at.driver at.has c.args.place.giving at.positions at.crossings p is command) (c.command_at.ensures q.shape (k.ring q.id) at.follows (given_at q.shape (k.ring q.id) a w _ p at.positions is)) ∙ c.in-Some-command_at.is in
     let us : List Lent = with_begun c.args.number ts (Block q.id p ∷ []) in
     subst (λ (us : List Lent). HoldsAll (g.B.LeaseLog.holds list) h us c.begin_command.new.book c.begin_command.new.ranges) (begun_twice c.args.number ts (Block q.id p ∷ []) _ ∙ sym (lent_command h c.requires k ts a w c.args.number c.args.t.now _ next placed.aligned q at.among at.driver at.has c.args.place.giving at.positions at.crossings p is command c.in-Some-command_at.command some))
     (begins list k us next.followed (command_fits h c.requires k ts a w c.args.number c.args.t.now _ next placed.aligned q at.among at.driver at.has c.args.place.giving at.positions at.crossings p is command c.in-Some-command_at.command some) (shape_is h c.requires k ts a w c.args.number c.args.t.now _ next placed.aligned q at.among at.driver at.has c.args.place.giving at.positions at.crossings p is command)

@@ -6,6 +6,7 @@ use Rattle.traces.specs.Header.{is_driver_kind}
 use Rattle.ring_finder.proofs.FoundRings.{ring_here, none_here}
 use Rattle.ring_finder.proofs.RingsApart.{among_at}
 use Rattle.trace_record.specs.WordPlaces.{IsGivenBy}
+use Rattle.ring_knowledge.proofs.GivenWords.{given_from}
 use Rattle.write_checks.proofs.RingWrites.{owned, owned_by_events}
 use Rattle.write_checks.proofs.WriteSteps.{nowhere_allowed, IsTold, judged, allowed}
 use Rattle.write_checks.proofs.checks.check_write.Goals as goal
@@ -42,15 +43,16 @@ returns-in-Some-giving_refusal-clause-refused g c = λ k f keeps fit on placed l
     (c.in-Some-get-2.ensures.lookup.1 ∙ ap (λ xs. get_or xs c.in-Some.number known) c.as_slice-records.ensures.value) in
     let follows = f.rings.each c.in-Some.number ring known here.0 there driver in
     let given = subst (λ (o : Option ℕ). IsGivenBy h k c.args.at c.args.word o c.args.place.giving) c.in-Some.is placed.given ring here.0 in
+    let from = given_from ring.shape (k.ring ring.id) c.args.at c.args.word c.args.place.giving (given.positions driver) in
     let told : IsTold h c.requires.headed c.args.at c.args.word placed.aligned c.in-Some.number ring here.0 driver here.1 c.args.place.giving c.given_command-command.result k = record {
       positions = given.positions driver;
       crossings = given.crossings driver;
-      said = c.given_command-command.ensures.value (k.ring ring.id) follows;
+      said = c.given_command-command.ensures.value (k.ring ring.id) follows from;
       quiet = c.given_command-command.ensures.quiet;
     } in
     judged h c.requires.headed c.args.at c.args.word placed.aligned c.in-Some.number ring here.0 driver here.1 c.args.place.giving c.given_command-command.result
     k c.args.t.now (g.M.WordMemory.words c.args.memory.now) f keeps on (sym leased ∙ c.if-owned.false) told (Some c.in-Some-giving_refusal.refusal)
-    (sym c.in-Some-giving_refusal.is ∙ c.giving_refusal.ensures.first k f keeps fit follows)
+    (sym c.in-Some-giving_refusal.is ∙ c.giving_refusal.ensures.first k f keeps fit follows from)
 
 pub returns-in-None-clause-ok : goal.returns-in-None-clause-ok
 returns-in-None-clause-ok g c = λ k f keeps fit on placed leased.
@@ -66,12 +68,13 @@ returns-in-None-clause-ok g c = λ k f keeps fit on placed leased.
     (c.in-Some-get-2.ensures.lookup.1 ∙ ap (λ xs. get_or xs c.in-Some.number known) c.as_slice-records.ensures.value) in
     let follows = f.rings.each c.in-Some.number ring known here.0 there driver in
     let given = subst (λ (o : Option ℕ). IsGivenBy h k c.args.at c.args.word o c.args.place.giving) c.in-Some.is placed.given ring here.0 in
+    let from = given_from ring.shape (k.ring ring.id) c.args.at c.args.word c.args.place.giving (given.positions driver) in
     let told : IsTold h c.requires.headed c.args.at c.args.word placed.aligned c.in-Some.number ring here.0 driver here.1 c.args.place.giving c.given_command-command.result k = record {
       positions = given.positions driver;
       crossings = given.crossings driver;
-      said = c.given_command-command.ensures.value (k.ring ring.id) follows;
+      said = c.given_command-command.ensures.value (k.ring ring.id) follows from;
       quiet = c.given_command-command.ensures.quiet;
     } in
     allowed h c.requires.headed c.args.at c.args.word placed.aligned c.in-Some.number ring here.0 driver here.1 c.args.place.giving c.given_command-command.result
     k c.args.t.now (g.M.WordMemory.words c.args.memory.now) f keeps on (sym leased ∙ c.if-owned.false) told
-    (sym c.in-None.is ∙ c.giving_refusal.ensures.first k f keeps fit follows)
+    (sym c.in-None.is ∙ c.giving_refusal.ensures.first k f keeps fit follows from)

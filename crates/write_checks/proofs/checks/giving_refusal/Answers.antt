@@ -9,28 +9,28 @@ use Rattle.write_checks.proofs.checks.giving_refusal.Goals as goal
 pub returns-in-Some-clause-first : goal.returns-in-Some-clause-first
 returns-in-Some-clause-first g c =
     let is : c.args.giving ≡ Some (Position c.in-Some-Position.p) = search rules in
-    λ k f d fit r.
+    λ k f d fit r from.
     let ring = c.args.ring.now in
     let memory = g.M.WordMemory.words c.args.memory.now in
     first_fails (position_tests ring.shape (k.ring ring.id) memory c.args.at c.args.word (c.in-Some-Position.p ∷ [])) (place_tests c.args.header.now k ring.id c.args.command)
-    c.in-Some.refusal (sym c.in-Some.is ∙ c.position_refusal.ensures (k.ring ring.id) r)
+    c.in-Some.refusal (sym c.in-Some.is ∙ c.position_refusal.ensures (k.ring ring.id) r (rw is at from))
     ∙ ap (λ (o : Option RingGiving). first_broken (given_tests c.args.header.now k ring memory c.args.at c.args.word o c.args.command)) (sym is)
 
 pub returns-in_default-clause-first : goal.returns-in_default-clause-first
 returns-in_default-clause-first g c =
     let is : c.args.giving ≡ Some (Position c.in-Some-Position.p) = search rules in
-    λ k f d fit r.
+    λ k f d fit r from.
     let ring = c.args.ring.now in
     let memory = g.M.WordMemory.words c.args.memory.now in
     c.place_refusal.ensures.first k ring.shape f d fit r
     ∙ none_fails (position_tests ring.shape (k.ring ring.id) memory c.args.at c.args.word (c.in-Some-Position.p ∷ [])) (place_tests c.args.header.now k ring.id c.args.command)
-    (sym c.in_default.is ∙ c.position_refusal.ensures (k.ring ring.id) r)
+    (sym c.in_default.is ∙ c.position_refusal.ensures (k.ring ring.id) r (rw is at from))
     ∙ ap (λ (o : Option RingGiving). first_broken (given_tests c.args.header.now k ring memory c.args.at c.args.word o c.args.command)) (sym is)
 
 pub returns-in-Some-Crossing-clause-first : goal.returns-in-Some-Crossing-clause-first
 returns-in-Some-Crossing-clause-first g c =
     let is : c.args.giving ≡ Some (Crossing c.in-Some-Crossing.q) = search rules in
-    λ k f d fit r.
+    λ k f d fit r from.
     let ring = c.args.ring.now in
     let memory = g.M.WordMemory.words c.args.memory.now in
     c.crossing_refusal.ensures

@@ -1,4 +1,4 @@
-use Rattle.std.proofs.Common.{ap, arith}
+use Rattle.std.proofs.Common.{◌∙◌, ap, arith, sym}
 use Rattle.segments.specs.Spots.{number}
 use Rattle.ring_knowledge.proofs.DeclaredMore.{room_test}
 use Rattle.ring_knowledge.proofs.ring_record.RingRecord.has_room.Goals as goal
@@ -7,6 +7,6 @@ pub returns : goal.returns
 returns c = λ v known.
     let follows = known.marks in
     let floor = ap number follows.floor in
-    room_test c.args.shape.now v c.args.self.now follows c.args.count c.len.result c.saturating_sub.result
-    (omega (arith, c.len.ensures, c.args.self.now.blocks.ok.0))
-    (omega (arith, c.saturating_sub.ensures, c.from.ensures, c.places.ensures.count, c.number.ensures, floor))
+    room_test c.args.shape.now v c.args.self.now follows c.args.count c.end.result c.saturating_sub.result
+    (c.end.ensures.value ∙ sym follows.count)
+    (omega (arith, c.end.ensures.value, follows.count, c.saturating_sub.ensures, c.from.ensures, c.places.ensures.count, c.number.ensures, floor))

@@ -1,11 +1,11 @@
-use Rattle.std.proofs.Common.{◌∙◌}
+use Rattle.std.proofs.Common.{◌∙◌, arith}
 use Rattle.ring_knowledge.proofs.MoveTests.{no_move, one_move}
 use Rattle.ring_knowledge.proofs.ring_record.RingRecord.is_move.Goals as goal
 
 pub returns-in-None : goal.returns-in-None
-returns-in-None c = λ v known near. no_move c.args.shape.now v c.args.pointer c.args.cycle c.args.least c.args.most (c.in-None.ensures.value near)
+returns-in-None c = λ v known from near. no_move c.args.shape.now v c.args.pointer c.args.cycle c.args.least c.args.most (c.in-None.ensures.value near)
 
 pub returns-in-Some : goal.returns-in-Some
-returns-in-Some c = λ v known near.
-    c.may_move_to.ensures v known
+returns-in-Some c = λ v known from near.
+    c.may_move_to.ensures v known (omega (arith, from, c.in-Some.ensures.from))
     ∙ one_move c.args.shape.now v c.args.pointer c.args.cycle c.args.least c.args.most known.marks.allowed near c.in-Some.spot (c.in-Some.ensures.value near)

@@ -1,4 +1,4 @@
-use Rattle.ring_knowledge.proofs.Words.{◌≡◌, ◌&&◌, not, nat_le, list_any, address_of, cycle_of, is_declared_as}
+use Rattle.ring_knowledge.proofs.Words.{◌-◌, ◌≤◌, ◌≡◌, ◌&&◌, not, nat_le, list_any, address_of, cycle_of, is_declared_as}
 use Rattle.std.specs.Prelude.{slice_get}
 use Rattle.trb.specs.Block.{block_at}
 use Rattle.ring_knowledge.proofs.ring_record.RingRecord.is_not_restored.Given as goal
@@ -8,5 +8,5 @@ abbrev pub invariant-loop-position : goal.invariant-loop-position
 invariant-loop-position g l =
     (goal.iterator-loop-position g).can_next l.position-iterator ×
     (goal.iterator-loop-position g).is_finite l.position-iterator ×
-    (list_any (λ p. nat_le l.floor p && not (is_declared_as (block_at (g.M.WordMemory.words l.memory) (address_of l.shape p)) (cycle_of l.shape p) (slice_get l.self.blocks.items p))) l.position-iterator
-    ≡ list_any (λ p. nat_le l.floor p && not (is_declared_as (block_at (g.M.WordMemory.words l.memory) (address_of l.shape p)) (cycle_of l.shape p) (slice_get l.self.blocks.items p))) l.self.free.keys)
+    (l.self.forgotten ≤ l.floor → list_any (λ p. nat_le l.floor p && not (is_declared_as (block_at (g.M.WordMemory.words l.memory) (address_of l.shape p)) (cycle_of l.shape p) (slice_get l.self.blocks.items (p - l.self.forgotten)))) l.position-iterator
+    ≡ list_any (λ p. nat_le l.floor p && not (is_declared_as (block_at (g.M.WordMemory.words l.memory) (address_of l.shape p)) (cycle_of l.shape p) (slice_get l.self.blocks.items (p - l.self.forgotten)))) l.self.free.keys)

@@ -17,6 +17,6 @@ unfolding is_placement
 returns c = λ v known from.
     let top : c.ceiling.result ≡ ceiling c.args.shape.now v = c.ceiling.ensures c.args.shape.now v known in
     let floor : c.number-floor.result ≡ floor_number v = c.number-floor.ensures ∙ ap number (sym known.marks.floor) in
-    c.is_move.ensures v known (omega (arith, place_count_pos c.args.shape.now known.marks.allowed))
+    c.is_move.ensures v known (omega (arith, floor)) (omega (arith, place_count_pos c.args.shape.now known.marks.allowed))
     ∙ ap (λ n. is_move c.args.shape.now v c.args.pointer c.args.cycle n c.number-floor.result) (sym c.if-ceiling-floor.false ∙ top)
     ∙ ap (λ n. is_move c.args.shape.now v c.args.pointer c.args.cycle (ceiling c.args.shape.now v) n) floor

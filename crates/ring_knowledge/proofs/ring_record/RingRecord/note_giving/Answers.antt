@@ -19,7 +19,7 @@ returns-in-Some-Position c =
     let noted =
     position_noted shape v a w r known.marks c.in-Some-Position.position (positions ∙ ap positions_of is) (crossings ∙ ap crossings_of is) in
     let now = changed shape v (Writes a w) in
-    counts_on shape now _ (noted _ (record { blocks = refl; lengths = refl; floor = refl; held = refl; withdrawn = refl; free = refl; given_is = marks; crossed_is = refl })) r.count (λ q h. written_step shape v a w q (known.steps q h)) (c.first_not_given-self.ensures.steps now (noted _ (record { blocks = refl; lengths = refl; floor = refl; held = refl; withdrawn = refl; free = refl; given_is = marks; crossed_is = refl }))) (c.first_not_given-self.ensures.stop now (noted _ (record { blocks = refl; lengths = refl; floor = refl; held = refl; withdrawn = refl; free = refl; given_is = marks; crossed_is = refl })))
+    counts_on shape now _ (noted _ (record { forgotten = refl; blocks = refl; lengths = refl; floor = refl; held = refl; withdrawn = refl; free = refl; given_is = marks; crossed_is = refl })) r.count (λ q h. written_step shape v a w q (known.steps q h)) (c.first_not_given-self.ensures.steps now (noted _ (record { forgotten = refl; blocks = refl; lengths = refl; floor = refl; held = refl; withdrawn = refl; free = refl; given_is = marks; crossed_is = refl }))) (c.first_not_given-self.ensures.stop now (noted _ (record { forgotten = refl; blocks = refl; lengths = refl; floor = refl; held = refl; withdrawn = refl; free = refl; given_is = marks; crossed_is = refl })))
 
 pub returns-in-Some : goal.returns-in-Some
 returns-in-Some c =
@@ -30,7 +30,7 @@ returns-in-Some c =
     crossing_noted shape v a w c.args.self.now known.marks c.in-Some.segment c.in-Some-Crossing.crossing c.in-Some.ensures.link (sym c.in-Some.ensures.value)
     (positions ∙ ap positions_of is) (crossings ∙ ap crossings_of is) in
     let now = changed shape v (Writes a w) in
-    counts_on shape now _ (noted _ (record { blocks = refl; lengths = refl; floor = refl; held = refl; withdrawn = refl; free = refl; given_is = refl; crossed_is = c.set_mark-in-Some.ensures })) c.args.self.now.count (λ q h. written_step shape v a w q (known.steps q h)) (c.first_not_given-self-in-Some.ensures.steps now (noted _ (record { blocks = refl; lengths = refl; floor = refl; held = refl; withdrawn = refl; free = refl; given_is = refl; crossed_is = c.set_mark-in-Some.ensures }))) (c.first_not_given-self-in-Some.ensures.stop now (noted _ (record { blocks = refl; lengths = refl; floor = refl; held = refl; withdrawn = refl; free = refl; given_is = refl; crossed_is = c.set_mark-in-Some.ensures })))
+    counts_on shape now _ (noted _ (record { forgotten = refl; blocks = refl; lengths = refl; floor = refl; held = refl; withdrawn = refl; free = refl; given_is = refl; crossed_is = c.set_mark-in-Some.ensures })) c.args.self.now.count (λ q h. written_step shape v a w q (known.steps q h)) (c.first_not_given-self-in-Some.ensures.steps now (noted _ (record { forgotten = refl; blocks = refl; lengths = refl; floor = refl; held = refl; withdrawn = refl; free = refl; given_is = refl; crossed_is = c.set_mark-in-Some.ensures }))) (c.first_not_given-self-in-Some.ensures.stop now (noted _ (record { forgotten = refl; blocks = refl; lengths = refl; floor = refl; held = refl; withdrawn = refl; free = refl; given_is = refl; crossed_is = c.set_mark-in-Some.ensures })))
 
 pub returns-in_default : goal.returns-in_default
 returns-in_default c =

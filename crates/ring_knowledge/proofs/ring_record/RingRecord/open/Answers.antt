@@ -6,7 +6,9 @@ pub returns : goal.returns
 returns c = λ shape v known. let m = known.marks in record {
   marks = record {
     allowed = m.allowed;
+    passed = m.passed;
     queue = m.queue;
+    count = m.count;
     floor = m.floor;
     held = refl;
     begins = m.begins;

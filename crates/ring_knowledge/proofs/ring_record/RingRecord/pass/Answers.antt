@@ -2,9 +2,9 @@ use Rattle.ring_knowledge.proofs.Words.{◌∙◌, ap, subst, arith, length, num
 use Rattle.ring_knowledge.proofs.PassedBlocks.{behind_reached}
 use Rattle.ring_knowledge.proofs.ring_record.RingRecord.pass.Goals as goal
 
-pub returns-then-position-len : goal.returns-then-position-len
-returns-then-position-len c = λ v known later given declared.
-    absurd (omega (arith, c.number-position.ensures, c.len.ensures, c.args.self.now.blocks.ok.0, c.if-position-len.true, ap length known.marks.queue, declared))
+pub returns-then-position-end : goal.returns-then-position-end
+returns-then-position-end c = λ v known later given declared.
+    absurd (omega (arith, c.number-position.ensures, c.end.ensures.value, c.if-position-end.true, known.marks.count, declared))
 
 pub returns : goal.returns
 returns c = λ v known later given declared.

@@ -6,14 +6,15 @@ use Rattle.ring_knowledge.proofs.ring_record.RingRecord.reach.Goals as goal
 
 pub returns : goal.returns
 returns c = λ v known later reached.
-    let from : c.number-passed.result ≡ floor_number v = c.number-passed.ensures ∙ sym (ap number known.marks.floor) in record {
+    let from : c.number-passed.result ≡ floor_number v = c.number-passed.ensures ∙ sym (ap number known.marks.floor) in
+    c.forget_passed.ensures c.args.shape.now _ (record {
       marks =
           reached_marks c.args.shape.now v c.args.self.now known.marks c.args.spot later reached _
-          (record { blocks = refl; lengths = refl; floor = refl; held = refl; withdrawn = refl; free = refl })
+          (record { forgotten = refl; blocks = refl; lengths = refl; floor = refl; held = refl; withdrawn = refl; free = refl })
           (same_places _ _ _ _ _ _ _ _ (c.from-places.ensures ∙ c.places.ensures.count) from c.number.ensures
           (c.clear_places.ensures (omega (arith, from, c.number.ensures, later))))
           (same_numbers (λ q j. link_crossed c.args.shape.now q ≡ Some j) _ _ _ _ _ _ from c.number-2.ensures
           (c.clear_links.ensures (omega (arith, from, c.number-2.ensures, later))));
       steps = λ q h. reached_step c.args.shape.now v c.args.spot q ∙ known.steps q h;
       stop = reached_step c.args.shape.now v c.args.spot c.args.self.now.count ∙ known.stop;
-    }
+    })

@@ -1,4 +1,4 @@
-use Rattle.std.proofs.Common.{ap, sym, ◌∙◌, ◌≡◌}
+use Rattle.std.proofs.Common.{◌-◌, ap, sym, ◌∙◌, ◌≡◌}
 use Rattle.std.specs.Prelude.{if◌then◌else◌, slice_get}
 use Rattle.trb.specs.Block.{block_at, same_words, with_cycle}
 use Rattle.segments.specs.Places.{address_of, cycle_of}
@@ -7,13 +7,13 @@ use Rattle.ring_knowledge.proofs.Declared.{nothing_declared, declared_here, cycl
 use Rattle.ring_knowledge.proofs.ring_record.RingRecord.stands_declared.Goals as goal
 
 pub returns-in_default : goal.returns-in_default
-returns-in_default g c = nothing_declared _ _ _ (sym c.declared_block.ensures ∙ c.in_default.is)
+returns-in_default g c kept = nothing_declared _ _ _ (sym (c.declared_block.ensures.kept kept) ∙ c.in_default.is)
 
 pub block_of-standing-requires : goal.block_of-standing-requires
 block_of-standing-requires g c = rw c.address.ensures (address_aligned c.args.shape.now c.requires c.args.position)
 
 pub returns : goal.returns
-returns g c =
+returns g c kept =
     let words = g.M.WordMemory.words c.args.memory.now in
     let shape = c.args.shape.now in
     let p = c.args.position in
@@ -21,4 +21,4 @@ returns g c =
     let cycled : c.with_cycle.result ≡ with_cycle c.in-Some.declared (cycle_of shape p) =
     c.with_cycle.ensures.value ∙ ap (λ b. with_cycle c.in-Some.declared (if b then 1 else 0)) c.cycle.ensures ∙ ap (λ n. with_cycle c.in-Some.declared n) (cycle_bit shape p) in
     c.have_same_words.ensures ∙ ap (λ b. same_words b c.with_cycle.result) is ∙ ap (λ d. same_words (block_at words (address_of shape p)) d) cycled
-    ∙ declared_here (block_at words (address_of shape p)) c.in-Some.declared (cycle_of shape p) (slice_get c.args.self.now.blocks.items p) (sym c.declared_block.ensures ∙ c.in-Some.is)
+    ∙ declared_here (block_at words (address_of shape p)) c.in-Some.declared (cycle_of shape p) (slice_get c.args.self.now.blocks.items (p - c.args.self.now.forgotten)) (sym (c.declared_block.ensures.kept kept) ∙ c.in-Some.is)

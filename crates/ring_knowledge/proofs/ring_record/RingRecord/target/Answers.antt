@@ -5,10 +5,10 @@ use Rattle.ring_knowledge.proofs.ring_record.RingRecord.target.Goals as goal
 pub returns-clause-value : goal.returns-clause-value
 returns-clause-value c = λ v known.
     let floor = c.number.ensures ∙ sym (ap number known.marks.floor) in
-    let end : c.len.result ≡ declared v = omega (arith, c.len.ensures, c.args.self.now.blocks.ok.0, ap length known.marks.queue) in
-    c.spot_between.ensures.value (omega (arith, floor, end, known.marks.room, ap length known.marks.queue))
-    ∙ target_is c.args.shape.now v c.args.pointer c.args.cycle c.number.result c.len.result floor end
+    let end : c.end.result ≡ declared v = c.end.ensures.value ∙ sym known.marks.count in
+    c.spot_between.ensures.value (omega (arith, floor, end, known.marks.room))
+    ∙ target_is c.args.shape.now v c.args.pointer c.args.cycle c.number.result c.end.result floor end
 
 pub returns-clause-few : goal.returns-clause-few
 returns-clause-few c =
-    few_within c.spot_between.result c.len.result (omega (arith, c.len.ensures, c.args.self.now.blocks.ok.0)) c.spot_between.ensures.within
+    few_within c.spot_between.result c.end.result (c.end.ensures.few) c.spot_between.ensures.within

@@ -1,4 +1,5 @@
 use Rattle.std.proofs.Common.{sym, ◌∙◌, arith}
+use Rattle.ring_knowledge.proofs.Words.{rank_most}
 use Rattle.ring_knowledge.proofs.SpotsBetween.{none_between, first_between, first_beyond, first_other}
 use Rattle.ring_knowledge.proofs.ring_record.spots.spot_between.Goals as goal
 
@@ -20,3 +21,6 @@ pub returns-else-has_cycle-clause-value : goal.returns-else-has_cycle-clause-val
 returns-else-has_cycle-clause-value c = λ near.
     first_other c.args.shape.now c.spot_from.ensures.allowed c.args.pointer c.args.cycle c.args.least c.args.most near _ c.in-Some.ensures.spot
     (sym c.has_cycle.ensures ∙ c.if-has_cycle.false)
+
+pub returns-then-has_cycle-clause-from : goal.returns-then-has_cycle-clause-from
+returns-then-has_cycle-clause-from c = let later = c.in-Some.ensures.spot.later in let most = rank_most c.in-Some.spot in omega (arith, later, most)
