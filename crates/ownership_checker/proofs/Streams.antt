@@ -41,8 +41,8 @@ as_many_ended over row ts = length-map ts (ended_where over row)
 
 -- ---- a bad line before the first row
 
-pub opened_bad : (held held' : Option (List ℕ)) (e : StreamFault) → IsOpened held held' (Err e) → IfBadLine e (IsBadLine held held')
+pub opened_bad : (keeps : Bool) (held held' : Option (List ℕ)) (e : StreamFault) → IsOpened keeps held held' (Err e) → IfBadLine e (IsBadLine keeps held held')
 unfolding taken_by_calls
-opened_bad held held' (Line line fault) (came, used, (later, is, told)) = (came, used, (later, is, sym (calls_say_what_is_taken ring_row (came ++ later)) ∙ ap (joined_behind ring_row) told))
-opened_bad held held' Device told = tt
-opened_bad held held' Memory told = tt
+opened_bad keeps held held' (Line line fault) (came, used, (later, is, told)) = (came, used, (later, is, sym (calls_say_what_is_taken ring_row keeps (came ++ later)) ∙ ap (joined_behind ring_row) told))
+opened_bad keeps held held' Device told = tt
+opened_bad keeps held held' Memory told = tt

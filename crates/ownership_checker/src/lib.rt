@@ -3,12 +3,14 @@
 
 mod certificate;
 mod fault;
+mod kept_check;
 mod lease_count;
 mod stream_check;
 mod trace_check;
 
 pub use certificate::Certificate;
 pub use fault::{CheckFault, StreamCheckFault};
+pub use kept_check::check_kept;
 pub use lease_count::LeaseCount;
 pub use stream_check::{check_stream, count_stream};
 pub use trace_check::{check, check_in};

@@ -1,5 +1,5 @@
 //! The check of a trace whose rows are read one by one.
-ghost use Rattle.std.specs.Prelude.{◌≡◌, ℕ, List, Some, length, IfErr, IfOk};
+ghost use Rattle.std.specs.Prelude.{◌≡◌, false, ℕ, List, Some, length, IfErr, IfOk};
 ghost use Rattle.ring_knowledge.specs.declared.lease.Lease.{Lease};
 ghost use Rattle.ring_pass.specs.Accepted.{IsSound};
 ghost use Rattle.ring_pass.specs.Reading.{IsBadLine, OfTrace};
@@ -16,21 +16,22 @@ use row_reader::{RowReader, Source};
 use std::alloc::Global;
 
 /// Checks a trace as it is read, in one pass that keeps no row: its leases, or the first row that breaks a rule and the least of the rules
-/// that it breaks. Behind that row it reads on: where a later line is bad, the first such line is answered in place of the refusal. A trace
-/// that is accepted is harmless. A failure of the device is told, and nothing else is told as one. The memory is all zero.
+/// that it breaks. Behind that row it reads on: where a later line is bad, the first such line is answered in place of the refusal. Where the
+/// caller `keeps` all rows himself, the trace may have no more lines than one that is kept. A trace that is accepted is harmless. A failure of the device is told, and nothing else is told as one. The memory is all zero.
 pub fn check_stream<S: Source, M: WordMemory + Drop>(
     alloc: Global,
+    keeps: bool,
     source: &mut S,
     memory: M,
 ) -> Result<Certificate, StreamCheckFault>
     requires zero { (a : ℕ) → M.words memory a ≡ 0 }
-    ensures accepted { IfOk result (λ certificate. OfTrace (S.held source.old) (S.held source.new) (λ trace. IsSound trace certificate.leases.items)) }
-    ensures refused { IfErr result (λ e. IfRefusedIn e (λ row c. OfTrace (S.held source.old) (S.held source.new) (λ trace.
+    ensures accepted { IfOk result (λ certificate. OfTrace keeps (S.held source.old) (S.held source.new) (λ trace. IsSound trace certificate.leases.items)) }
+    ensures refused { IfErr result (λ e. IfRefusedIn e (λ row c. OfTrace keeps (S.held source.old) (S.held source.new) (λ trace.
         ring_verdict trace.header trace.first trace.rows ≡ Some (row, c)))) }
-    ensures line { IfErr result (λ e. IfBadLineIn e (IsBadLine (S.held source.old) (S.held source.new))) }
+    ensures line { IfErr result (λ e. IfBadLineIn e (IsBadLine keeps (S.held source.old) (S.held source.new))) }
     ensures failures { S.failed source.new ≡ told_in_check (S.failed source.old) result }
 {
-    let reader = RowReader::open(alloc, source)?;
+    let reader = RowReader::open(alloc, keeps, source)?;
     let book = LeaseBook::new(alloc, reader.header())?;
     match pass_rows(alloc, reader, source, book, memory)? {
         Passed::Whole(book) => Ok(Certificate {
@@ -47,13 +48,13 @@ pub fn count_stream<S: Source, M: WordMemory + Drop>(
     memory: M,
 ) -> Result<usize, StreamCheckFault>
     requires zero { (a : ℕ) → M.words memory a ≡ 0 }
-    ensures accepted { IfOk result (λ count. OfTrace (S.held source.old) (S.held source.new) (λ trace. (leases : List Lease) × IsSound trace leases × (count ≡ length leases))) }
-    ensures refused { IfErr result (λ e. IfRefusedIn e (λ row c. OfTrace (S.held source.old) (S.held source.new) (λ trace.
+    ensures accepted { IfOk result (λ count. OfTrace false (S.held source.old) (S.held source.new) (λ trace. (leases : List Lease) × IsSound trace leases × (count ≡ length leases))) }
+    ensures refused { IfErr result (λ e. IfRefusedIn e (λ row c. OfTrace false (S.held source.old) (S.held source.new) (λ trace.
         ring_verdict trace.header trace.first trace.rows ≡ Some (row, c)))) }
-    ensures line { IfErr result (λ e. IfBadLineIn e (IsBadLine (S.held source.old) (S.held source.new))) }
+    ensures line { IfErr result (λ e. IfBadLineIn e (IsBadLine false (S.held source.old) (S.held source.new))) }
     ensures failures { S.failed source.new ≡ told_in_check (S.failed source.old) result }
 {
-    let reader = RowReader::open(alloc, source)?;
+    let reader = RowReader::open(alloc, false, source)?;
     let log = LeaseCount::new(alloc, reader.header())?;
     match pass_rows(alloc, reader, source, log, memory)? {
         Passed::Whole(log) => Ok(log.count()),

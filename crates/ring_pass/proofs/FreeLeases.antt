@@ -1,5 +1,5 @@
 -- The leases that end where a descriptor is withdrawn, and those that begin where a ring is started or moved, as the log is told of them
-use Rattle.std.proofs.Common.{◌≡◌, ◌+◌, ◌<◌, ◌^◌, ◌∷◌, ◌∙◌, ℕ, zero, suc, Bool, true, false, not, List, [], Option, None, Some, slice_get, slice_index, length, arith, refl, ap, sym, subst}
+use Rattle.std.proofs.Common.{◌≤◌, ◌-◌, ◌≡◌, ◌+◌, ◌<◌, ◌^◌, ◌∷◌, ◌∙◌, ℕ, zero, suc, Bool, true, false, not, List, [], Option, None, Some, slice_get, slice_index, length, arith, refl, ap, sym, subst}
 use Rattle.std.proofs.lemmas.Bool.{or_parts}
 use Rattle.std.specs.Prelude.{is_some}
 use Rattle.std.specs.Option.{SomeIff}
@@ -53,11 +53,11 @@ pub none_high : (o : Option ℕ) (P : Type 0) (v : ℕ) → SomeIff o P v → is
 none_high None P v high none = high
 none_high (Some x) P v some none = absurd (cc)
 
-pub no_room : (shape : Shape) (v : RingView) (r : RingRecord) (p count : ℕ) → FollowsRing shape v r → count ≡ length_from v.lengths 0 p → count < 2 ^ 32 → p < 2 ^ 64 → (p + count < 2 ^ 64 → ⊥) → ⊥
-no_room shape v r p zero follows is few low high = high (omega (arith, low))
-no_room shape v r p (suc n) follows is few low high =
-    let some : 0 < slice_index r.lengths.items p = omega (arith, is, follows.marks.begins p) in
-    high (omega (arith, within r.lengths.items p some, r.lengths.ok.0, r.lengths.ok.1, r.lengths.small, few))
+pub no_room : (shape : Shape) (v : RingView) (r : RingRecord) (p count : ℕ) → FollowsRing shape v r → r.forgotten ≤ p → count ≡ length_from v.lengths 0 p → count < 2 ^ 32 → p < 2 ^ 64 → (p + count < 2 ^ 64 → ⊥) → ⊥
+no_room shape v r p zero follows kept is few low high = high (omega (arith, low))
+no_room shape v r p (suc n) follows kept is few low high =
+    let some : 0 < slice_index r.lengths.items (p - r.forgotten) = omega (arith, is, follows.marks.begins p kept) in
+    high (omega (arith, within r.lengths.items (p - r.forgotten) some, r.forgotten_fits, r.lengths.ok.0, r.lengths.ok.1, r.lengths.small, few))
 
 module _ {B : Type 0} (Holds : Header → List Lent → B → Type 0) (h : Header) (headed : IsHeader h) (k : Known) (ts : List Lent) (opened : AreOpen h k ts) (id n : ℕ) (there : IsTransferAt h id n) (row : ℕ) where
   abbrev q : Ring

@@ -8,3 +8,4 @@ pub mod RowsTaken
 pub mod RowsFit
 pub mod RowsRead
 pub mod FreeLeases
+pub mod KeptRows

@@ -11,7 +11,7 @@ use Rattle.row_reader.proofs.RowsFit.{answer_fits}
 use Rattle.ring_changes.specs.Histories.{FitsFields}
 use Rattle.ring_pass.specs.RingRows.{ring_row}
 
-fits : (row : TraceRow) → IsTraceRow row → FitsFields row
+pub fits : (row : TraceRow) → IsTraceRow row → FitsFields row
 fits (Plain row) is = is.0
 fits (Comes ring) is = record { low = is.0; kind = is.2; shape = is.1 }
 fits (Goes ring) is = is

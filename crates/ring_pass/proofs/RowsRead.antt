@@ -1,8 +1,8 @@
 -- How far the rows of a trace were read and passed, between which rings come and go, and what that says of the whole text
-use Rattle.std.proofs.Common.{◌≡◌, ℕ, ◌+◌, ◌-◌, ◌<◌, ◌≤◌, List, [], ◌∷◌, ◌++◌, ◌∙◌, true, false, Option, Some, None, Result, Ok, Err, All, refl, ap, sym, subst, arith, length, append-nil, append_assoc, add-zero}
+use Rattle.std.proofs.Common.{◌≡◌, ℕ, Bool, ◌+◌, ◌-◌, ◌<◌, ◌≤◌, List, [], ◌∷◌, ◌++◌, ◌∙◌, true, false, Option, Some, None, Result, Ok, Err, All, refl, ap, sym, subst, arith, length, append-nil, append_assoc, add-zero}
 use Rattle.std.specs.Prelude.{IfErr, IfOk, reverse}
 use Rattle.safety.proofs.Words.{All-cons, All-nil}
-use Rattle.traces.specs.Limits.{most_lines}
+use Rattle.traces.specs.Limits.{most_streamed_lines}
 use Rattle.traces.specs.declared.header.Header.{Header}
 use Rattle.traces.specs.declared.trace_row.TraceRow.{TraceRow}
 use Rattle.trace_reader.specs.declared.fault.LineFault.{LineFault}
@@ -12,7 +12,7 @@ use Rattle.row_reader.specs.declared.fault.StreamFault.{StreamFault}
 use Rattle.row_reader.specs.declared.fault.StreamFault.TheVariants.{Line, Device, Memory}
 use Rattle.row_reader.specs.Ahead.{ahead_of}
 use Rattle.row_reader.specs.Answers.{IsCall, has_ended}
-use Rattle.row_reader.specs.ReaderState.{IsOpened, progress_of}
+use Rattle.row_reader.specs.ReaderState.{IsOpened, IsSameTrace, progress_of}
 use Rattle.row_reader.specs.Streams.{HasRead, IfBadLine, IsBadTaken, OfStream}
 use Rattle.row_reader.proofs.Streams.{end_read, line_read_bad, opened_read, row_numbered, row_read}
 use Rattle.ring_knowledge.specs.declared.lease.Lease.{Lease}
@@ -39,11 +39,11 @@ Gives held held' r r' answer = IsCall (progress_of r) (progress_of r') held held
 
 -- a call gave a row, and the reading goes on
 pub record IsGiven (held held' : Option (List ℕ)) (r r' : RowReader) (row : ℕ × TraceRow) : Type 0 where
-  pub headed : r'.header ≡ r.header
+  pub headed : IsSameTrace r r'
   pub on : r'.ended ≡ false
   pub call : Gives held held' r r' (Ok (Some row))
 
-pub given : {o : Option (ℕ × TraceRow)} (held held' : Option (List ℕ)) (r r' : RowReader) (row : ℕ × TraceRow) → o ≡ Some row → r'.header ≡ r.header → r'.ended ≡ has_ended (Ok o) → Gives held held' r r' (Ok o) →
+pub given : {o : Option (ℕ × TraceRow)} (held held' : Option (List ℕ)) (r r' : RowReader) (row : ℕ × TraceRow) → o ≡ Some row → IsSameTrace r r' → r'.ended ≡ has_ended (Ok o) → Gives held held' r r' (Ok o) →
     IsGiven held held' r r' row
 given held held' r r' row is headed over call = record {
   headed = headed;
@@ -53,11 +53,11 @@ given held held' r r' row is headed over call = record {
 
 -- it gave none
 pub record IsOver (held held' : Option (List ℕ)) (r r' : RowReader) : Type 0 where
-  pub headed : r'.header ≡ r.header
+  pub headed : IsSameTrace r r'
   pub over : r'.ended ≡ true
   pub call : Gives held held' r r' (Ok None)
 
-pub ended : {o : Option (ℕ × TraceRow)} (held held' : Option (List ℕ)) (r r' : RowReader) → o ≡ None → r'.header ≡ r.header → r'.ended ≡ has_ended (Ok o) → Gives held held' r r' (Ok o) → IsOver held held' r r'
+pub ended : {o : Option (ℕ × TraceRow)} (held held' : Option (List ℕ)) (r r' : RowReader) → o ≡ None → IsSameTrace r r' → r'.ended ≡ has_ended (Ok o) → Gives held held' r r' (Ok o) → IsOver held held' r r'
 ended held held' r r' is headed over call = record {
   headed = headed;
   over = subst (λ (o : Option (ℕ × TraceRow)). r'.ended ≡ has_ended (Ok o)) is over;
@@ -65,12 +65,20 @@ ended held held' r r' is headed over call = record {
 }
 
 -- behind a row fewer lines may be left
-pub fewer_left : (held held' : Option (List ℕ)) (r r' : RowReader) (row : ℕ × TraceRow) → IsGiven held held' r r' row → most_lines - r'.lines < most_lines - r.lines
+pub fewer_left : (held held' : Option (List ℕ)) (r r' : RowReader) (row : ℕ × TraceRow) → IsGiven held held' r r' row → most_streamed_lines - r'.lines < most_streamed_lines - r.lines
 fewer_left held held' r r' row next = let n = row_numbered ring_row held held' r r' row next.on next.call in omega (arith, n.0, n.1, r'.within)
 
 -- each row is taken as it stands
 as_taken : (row one : TraceRow) → row ≡ one → ring_row row ≡ Ok one
 as_taken row one same = ap (λ (r : TraceRow). Ok r) same
+
+-- what is read of the text, as of the reader with which the reading began
+of_start : (before held : Option (List ℕ)) (start r : RowReader) (first : ℕ) (rows : List TraceRow) → IsSameTrace start r →
+    OfStream before held (λ text. text_taken r.keeps ring_row text ≡ Ok (record { header = r.header; first = first; rows = rows })) →
+    OfStream before held (λ text. text_taken start.keeps ring_row text ≡ Ok (record { header = start.header; first = first; rows = rows }))
+of_start before held start r first rows same read =
+    subst (λ (k : Bool). OfStream before held (λ text. text_taken k ring_row text ≡ Ok (record { header = start.header; first = first; rows = rows }))) same.1
+    (subst (λ (h : Header). OfStream before held (λ text. text_taken r.keeps ring_row text ≡ Ok (record { header = h; first = first; rows = rows }))) same.0 read)
 
 -- what a pass comes to that ends at a row
 pub ended_refused : {B : Type 0} (r : Result (Passed B) StreamFault) (P Q : ℕ → Refusal → Type 0) → ((row : ℕ) (c : Refusal) → P row c → Q row c) → IfOk r (λ p. IfRefusedRow p P) → IfOk r (λ p. IfRefusedRow p Q)
@@ -87,8 +95,8 @@ pub record IsUnderway {B M : Type 0} (words : M → ℕ → ℕ) (holds : List L
     (pass : RingPass B M) : Type 0 where
   pub past : List TraceRow
   pub numbered : reader.lines ≡ start.lines + length past
-  pub headed : reader.header ≡ start.header
-  pub read : (before : Option (List ℕ)) → IsOpened before held (Ok start) → HasRead ring_row before held' (start.lines + 1) (reverse past) reader
+  pub headed : IsSameTrace start reader
+  pub read : (keeps : Bool) (before : Option (List ℕ)) → IsOpened keeps before held (Ok start) → HasRead ring_row before held' (start.lines + 1) (reverse past) reader
   pub fitting : All FitsFields past
   pub passed : IsRingPassed words start.header past pass
   pub logged : (list : List Lease) → Begins (holds list) start log → IsRingLogged (holds list) start.header (start.lines + 1) past pass
@@ -99,8 +107,8 @@ module _ {B M : Type 0} (words : M → ℕ → ℕ) (holds : List Lease → Head
   underway pass h is passed logged = record {
     past = [];
     numbered = sym (add-zero start.lines);
-    headed = refl;
-    read = λ before opened. opened_read ring_row before held start opened;
+    headed = (refl, refl);
+    read = λ keeps before opened. opened_read ring_row keeps before held start opened;
     fitting = All-nil FitsFields;
     passed = subst (λ (x : Header). IsRingPassed words x [] pass) is passed;
     logged = λ list begins.
@@ -117,16 +125,16 @@ module _ {B M : Type 0} (words : M → ℕ → ℕ) (holds : List Lease → Head
       unfolding without_end
       room_so = let n = row_numbered ring_row held' held'' r r' row next.on next.call in omega (arith, n.0, n.1, u.numbered, r'.within)
 
-      pub few_so : (h : Header) × (past : List TraceRow) × IsRingPassed words h past pass × (length past ≤ most_lines)
+      pub few_so : (h : Header) × (past : List TraceRow) × IsRingPassed words h past pass × (length past ≤ most_streamed_lines)
       few_so = (start.header, u.past, u.passed, omega (arith, u.numbered, r.within))
 
       pub fits_so : FitsFields one
       fits_so = row_fits held' held'' r r' row one (as_taken row.1 one told) next.on next.call
 
-      read_so : (before : Option (List ℕ)) → IsOpened before held (Ok start) → HasRead ring_row before held'' (start.lines + 1) (reverse (one ∷ u.past)) r'
-      read_so before opened =
+      read_so : (keeps : Bool) (before : Option (List ℕ)) → IsOpened keeps before held (Ok start) → HasRead ring_row before held'' (start.lines + 1) (reverse (one ∷ u.past)) r'
+      read_so keeps before opened =
           subst (λ (rows : List TraceRow). HasRead ring_row before held'' (start.lines + 1) rows r') (reversed_more u.past one)
-          (row_read ring_row before held' held'' (start.lines + 1) (reverse u.past) r r' next.headed (u.read before opened) row one (as_taken row.1 one told) next.on next.call)
+          (row_read ring_row before held' held'' (start.lines + 1) (reverse u.past) r r' next.headed (u.read keeps before opened) row one (as_taken row.1 one told) next.on next.call)
 
       pub row_passed : (pass' : RingPass B M) → ((h : Header) (past : List TraceRow) → IsRingPassed words h past pass → IsRingPassed words h (one ∷ past) pass') →
           ((list : List Lease) (h : Header) (first : ℕ) (past : List TraceRow) → IsRingPassed words h past pass → row.0 ≡ first + length past → first + length past < without_end →
@@ -134,7 +142,7 @@ module _ {B M : Type 0} (words : M → ℕ → ℕ) (holds : List Lease → Head
       row_passed pass' passes logs = record {
         past = one ∷ u.past;
         numbered = let n = row_numbered ring_row held' held'' r r' row next.on next.call in omega (arith, n.0, n.1, u.numbered);
-        headed = next.headed ∙ u.headed;
+        headed = (next.headed.0 ∙ u.headed.0, next.headed.1 ∙ u.headed.1);
         read = read_so;
         fitting = All-cons FitsFields one u.past fits_so u.fitting;
         passed = passes start.header u.past u.passed;
@@ -144,31 +152,36 @@ module _ {B M : Type 0} (words : M → ℕ → ℕ) (holds : List Lease → Head
       -- a refused row, and rows behind it
       pub refused_so : (last : Option (List ℕ)) (c : Refusal) → ((h : Header) (past : List TraceRow) → IsRingPassed words h past pass → IsLeastOfRow (header_now h past) (known_now h past) one c) →
           ((before : Option (List ℕ)) (first : ℕ) (done : List TraceRow) → HasRead ring_row before held'' first done r' →
-          (more : List TraceRow) × OfStream before last (λ text. text_taken ring_row text ≡ Ok (with_rows r' first (done ++ more)))) →
-          (before : Option (List ℕ)) → IsOpened before held (Ok start) → OfTrace before last (λ trace. ring_verdict trace.header trace.first trace.rows ≡ Some (row.0, c))
-      refused_so last c least rest before opened =
+          (more : List TraceRow) × OfStream before last (λ text. text_taken r'.keeps ring_row text ≡ Ok (with_rows r' first (done ++ more)))) →
+          (keeps : Bool) (before : Option (List ℕ)) → IsOpened keeps before held (Ok start) → OfTrace keeps before last (λ trace. ring_verdict trace.header trace.first trace.rows ≡ Some (row.0, c))
+      refused_so last c least rest keeps before opened =
           let first = start.lines + 1 in
-          let read = rest before first (reverse (one ∷ u.past)) (read_so before opened) in
+          let read = rest before first (reverse (one ∷ u.past)) (read_so keeps before opened) in
           let rows : List TraceRow = reverse (one ∷ u.past) ++ read.0 in
           let refused : ring_verdict r'.header first rows ≡ Some (row.0, c) =
-          ap (λ (x : Header). ring_verdict x first rows) (next.headed ∙ u.headed)
+          ap (λ (x : Header). ring_verdict x first rows) (next.headed.0 ∙ u.headed.0)
           ∙ ap (ring_verdict start.header first) (one_more u.past one read.0)
           ∙ row_refused start.header first u.past read.0 one c u.passed.clean (least start.header u.past u.passed)
-          ∙ ap (λ n. Some (n, c)) (sym number_so) in
-          (with_rows r' first rows, read.1, refused)
+          ∙ ap (λ n. Some (n, c)) (sym number_so) in (
+            with_rows r' first rows,
+            subst (λ (k : Bool). OfStream before last (λ text. text_taken k ring_row text ≡ Ok (with_rows r' first rows))) (next.headed.1 ∙ u.headed.1 ∙ opened.0) read.1,
+            refused,
+          )
 
       -- a refused row, and a bad line behind it
       pub bad_behind : (last : Option (List ℕ)) (e : StreamFault) →
-          IfBadLine e (λ line fault. (before : Option (List ℕ)) (first : ℕ) (done : List TraceRow) → HasRead ring_row before held'' first done r' → IsBadTaken ring_row before last line fault) →
-          IfBadLine e (λ line fault. (before : Option (List ℕ)) → IsOpened before held (Ok start) → IsBadTaken ring_row before last line fault)
-      bad_behind last (Line line fault) told = λ before opened. told before (start.lines + 1) (reverse (one ∷ u.past)) (read_so before opened)
+          IfBadLine e (λ line fault. (before : Option (List ℕ)) (first : ℕ) (done : List TraceRow) → HasRead ring_row before held'' first done r' → IsBadTaken r'.keeps ring_row before last line fault) →
+          IfBadLine e (λ line fault. (keeps : Bool) (before : Option (List ℕ)) → IsOpened keeps before held (Ok start) → IsBadTaken keeps ring_row before last line fault)
+      bad_behind last (Line line fault) told = λ keeps before opened.
+          subst (λ (k : Bool). IsBadTaken k ring_row before last line fault) (next.headed.1 ∙ u.headed.1 ∙ opened.0) (told before (start.lines + 1) (reverse (one ∷ u.past)) (read_so keeps before opened))
       bad_behind last Device told = tt
       bad_behind last Memory told = tt
 
     -- a bad line is told
-    pub bad_so : (e : StreamFault) → r'.header ≡ r.header → r'.ended ≡ true → Gives held' held'' r r' (Err e) →
-        IfBadLine e (λ line fault. (before : Option (List ℕ)) → IsOpened before held (Ok start) → IsBadTaken ring_row before held'' line fault)
-    bad_so (Line line fault) headed over call = λ before opened. line_read_bad ring_row before held' held'' (start.lines + 1) (reverse u.past) r r' headed (u.read before opened) over line fault call
+    pub bad_so : (e : StreamFault) → IsSameTrace r r' → r'.ended ≡ true → Gives held' held'' r r' (Err e) →
+        IfBadLine e (λ line fault. (keeps : Bool) (before : Option (List ℕ)) → IsOpened keeps before held (Ok start) → IsBadTaken keeps ring_row before held'' line fault)
+    bad_so (Line line fault) headed over call = λ keeps before opened.
+        subst (λ (k : Bool). IsBadTaken k ring_row before held'' line fault) (u.headed.1 ∙ opened.0) (line_read_bad ring_row before held' held'' (start.lines + 1) (reverse u.past) r r' headed (u.read keeps before opened) over line fault call)
     bad_so Device headed over call = tt
     bad_so Memory headed over call = tt
 
@@ -176,17 +189,17 @@ module _ {B M : Type 0} (words : M → ℕ → ℕ) (holds : List Lease → Head
     pub whole_so : IsOver held' held'' r r' → (r.ended ≡ true → held'' ≡ held') →
         (kept : B) → ((h : Header) (past : List TraceRow) → IsRingPassed words h past pass → All FitsFields past → DoNoHarm h (reverse past)) →
         ((list : List Lease) (h : Header) (first : ℕ) (past : List TraceRow) → IsRingLogged (holds list) h first past pass → holds list (header_now h past) (ring_lents h first past) kept) →
-        (before : Option (List ℕ)) (list : List Lease) → IsOpened before held (Ok start) → Begins (holds list) start log → OfTrace before held'' (λ trace. IsWholeLog (holds list) trace kept)
-    whole_so last still kept harmless keeps before list opened begins =
+        (keeps : Bool) (before : Option (List ℕ)) (list : List Lease) → IsOpened keeps before held (Ok start) → Begins (holds list) start log → OfTrace keeps before held'' (λ trace. IsWholeLog (holds list) trace kept)
+    whole_so last still kept harmless logs keeps before list opened begins =
         let first = start.lines + 1 in (
           with_rows start first (reverse u.past),
-          subst (λ (h : Header). OfStream before held'' (λ text. text_taken ring_row text ≡ Ok (record { header = h; first = first; rows = reverse u.past }))) u.headed
-              (end_read ring_row before held' held'' first (reverse u.past) r r' last.headed (u.read before opened) last.over last.call still),
+          subst (λ (k : Bool). OfStream before held'' (λ text. text_taken k ring_row text ≡ Ok (with_rows start first (reverse u.past)))) opened.0 (of_start before held'' start r first (reverse u.past) u.headed
+              (end_read ring_row before held' held'' first (reverse u.past) r r' last.headed (u.read keeps before opened) last.over last.call still)),
           record {
             verdict = none_refused start.header first u.past u.passed.clean;
             walk = walks start.header u.passed.opening u.past u.fitting u.passed.clean;
             harmless = harmless start.header u.past u.passed u.fitting;
-            kept = rw (reversed_twice u.past) (keeps list start.header first u.past (u.logged list begins));
+            kept = rw (reversed_twice u.past) (logs list start.header first u.past (u.logged list begins));
           },
         )
 
@@ -194,13 +207,13 @@ module _ {B M : Type 0} (words : M → ℕ → ℕ) (holds : List Lease → Head
 
 -- further rows were read
 pub record IsReadOn (start : RowReader) (held held' : Option (List ℕ)) (reader : RowReader) : Type 0 where
-  pub headed : reader.header ≡ start.header
+  pub headed : IsSameTrace start reader
   pub read : (before : Option (List ℕ)) (first : ℕ) (done : List TraceRow) → HasRead ring_row before held first done start → (more : List TraceRow) × HasRead ring_row before held' first (done ++ more) reader
 
 module _ (start : RowReader) (held : Option (List ℕ)) where
   pub none_read_on : IsReadOn start held held start
   none_read_on = record {
-    headed = refl;
+    headed = (refl, refl);
     read = λ before first done read. ([], subst (λ (rows : List TraceRow). HasRead ring_row before held first rows start) (sym (append-nil done)) read);
   }
 
@@ -217,29 +230,30 @@ module _ (start : RowReader) (held : Option (List ℕ)) where
       )
 
       all_more : IsOver held' held'' r r' → (r.ended ≡ true → held'' ≡ held') → Read held' r →
-          (more : List TraceRow) × OfStream before held'' (λ text. text_taken ring_row text ≡ Ok (with_rows start first (done ++ more)))
+          (more : List TraceRow) × OfStream before held'' (λ text. text_taken start.keeps ring_row text ≡ Ok (with_rows start first (done ++ more)))
       all_more last still (more, read) = (
         more,
-        subst (λ (h : Header). OfStream before held'' (λ text. text_taken ring_row text ≡ Ok (record { header = h; first = first; rows = done ++ more }))) u.headed
+        of_start before held'' start r first (done ++ more) u.headed
             (end_read ring_row before held' held'' first (done ++ more) r r' last.headed read last.over last.call still),
       )
 
-      bad_more : r'.header ≡ r.header → r'.ended ≡ true → (line : ℕ) (fault : LineFault) → Gives held' held'' r r' (Err (Line line fault)) → Read held' r → IsBadTaken ring_row before held'' line fault
-      bad_more headed over line fault call (more, read) = line_read_bad ring_row before held' held'' first (done ++ more) r r' headed read over line fault call
+      bad_more : IsSameTrace r r' → r'.ended ≡ true → (line : ℕ) (fault : LineFault) → Gives held' held'' r r' (Err (Line line fault)) → Read held' r → IsBadTaken start.keeps ring_row before held'' line fault
+      bad_more headed over line fault call (more, read) =
+          subst (λ (k : Bool). IsBadTaken k ring_row before held'' line fault) u.headed.1 (line_read_bad ring_row before held' held'' first (done ++ more) r r' headed read over line fault call)
 
     pub row_read_on : (row : ℕ × TraceRow) → IsGiven held' held'' r r' row → IsReadOn start held held'' r'
     row_read_on row next = record {
-      headed = next.headed ∙ u.headed;
+      headed = (next.headed.0 ∙ u.headed.0, next.headed.1 ∙ u.headed.1);
       read = λ before first done read. row_more before first done row next row.1 (as_taken row.1 row.1 refl) (u.read before first done read);
     }
 
     pub all_read_on : IsOver held' held'' r r' → (r.ended ≡ true → held'' ≡ held') →
         (before : Option (List ℕ)) (first : ℕ) (done : List TraceRow) → HasRead ring_row before held first done start →
-        (more : List TraceRow) × OfStream before held'' (λ text. text_taken ring_row text ≡ Ok (with_rows start first (done ++ more)))
+        (more : List TraceRow) × OfStream before held'' (λ text. text_taken start.keeps ring_row text ≡ Ok (with_rows start first (done ++ more)))
     all_read_on last still before first done read = all_more before first done last still (u.read before first done read)
 
-    pub bad_read_on : (e : StreamFault) → r'.header ≡ r.header → r'.ended ≡ true → Gives held' held'' r r' (Err e) →
-        IfBadLine e (λ line fault. (before : Option (List ℕ)) (first : ℕ) (done : List TraceRow) → HasRead ring_row before held first done start → IsBadTaken ring_row before held'' line fault)
+    pub bad_read_on : (e : StreamFault) → IsSameTrace r r' → r'.ended ≡ true → Gives held' held'' r r' (Err e) →
+        IfBadLine e (λ line fault. (before : Option (List ℕ)) (first : ℕ) (done : List TraceRow) → HasRead ring_row before held first done start → IsBadTaken start.keeps ring_row before held'' line fault)
     bad_read_on (Line line fault) headed over call = λ before first done read. bad_more before first done headed over line fault call (u.read before first done read)
     bad_read_on Device headed over call = tt
     bad_read_on Memory headed over call = tt

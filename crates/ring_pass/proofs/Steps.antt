@@ -64,7 +64,7 @@ all_joined : (xs ys : List TraceRow) → All FitsFields xs → All FitsFields ys
 all_joined [] ys first second = second
 all_joined (x ∷ xs) ys first second = All-cons FitsFields x (xs ++ ys) (All-head FitsFields x xs first) (all_joined xs ys (All-tail FitsFields x xs first) second)
 
-all_reversed : (rows : List TraceRow) → All FitsFields rows → All FitsFields (reverse rows)
+pub all_reversed : (rows : List TraceRow) → All FitsFields rows → All FitsFields (reverse rows)
 all_reversed [] are = are
 all_reversed (row ∷ rows) are =
     subst (All FitsFields) (sym (reverse-append (row ∷ []) rows))

@@ -4,3 +4,4 @@ pub mod Passing
 pub mod RingRows
 pub mod Accepted
 pub mod Reading
+pub mod KeptRows

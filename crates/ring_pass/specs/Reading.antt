@@ -1,5 +1,5 @@
 -- What a pass over the rows of a trace comes to, between which rings come and go, and descriptors are withdrawn
-use Rattle.std.specs.Prelude.{◌≡◌, ℕ, List, [], Option, None, Ok, reverse}
+use Rattle.std.specs.Prelude.{◌≡◌, ℕ, Bool, List, [], Option, None, Ok, reverse}
 use Rattle.traces.specs.declared.header.Header.{Header}
 use Rattle.traces.specs.declared.trace_row.TraceRow.{TraceRow}
 use Rattle.trace_reader.specs.DriverRows.{text_taken}
@@ -18,13 +18,13 @@ use Rattle.ring_pass.specs.Rules.{ring_verdict}
 use Rattle.ring_pass.specs.declared.reading.Passed.{Passed}
 use Rattle.ring_pass.specs.declared.reading.Passed.TheVariants.{Whole, Refused}
 
--- so it is of a trace that this text says
-abbrev pub OfTrace : Option (List ℕ) → Option (List ℕ) → (TraceText → Type 0) → Type 0
-OfTrace held held' P = (trace : TraceText) × OfStream held held' (λ text. text_taken ring_row text ≡ Ok trace) × P trace
+-- so it is of a trace that this text says, whose rows are all kept or not
+abbrev pub OfTrace : Bool → Option (List ℕ) → Option (List ℕ) → (TraceText → Type 0) → Type 0
+OfTrace keeps held held' P = (trace : TraceText) × OfStream held held' (λ text. text_taken keeps ring_row text ≡ Ok trace) × P trace
 
 -- this is the first bad line of this text, and its least fault
-abbrev pub IsBadLine : Option (List ℕ) → Option (List ℕ) → ℕ → LineFault → Type 0
-IsBadLine held held' line fault = IsBadTaken ring_row held held' line fault
+abbrev pub IsBadLine : Bool → Option (List ℕ) → Option (List ℕ) → ℕ → LineFault → Type 0
+IsBadLine keeps held held' line fault = IsBadTaken keeps ring_row held held' line fault
 
 -- the log keeps the leases that stand before the first row
 abbrev pub Begins : {B : Type 0} → (Header → List Lent → B → Type 0) → RowReader → B → Type 0

@@ -2,8 +2,12 @@
 //! begin and end with it are told to a log.
 #![tactic(auto)]
 
+mod behind;
+mod kept;
 mod pass;
 mod reading;
 
+pub use behind::Behind;
+pub use kept::pass_kept;
 pub use pass::RingPass;
 pub use reading::{Passed, pass_rows};

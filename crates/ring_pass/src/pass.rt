@@ -2,7 +2,7 @@
 ghost use Rattle.std.specs.Prelude.{◌≡◌, ◌+◌, ◌<◌, ◌≤◌, ℕ, true, false, [], ◌∷◌, List, All, length, map, reverse, IfErr, IfOk, OnOk};
 ghost use Rattle.trb.specs.declared.ring_kind.RingKind.TheVariants.{Xfer};
 ghost use Rattle.traces.specs.Header.{IsHeader};
-ghost use Rattle.traces.specs.Limits.{most_lines};
+ghost use Rattle.traces.specs.Limits.{most_streamed_lines};
 ghost use Rattle.traces.specs.declared.header.Header.{Header};
 ghost use Rattle.traces.specs.declared.trace_row.TraceRow.{TraceRow};
 ghost use Rattle.traces.specs.declared.trace_row.TraceRow.TheVariants.{Plain, Comes, Goes};
@@ -20,10 +20,12 @@ ghost use Rattle.ring_changes.specs.Histories.{FitsFields, header_now, known_now
 ghost use Rattle.trace_record.specs.Steps.{IfRefused};
 ghost use Rattle.trace_record.specs.WordPlaces.{IsOwnedSo, IsPlaced};
 ghost use Rattle.ring_pass.specs.Clean.{IsLeastOfRow};
+ghost use Rattle.ring_pass.specs.KeptRows.{IsBehind};
 ghost use Rattle.ring_pass.specs.Passing.{DoNoHarm, IsRingLogged, IsRingPassed};
 
 mod withdrawals;
 
+use crate::behind::Behind;
 use guest_memory::WordMemory;
 use lease_book::{LeaseLog, RangeIndexes};
 use lease_rows::note_row;
@@ -87,7 +89,7 @@ impl<B: LeaseLog + Drop, M: WordMemory + Drop> RingPass<B, M> {
     /// Checks what the driver did, or an event that it read, and notes it and its leases.
     #[inline(always)]
     pub fn driver_row(&mut self, number: u32, row: &Row) -> Result<(), StepFault>
-        requires so_far { (h : Header) × (past : List TraceRow) × IsRingPassed M.words h past self.old × (length past ≤ most_lines) }
+        requires so_far { (h : Header) × (past : List TraceRow) × IsRingPassed M.words h past self.old × (length past ≤ most_streamed_lines) }
         ensures passed { OnOk result ((h : Header) (past : List TraceRow) → IsRingPassed M.words h past self.old → IsRingPassed M.words h (Plain row.now ∷ past) self.new) }
         ensures logged { OnOk result ((list : List Lease) (h : Header) (first : ℕ) (past : List TraceRow) → IsRingPassed M.words h past self.old →
             number ≡ first + length past → first + length past < without_end →
@@ -119,7 +121,7 @@ impl<B: LeaseLog + Drop, M: WordMemory + Drop> RingPass<B, M> {
         owned: bool,
     ) -> Result<(), StepFault>
         requires unwithdrawn { self.old.has_withdrawn ≡ false }
-        requires so_far { (h : Header) × (past : List TraceRow) × IsRingPassed M.words h past self.old × (length past ≤ most_lines) }
+        requires so_far { (h : Header) × (past : List TraceRow) × IsRingPassed M.words h past self.old × (length past ≤ most_streamed_lines) }
         ensures passed { OnOk result ((h : Header) (past : List TraceRow) → IsRingPassed M.words h past self.old → IsPlaced self.old.header (known_now h past) row.now place →
             IsOwnedSo self.old.header (known_now h past) row.now owned → IsRingPassed M.words h (Plain row.now ∷ past) self.new) }
         ensures logged { OnOk result ((list : List Lease) (h : Header) (first : ℕ) (past : List TraceRow) → IsRingPassed M.words h past self.old →
@@ -229,6 +231,34 @@ impl<B: LeaseLog + Drop, M: WordMemory + Drop> RingPass<B, M> {
         note_going(&mut self.log, number, ring, known);
     }
 
+    /// The rings that are there.
+    pub fn header(&self) -> &Header
+        ensures { result.now ≡ self.now.header }
+    {
+        &self.header
+    }
+
+    /// What finds them.
+    pub fn finder(&self) -> &Finder
+        ensures { result.now ≡ self.now.finder }
+    {
+        &self.finder
+    }
+
+    /// What is known after the rows so far.
+    pub fn record(&self) -> &TraceRecord
+        ensures { result.now ≡ self.now.record }
+    {
+        &self.record
+    }
+
+    /// The memory after the rows so far.
+    pub fn memory(&self) -> &M
+        ensures { result.now ≡ self.now.memory }
+    {
+        &self.memory
+    }
+
     /// The log of the rows so far. No run of the controller's model beside them does harm.
     pub fn into_log(self) -> B
         ensures harmless { (h : Header) (past : List TraceRow) → IsRingPassed M.words h past self → All FitsFields past → DoNoHarm h (reverse past) }
@@ -236,5 +266,19 @@ impl<B: LeaseLog + Drop, M: WordMemory + Drop> RingPass<B, M> {
             B.holds list (header_now h past) (ring_lents h first past) result }
     {
         self.log
+    }
+
+    /// What is known behind the rows so far, and the log of their leases.
+    pub fn into_behind(self) -> Behind<B, M>
+        ensures behind { (h : Header) (past : List TraceRow) → IsRingPassed M.words h past self → IsBehind M.words h past result }
+        ensures logged { (list : List Lease) (h : Header) (first : ℕ) (past : List TraceRow) → IsRingLogged (B.holds list) h first past self →
+            B.holds list (header_now h past) (ring_lents h first past) result.log }
+    {
+        Behind {
+            header: self.header,
+            kept: self.record,
+            memory: self.memory,
+            log: self.log,
+        }
     }
 }

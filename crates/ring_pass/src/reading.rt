@@ -1,9 +1,9 @@
 ghost use Rattle.trace_record.specs.declared.fault.StepFault.TheVariants.{Refused};
-ghost use Rattle.std.specs.Prelude.{◌≡◌, ℕ, List, Option, Some, Ok, ◌++◌, IfErr, IfOk, OnOk};
+ghost use Rattle.std.specs.Prelude.{◌≡◌, ℕ, Bool, List, Option, Some, Ok, ◌++◌, IfErr, IfOk, OnOk};
 ghost use Rattle.traces.specs.declared.trace_row.TraceRow.{TraceRow};
 ghost use Rattle.ring_knowledge.specs.declared.lease.Lease.{Lease};
 ghost use Rattle.row_reader.specs.Answers.{told_failures};
-ghost use Rattle.row_reader.specs.ReaderState.{IsOpened};
+ghost use Rattle.row_reader.specs.ReaderState.{IsOpened, keeps_rows};
 ghost use Rattle.row_reader.specs.Streams.{HasRead, IfBadLine, OfStream};
 ghost use Rattle.trace_reader.specs.DriverRows.{text_taken};
 ghost use Rattle.ring_pass.specs.Reading.{Begins, IfRefusedRow, IfWhole, IsBadLine, IsWholeLog, OfTrace, with_rows};
@@ -39,12 +39,12 @@ pub fn pass_rows<S: Source, B: LeaseLog + Drop, M: WordMemory + Drop>(
     memory: M,
 ) -> Result<Passed<B>, StreamFault>
     requires zero { (a : ℕ) → M.words memory a ≡ 0 }
-    ensures whole { IfOk result (λ passed. IfWhole passed (λ kept. (held : Option (List ℕ)) (list : List Lease) → IsOpened held (S.held source.old) (Ok reader) →
-        Begins (B.holds list) reader log → OfTrace held (S.held source.new) (λ trace. IsWholeLog (B.holds list) trace kept))) }
-    ensures refused { IfOk result (λ passed. IfRefusedRow passed (λ row c. (held : Option (List ℕ)) → IsOpened held (S.held source.old) (Ok reader) →
-        OfTrace held (S.held source.new) (λ trace. ring_verdict trace.header trace.first trace.rows ≡ Some (row, c)))) }
-    ensures line { IfErr result (λ e. IfBadLine e (λ line fault. (held : Option (List ℕ)) → IsOpened held (S.held source.old) (Ok reader) →
-        IsBadLine held (S.held source.new) line fault)) }
+    ensures whole { IfOk result (λ passed. IfWhole passed (λ kept. (keeps : Bool) (held : Option (List ℕ)) (list : List Lease) → IsOpened keeps held (S.held source.old) (Ok reader) →
+        Begins (B.holds list) reader log → OfTrace keeps held (S.held source.new) (λ trace. IsWholeLog (B.holds list) trace kept))) }
+    ensures refused { IfOk result (λ passed. IfRefusedRow passed (λ row c. (keeps : Bool) (held : Option (List ℕ)) → IsOpened keeps held (S.held source.old) (Ok reader) →
+        OfTrace keeps held (S.held source.new) (λ trace. ring_verdict trace.header trace.first trace.rows ≡ Some (row, c)))) }
+    ensures line { IfErr result (λ e. IfBadLine e (λ line fault. (keeps : Bool) (held : Option (List ℕ)) → IsOpened keeps held (S.held source.old) (Ok reader) →
+        IsBadLine keeps held (S.held source.new) line fault)) }
     ensures failures { S.failed source.new ≡ told_failures (S.failed source.old) result }
 {
     let mut reader = reader;
@@ -86,9 +86,9 @@ fn ended_at<S: Source, B: Drop>(
     ensures whole { IfOk result (λ passed. IfWhole passed (λ kept. ⊥)) }
     ensures refused { IfOk result (λ passed. IfRefusedRow passed (λ row c. (row ≡ number) × (fault ≡ Refused c) ×
         ((held : Option (List ℕ)) (first : ℕ) (done : List TraceRow) → HasRead ring_row held (S.held source.old) first done reader.old →
-        (more : List TraceRow) × OfStream held (S.held source.new) (λ text. text_taken ring_row text ≡ Ok (with_rows reader.old first (done ++ more)))))) }
+        (more : List TraceRow) × OfStream held (S.held source.new) (λ text. text_taken (keeps_rows reader.old) ring_row text ≡ Ok (with_rows reader.old first (done ++ more)))))) }
     ensures line { IfErr result (λ e. IfBadLine e (λ line fault. (held : Option (List ℕ)) (first : ℕ) (done : List TraceRow) → HasRead ring_row held (S.held source.old) first done reader.old →
-        IsBadLine held (S.held source.new) line fault)) }
+        IsBadLine (keeps_rows reader.old) held (S.held source.new) line fault)) }
     ensures failures { S.failed source.new ≡ told_failures (S.failed source.old) result }
 {
     match fault {
@@ -106,9 +106,9 @@ fn ended_at<S: Source, B: Drop>(
 /// Reads the rows that are left, for a bad line among theirs.
 fn read_on<S: Source>(reader: &mut RowReader, source: &mut S) -> Result<(), StreamFault>
     ensures rows { OnOk result ((held : Option (List ℕ)) (first : ℕ) (done : List TraceRow) → HasRead ring_row held (S.held source.old) first done reader.old →
-        (more : List TraceRow) × OfStream held (S.held source.new) (λ text. text_taken ring_row text ≡ Ok (with_rows reader.old first (done ++ more)))) }
+        (more : List TraceRow) × OfStream held (S.held source.new) (λ text. text_taken (keeps_rows reader.old) ring_row text ≡ Ok (with_rows reader.old first (done ++ more)))) }
     ensures line { IfErr result (λ e. IfBadLine e (λ line fault. (held : Option (List ℕ)) (first : ℕ) (done : List TraceRow) → HasRead ring_row held (S.held source.old) first done reader.old →
-        IsBadLine held (S.held source.new) line fault)) }
+        IsBadLine (keeps_rows reader.old) held (S.held source.new) line fault)) }
     ensures failures { S.failed source.new ≡ told_failures (S.failed source.old) result }
 {
     while let Some(next) = reader.next_row(source)? {

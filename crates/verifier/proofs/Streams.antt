@@ -25,11 +25,11 @@ use Rattle.ring_pass.specs.RingRows.{ring_row}
 use Rattle.ring_pass.specs.Rules.{ring_verdict}
 
 -- a bad line before the rows
-pub opened_bad : (held held' : Option (List ℕ)) (e : StreamFault) → IsOpened held held' (Err e) → IfBadLine e (IsBadLine held held')
+pub opened_bad : (keeps : Bool) (held held' : Option (List ℕ)) (e : StreamFault) → IsOpened keeps held held' (Err e) → IfBadLine e (IsBadLine keeps held held')
 unfolding taken_by_calls
-opened_bad held held' (Line line fault) (came, used, (later, is, told)) = (came, used, (later, is, sym (calls_say_what_is_taken ring_row (came ++ later)) ∙ ap (joined_behind ring_row) told))
-opened_bad held held' Device is = tt
-opened_bad held held' Memory is = tt
+opened_bad keeps held held' (Line line fault) (came, used, (later, is, told)) = (came, used, (later, is, sym (calls_say_what_is_taken ring_row keeps (came ++ later)) ∙ ap (joined_behind ring_row) told))
+opened_bad keeps held held' Device is = tt
+opened_bad keeps held held' Memory is = tt
 
 -- what a pass has answered
 pub is_whole : {B : Type 0} (P : B → Type 0) (passed : Passed B) (log : B) → passed ≡ Whole log → IfWhole passed P → P log

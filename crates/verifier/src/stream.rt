@@ -1,5 +1,5 @@
 //! The verifier of a certificate beside a trace whose rows are read one by one.
-ghost use Rattle.std.specs.Prelude.{◌≡◌, ℕ, IfErr, IfOk};
+ghost use Rattle.std.specs.Prelude.{◌≡◌, false, ℕ, IfErr, IfOk};
 ghost use Rattle.row_reader.specs.Answers.{told_failures};
 ghost use Rattle.row_reader.specs.Streams.{IfBadLine};
 ghost use Rattle.ring_pass.specs.Accepted.{IsVerified};
@@ -22,11 +22,11 @@ pub fn verify_stream<S: Source, M: WordMemory + Drop>(
     leases: &[Lease],
 ) -> Result<bool, StreamFault>
     requires zero { (a : ℕ) → M.words memory a ≡ 0 }
-    ensures verdict { IfOk result (λ yes. OfTrace (S.held source.old) (S.held source.new) (λ trace. IsVerified trace leases.now yes)) }
-    ensures line { IfErr result (λ e. IfBadLine e (IsBadLine (S.held source.old) (S.held source.new))) }
+    ensures verdict { IfOk result (λ yes. OfTrace false (S.held source.old) (S.held source.new) (λ trace. IsVerified trace leases.now yes)) }
+    ensures line { IfErr result (λ e. IfBadLine e (IsBadLine false (S.held source.old) (S.held source.new))) }
     ensures failures { S.failed source.new ≡ told_failures (S.failed source.old) result }
 {
-    let reader = RowReader::open(alloc, source)?;
+    let reader = RowReader::open(alloc, false, source)?;
     let log = CertificateLog::new(alloc, reader.header(), leases)?;
     match pass_rows(alloc, reader, source, log, memory)? {
         Passed::Whole(log) => Ok(log.is_whole()),

@@ -1,10 +1,10 @@
 //! Rows of a trace in which descriptors are withdrawn: of what was handed over some may be the driver's again, until the ring is started or moved
 //! (xHCI 4.6.9, 4.6.10).
 ghost use Rattle.std.specs.Prelude.{◌≡◌, ◌+◌, ◌<◌, ◌≤◌, ℕ, true, false, [], ◌∷◌, List, Some, length, IfErr, OnOk};
-ghost use Rattle.segments.specs.RingView.{Restores, Withdraws as WithdrawsAt};
+ghost use Rattle.segments.specs.RingView.{Restores, Withdraws as WithdrawsAt, floor_number};
 ghost use Rattle.traces.specs.Header.{IsHeader, ring_with};
 ghost use Rattle.traces.specs.declared.header.Header.{Header};
-ghost use Rattle.traces.specs.Limits.{most_lines};
+ghost use Rattle.traces.specs.Limits.{most_streamed_lines};
 ghost use Rattle.traces.specs.declared.row.Row.TheVariants.{Write};
 ghost use Rattle.traces.specs.declared.trace_row.TraceRow.{TraceRow};
 ghost use Rattle.traces.specs.declared.trace_row.TraceRow.TheVariants.{Plain, Withdraws};
@@ -82,7 +82,7 @@ impl<B: LeaseLog + Drop, M: WordMemory + Drop> RingPass<B, M> {
         Ok(())
     }
 
-    /// The leases end of the blocks of the descriptor that begins at a position of the ring with this ID.
+    /// The leases end of the blocks of the descriptor that begins at a position, from the floor on, of the ring with this ID.
     fn end_withdrawn(&mut self, number: u32, id: u8, position: u64)
         requires headed { IsHeader self.old.header }
         requires found { IsFinder self.old.header.rings self.old.finder }
@@ -93,7 +93,7 @@ impl<B: LeaseLog + Drop, M: WordMemory + Drop> RingPass<B, M> {
         ensures memory { self.new.memory ≡ self.old.memory }
         ensures withdrawn { self.new.has_withdrawn ≡ self.old.has_withdrawn }
         ensures ended { (list : List Lease) (k : Known) (memory : ℕ → ℕ) (ts : List Lent) → FollowsTrace self.old.header k self.old.record memory →
-            is_transfer_ring (ring_with self.old.header id) ≡ true → AreOpen self.old.header k ts → HoldsAll (B.holds list) self.old.header ts self.old.log self.old.ranges →
+            floor_number (k.ring id) ≤ position → is_transfer_ring (ring_with self.old.header id) ≡ true → AreOpen self.old.header k ts → HoldsAll (B.holds list) self.old.header ts self.old.log self.old.ranges →
             HoldsAll (B.holds list) self.old.header (passed_on (open_leases self.old.header k) (open_leases self.old.header (on_ring self.old.header k id (WithdrawsAt position))) number ts) self.new.log self.new.ranges }
     {
         let Some(at) = transfer_ring(&self.header, &self.finder, id) else {
@@ -111,7 +111,7 @@ impl<B: LeaseLog + Drop, M: WordMemory + Drop> RingPass<B, M> {
     /// Checks a row of the driver where descriptors were withdrawn, and notes it and its leases.
     #[inline(never)]
     pub(super) fn row_behind_withdrawals(&mut self, number: u32, row: &Row) -> Result<(), StepFault>
-        requires so_far { (h : Header) × (past : List TraceRow) × IsRingPassed M.words h past self.old × (length past ≤ most_lines) }
+        requires so_far { (h : Header) × (past : List TraceRow) × IsRingPassed M.words h past self.old × (length past ≤ most_streamed_lines) }
         requires withdrawn { self.old.has_withdrawn ≡ true }
         ensures passed { OnOk result ((h : Header) (past : List TraceRow) → IsRingPassed M.words h past self.old → IsRingPassed M.words h (Plain row.now ∷ past) self.new) }
         ensures logged { OnOk result ((list : List Lease) (h : Header) (first : ℕ) (past : List TraceRow) → IsRingPassed M.words h past self.old →
@@ -135,7 +135,7 @@ impl<B: LeaseLog + Drop, M: WordMemory + Drop> RingPass<B, M> {
 
     /// The least rule that a row breaks that starts or moves a ring which doesn't stand as declared: rule 33 is the last of them.
     fn refusal_left(&mut self, row: &Row, place: WordPlace) -> StepFault
-        requires so_far { (h : Header) × (past : List TraceRow) × IsRingPassed M.words h past self.old × (length past ≤ most_lines) }
+        requires so_far { (h : Header) × (past : List TraceRow) × IsRingPassed M.words h past self.old × (length past ≤ most_streamed_lines) }
         ensures { IfRefused result (λ c. (h : Header) (past : List TraceRow) → IsRingPassed M.words h past self.old → IsPlaced self.old.header (known_now h past) row.now place →
             (known_now h past).stopped ≡ false → is_left (header_now h past) (known_now h past) (ring_restored (header_now h past) (known_now h past) row.now) ≡ true →
             IsLeastOfRow (header_now h past) (known_now h past) (Plain row.now) c) }
@@ -160,7 +160,7 @@ impl<B: LeaseLog + Drop, M: WordMemory + Drop> RingPass<B, M> {
         requires headed { IsHeader self.old.header }
         requires found { IsFinder self.old.header.rings self.old.finder }
         requires as_many { length self.old.record.rings.items ≡ length self.old.header.rings }
-        requires few_reads { IsWithin self.old.record.events most_lines }
+        requires few_reads { IsWithin self.old.record.events most_streamed_lines }
         ensures header { self.new.header ≡ self.old.header }
         ensures finder { self.new.finder ≡ self.old.finder }
         ensures log { self.new.log ≡ self.old.log }

@@ -11,7 +11,7 @@ use Rattle.ownership_checker.proofs.stream_check.check_stream.Goals as goal
 pub returns-in_err-reader-clause-line : goal.returns-in_err-reader-clause-line
 returns-in_err-reader-clause-line g c =
     let p = err_from_is_err_and c.from_residual.result c.from_residual.ensures.1 in
-    rw (p.1, p.2) (opened_bad (g.S.Source.held c.args.source.now) (g.S.Source.held c.open.new.source) c.in_err-reader.field-0.0 c.in_err-reader.ensures.opened)
+    rw (p.1, p.2) (opened_bad c.args.keeps (g.S.Source.held c.args.source.now) (g.S.Source.held c.open.new.source) c.in_err-reader.field-0.0 c.in_err-reader.ensures.opened)
 
 pub returns-in-Whole-clause-accepted : goal.returns-in-Whole-clause-accepted
 returns-in-Whole-clause-accepted g c =
@@ -20,7 +20,7 @@ returns-in-Whole-clause-accepted g c =
     let whole = rw c.in-Whole.is at c.in_ok-book-2.ensures.whole in
     let begins : (first : ℕ) → FollowsLeases c.in_ok-reader.reader.header first [] c.in_ok-book.book =
     subst (λ (h : Header). (first : ℕ) → FollowsLeases h first [] c.in_ok-book.book) c.header.ensures.said c.in_ok-book.ensures in
-    let so = whole held [] c.in_ok-reader.ensures.opened begins in
+    let so = whole c.args.keeps held [] c.in_ok-reader.ensures.opened begins in
     let trace = so.0 in
     let past = reverse trace.rows in
     (trace, so.1, sound_so HoldsLents trace book so.2 c.into_leases.result.items (c.into_leases.ensures (header_now trace.header past) (ring_lents trace.header trace.first past) so.2.kept))
@@ -28,4 +28,4 @@ returns-in-Whole-clause-accepted g c =
 pub returns-in-Refused-clause-refused : goal.returns-in-Refused-clause-refused
 returns-in-Refused-clause-refused g c =
     let refused = rw c.in-Refused.is at c.in_ok-book-2.ensures.refused in
-    refused (g.S.Source.held c.args.source.now) c.in_ok-reader.ensures.opened
+    refused c.args.keeps (g.S.Source.held c.args.source.now) c.in_ok-reader.ensures.opened

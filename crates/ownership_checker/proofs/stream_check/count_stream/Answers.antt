@@ -1,4 +1,4 @@
-use Rattle.std.proofs.Common.{◌≡◌, ℕ, [], length, subst}
+use Rattle.std.proofs.Common.{false, ◌≡◌, ℕ, [], length, subst}
 use Rattle.std.specs.Prelude.{reverse}
 use Rattle.std.proofs.lemmas.Result.{err_from_is_err_and}
 use Rattle.traces.specs.declared.header.Header.{Header}
@@ -12,7 +12,7 @@ use Rattle.ownership_checker.proofs.stream_check.count_stream.Goals as goal
 pub returns-in_err-reader-clause-line : goal.returns-in_err-reader-clause-line
 returns-in_err-reader-clause-line g c =
     let p = err_from_is_err_and c.from_residual.result c.from_residual.ensures.1 in
-    rw (p.1, p.2) (opened_bad (g.S.Source.held c.args.source.now) (g.S.Source.held c.open.new.source) c.in_err-reader.field-0.0 c.in_err-reader.ensures.opened)
+    rw (p.1, p.2) (opened_bad false (g.S.Source.held c.args.source.now) (g.S.Source.held c.open.new.source) c.in_err-reader.field-0.0 c.in_err-reader.ensures.opened)
 
 pub returns-in-Whole-clause-accepted : goal.returns-in-Whole-clause-accepted
 returns-in-Whole-clause-accepted g c =
@@ -21,7 +21,7 @@ returns-in-Whole-clause-accepted g c =
     let whole = rw c.in-Whole.is at c.in_ok-log-2.ensures.whole in
     let begins : (first : ℕ) → c.in_ok-log.log.count ≡ length (lents c.in_ok-reader.reader.header first []) =
     subst (λ (h : Header). (first : ℕ) → c.in_ok-log.log.count ≡ length (lents h first [])) c.header.ensures.said c.in_ok-log.ensures in
-    let so = whole held [] c.in_ok-reader.ensures.opened begins in
+    let so = whole false held [] c.in_ok-reader.ensures.opened begins in
     let trace = so.0 in
     let past = reverse trace.rows in
     let count = c.count.ensures [] (header_now trace.header past) (ring_lents trace.header trace.first past) so.2.kept in
@@ -30,4 +30,4 @@ returns-in-Whole-clause-accepted g c =
 pub returns-in-Refused-clause-refused : goal.returns-in-Refused-clause-refused
 returns-in-Refused-clause-refused g c =
     let refused = rw c.in-Refused.is at c.in_ok-log-2.ensures.refused in
-    refused (g.S.Source.held c.args.source.now) c.in_ok-reader.ensures.opened
+    refused false (g.S.Source.held c.args.source.now) c.in_ok-reader.ensures.opened

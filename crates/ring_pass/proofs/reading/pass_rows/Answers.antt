@@ -31,7 +31,7 @@ returns-in_err-number-clause-line g c =
     let r' = c.next_row.new.self in
     let p = err_from_is_err_and c.from_residual-in_err-number.result c.from_residual-in_err-number.ensures.1 in
     rw (p.1, p.2)
-    (bad_so words holds c.args.reader held c.args.log held' held'' r r' c.loop-pass.pass c.loop-pass.invariant.0 c.in_err-number.field-0.0 c.in_err-number.ensures.header c.in_err-number.ensures.over c.in_err-number.ensures.answer)
+    (bad_so words holds c.args.reader held c.args.log held' held'' r r' c.loop-pass.pass c.loop-pass.invariant.0 c.in_err-number.field-0.0 c.in_err-number.ensures.same c.in_err-number.ensures.over c.in_err-number.ensures.answer)
 
 pub returns-clause-whole : goal.returns-clause-whole
 returns-clause-whole g c =
@@ -42,7 +42,7 @@ returns-clause-whole g c =
     let held'' = g.S.Source.held c.next_row.new.source in
     let r = c.loop-pass.reader in
     let r' = c.next_row.new.self in
-    whole_so words holds c.args.reader held c.args.log held' held'' r r' c.loop-pass.pass c.loop-pass.invariant.0 (ended held' held'' r r' c.in_default.is c.in_ok-number.ensures.header c.in_ok-number.ensures.over c.in_ok-number.ensures.answer) (λ ended. ap (g.S.Source.held) (c.next_row.ensures.nothing ended).2) c.into_log.result c.into_log.ensures.harmless c.into_log.ensures.logged
+    whole_so words holds c.args.reader held c.args.log held' held'' r r' c.loop-pass.pass c.loop-pass.invariant.0 (ended held' held'' r r' c.in_default.is c.in_ok-number.ensures.same c.in_ok-number.ensures.over c.in_ok-number.ensures.answer) (λ ended. ap (g.S.Source.held) (c.next_row.ensures.nothing ended).2) c.into_log.result c.into_log.ensures.harmless c.into_log.ensures.logged
 
 pub ring_comes-requires-clause-transfers : goal.ring_comes-requires-clause-transfers
 ring_comes-requires-clause-transfers g c =
@@ -54,7 +54,7 @@ ring_comes-requires-clause-transfers g c =
     let r = c.loop-pass.reader in
     let r' = c.next_row.new.self in
     let row : ℕ × TraceRow = (c.in-Some.number, c.in-Some.row) in
-    let next = given held' held'' r r' row c.in-Some.is c.in_ok-number.ensures.header c.in_ok-number.ensures.over c.in_ok-number.ensures.answer in
+    let next = given held' held'' r r' row c.in-Some.is c.in_ok-number.ensures.same c.in_ok-number.ensures.over c.in_ok-number.ensures.answer in
     let told : row.1 ≡ Comes c.in-Comes.ring = c.in-Comes.is in
     ap (λ (q : Ring). q.shape.kind) c.into_ring.ensures ∙ (fits_so words holds c.args.reader held c.args.log held' held'' r r' c.loop-pass.pass c.loop-pass.invariant.0 row next (Comes c.in-Comes.ring) told).kind
 
@@ -65,7 +65,7 @@ loop-pass-smaller-in-Ok g c =
     let r = c.loop-pass.reader in
     let r' = c.next_row.new.self in
     let row : ℕ × TraceRow = (c.in-Some.number, c.in-Some.row) in
-    let next = given held' held'' r r' row c.in-Some.is c.in_ok-number.ensures.header c.in_ok-number.ensures.over c.in_ok-number.ensures.answer in
+    let next = given held' held'' r r' row c.in-Some.is c.in_ok-number.ensures.same c.in_ok-number.ensures.over c.in_ok-number.ensures.answer in
     fewer_left held' held'' r r' row next
 
 pub loop-pass-preserved-in-Ok : goal.loop-pass-preserved-in-Ok
@@ -78,7 +78,7 @@ loop-pass-preserved-in-Ok g c =
     let r = c.loop-pass.reader in
     let r' = c.next_row.new.self in
     let row : ℕ × TraceRow = (c.in-Some.number, c.in-Some.row) in
-    let next = given held' held'' r r' row c.in-Some.is c.in_ok-number.ensures.header c.in_ok-number.ensures.over c.in_ok-number.ensures.answer in
+    let next = given held' held'' r r' row c.in-Some.is c.in_ok-number.ensures.same c.in_ok-number.ensures.over c.in_ok-number.ensures.answer in
     let one : TraceRow = Plain c.in-Plain.row in
     let told : row.1 ≡ one = c.in-Plain.is in (
       row_passed words holds c.args.reader held c.args.log held' held'' r r' c.loop-pass.pass c.loop-pass.invariant.0 row next one told c.driver_row.new.self c.in-Ok.ensures.passed c.in-Ok.ensures.logged,
@@ -95,14 +95,14 @@ returns-in-Err-clause-refused g c =
     let r = c.loop-pass.reader in
     let r' = c.next_row.new.self in
     let row : ℕ × TraceRow = (c.in-Some.number, c.in-Some.row) in
-    let next = given held' held'' r r' row c.in-Some.is c.in_ok-number.ensures.header c.in_ok-number.ensures.over c.in_ok-number.ensures.answer in
+    let next = given held' held'' r r' row c.in-Some.is c.in_ok-number.ensures.same c.in_ok-number.ensures.over c.in_ok-number.ensures.answer in
     let one : TraceRow = Plain c.in-Plain.row in
     let told : row.1 ≡ one = c.in-Plain.is in
     let last = g.S.Source.held c.ended_at.new.source in
-    ended_refused c.ended_at.result _ _ (λ number x so before opened.
+    ended_refused c.ended_at.result _ _ (λ number x so keeps before opened.
     let least = subst (λ (e : StepFault). IfRefused e (λ y. (h : Header) (past : List TraceRow) → IsRingPassed words h past c.loop-pass.pass → IsLeastOfRow (header_now h past) (known_now h past) one y)) so.1 c.in-Err.ensures.refused in
-    subst (λ n. OfTrace before last (λ trace. ring_verdict trace.header trace.first trace.rows ≡ Some (n, x))) (sym so.0)
-    (refused_so words holds c.args.reader held c.args.log held' held'' r r' c.loop-pass.pass c.loop-pass.invariant.0 row next one told last x least so.2 before opened)) c.ended_at.ensures.refused
+    subst (λ n. OfTrace keeps before last (λ trace. ring_verdict trace.header trace.first trace.rows ≡ Some (n, x))) (sym so.0)
+    (refused_so words holds c.args.reader held c.args.log held' held'' r r' c.loop-pass.pass c.loop-pass.invariant.0 row next one told last x least so.2 keeps before opened)) c.ended_at.ensures.refused
 
 pub returns-in-Err-clause-line : goal.returns-in-Err-clause-line
 returns-in-Err-clause-line g c =
@@ -114,7 +114,7 @@ returns-in-Err-clause-line g c =
     let r = c.loop-pass.reader in
     let r' = c.next_row.new.self in
     let row : ℕ × TraceRow = (c.in-Some.number, c.in-Some.row) in
-    let next = given held' held'' r r' row c.in-Some.is c.in_ok-number.ensures.header c.in_ok-number.ensures.over c.in_ok-number.ensures.answer in
+    let next = given held' held'' r r' row c.in-Some.is c.in_ok-number.ensures.same c.in_ok-number.ensures.over c.in_ok-number.ensures.answer in
     let one : TraceRow = Plain c.in-Plain.row in
     let told : row.1 ≡ one = c.in-Plain.is in
     let last = g.S.Source.held c.ended_at.new.source in
@@ -127,7 +127,7 @@ loop-pass-smaller-in-Ok-ring_comes g c =
     let r = c.loop-pass.reader in
     let r' = c.next_row.new.self in
     let row : ℕ × TraceRow = (c.in-Some.number, c.in-Some.row) in
-    let next = given held' held'' r r' row c.in-Some.is c.in_ok-number.ensures.header c.in_ok-number.ensures.over c.in_ok-number.ensures.answer in
+    let next = given held' held'' r r' row c.in-Some.is c.in_ok-number.ensures.same c.in_ok-number.ensures.over c.in_ok-number.ensures.answer in
     fewer_left held' held'' r r' row next
 
 pub loop-pass-preserved-in-Ok-ring_comes : goal.loop-pass-preserved-in-Ok-ring_comes
@@ -140,7 +140,7 @@ loop-pass-preserved-in-Ok-ring_comes g c =
     let r = c.loop-pass.reader in
     let r' = c.next_row.new.self in
     let row : ℕ × TraceRow = (c.in-Some.number, c.in-Some.row) in
-    let next = given held' held'' r r' row c.in-Some.is c.in_ok-number.ensures.header c.in_ok-number.ensures.over c.in_ok-number.ensures.answer in
+    let next = given held' held'' r r' row c.in-Some.is c.in_ok-number.ensures.same c.in_ok-number.ensures.over c.in_ok-number.ensures.answer in
     let one : TraceRow = Comes c.in-Comes.ring in
     let told : row.1 ≡ one = c.in-Comes.is in
     let passed = rw c.into_ring.ensures at c.in-Ok-ring_comes.ensures.passed in
@@ -159,15 +159,15 @@ returns-in-Err-ring_comes-clause-refused g c =
     let r = c.loop-pass.reader in
     let r' = c.next_row.new.self in
     let row : ℕ × TraceRow = (c.in-Some.number, c.in-Some.row) in
-    let next = given held' held'' r r' row c.in-Some.is c.in_ok-number.ensures.header c.in_ok-number.ensures.over c.in_ok-number.ensures.answer in
+    let next = given held' held'' r r' row c.in-Some.is c.in_ok-number.ensures.same c.in_ok-number.ensures.over c.in_ok-number.ensures.answer in
     let one : TraceRow = Comes c.in-Comes.ring in
     let told : row.1 ≡ one = c.in-Comes.is in
     let refused = rw c.into_ring.ensures at c.in-Err-ring_comes.ensures.refused in
     let last = g.S.Source.held c.ended_at-in-Err-ring_comes.new.source in
-    ended_refused c.ended_at-in-Err-ring_comes.result _ _ (λ number x so before opened.
+    ended_refused c.ended_at-in-Err-ring_comes.result _ _ (λ number x so keeps before opened.
     let least = subst (λ (e : StepFault). IfRefused e (λ y. (h : Header) (past : List TraceRow) → IsRingPassed words h past c.loop-pass.pass → IsLeastOfRow (header_now h past) (known_now h past) one y)) so.1 refused in
-    subst (λ n. OfTrace before last (λ trace. ring_verdict trace.header trace.first trace.rows ≡ Some (n, x))) (sym so.0)
-    (refused_so words holds c.args.reader held c.args.log held' held'' r r' c.loop-pass.pass c.loop-pass.invariant.0 row next one told last x least so.2 before opened)) c.ended_at-in-Err-ring_comes.ensures.refused
+    subst (λ n. OfTrace keeps before last (λ trace. ring_verdict trace.header trace.first trace.rows ≡ Some (n, x))) (sym so.0)
+    (refused_so words holds c.args.reader held c.args.log held' held'' r r' c.loop-pass.pass c.loop-pass.invariant.0 row next one told last x least so.2 keeps before opened)) c.ended_at-in-Err-ring_comes.ensures.refused
 
 pub returns-in-Err-ring_comes-clause-line : goal.returns-in-Err-ring_comes-clause-line
 returns-in-Err-ring_comes-clause-line g c =
@@ -179,7 +179,7 @@ returns-in-Err-ring_comes-clause-line g c =
     let r = c.loop-pass.reader in
     let r' = c.next_row.new.self in
     let row : ℕ × TraceRow = (c.in-Some.number, c.in-Some.row) in
-    let next = given held' held'' r r' row c.in-Some.is c.in_ok-number.ensures.header c.in_ok-number.ensures.over c.in_ok-number.ensures.answer in
+    let next = given held' held'' r r' row c.in-Some.is c.in_ok-number.ensures.same c.in_ok-number.ensures.over c.in_ok-number.ensures.answer in
     let one : TraceRow = Comes c.in-Comes.ring in
     let told : row.1 ≡ one = c.in-Comes.is in
     let last = g.S.Source.held c.ended_at-in-Err-ring_comes.new.source in
@@ -192,7 +192,7 @@ loop-pass-smaller g c =
     let r = c.loop-pass.reader in
     let r' = c.next_row.new.self in
     let row : ℕ × TraceRow = (c.in-Some.number, c.in-Some.row) in
-    let next = given held' held'' r r' row c.in-Some.is c.in_ok-number.ensures.header c.in_ok-number.ensures.over c.in_ok-number.ensures.answer in
+    let next = given held' held'' r r' row c.in-Some.is c.in_ok-number.ensures.same c.in_ok-number.ensures.over c.in_ok-number.ensures.answer in
     fewer_left held' held'' r r' row next
 
 pub loop-pass-smaller-in-Ok-ring_goes : goal.loop-pass-smaller-in-Ok-ring_goes
@@ -202,7 +202,7 @@ loop-pass-smaller-in-Ok-ring_goes g c =
     let r = c.loop-pass.reader in
     let r' = c.next_row.new.self in
     let row : ℕ × TraceRow = (c.in-Some.number, c.in-Some.row) in
-    let next = given held' held'' r r' row c.in-Some.is c.in_ok-number.ensures.header c.in_ok-number.ensures.over c.in_ok-number.ensures.answer in
+    let next = given held' held'' r r' row c.in-Some.is c.in_ok-number.ensures.same c.in_ok-number.ensures.over c.in_ok-number.ensures.answer in
     fewer_left held' held'' r r' row next
 
 pub loop-pass-preserved-in-Ok-ring_goes : goal.loop-pass-preserved-in-Ok-ring_goes
@@ -215,7 +215,7 @@ loop-pass-preserved-in-Ok-ring_goes g c =
     let r = c.loop-pass.reader in
     let r' = c.next_row.new.self in
     let row : ℕ × TraceRow = (c.in-Some.number, c.in-Some.row) in
-    let next = given held' held'' r r' row c.in-Some.is c.in_ok-number.ensures.header c.in_ok-number.ensures.over c.in_ok-number.ensures.answer in
+    let next = given held' held'' r r' row c.in-Some.is c.in_ok-number.ensures.same c.in_ok-number.ensures.over c.in_ok-number.ensures.answer in
     let one : TraceRow = Goes c.in-Goes.id in
     let told : row.1 ≡ one = c.in-Goes.is in (
       row_passed words holds c.args.reader held c.args.log held' held'' r r' c.loop-pass.pass c.loop-pass.invariant.0 row next one told c.ring_goes.new.self c.in-Ok-ring_goes.ensures.passed c.in-Ok-ring_goes.ensures.logged,
@@ -232,14 +232,14 @@ returns-in-Err-ring_goes-clause-refused g c =
     let r = c.loop-pass.reader in
     let r' = c.next_row.new.self in
     let row : ℕ × TraceRow = (c.in-Some.number, c.in-Some.row) in
-    let next = given held' held'' r r' row c.in-Some.is c.in_ok-number.ensures.header c.in_ok-number.ensures.over c.in_ok-number.ensures.answer in
+    let next = given held' held'' r r' row c.in-Some.is c.in_ok-number.ensures.same c.in_ok-number.ensures.over c.in_ok-number.ensures.answer in
     let one : TraceRow = Goes c.in-Goes.id in
     let told : row.1 ≡ one = c.in-Goes.is in
     let last = g.S.Source.held c.ended_at-in-Err-ring_goes.new.source in
-    ended_refused c.ended_at-in-Err-ring_goes.result _ _ (λ number x so before opened.
+    ended_refused c.ended_at-in-Err-ring_goes.result _ _ (λ number x so keeps before opened.
     let least = subst (λ (e : StepFault). IfRefused e (λ y. (h : Header) (past : List TraceRow) → IsRingPassed words h past c.loop-pass.pass → IsLeastOfRow (header_now h past) (known_now h past) one y)) so.1 c.in-Err-ring_goes.ensures.refused in
-    subst (λ n. OfTrace before last (λ trace. ring_verdict trace.header trace.first trace.rows ≡ Some (n, x))) (sym so.0)
-    (refused_so words holds c.args.reader held c.args.log held' held'' r r' c.loop-pass.pass c.loop-pass.invariant.0 row next one told last x least so.2 before opened)) c.ended_at-in-Err-ring_goes.ensures.refused
+    subst (λ n. OfTrace keeps before last (λ trace. ring_verdict trace.header trace.first trace.rows ≡ Some (n, x))) (sym so.0)
+    (refused_so words holds c.args.reader held c.args.log held' held'' r r' c.loop-pass.pass c.loop-pass.invariant.0 row next one told last x least so.2 keeps before opened)) c.ended_at-in-Err-ring_goes.ensures.refused
 
 pub returns-in-Err-ring_goes-clause-line : goal.returns-in-Err-ring_goes-clause-line
 returns-in-Err-ring_goes-clause-line g c =
@@ -251,7 +251,7 @@ returns-in-Err-ring_goes-clause-line g c =
     let r = c.loop-pass.reader in
     let r' = c.next_row.new.self in
     let row : ℕ × TraceRow = (c.in-Some.number, c.in-Some.row) in
-    let next = given held' held'' r r' row c.in-Some.is c.in_ok-number.ensures.header c.in_ok-number.ensures.over c.in_ok-number.ensures.answer in
+    let next = given held' held'' r r' row c.in-Some.is c.in_ok-number.ensures.same c.in_ok-number.ensures.over c.in_ok-number.ensures.answer in
     let one : TraceRow = Goes c.in-Goes.id in
     let told : row.1 ≡ one = c.in-Goes.is in
     let last = g.S.Source.held c.ended_at-in-Err-ring_goes.new.source in
@@ -267,7 +267,7 @@ loop-pass-preserved g c =
     let r = c.loop-pass.reader in
     let r' = c.next_row.new.self in
     let row : ℕ × TraceRow = (c.in-Some.number, c.in-Some.row) in
-    let next = given held' held'' r r' row c.in-Some.is c.in_ok-number.ensures.header c.in_ok-number.ensures.over c.in_ok-number.ensures.answer in
+    let next = given held' held'' r r' row c.in-Some.is c.in_ok-number.ensures.same c.in_ok-number.ensures.over c.in_ok-number.ensures.answer in
     let one : TraceRow = Withdraws c.in-Withdraws.ring c.in-Withdraws.position in
     let told : row.1 ≡ one = c.in-Withdraws.is in (
       row_passed words holds c.args.reader held c.args.log held' held'' r r' c.loop-pass.pass c.loop-pass.invariant.0 row next one told c.descriptor_withdrawn.new.self c.in-Ok-descriptor_withdrawn.ensures.passed c.in-Ok-descriptor_withdrawn.ensures.logged,
@@ -284,14 +284,14 @@ returns-in-Err-descriptor_withdrawn-clause-refused g c =
     let r = c.loop-pass.reader in
     let r' = c.next_row.new.self in
     let row : ℕ × TraceRow = (c.in-Some.number, c.in-Some.row) in
-    let next = given held' held'' r r' row c.in-Some.is c.in_ok-number.ensures.header c.in_ok-number.ensures.over c.in_ok-number.ensures.answer in
+    let next = given held' held'' r r' row c.in-Some.is c.in_ok-number.ensures.same c.in_ok-number.ensures.over c.in_ok-number.ensures.answer in
     let one : TraceRow = Withdraws c.in-Withdraws.ring c.in-Withdraws.position in
     let told : row.1 ≡ one = c.in-Withdraws.is in
     let last = g.S.Source.held c.ended_at-in-Err-descriptor_withdrawn.new.source in
-    ended_refused c.ended_at-in-Err-descriptor_withdrawn.result _ _ (λ number x so before opened.
+    ended_refused c.ended_at-in-Err-descriptor_withdrawn.result _ _ (λ number x so keeps before opened.
     let least = subst (λ (e : StepFault). IfRefused e (λ y. (h : Header) (past : List TraceRow) → IsRingPassed words h past c.loop-pass.pass → IsLeastOfRow (header_now h past) (known_now h past) one y)) so.1 c.in-Err-descriptor_withdrawn.ensures.refused in
-    subst (λ n. OfTrace before last (λ trace. ring_verdict trace.header trace.first trace.rows ≡ Some (n, x))) (sym so.0)
-    (refused_so words holds c.args.reader held c.args.log held' held'' r r' c.loop-pass.pass c.loop-pass.invariant.0 row next one told last x least so.2 before opened)) c.ended_at-in-Err-descriptor_withdrawn.ensures.refused
+    subst (λ n. OfTrace keeps before last (λ trace. ring_verdict trace.header trace.first trace.rows ≡ Some (n, x))) (sym so.0)
+    (refused_so words holds c.args.reader held c.args.log held' held'' r r' c.loop-pass.pass c.loop-pass.invariant.0 row next one told last x least so.2 keeps before opened)) c.ended_at-in-Err-descriptor_withdrawn.ensures.refused
 
 pub returns-in-Err-descriptor_withdrawn-clause-line : goal.returns-in-Err-descriptor_withdrawn-clause-line
 returns-in-Err-descriptor_withdrawn-clause-line g c =
@@ -303,7 +303,7 @@ returns-in-Err-descriptor_withdrawn-clause-line g c =
     let r = c.loop-pass.reader in
     let r' = c.next_row.new.self in
     let row : ℕ × TraceRow = (c.in-Some.number, c.in-Some.row) in
-    let next = given held' held'' r r' row c.in-Some.is c.in_ok-number.ensures.header c.in_ok-number.ensures.over c.in_ok-number.ensures.answer in
+    let next = given held' held'' r r' row c.in-Some.is c.in_ok-number.ensures.same c.in_ok-number.ensures.over c.in_ok-number.ensures.answer in
     let one : TraceRow = Withdraws c.in-Withdraws.ring c.in-Withdraws.position in
     let told : row.1 ≡ one = c.in-Withdraws.is in
     let last = g.S.Source.held c.ended_at-in-Err-descriptor_withdrawn.new.source in

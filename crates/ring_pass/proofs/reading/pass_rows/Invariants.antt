@@ -1,5 +1,5 @@
 use Rattle.std.proofs.Common.{◌≡◌, ◌-◌}
-use Rattle.traces.specs.Limits.{most_lines}
+use Rattle.traces.specs.Limits.{most_streamed_lines}
 use Rattle.ring_pass.proofs.RowsRead.{IsUnderway}
 use Rattle.ring_pass.proofs.reading.pass_rows.Given as goal
 
@@ -9,4 +9,4 @@ invariant-loop-pass g l =
 
 -- the lines that a trace may still have
 abbrev pub decreases-loop-pass : goal.decreases-loop-pass
-decreases-loop-pass g l = most_lines - l.reader.lines
+decreases-loop-pass g l = most_streamed_lines - l.reader.lines

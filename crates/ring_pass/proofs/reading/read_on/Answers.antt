@@ -15,7 +15,7 @@ loop-next-preserved g c =
     let r = c.loop-next.reader in
     let r' = c.next_row.new.self in
     let row : ℕ × TraceRow = c.in-Some.next in
-    let next = given held' held'' r r' row c.in-Some.is c.in_ok-next.ensures.header c.in_ok-next.ensures.over c.in_ok-next.ensures.answer in
+    let next = given held' held'' r r' row c.in-Some.is c.in_ok-next.ensures.same c.in_ok-next.ensures.over c.in_ok-next.ensures.answer in
     (row_read_on c.args.reader.now held held' held'' r r' c.loop-next.invariant.0 row next, c.in_ok-next.ensures.failures ∙ c.loop-next.invariant.1)
 
 pub loop-next-smaller : goal.loop-next-smaller
@@ -25,7 +25,7 @@ loop-next-smaller g c =
     let r = c.loop-next.reader in
     let r' = c.next_row.new.self in
     let row : ℕ × TraceRow = c.in-Some.next in
-    let next = given held' held'' r r' row c.in-Some.is c.in_ok-next.ensures.header c.in_ok-next.ensures.over c.in_ok-next.ensures.answer in
+    let next = given held' held'' r r' row c.in-Some.is c.in_ok-next.ensures.same c.in_ok-next.ensures.over c.in_ok-next.ensures.answer in
     fewer_left held' held'' r r' row next
 
 pub returns-clause-rows : goal.returns-clause-rows
@@ -35,7 +35,7 @@ returns-clause-rows g c =
     let held'' = g.S.Source.held c.next_row.new.source in
     let r = c.loop-next.reader in
     let r' = c.next_row.new.self in
-    all_read_on c.args.reader.now held held' held'' r r' c.loop-next.invariant.0 (ended held' held'' r r' c.in_default.is c.in_ok-next.ensures.header c.in_ok-next.ensures.over c.in_ok-next.ensures.answer) (λ ended. ap (g.S.Source.held) (c.next_row.ensures.nothing ended).2)
+    all_read_on c.args.reader.now held held' held'' r r' c.loop-next.invariant.0 (ended held' held'' r r' c.in_default.is c.in_ok-next.ensures.same c.in_ok-next.ensures.over c.in_ok-next.ensures.answer) (λ ended. ap (g.S.Source.held) (c.next_row.ensures.nothing ended).2)
 
 pub returns-in_err-next-clause-line : goal.returns-in_err-next-clause-line
 returns-in_err-next-clause-line g c =
@@ -45,4 +45,4 @@ returns-in_err-next-clause-line g c =
     let r = c.loop-next.reader in
     let r' = c.next_row.new.self in
     let p = err_from_is_err_and c.from_residual.result c.from_residual.ensures.1 in
-    rw (p.1, p.2) (bad_read_on c.args.reader.now held held' held'' r r' c.loop-next.invariant.0 c.in_err-next.field-0.0 c.in_err-next.ensures.header c.in_err-next.ensures.over c.in_err-next.ensures.answer)
+    rw (p.1, p.2) (bad_read_on c.args.reader.now held held' held'' r r' c.loop-next.invariant.0 c.in_err-next.field-0.0 c.in_err-next.ensures.same c.in_err-next.ensures.over c.in_err-next.ensures.answer)

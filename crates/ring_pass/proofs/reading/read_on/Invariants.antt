@@ -1,5 +1,5 @@
 use Rattle.std.proofs.Common.{◌≡◌, ◌-◌}
-use Rattle.traces.specs.Limits.{most_lines}
+use Rattle.traces.specs.Limits.{most_streamed_lines}
 use Rattle.ring_pass.proofs.RowsRead.{IsReadOn}
 use Rattle.ring_pass.proofs.reading.read_on.Given as goal
 
@@ -8,4 +8,4 @@ invariant-loop-next g l = IsReadOn l.fn.reader (g.S.Source.held l.fn.source) (g.
 
 -- the lines that a trace may still have
 abbrev pub decreases-loop-next : goal.decreases-loop-next
-decreases-loop-next g l = most_lines - l.reader.lines
+decreases-loop-next g l = most_streamed_lines - l.reader.lines

@@ -61,7 +61,8 @@ returns-clause-logged g c = λ list h first past p numbered room held.
     let q = same_still words h past before p later c.end_withdrawn.ensures.header c.end_withdrawn.ensures.finder c.end_withdrawn.ensures.record c.end_withdrawn.ensures.memory c.end_withdrawn.ensures.withdrawn in
     let keeps = q.tracked.keeps on in
     let step = c.in_ok-check_withdrawing.ensures.ok k q.tracked.follows keeps (contexts_fit later.header k keeps) on in
+    let from = c.in_ok-check_withdrawing.ensures.from k q.tracked.follows keeps (contexts_fit later.header k keeps) in
     let good = subst (λ (x : Header). is_bad_withdraw x k id at ≡ false) c.end_withdrawn.ensures.header step.kept.1 in
     behind_logged words Holds other h first past before p room (λ y. on_ring y k id (WithdrawsAt at)) (ring_lents h first (Withdraws id at ∷ past)) (withdrawn_now h first past id at) c.args.number numbered later.log later.ranges
-    (c.end_withdrawn.ensures.ended list k (words before.memory) (ring_lents h first past) p.tracked.follows (withdrawn_transfer before.header k (p.tracked.keeps on) id at good)
+    (c.end_withdrawn.ensures.ended list k (words before.memory) (ring_lents h first past) p.tracked.follows from (withdrawn_transfer before.header k (p.tracked.keeps on) id at good)
     (opened_before words Holds other h first past before p room) (held_before words Holds other h first past before p room before.log before.ranges held))
