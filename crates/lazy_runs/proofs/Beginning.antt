@@ -1,26 +1,18 @@
 -- The lazy run before the first row
-use Rattle.std.proofs.Common.{List, [], refl, inl}
-use Rattle.lazy_runs.proofs.Words.{false≢true, none-some, is_open, Header, Row, opening, nothing, opens}
-use Rattle.controller_model.specs.Steps as steps
-use Rattle.ring_knowledge.specs.Learned as learns
-use Rattle.lazy_runs.specs.Lazy as lazy
-use Rattle.lazy_runs.proofs.Follows.{Follows, Carries}
+use Rattle.std.proofs.Common.{[], refl}
+use Rattle.lazy_runs.proofs.Words.{false≢true, none-some, Data, is_open, Header, opening, nothing, opens}
+use Rattle.lazy_runs.proofs.Follows.{Follows}
 
-module _ (h : Header) where
-  -- no endpoint has a ring yet, and none is open
-  first : (later : List Row) → Follows h [] later (opening later)
-  unfolding opening nothing learns.known lazy.pointers_at is_open
-  first later = record {
-    runs = opens h later;
-    all_read = refl;
-    floors = λ s i r at. absurd (none-some r at);
-    traced = λ s i r at. absurd (none-some r at);
-    active = λ s i r at opened. absurd (false≢true opened);
-    before = λ off. refl;
-    command = λ on. absurd (false≢true on);
-    command_active = λ opened. absurd (false≢true opened);
-  }
-
-  pub begins : (later : List Row) → Carries h [] later
-  unfolding lazy.lazy_run steps.reached opening
-  begins later = record { world = opening later; run = refl; rest = refl; goes = inl (first later) }
+-- no endpoint has a ring yet, and none is open
+pub first : (h : Header) → Follows h nothing (λ r. Data 0) (opening [])
+unfolding opening nothing is_open
+first h = record {
+  runs = opens h [];
+  all_read = refl;
+  floors = λ s i r at. absurd (none-some r at);
+  traced = λ s i r at. absurd (none-some r at);
+  active = λ s i r at opened. absurd (false≢true opened);
+  before = λ off. refl;
+  command = λ on. absurd (false≢true on);
+  command_active = λ opened. absurd (false≢true opened);
+}

@@ -1,7 +1,7 @@
 -- A Transfer Event of a success or an error: the lazy run brings its ring behind the block that it names, reports it, and reads it
-use Rattle.std.proofs.Common.{◌≡◌, ◌≢◌, ◌≤◌, ◌&&◌, ◌||◌, ◌∷◌, ◌++◌, ◌∙◌, ℕ, true, false, List, [], reverse, Option, Some, arith, sym, ap, subst}
-use Rattle.lazy_runs.proofs.Words.{false≢true, not-false, and_from, Block, IsBlock, kind, code, slot, endpoint, is_transfer_event, is_success, is_halting, is_trb_error, is_stopping, Spot, Data, is_open, RingView, floor_number, MayReach, rank, number, after, ceiling_within, after_reached, next_later, Header, Row, Read, IsHeader, shape_of, command_id, World, reached, Known, learned, known, RingSpot, transferred, IsLenient, IsDriverRing, DriverKeeps, Agrees, transfer_driver, ring_shape, is_held_ring, is_late, lazy_run, pointers_at, brought}
-use Rattle.lazy_runs.proofs.Follows.{StandsAt, IsActiveIfOpen, Follows, Carries}
+use Rattle.std.proofs.Common.{◌≡◌, ◌≢◌, ◌≤◌, ◌&&◌, ◌||◌, ◌∷◌, ◌∙◌, ℕ, true, false, List, [], Option, Some, arith, sym, ap, subst}
+use Rattle.lazy_runs.proofs.Words.{false≢true, not-false, and_from, Block, IsBlock, kind, code, slot, endpoint, is_transfer_event, is_success, is_halting, is_trb_error, is_stopping, Spot, Data, is_open, RingView, floor_number, MayReach, rank, number, after, ceiling_within, after_reached, next_later, Header, Read, TraceRow, Plain, IsHeader, shape_of, command_id, World, Known, learned, lenient, RingSpot, transferred, IsDriverRing, DriverKeeps, Agrees, transfer_driver, ring_shape, is_held_ring, is_late, brought}
+use Rattle.lazy_runs.proofs.Follows.{StandsAt, IsActiveIfOpen, Follows, Carries, Leads, Past}
 use Rattle.lazy_runs.proofs.Preparing.{AllFit}
 use Rattle.lazy_runs.proofs.ReportPossible.{Reports, names, ahead, success_reports, error_reports}
 use Rattle.lazy_runs.proofs.ReportStep.{EventLearns}
@@ -27,25 +27,25 @@ module _ (h : Header) where
       open_ring k (k.ring_of (slot b) (endpoint b)) r bound
       (ap (λ c. c && is_held_ring k (k.ring_of (slot b) (endpoint b))) (sym (and_from (is_transfer_event (kind b)) (is_success (code b)) transfer success)) ∙ timely)
 
-  module _ (is : IsHeader h) (past later : List Row) (b : Block) (block : IsBlock b) (clean : IsLenient h (Read b ∷ past)) (transfer : is_transfer_event (kind b) ≡ true) (w : World)
-      (f : Follows h past (Read b ∷ later) w) where
+  module _ (is : IsHeader h) (past : Past h) (later : List TraceRow) (b : Block) (block : IsBlock b) (clean : lenient h past.known (Read b) ≡ []) (transfer : is_transfer_event (kind b) ≡ true) (w : World)
+      (f : Follows h past.known past.pointers w) where
     k : Known
-    k = known h past
+    k = past.known
 
-    e : TransferFacts h (known h past) b
+    e : TransferFacts h past.known b
     e = facts h is past later b block clean transfer
 
-    d : DriverKeeps h (known h past)
+    d : DriverKeeps h past.known
     d = keeps h is past later b block clean transfer w f
 
-    now : Agrees h (known h past) [] w
-    now = agrees h is past later b block clean transfer w f (pointers_at h past (Read b ∷ later)) w (traced_behind h past (Read b ∷ later) w f)
+    now : Agrees h past.known [] w
+    now = agrees h is past later b block clean transfer w f past.pointers w (traced_behind h past.known past.pointers w f)
 
     -- where the rings stand before the looks
     abbrev at_first : ℕ → Spot
-    at_first = pointers_at h past (Read b ∷ later)
+    at_first = past.pointers
 
-    module _ (n : NamesBlock h (known h past) e.ring e.spot) (goes_on : is_stopping (code b) ≡ false) (opened : is_open ((known h past).ring e.ring) ≡ true) where
+    module _ (n : NamesBlock h past.known e.ring e.spot) (goes_on : is_stopping (code b) ≡ false) (opened : is_open (past.known.ring e.ring) ≡ true) where
       goal : RingSpot
       goal = record { ring = e.ring; spot = after (shape_of h e.ring) n.position }
 
@@ -54,75 +54,75 @@ module _ (h : Header) where
       no_command = other_ring h is past later b block clean transfer w f
 
       -- the block isn't passed yet
-      floor_is : at_first e.ring ≡ ((known h past).ring e.ring).floor
+      floor_is : at_first e.ring ≡ (past.known.ring e.ring).floor
       floor_is = f.traced (slot b) (endpoint b) e.ring e.bound
 
       near : rank (at_first e.ring) ≤ rank (after (shape_of h e.ring) n.position)
       near =
-          let named = names h is (known h past) w b block d now clean.1 transfer e in
-          let from : rank ((known h past).ring e.ring).floor ≤ rank (Data n.position) = subst (λ t. rank ((known h past).ring e.ring).floor ≤ rank t) n.is named.from in
+          let named = names h is past.known w b block d now clean transfer e in
+          let from : rank (past.known.ring e.ring).floor ≤ rank (Data n.position) = subst (λ t. rank (past.known.ring e.ring).floor ≤ rank t) n.is named.from in
           let past_it = next_later (shape_of h e.ring) (Data n.position) in
-          let same : rank (at_first e.ring) ≡ rank ((known h past).ring e.ring).floor = ap rank floor_is in
+          let same : rank (at_first e.ring) ≡ rank (past.known.ring e.ring).floor = ap rank floor_is in
           omega (arith, from, past_it, same)
 
-      reach : MayReach (shape_of h e.ring) ((known h past).ring e.ring) (after (shape_of h e.ring) n.position)
+      reach : MayReach (shape_of h e.ring) (past.known.ring e.ring) (after (shape_of h e.ring) n.position)
       reach =
           let driver : IsDriverRing h e.ring = transfer_driver h e.ring (d.states.transfer (slot b) (endpoint b) e.ring e.bound) in
-          let within = ceiling_within (shape_of h e.ring) (ring_shape h is e.ring driver).is (known h past).memory ((known h past).ring e.ring) (d.rings e.ring driver) in
-          let from : floor_number ((known h past).ring e.ring) ≤ n.position =
-          subst (λ t. floor_number ((known h past).ring e.ring) ≤ number t) n.is (ahead h is (known h past) w b block d now clean.1 transfer e) in
-          after_reached (shape_of h e.ring) ((known h past).ring e.ring) n.position (omega (arith, from)) (omega (arith, n.below, within.1))
+          let within = ceiling_within (shape_of h e.ring) (ring_shape h is e.ring driver).is past.known.memory (past.known.ring e.ring) (d.rings e.ring driver) in
+          let from : floor_number (past.known.ring e.ring) ≤ n.position =
+          subst (λ t. floor_number (past.known.ring e.ring) ≤ number t) n.is (ahead h is past.known w b block d now clean transfer e) in
+          after_reached (shape_of h e.ring) (past.known.ring e.ring) n.position (omega (arith, from)) (omega (arith, n.below, within.1))
 
       active : w.is_active e.ring ≡ true
       active = f.active (slot b) (endpoint b) e.ring e.bound opened
 
-      fits : AllFit h past w at_first (goal ∷ [])
+      fits : AllFit h past.known w at_first (goal ∷ [])
       unfolding goal
       fits = (
         record {
-          stands = (traced_behind h past (Read b ∷ later) w f).rings (slot b) (endpoint b) e.ring e.bound;
+          stands = (traced_behind h past.known past.pointers w f).rings (slot b) (endpoint b) e.ring e.bound;
           may = λ further. record { active = active; reach = reach; one_command = λ same. absurd (no_command same) };
         },
         tt,
       )
 
-      module _ (floor : ((transferred h (known h past) (code b) (slot b) (endpoint b) e.ring e.spot).ring e.ring).floor ≡ after (shape_of h e.ring) (number e.spot))
-          (reports : (u : World) → Agrees h (known h past) [] u → u.is_active e.ring ≡ true → StandsAt h u e.ring (after (shape_of h e.ring) n.position) →
-          (x : Reports h u b e.ring) × IsActiveIfOpen (learned h (known h past) (Read b)) x.world e.ring)
-          (run : reached h (reverse past ++ (Read b ∷ later)) (lazy_run h past (Read b ∷ later)) ≡ Some w) (rest : w.rows ≡ Read b ∷ later) where
-        behind : EventLearns h (known h past) (learned h (known h past) (Read b)) e.ring (after (shape_of h e.ring) n.position)
-        behind = learns h (known h past) b transfer e (after (shape_of h e.ring) n.position) (floor ∙ ap (λ t. after (shape_of h e.ring) (number t)) n.is)
+      module _ (floor : ((transferred h past.known (code b) (slot b) (endpoint b) e.ring e.spot).ring e.ring).floor ≡ after (shape_of h e.ring) (number e.spot))
+          (reports : (u : World) → Agrees h past.known [] u → u.is_active e.ring ≡ true → StandsAt h u e.ring (after (shape_of h e.ring) n.position) →
+          (x : Reports h u b e.ring) × IsActiveIfOpen (learned h past.known (Read b)) x.world e.ring)
+          (run : Leads h past past.made (Plain (Read b) ∷ later) w) where
+        behind : EventLearns h past.known (learned h past.known (Read b)) e.ring (after (shape_of h e.ring) n.position)
+        behind = learns h past.known b transfer e (after (shape_of h e.ring) n.position) (floor ∙ ap (λ t. after (shape_of h e.ring) (number t)) n.is)
 
-        reports_there : (u : World) → Traced h past (brought h at_first (goal ∷ [])) u → (x : Reports h u b e.ring) × IsActiveIfOpen (learned h (known h past) (Read b)) x.world e.ring
+        reports_there : (u : World) → Traced h past.known (brought h at_first (goal ∷ [])) u → (x : Reports h u b e.ring) × IsActiveIfOpen (learned h past.known (Read b)) x.world e.ring
         unfolding goal
         reports_there u trace =
             reports u (agrees h is past later b block clean transfer w f (brought h at_first (goal ∷ [])) u trace) (trace.active (slot b) (endpoint b) e.ring e.bound opened)
             (subst (λ t. StandsAt h u e.ring t) (brought_here h at_first e.ring (after (shape_of h e.ring) n.position) near) (trace.rings (slot b) (endpoint b) e.ring e.bound))
 
-        block_carries : Carries h (Read b ∷ past) later
+        block_carries : Carries h past (Read b) later
         unfolding goal e
         block_carries =
-            row_carries h is past later b block clean transfer w f (goal ∷ []) (block_goal h (known h past) b transfer e later n goes_on) (tt, tt) fits
+            row_carries h is past later b block clean transfer w f (goal ∷ []) (block_goal h past.known b transfer e later n goes_on) (tt, tt) fits
             (after (shape_of h e.ring) n.position) behind (brought_here h at_first e.ring (after (shape_of h e.ring) n.position) near)
-            (λ s i q at other. brought_off h at_first e.ring q (after (shape_of h e.ring) n.position) other) reports_there run rest
+            (λ s i q at other. brought_off h at_first e.ring q (after (shape_of h e.ring) n.position) other) reports_there run
 
-    module _ (run : reached h (reverse past ++ (Read b ∷ later)) (lazy_run h past (Read b ∷ later)) ≡ Some w) (rest : w.rows ≡ Read b ∷ later) where
-      pub success_carries : is_success (code b) ≡ true → is_late (known h past) (Read b) ≡ false → Carries h (Read b ∷ past) later
+    module _ (run : Leads h past past.made (Plain (Read b) ∷ later) w) where
+      pub success_carries : is_success (code b) ≡ true → is_late past.known (Read b) ≡ false → Carries h past (Read b) later
       success_carries success timely =
-          let n : NamesBlock h (known h past) e.ring e.spot = success_names h (known h past) b e success in
-          let opened = success_open (known h past) b e.ring e.bound transfer success timely in
-          block_carries n (success_goes_on (code b) success) opened (success_floor h (known h past) b transfer e (code b) (slot b) (endpoint b) e.ring e.spot success)
+          let n : NamesBlock h past.known e.ring e.spot = success_names h past.known b e success in
+          let opened = success_open past.known b e.ring e.bound transfer success timely in
+          block_carries n (success_goes_on (code b) success) opened (success_floor h past.known b transfer e (code b) (slot b) (endpoint b) e.ring e.spot success)
           (λ u agree active here.
-          let r = success_reports h is (known h past) u b block d agree clean.1 transfer e n here success in (r.0, λ _. r.1 ∙ active))
-          run rest
+          let r = success_reports h is past.known u b block d agree clean transfer e n here success in (r.0, λ _. r.1 ∙ active))
+          run
 
-      pub error_carries : is_success (code b) ≡ false → (is_halting (code b) || is_trb_error (code b)) ≡ true → Carries h (Read b ∷ past) later
+      pub error_carries : is_success (code b) ≡ false → (is_halting (code b) || is_trb_error (code b)) ≡ true → Carries h past (Read b) later
       error_carries fails breaks =
-          let named = error_names h (known h past) b e fails breaks in
-          let n : NamesBlock h (known h past) e.ring e.spot = named.0 in
-          let there = error_ring h (known h past) b transfer e (code b) (slot b) (endpoint b) e.ring e.spot fails breaks in
-          let held : is_open ((learned h (known h past) (Read b)).ring e.ring) ≡ false = ap (λ (l : Known). is_open (l.ring e.ring)) (read_is h (known h past) b transfer e) ∙ there.held in
+          let named = error_names h past.known b e fails breaks in
+          let n : NamesBlock h past.known e.ring e.spot = named.0 in
+          let there = error_ring h past.known b transfer e (code b) (slot b) (endpoint b) e.ring e.spot fails breaks in
+          let held : is_open ((learned h past.known (Read b)).ring e.ring) ≡ false = ap (λ (l : Known). is_open (l.ring e.ring)) (read_is h past.known b transfer e) ∙ there.held in
           block_carries n (error_goes_on (code b) breaks) named.1.opened there.floor
           (λ u agree active here.
-          (error_reports h is (known h past) u b block d agree clean.1 transfer e n here named.1.runs active fails breaks, λ opened. absurd (false≢true (sym held ∙ opened))))
-          run rest
+          (error_reports h is past.known u b block d agree clean transfer e n here named.1.runs active fails breaks, λ opened. absurd (false≢true (sym held ∙ opened))))
+          run

@@ -1,14 +1,14 @@
 -- The world directly before the controller finishes a command: the next command is taken, and no more than that
-use Rattle.std.proofs.Common.{◌≡◌, ◌≢◌, ◌⊎◌, ◌+◌, ◌≤◌, ◌==◌, if◌then◌else◌, ◌∷◌, ◌++◌, ◌∙◌, ℕ, suc, true, List, [], reverse, Option, Some, None, arith, refl, sym, ap, subst, inl, inr}
-use Rattle.lazy_runs.proofs.Words.{flat_map, cases_Bool, cases_eq, cases_lt, cond-true, cond-false, put, Block, kind, code, slot, is_command_completion, Spot, Data, Link, Shape, Reaches, Holds, IsSpot, number, rank, after, is_open, ceiling, MayReach, crossing_positive, after_reached, number-after, rank_least, rank_most, Command, NoOp, EnableSlot, DisableSlot, AddressDevice, ConfigureEndpoint, EvaluateContext, ResetEndpoint, StopEndpoint, SetTrDequeue, ResetDevice, Stopped, changes, Header, Row, Read, Step, IsHeader, shape_of, command_id, World, UnderWay, reached, Known, RingSpot, command_at, next_command, event_read, learned, known, IsLenient, DriverKeeps, Agrees, UnderWayMatches, TakenCommand, ring_here, ring_elsewhere, completion_kind, transfer_not_command, put_at, put_off, next_is, IsTimely, need}
+use Rattle.std.proofs.Common.{◌≡◌, ◌≢◌, ◌⊎◌, ◌+◌, ◌≤◌, ◌==◌, if◌then◌else◌, ◌∷◌, ◌∙◌, ℕ, suc, true, List, [], Option, Some, None, arith, refl, sym, ap, subst, inl, inr}
+use Rattle.lazy_runs.proofs.Words.{flat_map, cases_Bool, cases_eq, cases_lt, cond-true, cond-false, put, Block, kind, code, slot, is_command_completion, Spot, Data, Link, Shape, Reaches, Holds, IsSpot, number, rank, after, is_open, ceiling, MayReach, crossing_positive, after_reached, number-after, rank_least, rank_most, Command, NoOp, EnableSlot, DisableSlot, AddressDevice, ConfigureEndpoint, EvaluateContext, ResetEndpoint, StopEndpoint, SetTrDequeue, ResetDevice, Stopped, changes, Header, Read, TraceRow, Plain, Step, IsHeader, shape_of, command_id, World, UnderWay, Known, RingSpot, command_at, next_command, event_read, learned, DriverKeeps, Agrees, UnderWayMatches, TakenCommand, ring_here, ring_elsewhere, completion_kind, transfer_not_command, put_at, put_off, next_is, need}
 use Rattle.ring_knowledge.specs.Completions as completions
 use Rattle.lazy_runs.specs.Lazy as lazy
 use Rattle.lazy_runs.proofs.AllEventsRead.{agrees_now}
 use Rattle.lazy_runs.proofs.CompletionSays.{CompletionSays, CommandsOpen, commands_open}
-use Rattle.lazy_runs.proofs.Follows.{StandsAt}
+use Rattle.lazy_runs.proofs.Follows.{StandsAt, Leads, Past}
 use Rattle.lazy_runs.proofs.Looking.{MayBring}
 use Rattle.lazy_runs.proofs.LooksRun.{further_then, further_not}
-use Rattle.lazy_runs.proofs.NeedsOfHeld.{IsHeld, need_of_held}
+use Rattle.lazy_runs.proofs.NeedsOfHeld.{AreTimely, IsHeld, need_of_held, timely_then}
 use Rattle.lazy_runs.proofs.Preparing.{Fits, AllFit, AreApart, AllBrought, goals_reached}
 use Rattle.lazy_runs.proofs.StandingSpots.{CommandsStand, commands_stand}
 use Rattle.lazy_runs.proofs.Traced.{Traced}
@@ -63,18 +63,18 @@ module _ (h : Header) where
       ap (λ v. is_open v) (ring_elsewhere h (completions.finished h k b (command_at h k (next_command h k))) (command_id h) r (Reaches t) other) ∙ now in
       subst (λ n. IsHeld (event_read h k n b) r) (sym (completion_kind (kind b) completion)) behind
 
-  module _ (is : IsHeader h) (past later : List Row) (b : Block) (completion : is_command_completion (kind b) ≡ true) (timely : IsTimely h (reverse later ++ (Read b ∷ past)))
-      (d : DriverKeeps h (known h past)) where
+  module _ (is : IsHeader h) (past : Past h) (later : List TraceRow) (b : Block) (completion : is_command_completion (kind b) ≡ true) (timely : AreTimely h past.known (Plain (Read b) ∷ later))
+      (d : DriverKeeps h past.known) where
     abbrev k : Known
-    k = known h past
+    k = past.known
 
     open_idle : (s i : ℕ) (o : Option ℕ) → k.ring_of s i ≡ o → command_at h k (next_command h k) ≡ Some (StopEndpoint s i) → (code b == 1) ≡ true → IsIdle k (lazy.open_goals h k later b o)
-    unfolding lazy.open_goals known
+    unfolding lazy.open_goals
     open_idle s i None had here one = inl refl
     open_idle s i (Some r) had here one =
         let other : r ≢ command_id h = transfer_not_command h is r (d.states.transfer s i r had) in
-        let held : IsHeld (known h (Read b ∷ past)) r = stop_held k b s i r other completion one here had in
-        let none : need h (learned h k (Read b)) r later ≡ 0 = need_of_held h later (Read b ∷ past) r other held timely in
+        let held : IsHeld (learned h past.known (Read b)) r = stop_held k b s i r other completion one here had in
+        let none : need h (learned h k (Read b)) r later ≡ 0 = need_of_held later h (learned h past.known (Read b)) r other held (timely_then h past.known b later timely) in
         elim (cases_Bool (is_open (k.ring r))) [
           | inl opened ↦ inr (s, i, r, had, cond-true (is_open (k.ring r)) _ [] opened ∙ no_need r (need h (learned h k (Read b)) r later) none)
           | inr closed ↦ inl (cond-false (is_open (k.ring r)) _ [] closed)
@@ -107,9 +107,9 @@ module _ (h : Header) where
 
     -- ---- they fit
 
-    module _ (clean : IsLenient h past) (w : World) (says : CompletionSays h k b) (pointers : ℕ → Spot) (trace : Traced h past pointers w) where
+    module _ (w : World) (says : CompletionSays h k b) (pointers : ℕ → Spot) (trace : Traced h past.known pointers w) where
       agrees : Agrees h k [] w
-      agrees = agrees_now h past w trace.runs trace.all_read
+      agrees = agrees_now h past.known w trace.runs trace.all_read
 
       opened : CommandsOpen h k
       opened = commands_open h k d says.below
@@ -132,11 +132,11 @@ module _ (h : Header) where
         one_command = λ same. omega (arith, goal_number);
       }
 
-      command_fits : Fits h past w pointers (lazy.command_taken h k)
+      command_fits : Fits h past.known w pointers (lazy.command_taken h k)
       unfolding lazy.command_taken lazy.taken_up_to goal
       command_fits = record { stands = trace.command says.started; may = λ further. may_bring }
 
-      idle_fits : (s i r : ℕ) → k.ring_of s i ≡ Some r → Fits h past w pointers (let g : RingSpot = record { ring = r; spot = Data 0 } in g)
+      idle_fits : (s i r : ℕ) → k.ring_of s i ≡ Some r → Fits h past.known w pointers (let g : RingSpot = record { ring = r; spot = Data 0 } in g)
       idle_fits s i r had =
           let at : StandsAt h w r (pointers r) = trace.rings s i r had in
           record { stands = at; may = λ further. absurd (let least = first_least (shape_of h r) (pointers r) at.is_spot in omega (arith, least, further)) }
@@ -144,7 +144,7 @@ module _ (h : Header) where
       -- by the goals that a stopped ring has
       record FitGoals (rest : List RingSpot) : Type 0 where
         apart : AreApart h (lazy.command_taken h k ∷ rest)
-        fit : AllFit h past w pointers (lazy.command_taken h k ∷ rest)
+        fit : AllFit h past.known w pointers (lazy.command_taken h k ∷ rest)
         command : lazy.brought h pointers (lazy.command_taken h k ∷ rest) (command_id h) ≡ lazy.further (pointers (command_id h)) goal
         others : (s i r : ℕ) → k.ring_of s i ≡ Some r → lazy.brought h pointers (lazy.command_taken h k ∷ rest) r ≡ pointers r
 
@@ -206,11 +206,11 @@ module _ (h : Header) where
           ]
 
       -- the run comes to where the event is posted
-      pub prepared : (rows : List Row) (made : List Step) → reached h rows made ≡ Some w →
-          AllBrought h rows past made w pointers (lazy.goals h k later (kind b) b) (flat_map (lazy.looks_to h pointers) (lazy.goals h k later (kind b) b))
-      prepared rows made run =
-          subst (λ g. AllBrought h rows past made w pointers g (flat_map (lazy.looks_to h pointers) g)) (sym goals_are)
-          (goals_reached h is rows past made w pointers (lazy.command_taken h k ∷ lazy.stopped_goals h k later b (command_at h k (next_command h k))) clean all_fit.apart all_fit.fit run trace)
+      pub prepared : (made : List Step) → Leads h past made (Plain (Read b) ∷ later) w →
+          AllBrought h past (Plain (Read b) ∷ later) made w pointers (lazy.goals h k later (kind b) b) (flat_map (lazy.looks_to h pointers) (lazy.goals h k later (kind b) b))
+      prepared made run =
+          subst (λ g. AllBrought h past (Plain (Read b) ∷ later) made w pointers g (flat_map (lazy.looks_to h pointers) g)) (sym goals_are)
+          (goals_reached h is past (Plain (Read b) ∷ later) made w pointers (lazy.command_taken h k ∷ lazy.stopped_goals h k later b (command_at h k (next_command h k))) all_fit.apart all_fit.fit run trace)
 
       pub rings_stay : (s i r : ℕ) → k.ring_of s i ≡ Some r → lazy.brought h pointers (lazy.goals h k later (kind b) b) r ≡ pointers r
       rings_stay s i r had = ap (λ g. lazy.brought h pointers g r) goals_are ∙ all_fit.others s i r had
@@ -225,9 +225,9 @@ module _ (h : Header) where
       taken_of v t None at behind under = absurd (omega (arith, behind, under.0))
       taken_of v t (Some u) at behind under = record { taken = u; under_way = at; command = under.1 }
 
-      pub is_taken : (v : World) → Traced h past (lazy.brought h pointers (lazy.goals h k later (kind b) b)) v → IsTaken v
+      pub is_taken : (v : World) → Traced h past.known (lazy.brought h pointers (lazy.goals h k later (kind b) b)) v → IsTaken v
       is_taken v now =
-          let g : Agrees h k [] v = agrees_now h past v now.runs now.all_read in
+          let g : Agrees h k [] v = agrees_now h past.known v now.runs now.all_read in
           let at : StandsAt h v (command_id h) at_command = subst (λ t. StandsAt h v (command_id h) t) spot_now (now.command says.started) in
           let c : CommandsStand h is k v d g at_command = commands_stand h is k v d g at_command says.started at in
           taken_of v at_command v.under_way refl past_it c.under_way

@@ -1,6 +1,6 @@
 -- The step of a row with a Command Completion Event, where the controller can finish its command and rings go as they should
 use Rattle.std.proofs.Common.{◌≡◌, ◌≢◌, ◌+◌, ◌<◌, ◌∷◌, ◌++◌, ◌∙◌, ℕ, true, false, List, [], reverse, Some, None, option_map, option_and_then, arith, refl, sym, ap, subst, inl, inr}
-use Rattle.lazy_runs.proofs.Words.{cases_Bool, cond-false, cond-true, false≢true, reverse-append, Block, IsBlock, block_at, kind, same_words, is_command_completion, Spot, address_of, is_open, RingView, Header, Row, Read, Step, NextRow, Finish, IsHeader, command_id, event_shape, World, event_at, read_made, Known, learned, known, IsLenient, DriverKeeps, RingState, state_of, Agrees, Runs, driver_keeps, run_keeps, completion_kind, finish_is, finish_runs, transfer_not_command, one_more, runs_rest, words_itself, post_keeps, read_runs}
+use Rattle.lazy_runs.proofs.Words.{cases_Bool, cond-false, cond-true, false≢true, reverse-append, Block, IsBlock, block_at, kind, same_words, is_command_completion, Spot, address_of, is_open, RingView, Header, Read, Step, NextRow, Finish, TraceRow, Plain, IsHeader, command_id, event_shape, World, event_at, read_made, Known, learned, lenient, DriverKeeps, RingState, state_of, Agrees, Runs, kept_driver, run_keeps, scene_with, step_made, completion_kind, finish_is, finish_runs, transfer_not_command, words_itself, post_keeps, read_runs}
 use Rattle.world_state.specs.World as of_world
 use Rattle.controller_model.specs.DriverRows as driver
 use Rattle.controller_model.specs.Posts as posts
@@ -9,8 +9,8 @@ use Rattle.controller_model.specs.Steps as steps
 use Rattle.lazy_runs.specs.Lazy as lazy
 use Rattle.lazy_runs.specs.Needs as needs
 use Rattle.lazy_runs.proofs.AllEventsRead.{agrees_now}
-use Rattle.lazy_runs.proofs.DriverRuns.{with_rest, next_reached}
-use Rattle.lazy_runs.proofs.Follows.{StandsAt, IsActiveIfOpen, Follows, Carries}
+use Rattle.lazy_runs.proofs.DriverRuns.{next_reached}
+use Rattle.lazy_runs.proofs.Follows.{StandsAt, IsActiveIfOpen, Follows, Carries, Leads, Past}
 use Rattle.lazy_runs.proofs.Preparing.{stands_same}
 use Rattle.lazy_runs.proofs.RingsGo.{HadBefore, RingsGo}
 use Rattle.lazy_runs.proofs.Traced.{Traced, looks_for}
@@ -27,59 +27,58 @@ module _ (h : Header) where
     pub memory : v.memory ≡ (posts.posted h w b).memory
     pub posted : v.posted ≡ w.posted + 1
     pub reads : v.reads ≡ w.reads
-    pub rows : v.rows ≡ w.rows
     pub rings : (q : ℕ) → state_of v q ≡ state_of x q
     pub command : state_of x (command_id h) ≡ state_of w (command_id h)
 
   -- ---- the schedule's steps
 
-  lazy_completion : (b : Block) (past later : List Row) → is_command_completion (kind b) ≡ true →
-      lazy.lazy_run h (Read b ∷ past) later ≡ NextRow ∷ Finish b ∷ (reverse (looks_for h past later b) ++ lazy.lazy_run h past (Read b ∷ later))
-  unfolding lazy.lazy_run lazy.steps_before lazy.post_of
+  lazy_completion : (b : Block) (past : Past h) (later : List TraceRow) → is_command_completion (kind b) ≡ true →
+      NextRow ∷ reverse (lazy.steps_before h past.known past.pointers (Read b) later) ++ past.made ≡ NextRow ∷ Finish b ∷ (reverse (looks_for h past later b) ++ past.made)
+  unfolding lazy.steps_before lazy.post_of
   lazy_completion b past later completion =
       let looks : List Step = looks_for h past later b in
-      let older : List Step = lazy.lazy_run h past (Read b ∷ later) in
+      let older : List Step = past.made in
       ap (λ t. NextRow ∷ reverse (looks ++ lazy.post_of h t b ∷ []) ++ older) (completion_kind (kind b) completion)
       ∙ ap (λ l. NextRow ∷ l ++ older) (reverse-append looks (Finish b ∷ []))
 
-  placed_pointer : (b : Block) (past later : List Row) (r : ℕ) → needs.is_placed h (known h past) r b ≡ true →
-      lazy.pointers_at h (Read b ∷ past) later r ≡ ((learned h (known h past) (Read b)).ring r).floor
-  unfolding lazy.pointers_at lazy.pointers_after
-  placed_pointer b past later r placed = cond-true (needs.is_placed h (known h past) r b) ((learned h (known h past) (Read b)).ring r).floor _ placed
+  placed_pointer : (b : Block) (past : Past h) (later : List TraceRow) (r : ℕ) → needs.is_placed h past.known r b ≡ true →
+      lazy.pointers_after h past.known past.pointers (Read b) later r ≡ ((learned h past.known (Read b)).ring r).floor
+  unfolding lazy.pointers_after
+  placed_pointer b past later r placed = cond-true (needs.is_placed h past.known r b) ((learned h past.known (Read b)).ring r).floor _ placed
 
-  other_pointer : (b : Block) (past later : List Row) (r : ℕ) → needs.is_placed h (known h past) r b ≡ false →
-      lazy.pointers_at h (Read b ∷ past) later r ≡ lazy.brought h (lazy.pointers_at h past (Read b ∷ later)) (lazy.goals h (known h past) later (kind b) b) r
-  unfolding lazy.pointers_at lazy.pointers_after
-  other_pointer b past later r other = cond-false (needs.is_placed h (known h past) r b) ((learned h (known h past) (Read b)).ring r).floor _ other
+  other_pointer : (b : Block) (past : Past h) (later : List TraceRow) (r : ℕ) → needs.is_placed h past.known r b ≡ false →
+      lazy.pointers_after h past.known past.pointers (Read b) later r ≡ lazy.brought h past.pointers (lazy.goals h past.known later (kind b) b) r
+  unfolding lazy.pointers_after
+  other_pointer b past later r other = cond-false (needs.is_placed h past.known r b) ((learned h past.known (Read b)).ring r).floor _ other
 
-  finish_reached : (rows : List Row) (made : List Step) (w u : World) (b : Block) → steps.reached h rows made ≡ Some w → w.stopped ≡ false → finishes.finished h w b ≡ Some u →
-      steps.reached h rows (Finish b ∷ made) ≡ Some (steps.counted h u)
-  unfolding steps.reached steps.stepped steps.made steps.while_running
-  finish_reached rows made w u b run running at =
-      ap (λ o. option_and_then (λ x. steps.stepped h x (Finish b)) o) run
-      ∙ ap (λ o. option_map (steps.counted h) o) (cond-false w.stopped None (finishes.finished h w b) running ∙ at)
+  finish_reached : (past : Past h) (to_come : List TraceRow) (made : List Step) (w u : World) (b : Block) → Leads h past made to_come w → w.stopped ≡ false → finishes.finished h w b ≡ Some u →
+      Leads h past (Finish b ∷ made) to_come (steps.counted h u)
+  unfolding steps.made steps.while_running
+  finish_reached past to_come made w u b run running at =
+      ap (λ o. option_and_then (λ x. step_made x (Finish b)) o) run
+      ∙ ap (λ o. option_map (λ x. scene_with h to_come (steps.counted h x)) o) (cond-false w.stopped None (finishes.finished h w b) running ∙ at)
 
   -- ---- the world behind the finish and the row
 
-  module _ (is : IsHeader h) (past later : List Row) (b : Block) (block : IsBlock b) (clean : IsLenient h (Read b ∷ past)) (completion : is_command_completion (kind b) ≡ true)
-      (now : ℕ → Spot) (brought : (q : ℕ) → lazy.brought h (lazy.pointers_at h past (Read b ∷ later)) (lazy.goals h (known h past) later (kind b) b) q ≡ now q) (w u x : World) (m : Known) (trace : Traced h past now w)
-      (stay : (s i r : ℕ) → (known h past).ring_of s i ≡ Some r → now r ≡ ((known h past).ring r).floor)
-      (started : (known h past).started ≡ true) (opened : is_open ((known h past).ring (command_id h)) ≡ true)
-      (at : finishes.finished h w b ≡ Some u) (leaves : FinishLeaves w u x b) (learns : CompletionLearns (known h past) (learned h (known h past) (Read b)) m)
-      (goes : RingsGo h (known h past) m x (λ r. needs.is_placed h (known h past) r b)) where
+  module _ (is : IsHeader h) (past : Past h) (later : List TraceRow) (b : Block) (block : IsBlock b) (clean : lenient h past.known (Read b) ≡ []) (completion : is_command_completion (kind b) ≡ true)
+      (now : ℕ → Spot) (brought : (q : ℕ) → lazy.brought h past.pointers (lazy.goals h past.known later (kind b) b) q ≡ now q) (w u x : World) (m : Known) (trace : Traced h past.known now w)
+      (stay : (s i r : ℕ) → past.known.ring_of s i ≡ Some r → now r ≡ (past.known.ring r).floor)
+      (started : past.known.started ≡ true) (opened : is_open (past.known.ring (command_id h)) ≡ true)
+      (at : finishes.finished h w b ≡ Some u) (leaves : FinishLeaves w u x b) (learns : CompletionLearns past.known (learned h past.known (Read b)) m)
+      (goes : RingsGo h past.known m x (λ r. needs.is_placed h past.known r b)) where
     k : Known
-    k = known h past
+    k = past.known
 
     l : Known
     l = learned h k (Read b)
 
     keeps : DriverKeeps h k
     unfolding k
-    keeps = driver_keeps h is past clean.0 trace.runs.on
+    keeps = past.keeps
 
     agrees : Agrees h k [] w
     unfolding k
-    agrees = agrees_now h past w trace.runs trace.all_read
+    agrees = agrees_now h past.known w trace.runs trace.all_read
 
     running : w.stopped ≡ false
     unfolding k
@@ -87,7 +86,7 @@ module _ (h : Header) where
 
     -- the world before the row, and behind it
     z : World
-    z = with_rest (steps.counted h u) later
+    z = steps.counted h u
 
     y : World
     y = record z { reads = z.reads + 1 }
@@ -112,11 +111,11 @@ module _ (h : Header) where
     unfolding y
     reads_it = read_made h z b unread (subst (λ e. same_words e b ≡ true) (sym there) (words_itself b))
 
-    runs : Runs h (known h (Read b ∷ past)) v
-    unfolding z y v k known
+    runs : Runs h (learned h past.known (Read b)) v
+    unfolding z y v k
     runs =
-        let finished : Runs h (known h past) (steps.counted h u) = finish_runs h is (known h past) w u b block running trace.runs (run_keeps h is (known h past) w keeps trace.runs) at in
-        read_runs h (known h past) b z y block (runs_rest h (known h past) (steps.counted h u) later finished) reads_it
+        let finished : Runs h past.known (steps.counted h u) = finish_runs h is past.known w u b block running trace.runs (run_keeps h is past.known w keeps trace.runs) at in
+        read_runs h past.known b z y block finished reads_it
 
     rings_are : (q : ℕ) → state_of v q ≡ state_of x q
     unfolding v y z steps.counted
@@ -127,8 +126,8 @@ module _ (h : Header) where
     had s i q has = sym (learns.ring_of s i) ∙ has
 
     later_keeps : DriverKeeps h l
-    unfolding l k known
-    later_keeps = driver_keeps h is (Read b ∷ past) clean runs.on
+    unfolding l k
+    later_keeps = kept_driver h is past.known (Read b) past.keeps (clean, tt) runs.on
 
     not_command : (s i q : ℕ) → l.ring_of s i ≡ Some q → q ≢ command_id h
     not_command s i q has same = transfer_not_command h is q (later_keeps.states.transfer s i q has) same
@@ -147,7 +146,7 @@ module _ (h : Header) where
         ap (λ (g : RingState). g.active) (rings_are q)
         ∙ goes.at_floors.active s i q (had s i q has) (subst (λ (g : RingView). is_open g ≡ true) (view_is s i q has) on)
 
-    pointer_is : (s i q : ℕ) → l.ring_of s i ≡ Some q → lazy.pointers_at h (Read b ∷ past) later q ≡ (l.ring q).floor
+    pointer_is : (s i q : ℕ) → l.ring_of s i ≡ Some q → lazy.pointers_after h past.known past.pointers (Read b) later q ≡ (l.ring q).floor
     unfolding l k
     pointer_is s i q has =
         elim (cases_Bool (needs.is_placed h k q b)) [
@@ -160,13 +159,13 @@ module _ (h : Header) where
     command_is : state_of v (command_id h) ≡ state_of w (command_id h)
     command_is = rings_are (command_id h) ∙ leaves.command
 
-    command_stands : StandsAt h v (command_id h) (lazy.pointers_at h (Read b ∷ past) later (command_id h))
+    command_stands : StandsAt h v (command_id h) (lazy.pointers_after h past.known past.pointers (Read b) later (command_id h))
     command_stands =
         subst (λ t. StandsAt h v (command_id h) t) (sym (other_pointer b past later (command_id h) goes.not_command ∙ brought (command_id h)))
         (stands_same h w v (command_id h) (now (command_id h)) command_is (trace.command started))
 
-    follows : Follows h (Read b ∷ past) later v
-    unfolding known l k v y z steps.counted
+    follows : Follows h (learned h past.known (Read b)) (lazy.pointers_after h past.known past.pointers (Read b) later) v
+    unfolding l k v y z steps.counted
     follows = record {
       runs = runs;
       all_read = omega (arith, trace.all_read, leaves.posted, leaves.reads);
@@ -178,16 +177,13 @@ module _ (h : Header) where
       command_active = λ on. ap (λ (g : RingState). g.active) command_is ∙ trace.command_active opened;
     }
 
-    pub completion_step : steps.reached h (reverse past ++ (Read b ∷ later)) (reverse (looks_for h past later b) ++ lazy.lazy_run h past (Read b ∷ later)) ≡ Some w → w.rows ≡ Read b ∷ later →
-        Carries h (Read b ∷ past) later
-    unfolding v y z steps.counted driver.row_done
-    completion_step run rest =
-        let rows : List Row = reverse past ++ (Read b ∷ later) in
-        let mid : List Step = reverse (looks_for h past later b) ++ lazy.lazy_run h past (Read b ∷ later) in
+    pub completion_step : Leads h past (reverse (looks_for h past later b) ++ past.made) (Plain (Read b) ∷ later) w → Carries h past (Read b) later
+    unfolding v y z driver.row_done
+    completion_step run =
+        let mid : List Step = reverse (looks_for h past later b) ++ past.made in
         record {
           world = v;
-          run = ap (λ all. steps.reached h all (lazy.lazy_run h (Read b ∷ past) later)) (one_more h (Read b) past later) ∙ ap (λ made. steps.reached h rows made) (lazy_completion b past later completion)
-              ∙ next_reached h rows (Finish b ∷ mid) (steps.counted h u) y (Read b) later (finish_reached rows mid w u b run running at) (leaves.rows ∙ rest) reads_it;
-          rest = refl;
+          run = subst (λ made. Leads h past made later v) (sym (lazy_completion b past later completion))
+              (next_reached h past (Finish b ∷ mid) (steps.counted h u) y (Read b) later (finish_reached past (Plain (Read b) ∷ later) mid w u b run running at) reads_it);
           goes = inl follows;
         }

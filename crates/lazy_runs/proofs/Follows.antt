@@ -1,7 +1,8 @@
 -- What an induction over the rows has to carry beside the lazy law: all events are read, the schedule knows where the pointers stand,
 -- also that of the command ring, and a ring that is open is active. Without it neither a look nor a post is known to be possible
-use Rattle.std.proofs.Common.{◌≡◌, ◌⊎◌, ◌∷◌, ◌++◌, ℕ, true, false, List, All, reverse, Some, inl, inr}
-use Rattle.lazy_runs.proofs.Words.{Block, IsBlock, Spot, Data, is_open, IsSpot, number, spot_address, spot_cycle, Header, Row, Read, IsHeader, shape_of, command_id, IsRow, World, next_take, reached, Known, known, IsLenient, Runs, IsTimely, lazy_run, pointers_at, AreAtFloors, LazyLaw}
+use Rattle.std.proofs.Common.{◌≡◌, ◌⊎◌, ◌∷◌, ◌++◌, ℕ, true, false, List, [], reverse, Some}
+use Rattle.lazy_runs.proofs.Words.{Block, IsBlock, Spot, Data, is_open, IsSpot, number, spot_address, spot_cycle, Header, Row, Read, Step, NextRow, TraceRow, Plain, IsHeader, shape_of, command_id, World, next_take, Known, learned, lenient, DriverKeeps, Runs, scene_reached, scene_with, steps_before, pointers_after, AreAtFloors}
+use Rattle.lazy_runs.proofs.NeedsOfHeld.{AreTimely}
 
 abbrev pub IsActiveIfOpen : Known → World → ℕ → Type 0
 IsActiveIfOpen k w r = is_open (k.ring r) ≡ true → w.is_active r ≡ true
@@ -14,43 +15,43 @@ module _ (h : Header) where
     pub cycle : w.cycle_state r ≡ spot_cycle (shape_of h r) t
     pub next : next_take (shape_of h r) (w.events r) ≡ number t
 
-  pub record Follows (past later : List Row) (w : World) : Type 0 where
-    pub runs : Runs h (known h past) w
+  -- with k known and the pointers where the schedule has them, by ring ID
+  pub record Follows (k : Known) (pointers : ℕ → Spot) (w : World) : Type 0 where
+    pub runs : Runs h k w
     pub all_read : w.posted ≡ w.reads
     -- the rings that an endpoint has
-    pub floors : (s i r : ℕ) → (known h past).ring_of s i ≡ Some r → StandsAt w r ((known h past).ring r).floor
-    pub traced : (s i r : ℕ) → (known h past).ring_of s i ≡ Some r → pointers_at h past later r ≡ ((known h past).ring r).floor
-    pub active : (s i r : ℕ) → (known h past).ring_of s i ≡ Some r → IsActiveIfOpen (known h past) w r
+    pub floors : (s i r : ℕ) → k.ring_of s i ≡ Some r → StandsAt w r (k.ring r).floor
+    pub traced : (s i r : ℕ) → k.ring_of s i ≡ Some r → pointers r ≡ (k.ring r).floor
+    pub active : (s i r : ℕ) → k.ring_of s i ≡ Some r → IsActiveIfOpen k w r
     -- the command ring: it may stand behind its floor, where a Stop Endpoint was taken and isn't finished
-    pub before : (known h past).started ≡ false → pointers_at h past later (command_id h) ≡ Data 0
-    pub command : (known h past).started ≡ true → StandsAt w (command_id h) (pointers_at h past later (command_id h))
-    pub command_active : IsActiveIfOpen (known h past) w (command_id h)
+    pub before : k.started ≡ false → pointers (command_id h) ≡ Data 0
+    pub command : k.started ≡ true → StandsAt w (command_id h) (pointers (command_id h))
+    pub command_active : IsActiveIfOpen k w (command_id h)
 
-  -- the lazy run behind the rows so far; after a stop no clean row comes
-  pub record Carries (past later : List Row) : Type 0 where
+  -- what the step of a row rests on: the steps so far, the newest first, are a run beside these rows that begins with the rings of another
+  -- header; what is known behind it; and where the schedule has the pointers
+  pub record Past : Type 0 where
+    pub first : Header
+    pub rows : List TraceRow
+    pub made : List Step
+    pub known : Known
+    pub keeps : DriverKeeps h known
+    pub pointers : ℕ → Spot
+
+  -- steps of that run lead to world w, with these rows to come
+  abbrev pub Leads : Past → List Step → List TraceRow → World → Type 0
+  Leads past steps later w = scene_reached past.first past.rows steps ≡ Some (scene_with h later w)
+
+  -- a row that a driver makes or reads, with the controller's steps before it; after a stop no clean row comes
+  pub record Carries (past : Past) (row : Row) (later : List TraceRow) : Type 0 where
     pub world : World
-    pub run : reached h (reverse past ++ later) (lazy_run h past later) ≡ Some world
-    pub rest : world.rows ≡ later
-    pub goes : Follows past later world ⊎ (((known h past).stopped ≡ true) × AreAtFloors h (known h past) world)
-
-  abbrev pub CarriedLaw : Type 0
-  CarriedLaw =
-      (past later : List Row) → IsHeader h → All IsRow (reverse past ++ later) → IsLenient h (reverse later ++ past) →
-      IsTimely h (reverse later ++ past) → Carries past later
+    pub run : Leads past (NextRow ∷ reverse (steps_before h past.known past.pointers row later) ++ past.made) later world
+    pub goes : Follows (learned h past.known row) (pointers_after h past.known past.pointers row later) world
+        ⊎ (((learned h past.known row).stopped ≡ true) × AreAtFloors h (learned h past.known row) world)
 
   -- the step of a row that reads an event
   abbrev pub EventLaw : Type 0
   EventLaw =
-      (past later : List Row) (b : Block) (w : World) → IsHeader h → All IsRow past → IsBlock b → IsLenient h (Read b ∷ past) →
-      IsTimely h (reverse later ++ (Read b ∷ past)) → reached h (reverse past ++ (Read b ∷ later)) (lazy_run h past (Read b ∷ later)) ≡ Some w →
-      w.rows ≡ Read b ∷ later → Follows past (Read b ∷ later) w → Carries (Read b ∷ past) later
-
-  -- the lazy law is part of it
-  at_floors : (past later : List Row) (w : World) → Follows past later w ⊎ (((known h past).stopped ≡ true) × AreAtFloors h (known h past) w) → AreAtFloors h (known h past) w
-  at_floors past later w (inl f) = λ s i r at. let stands = f.floors s i r at in record { pointer = stands.pointer; cycle = stands.cycle }
-  at_floors past later w (inr over) = over.1
-
-  pub lazy_law_from : CarriedLaw → LazyLaw h
-  lazy_law_from law past later is rows clean timely =
-      let c = law past later is rows clean timely in
-      record { world = c.world; run = c.run; rest = c.rest; floors = at_floors past later c.world c.goes }
+      (past : Past) (later : List TraceRow) (b : Block) (w : World) → IsHeader h → IsBlock b → lenient h past.known (Read b) ≡ [] →
+      AreTimely h past.known (Plain (Read b) ∷ later) → Leads past past.made (Plain (Read b) ∷ later) w → Follows past.known past.pointers w →
+      Carries past (Read b) later

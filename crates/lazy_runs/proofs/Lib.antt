@@ -7,6 +7,7 @@ pub mod RowsLearn
 pub mod AllEventsRead
 pub mod DriverRuns
 pub mod DriverSteps
+pub mod RingRows
 pub mod Induction
 pub mod MayPost
 pub mod OtherEvents

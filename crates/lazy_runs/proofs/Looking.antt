@@ -1,7 +1,7 @@
 -- The looks of the lazy schedule at one ring are a run, and bring the ring to its spot
-use Rattle.std.proofs.Common.{◌≡◌, ◌≢◌, ◌+◌, ◌<◌, ◌≤◌, ◌++◌, ℕ, true, List, reverse, Some}
-use Rattle.lazy_runs.proofs.Words.{Spot, rank, number, MayReach, Header, Row, Step, IsHeader, shape_of, command_id, World, reached, Known, known, RingSpot, next_command, IsLenient, state_of, Runs, further, looks_to}
-use Rattle.lazy_runs.proofs.Follows.{StandsAt}
+use Rattle.std.proofs.Common.{◌≡◌, ◌≢◌, ◌+◌, ◌<◌, ◌≤◌, ◌++◌, ℕ, true, List, reverse}
+use Rattle.lazy_runs.proofs.Words.{Spot, rank, number, MayReach, Header, TraceRow, Step, IsHeader, shape_of, command_id, World, Known, RingSpot, next_command, state_of, Runs, further, looks_to}
+use Rattle.lazy_runs.proofs.Follows.{StandsAt, Leads, Past}
 
 -- what the looks at ring r leave
 pub record LooksLeave (h : Header) (w v : World) (r : ℕ) : Type 0 where
@@ -31,17 +31,17 @@ module _ (h : Header) where
 
   -- the looks are a run, and the ring stands at its goal, or where it stood if that is further. Its takes are those of the blocks
   -- that it passed: what stands at a spot has taken the blocks before it, by the agreement of a run
-  pub record Looked (rows past : List Row) (made : List Step) (w : World) (r : ℕ) (t : Spot) (looks : List Step) : Type 0 where
+  pub record Looked (past : Past h) (to_come : List TraceRow) (made : List Step) (w : World) (r : ℕ) (t : Spot) (looks : List Step) : Type 0 where
     pub world : World
-    pub run : reached h rows (reverse looks ++ made) ≡ Some world
-    pub runs : Runs h (known h past) world
+    pub run : Leads h past (reverse looks ++ made) to_come world
+    pub runs : Runs h past.known world
     pub stands : StandsAt h world r t
     pub leaves : LooksLeave h w world r
 
   -- nothing is asked of a ring that stands at its goal, or behind it
   abbrev pub LooksLaw : Type 0
   LooksLaw =
-      (rows past : List Row) (made : List Step) (w : World) (pointers : ℕ → Spot) (goal : RingSpot) → IsHeader h → IsLenient h past → reached h rows made ≡ Some w → Runs h (known h past) w →
+      (past : Past h) (to_come : List TraceRow) (made : List Step) (w : World) (pointers : ℕ → Spot) (goal : RingSpot) → IsHeader h → Leads h past made to_come w → Runs h past.known w →
       w.posted ≡ w.reads → StandsAt h w goal.ring (pointers goal.ring) →
-      (rank (pointers goal.ring) < rank goal.spot → MayBring (known h past) w goal.ring goal.spot) →
-      Looked rows past made w goal.ring (further (pointers goal.ring) goal.spot) (looks_to h pointers goal)
+      (rank (pointers goal.ring) < rank goal.spot → MayBring past.known w goal.ring goal.spot) →
+      Looked past to_come made w goal.ring (further (pointers goal.ring) goal.spot) (looks_to h pointers goal)

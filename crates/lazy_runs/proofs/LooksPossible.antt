@@ -1,8 +1,9 @@
 -- A look is possible at any active ring but the command ring while a command is under way
 use Rattle.std.proofs.Common.{◌≡◌, ◌==◌, ◌&&◌, ◌∷◌, if◌then◌else◌, ◌∙◌, ℕ, Bool, true, false, not, List, Some, None, is_some, option_map, option_and_then, refl, ap}
-use Rattle.lazy_runs.proofs.Words.{cond-false, cond-true, Block, block_at, cycle, kind, is_link, Header, Row, Step, Look, command_id, World}
+use Rattle.lazy_runs.proofs.Words.{cond-false, cond-true, Block, block_at, cycle, kind, is_link, Header, TraceRow, Step, Look, command_id, World, scene_with, step_made}
 use Rattle.controller_model.specs.Looks as looks
 use Rattle.controller_model.specs.Steps as steps
+use Rattle.lazy_runs.proofs.Follows.{Leads, Past}
 
 one_of : (b c : Bool) (x y z : World) → (v : World) × ((if b then Some x else if c then Some y else Some z) ≡ Some v)
 one_of true c x y z = (x, refl)
@@ -27,9 +28,9 @@ module _ (h : Header) where
       (at.0, cond-true (w.is_active r) (looks.looked_at h w r b) None on ∙ at.1)
 
   -- so the run goes on behind it
-  pub look_reached : (rows : List Row) (made : List Step) (w v : World) (r : ℕ) → steps.reached h rows made ≡ Some w → w.stopped ≡ false → looks.looked h w r ≡ Some v →
-      steps.reached h rows (Look r ∷ made) ≡ Some (steps.counted h v)
-  unfolding steps.reached steps.stepped steps.made steps.while_running
-  look_reached rows made w v r run running at =
-      ap (λ o. option_and_then (λ x. steps.stepped h x (Look r)) o) run
-      ∙ ap (λ o. option_map (steps.counted h) o) (cond-false w.stopped None (looks.looked h w r) running ∙ at)
+  pub look_reached : (past : Past h) (to_come : List TraceRow) (made : List Step) (w v : World) (r : ℕ) → Leads h past made to_come w → w.stopped ≡ false → looks.looked h w r ≡ Some v →
+      Leads h past (Look r ∷ made) to_come (steps.counted h v)
+  unfolding steps.made steps.while_running
+  look_reached past to_come made w v r run running at =
+      ap (λ o. option_and_then (λ x. step_made x (Look r)) o) run
+      ∙ ap (λ o. option_map (λ u. scene_with h to_come (steps.counted h u)) o) (cond-false w.stopped None (looks.looked h w r) running ∙ at)

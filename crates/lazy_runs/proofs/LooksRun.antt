@@ -1,9 +1,9 @@
 -- The looks of the lazy schedule at one ring are a run: by induction over the spots on the way
-use Rattle.std.proofs.Common.{◌≡◌, ◌+◌, ◌-◌, ◌*◌, ◌<◌, ◌≤◌, ◌∷◌, ◌++◌, ◌∙◌, ℕ, suc, zero, List, [], filter, map, nat_lt, reverse, Some, arith, refl, sym, ap, subst, inl, inr, lt-ltb, le-ltb, append_assoc}
-use Rattle.lazy_runs.proofs.Words.{cases_lt, cond-true, cond-false, reverse-append, Spot, Shape, IsSpot, number, rank, next, spots_from, rank_least, rank_most, same_rank, next_later, next_least, Header, Row, Step, Look, IsHeader, shape_of, World, reached, counted, Known, known, IsLenient, DriverKeeps, Agrees, Runs, driver_keeps, run_keeps, look_runs}
+use Rattle.std.proofs.Common.{◌≡◌, ◌+◌, ◌-◌, ◌*◌, ◌<◌, ◌≤◌, ◌∷◌, ◌++◌, ◌∙◌, ℕ, suc, zero, List, [], filter, map, nat_lt, reverse, arith, refl, sym, ap, subst, inl, inr, lt-ltb, le-ltb, append_assoc}
+use Rattle.lazy_runs.proofs.Words.{cases_lt, cond-true, cond-false, reverse-append, Spot, Shape, IsSpot, number, rank, next, spots_from, rank_least, rank_most, same_rank, next_later, next_least, Header, TraceRow, Step, Look, IsHeader, shape_of, World, counted, Known, DriverKeeps, Agrees, Runs, run_keeps, look_runs}
 use Rattle.lazy_runs.specs.Lazy as lazy
 use Rattle.lazy_runs.proofs.AllEventsRead.{agrees_now}
-use Rattle.lazy_runs.proofs.Follows.{StandsAt}
+use Rattle.lazy_runs.proofs.Follows.{StandsAt, Leads, Past}
 use Rattle.lazy_runs.proofs.LooksPossible.{look_reached}
 use Rattle.lazy_runs.proofs.Looking.{MayBring, Looked, LooksLeave, LooksLaw}
 use Rattle.lazy_runs.proofs.OneLook.{LookDone, one_look}
@@ -84,22 +84,22 @@ module _ (h : Header) where
   unfolding looks_on
   more_looks r t s n lt = ap (λ l. map (λ u. Look r) l) (one_before (shape_of h r) t s n lt)
 
-  module _ (is : IsHeader h) (rows past : List Row) (clean : IsLenient h past) (r : ℕ) where
+  module _ (is : IsHeader h) (past : Past h) (to_come : List TraceRow) (r : ℕ) where
     -- no look is made
-    stays : (made : List Step) (w : World) (t : Spot) (steps : List Step) → steps ≡ [] → reached h rows made ≡ Some w → Runs h (known h past) w → StandsAt h w r t → Looked h rows past made w r t steps
+    stays : (made : List Step) (w : World) (t : Spot) (steps : List Step) → steps ≡ [] → Leads h past made to_come w → Runs h past.known w → StandsAt h w r t → Looked h past to_come made w r t steps
     stays made w t steps none run runs at = record {
       world = w;
-      run = ap (λ l. reached h rows (reverse l ++ made)) none ∙ run;
+      run = subst (λ l. Leads h past (reverse l ++ made) to_come w) (sym none) run;
       runs = runs;
       stands = at;
       leaves = leaves_nothing w r;
     }
 
-    still_may : (w v : World) (t : Spot) → LooksLeave h w v r → MayBring h (known h past) w r t → MayBring h (known h past) v r t
+    still_may : (w v : World) (t : Spot) → LooksLeave h w v r → MayBring h past.known w r t → MayBring h past.known v r t
     still_may w v t leaves may = record { active = leaves.active ∙ may.active; reach = may.reach; one_command = may.one_command }
 
-    brings : (n : ℕ) (made : List Step) (w : World) (s t : Spot) → IsSpot (shape_of h r) t → rank s ≤ rank t → rank t < rank s + n → reached h rows made ≡ Some w → Runs h (known h past) w → w.posted ≡ w.reads →
-        StandsAt h w r s → (rank s < rank t → MayBring h (known h past) w r t) → Looked h rows past made w r t (looks_on r t s n)
+    brings : (n : ℕ) (made : List Step) (w : World) (s t : Spot) → IsSpot (shape_of h r) t → rank s ≤ rank t → rank t < rank s + n → Leads h past made to_come w → Runs h past.known w → w.posted ≡ w.reads →
+        StandsAt h w r s → (rank s < rank t → MayBring h past.known w r t) → Looked h past to_come made w r t (looks_on r t s n)
     brings zero made w s t is_spot le near run runs read at may = absurd (omega (arith, le, near))
     brings (suc n) made w s t is_spot le near run runs read at may =
         elim (cases_lt (rank s) (rank t)) [
@@ -107,20 +107,21 @@ module _ (h : Header) where
               let here : s ≡ t = same_rank s t (omega (arith, le, same)) in
               stays made w t (looks_on r t s (suc n)) (no_looks r t s (suc n) (omega (arith, same))) run runs (subst (λ u. StandsAt h w r u) here at)
           | inl before ↦
-              let k : Known = known h past in
-              let d : DriverKeeps h k = driver_keeps h is past clean runs.on in
-              let g : Agrees h k [] w = agrees_now h past w runs read in
+              let k : Known = past.known in
+              let d : DriverKeeps h k = past.keeps in
+              let g : Agrees h k [] w = agrees_now h past.known w runs read in
               let one : LookDone h w r s = one_look h is k w d g r s t before at (may before) in
               let v : World = counted h one.world in
-              let then_run : reached h rows (Look r ∷ made) ≡ Some v = look_reached h rows made w one.world r run (g.stands.stopped ∙ runs.on) one.made in
-              let then_runs : Runs h (known h past) v = look_runs h is (known h past) w one.world r runs (run_keeps h is k w d runs) one.made in
+              let then_run : Leads h past (Look r ∷ made) to_come v = look_reached h past to_come made w one.world r run (g.stands.stopped ∙ runs.on) one.made in
+              let then_runs : Runs h past.known v = look_runs h is past.known w one.world r runs (run_keeps h is k w d runs) one.made in
               let later : rank s < rank (next (shape_of h r) s) = next_later (shape_of h r) s in
-              let rest : Looked h rows past (Look r ∷ made) v r t (looks_on r t (next (shape_of h r) s) n) =
+              let rest : Looked h past to_come (Look r ∷ made) v r t (looks_on r t (next (shape_of h r) s) n) =
               brings n (Look r ∷ made) v (next (shape_of h r) s) t is_spot (next_least (shape_of h r) s t is_spot before) (omega (arith, near, later)) then_run then_runs
               (one.leaves.posted ∙ read ∙ sym one.leaves.reads) one.stands (λ on. still_may w v t one.leaves (may before)) in
               record {
                 world = rest.world;
-                run = ap (λ l. reached h rows (reverse l ++ made)) (more_looks r t s n before) ∙ ap (λ l. reached h rows l) (first_made (Look r) (looks_on r t (next (shape_of h r) s) n) made) ∙ rest.run;
+                run = subst (λ l. Leads h past (reverse l ++ made) to_come rest.world) (sym (more_looks r t s n before))
+                    (subst (λ l. Leads h past l to_come rest.world) (sym (first_made (Look r) (looks_on r t (next (shape_of h r) s) n) made)) rest.run);
                 runs = rest.runs;
                 stands = rest.stands;
                 leaves = leaves_then w v rest.world r one.leaves rest.leaves;
@@ -132,17 +133,17 @@ module _ (h : Header) where
   looks_are pointers r t = refl
 
   pub looks_law : LooksLaw h
-  looks_law rows past made w pointers goal is clean run runs read at may =
+  looks_law past to_come made w pointers goal is run runs read at may =
       let r : ℕ = goal.ring in
       let t : Spot = goal.spot in
       let s : Spot = pointers goal.ring in
       let n : ℕ = 2 * (number t - number s) + 2 in
       elim (cases_lt (rank s) (rank t)) [
         | inl before ↦
-            subst (λ u. Looked h rows past made w r u (lazy.looks_to h pointers goal)) (sym (further_then s t before))
-            (subst (λ l. Looked h rows past made w r t l) (sym (looks_are pointers r t))
-            (brings is rows past clean r n made w s t (may before).reach.is_spot (omega (arith, before)) (omega (arith, rank_most t, rank_least s)) run runs read at may))
+            subst (λ u. Looked h past to_come made w r u (lazy.looks_to h pointers goal)) (sym (further_then s t before))
+            (subst (λ l. Looked h past to_come made w r t l) (sym (looks_are pointers r t))
+            (brings is past to_come r n made w s t (may before).reach.is_spot (omega (arith, before)) (omega (arith, rank_most t, rank_least s)) run runs read at may))
         | inr behind ↦
-            subst (λ u. Looked h rows past made w r u (lazy.looks_to h pointers goal)) (sym (further_not s t (omega (arith, behind))))
-            (stays is rows past clean r made w s (lazy.looks_to h pointers goal) (looks_are pointers r t ∙ no_looks r t s n (omega (arith, behind))) run runs at)
+            subst (λ u. Looked h past to_come made w r u (lazy.looks_to h pointers goal)) (sym (further_not s t (omega (arith, behind))))
+            (stays is past to_come r made w s (lazy.looks_to h pointers goal) (looks_are pointers r t ∙ no_looks r t s n (omega (arith, behind))) run runs at)
       ]

@@ -1,8 +1,9 @@
 -- The need of a ring that is held is 0, where no event is late: until its doorbell no success of its blocks is read
-use Rattle.std.proofs.Common.{◌≡◌, ◌≢◌, ◌+◌, ◌==◌, ◌&&◌, if◌then◌else◌, ◌∷◌, ◌++◌, ◌∙◌, ℕ, not, max, Bool, false, List, [], reverse, Option, Some, None, option_map, refl, sym, ap, subst, ne_eqb, eq-eqb}
-use Rattle.lazy_runs.proofs.Words.{cond_both, cond-false, false≢true, not_from_false, Block, BlockKind, TransferEvent, CommandCompletion, kind, code, pointer, slot, endpoint, is_success, is_halting, is_trb_error, is_stopping, Spot, number, after, RingView, Opens, Holds, Reaches, is_open, ceiling, named, stopped_number, target, Command, StopEndpoint, is_off, Change, SlotGoesOn, DeviceLeft, Disables, Places, Stops, Resets, changes, Header, Row, Sub, Write, Reg, Bell, Read, shape_of, command_id, is_ring, ring_having, Known, RingSpot, on_ring, spot_on, command_at, next_command, endpoint_rung, rung, event_read, learned, known, one_more, declaration_leaves, write_leaves, register_leaves, view_after, is_report_of_success, is_held_ring, is_late, IsTimely, number_behind, begins_anew, number_reported, need}
+use Rattle.std.proofs.Common.{◌≡◌, ◌≢◌, ◌+◌, ◌==◌, ◌&&◌, if◌then◌else◌, ◌∷◌, ◌∙◌, ℕ, not, max, Bool, false, List, [], Option, Some, None, option_map, refl, sym, ap, subst, inl, inr, ne_eqb, eq-eqb}
+use Rattle.lazy_runs.proofs.Words.{cond_both, cond-false, false≢true, not_from_false, Block, BlockKind, TransferEvent, CommandCompletion, kind, code, pointer, slot, endpoint, is_success, is_halting, is_trb_error, is_stopping, Spot, number, after, RingView, RingChange, changed, new_ring, Shape, put, put_at, put_off, cases_eq, Opens, Holds, Reaches, Restores, is_open, ceiling, named, stopped_number, target, Command, StopEndpoint, is_off, Change, SlotGoesOn, DeviceLeft, Disables, Places, Stops, Resets, changes, Header, Row, Sub, Write, Reg, Bell, Read, TraceRow, Plain, Comes, Goes, Withdraws, IsDriverRow, shape_of, command_id, is_ring, ring_having, Known, RingSpot, on_ring, spot_on, command_at, next_command, endpoint_rung, rung, event_read, learned, declaration_leaves, write_leaves, register_leaves, view_after, is_report_of_success, is_held_ring, is_late, is_late_row, number_behind, begins_anew, number_reported, ends_need, number_needed, need, header_after, known_after, forgotten, restored, restored_on, ring_restored}
 use Rattle.ring_knowledge.specs.Rings.{event_at}
 use Rattle.ring_knowledge.specs.Transfers as transfers
+use Rattle.segments.specs.RingView as changes
 use Rattle.ring_knowledge.specs.Completions as completions
 
 abbrev pub IsHeld : Known → ℕ → Type 0
@@ -159,18 +160,78 @@ module _ (h : Header) where
       (sym (ap (λ c. c && is_held_ring k (k.ring_of (slot b) (endpoint b))) success) ∙ timely))
       (λ _. refl)
 
-  pub timely_before : (newer past : List Row) → IsTimely h (newer ++ past) → IsTimely h past
-  timely_before [] past timely = timely
-  timely_before (row ∷ newer) past timely = timely_before newer past timely.0
+-- none of the rows to come is late, and the command ring stays the same one
+abbrev pub AreTimely : Header → Known → List TraceRow → Type 0
+AreTimely h k [] = Unit {0}
+AreTimely h k (row ∷ later) = ((command_id (header_after h row) ≡ command_id h) × (is_late_row k row ≡ false)) × AreTimely (header_after h row) (known_after h k row) later
 
-  pub need_of_held : (later past : List Row) (r : ℕ) → r ≢ command_id h → IsHeld (known h past) r → IsTimely h (reverse later ++ past) → need h (known h past) r later ≡ 0
-  unfolding need known
-  need_of_held [] past r no_command held timely = refl
-  need_of_held (row ∷ later) past r no_command held timely =
-      let k : Known = known h past in
-      let from_here : IsTimely h (reverse later ++ (row ∷ past)) = subst (λ l. IsTimely h l) (one_more h row later past) timely in
-      let now : is_late k row ≡ false = (timely_before (reverse later) (row ∷ past) from_here).1 in
-      cond_both (begins_anew h k r row) 0 (max (number_reported h k r row) (need h (learned h k row) r later)) (λ n. n ≡ 0) (λ _. refl)
-      (λ quiet.
-      ap (λ n. max n (need h (learned h k row) r later)) (none_reported k r row held now)
-      ∙ ap (λ n. max 0 n) (need_of_held later (row ∷ past) r no_command (row_held k row r no_command quiet held) from_here))
+pub timely_then : (h : Header) (k : Known) (b : Block) (later : List TraceRow) → AreTimely h k (Plain (Read b) ∷ later) → AreTimely h (learned h k (Read b)) later
+unfolding ring_restored restored_on
+timely_then h k b later timely = timely.1
+
+module _ (h : Header) where
+  forgotten_held : (k : Known) (id r : ℕ) → StaysHeld k (forgotten k id) r
+  unfolding forgotten is_open
+  forgotten_held k id r held =
+      elim (cases_eq r id) [
+        | inl same ↦ ap (λ (v : RingView). is_open v) (ap (λ n. put k.ring id new_ring n) same ∙ put_at k.ring id new_ring)
+        | inr other ↦ ap (λ (v : RingView). is_open v) (put_off k.ring id new_ring r other) ∙ held
+      ]
+
+  -- what restores or withdraws leaves the ring held
+  quiet_held : (k : Known) (q : ℕ) (change : RingChange) → ((v : RingView) (shape : Shape) → (changed shape v change).held ≡ v.held) → (r : ℕ) → StaysHeld k (on_ring h k q change) r
+  quiet_held k q change same r held =
+      view_after h (λ v. is_open v ≡ false) k q change r
+      (λ here. held_as_before (k.ring q) (changed (shape_of h q) (k.ring q) change) (same (k.ring q) (shape_of h q)) (subst (λ n. is_open (k.ring n) ≡ false) here held)) (λ other. held)
+
+  restored_held : (k : Known) (o : Option ℕ) (r : ℕ) → StaysHeld k (restored_on h k o) r
+  unfolding restored_on
+  restored_held k None r held = held
+  restored_held k (Some q) r held = quiet_held k q Restores (λ v shape. refl) r held
+
+  anew_same : (k : Known) (o : Option ℕ) (r : ℕ) (row : Row) → IsDriverRow row → begins_anew h k r row ≡ false → begins_anew h (restored_on h k o) r row ≡ false
+  unfolding begins_anew restored_on on_ring
+  anew_same k None r row driver_row quiet = quiet
+  anew_same k (Some q) r (Bell s t) driver_row quiet = quiet
+  anew_same k (Some q) r (Sub p blocks) driver_row quiet = quiet
+  anew_same k (Some q) r (Write a x) driver_row quiet = quiet
+  anew_same k (Some q) r (Reg p x) driver_row quiet = quiet
+  anew_same k (Some q) r (Read b) driver_row quiet = absurd driver_row
+
+  plain_held : (k : Known) (row : Row) (r : ℕ) → r ≢ command_id h → begins_anew h k r row ≡ false → StaysHeld k (learned h (restored h k row) row) r
+  unfolding ring_restored restored_on
+  plain_held k (Read b) r other quiet held = row_held h k (Read b) r other quiet held
+  plain_held k (Sub q blocks) r other quiet held = row_held h k (Sub q blocks) r other quiet held
+  plain_held k (Reg q x) r other quiet held = row_held h k (Reg q x) r other quiet held
+  plain_held k (Write a x) r other quiet held =
+      let o : Option ℕ = ring_restored h k (Write a x) in
+      row_held h (restored_on h k o) (Write a x) r other (anew_same k o r (Write a x) tt quiet) (restored_held k o r held)
+  plain_held k (Bell s t) r other quiet held =
+      let o : Option ℕ = ring_restored h k (Bell s t) in
+      row_held h (restored_on h k o) (Bell s t) r other (anew_same k o r (Bell s t) tt quiet) (restored_held k o r held)
+
+  -- ring r is held behind a row of any kind, if it was before: but for its doorbell
+  any_held : (k : Known) (row : TraceRow) (r : ℕ) → r ≢ command_id h → ends_need h k r row ≡ false → StaysHeld k (known_after h k row) r
+  unfolding ends_need
+  any_held k (Plain row) r other quiet held = plain_held k row r other quiet held
+  any_held k (Comes ring) r other quiet held = forgotten_held k ring.id r held
+  any_held k (Goes id) r other quiet held = forgotten_held k id r held
+  any_held k (Withdraws q p) r other quiet held = quiet_held k q (changes.Withdraws p) (λ v shape. refl) r held
+
+  none_needed : (k : Known) (r : ℕ) (row : TraceRow) → IsHeld k r → is_late_row k row ≡ false → number_needed h k r row ≡ 0
+  unfolding number_needed
+  none_needed k r (Plain row) held timely = none_reported h k r row held timely
+  none_needed k r (Comes ring) held timely = refl
+  none_needed k r (Goes id) held timely = refl
+  none_needed k r (Withdraws q p) held timely = refl
+
+pub need_of_held : (later : List TraceRow) (h : Header) (k : Known) (r : ℕ) → r ≢ command_id h → IsHeld k r → AreTimely h k later → need h k r later ≡ 0
+unfolding need
+need_of_held [] h k r no_command held timely = refl
+need_of_held (row ∷ later) h k r no_command held timely =
+    let g : Header = header_after h row in
+    let l : Known = known_after h k row in
+    cond_both (ends_need h k r row) 0 (max (number_needed h k r row) (need g l r later)) (λ n. n ≡ 0) (λ _. refl)
+    (λ quiet.
+    ap (λ n. max n (need g l r later)) (none_needed h k r row held timely.0.1)
+    ∙ ap (λ n. max 0 n) (need_of_held later g l r (λ same. no_command (same ∙ timely.0.0)) (any_held h k row r no_command quiet held) timely.1))

@@ -1,6 +1,6 @@
 -- An event of the controller itself: the lazy run posts it directly before it is read, and needs no look for it
 use Rattle.std.proofs.Common.{◌≡◌, ◌+◌, ◌<◌, ◌==◌, ◌&&◌, ◌∷◌, ◌++◌, ◌∙◌, ℕ, true, false, List, [], reverse, Some, None, option_map, option_and_then, arith, refl, sym, ap, subst, inl}
-use Rattle.lazy_runs.proofs.Words.{flat_map, and_from, cond-false, cond-true, false≢true, Block, BlockKind, IsBlock, kind, code, slot, same_words, is_command_completion, is_other_event, Spot, is_open, Header, Row, Read, Step, NextRow, Other, IsHeader, command_id, World, event_at, stored, stored_block, read_made, Known, command_at, next_command, learned, known, IsLenient, DriverKeeps, Agrees, Runs, driver_keeps, run_keeps, learned_read, one_more, runs_rest, words_itself, says_nothing, other_runs, post_keeps, read_runs, with_reads}
+use Rattle.lazy_runs.proofs.Words.{flat_map, and_from, cond-false, cond-true, false≢true, Block, BlockKind, IsBlock, kind, code, slot, same_words, is_command_completion, is_other_event, Spot, is_open, Header, Read, Step, NextRow, Other, TraceRow, Plain, IsHeader, command_id, World, event_at, stored, stored_block, read_made, Known, command_at, next_command, learned, lenient, DriverKeeps, Agrees, Runs, run_keeps, learned_read, scene_with, step_made, words_itself, says_nothing, other_runs, post_keeps, read_runs, with_reads}
 use Rattle.trb.specs.declared.kind.BlockKind.TheVariants as kinds
 use Rattle.controller_model.specs.DriverRows as driver
 use Rattle.controller_model.specs.Posts as posts
@@ -8,18 +8,18 @@ use Rattle.controller_model.specs.Steps as steps
 use Rattle.lazy_runs.specs.Lazy as lazy
 use Rattle.lazy_runs.specs.Needs as needs
 use Rattle.lazy_runs.proofs.AllEventsRead.{agrees_now}
-use Rattle.lazy_runs.proofs.DriverRuns.{with_rest, next_reached}
-use Rattle.lazy_runs.proofs.Follows.{StandsAt, Follows, Carries}
+use Rattle.lazy_runs.proofs.DriverRuns.{next_reached}
+use Rattle.lazy_runs.proofs.Follows.{StandsAt, Follows, Carries, Leads, Past}
 use Rattle.lazy_runs.proofs.MayPost.{may_post}
 
 module _ (h : Header) where
   -- what the schedule does for such an event
-  record NeedsNothing (k : Known) (later : List Row) (b : Block) (t : BlockKind) : Type 0 where
+  record NeedsNothing (k : Known) (later : List TraceRow) (b : Block) (t : BlockKind) : Type 0 where
     goals : lazy.goals h k later t b ≡ []
     post : lazy.post_of h t b ≡ Other b
     no_completion : is_command_completion t ≡ false
 
-  needs_nothing : (k : Known) (later : List Row) (b : Block) (t : BlockKind) → is_other_event t ≡ true → NeedsNothing k later b t
+  needs_nothing : (k : Known) (later : List TraceRow) (b : Block) (t : BlockKind) → is_other_event t ≡ true → NeedsNothing k later b t
   unfolding lazy.goals lazy.post_of
   needs_nothing k later b kinds.PortStatusChange other = record { goals = refl; post = refl; no_completion = refl }
   needs_nothing k later b kinds.BandwidthRequest other = record { goals = refl; post = refl; no_completion = refl }
@@ -29,23 +29,23 @@ module _ (h : Header) where
   needs_nothing k later b kinds.MfindexWrap other = record { goals = refl; post = refl; no_completion = refl }
   needs_nothing k later b _ other = absurd (false≢true other)
 
-  lazy_event : (b : Block) (past later : List Row) → is_other_event (kind b) ≡ true →
-      lazy.lazy_run h (Read b ∷ past) later ≡ NextRow ∷ Other b ∷ lazy.lazy_run h past (Read b ∷ later)
-  unfolding lazy.lazy_run lazy.steps_before
+  lazy_event : (b : Block) (past : Past h) (later : List TraceRow) → is_other_event (kind b) ≡ true →
+      NextRow ∷ reverse (lazy.steps_before h past.known past.pointers (Read b) later) ++ past.made ≡ NextRow ∷ Other b ∷ past.made
+  unfolding lazy.steps_before
   lazy_event b past later other =
-      let n = needs_nothing (known h past) later b (kind b) other in
-      let pointers : ℕ → Spot = lazy.pointers_at h past (Read b ∷ later) in
-      let older : List Step = lazy.lazy_run h past (Read b ∷ later) in
+      let n = needs_nothing past.known later b (kind b) other in
+      let pointers : ℕ → Spot = past.pointers in
+      let older : List Step = past.made in
       ap (λ g. NextRow ∷ reverse (flat_map (lazy.looks_to h pointers) g ++ lazy.post_of h (kind b) b ∷ []) ++ older) n.goals
       ∙ ap (λ s. NextRow ∷ reverse (s ∷ []) ++ older) n.post
 
-  pointers_same : (b : Block) (past later : List Row) (r : ℕ) → is_other_event (kind b) ≡ true →
-      lazy.pointers_at h (Read b ∷ past) later r ≡ lazy.pointers_at h past (Read b ∷ later) r
-  unfolding lazy.pointers_at lazy.pointers_after lazy.brought needs.is_placed
+  pointers_same : (b : Block) (past : Past h) (later : List TraceRow) (r : ℕ) → is_other_event (kind b) ≡ true →
+      lazy.pointers_after h past.known past.pointers (Read b) later r ≡ past.pointers r
+  unfolding lazy.pointers_after lazy.brought needs.is_placed
   pointers_same b past later r other =
-      let k : Known = known h past in
+      let k : Known = past.known in
       let n = needs_nothing k later b (kind b) other in
-      let pointers : ℕ → Spot = lazy.pointers_at h past (Read b ∷ later) in
+      let pointers : ℕ → Spot = past.pointers in
       let no_place : needs.is_placed h k r b ≡ false = ap (λ c. c && code b == 1 && needs.is_placed_by h k r (slot b) (command_at h k (next_command h k))) n.no_completion in
       cond-false (needs.is_placed h k r b) ((learned h k (Read b)).ring r).floor (lazy.brought h pointers (lazy.goals h k later (kind b) b) r) no_place
       ∙ ap (λ g. lazy.brought h pointers g r) n.goals
@@ -54,32 +54,32 @@ module _ (h : Header) where
   unfolding posts.other_posted
   post_made w b can other = cond-true (posts.can_post h w b && is_other_event (kind b)) (Some (posts.posted h w b)) None (and_from (posts.can_post h w b) (is_other_event (kind b)) can other)
 
-  post_reached : (rows : List Row) (made : List Step) (w u : World) (b : Block) → steps.reached h rows made ≡ Some w → w.stopped ≡ false → posts.other_posted h w b ≡ Some u →
-      steps.reached h rows (Other b ∷ made) ≡ Some (steps.counted h u)
-  unfolding steps.reached steps.stepped steps.made steps.while_running
-  post_reached rows made w u b run running at =
-      ap (λ o. option_and_then (λ x. steps.stepped h x (Other b)) o) run
-      ∙ ap (λ o. option_map (steps.counted h) o) (cond-false w.stopped None (posts.other_posted h w b) running ∙ at)
+  post_reached : (past : Past h) (to_come : List TraceRow) (made : List Step) (w u : World) (b : Block) → Leads h past made to_come w → w.stopped ≡ false → posts.other_posted h w b ≡ Some u →
+      Leads h past (Other b ∷ made) to_come (steps.counted h u)
+  unfolding steps.made steps.while_running
+  post_reached past to_come made w u b run running at =
+      ap (λ o. option_and_then (λ x. step_made x (Other b)) o) run
+      ∙ ap (λ o. option_map (λ x. scene_with h to_come (steps.counted h x)) o) (cond-false w.stopped None (posts.other_posted h w b) running ∙ at)
 
-  module _ (is : IsHeader h) (past later : List Row) (b : Block) (w : World) (block : IsBlock b) (clean : IsLenient h (Read b ∷ past)) (other : is_other_event (kind b) ≡ true)
-      (f : Follows h past (Read b ∷ later) w) where
+  module _ (is : IsHeader h) (past : Past h) (later : List TraceRow) (b : Block) (w : World) (block : IsBlock b) (clean : lenient h past.known (Read b) ≡ []) (other : is_other_event (kind b) ≡ true)
+      (f : Follows h past.known past.pointers w) where
     k : Known
-    k = known h past
+    k = past.known
 
     l : Known
     l = learned h k (Read b)
 
     keeps : DriverKeeps h k
     unfolding k
-    keeps = driver_keeps h is past clean.0 f.runs.on
+    keeps = past.keeps
 
     agrees : Agrees h k [] w
     unfolding k
-    agrees = agrees_now h past w f.runs f.all_read
+    agrees = agrees_now h past.known w f.runs f.all_read
 
     can : posts.can_post h w b ≡ true
     unfolding k
-    can = may_post h is k w b keeps agrees clean.1
+    can = may_post h is k w b keeps agrees clean
 
     running : w.stopped ≡ false
     unfolding k
@@ -94,7 +94,7 @@ module _ (h : Header) where
     u = posts.posted h w b
 
     x : World
-    x = with_rest (steps.counted h u) later
+    x = steps.counted h u
 
     y : World
     y = record x { reads = x.reads + 1 }
@@ -118,12 +118,12 @@ module _ (h : Header) where
     unfolding y
     reads_it = read_made h x b unread (subst (λ e. same_words e b ≡ true) (sym there) (words_itself b))
 
-    runs : Runs h (known h (Read b ∷ past)) v
-    unfolding x u v k known
+    runs : Runs h (learned h past.known (Read b)) v
+    unfolding x u v k
     runs =
-        let posted : Runs h (known h past) (steps.counted h (posts.posted h w b)) =
-        other_runs h is (known h past) w (posts.posted h w b) b block running f.runs (run_keeps h is (known h past) w keeps f.runs) (post_made w b can other) in
-        read_runs h (known h past) b x y block (runs_rest h (known h past) (steps.counted h u) later posted) reads_it
+        let posted : Runs h past.known (steps.counted h (posts.posted h w b)) =
+        other_runs h is past.known w (posts.posted h w b) b block running f.runs (run_keeps h is past.known w keeps f.runs) (post_made w b can other) in
+        read_runs h past.known b x y block posted reads_it
 
     had : (s i r : ℕ) → l.ring_of s i ≡ Some r → k.ring_of s i ≡ Some r
     had s i r at = ap (λ (m : Known). m.ring_of s i) (sym same) ∙ at
@@ -132,8 +132,8 @@ module _ (h : Header) where
     unfolding v y x u steps.counted posts.posted stored_block stored
     stands r t at = record { is_spot = at.is_spot; pointer = at.pointer; cycle = at.cycle; next = at.next }
 
-    follows : Follows h (Read b ∷ past) later v
-    unfolding known k l v y x u steps.counted posts.posted stored_block stored
+    follows : Follows h (learned h past.known (Read b)) (lazy.pointers_after h past.known past.pointers (Read b) later) v
+    unfolding k l v y x u steps.counted posts.posted stored_block stored
     follows = record {
       runs = runs;
       all_read = omega (arith, f.all_read);
@@ -143,20 +143,16 @@ module _ (h : Header) where
       before = λ off. pointers_same b past later (command_id h) other ∙ f.before (ap (λ (m : Known). m.started) (sym same) ∙ off);
       command = λ on.
           subst (λ t. StandsAt h v (command_id h) t) (sym (pointers_same b past later (command_id h) other))
-          (stands (command_id h) (lazy.pointers_at h past (Read b ∷ later) (command_id h)) (f.command (ap (λ (m : Known). m.started) (sym same) ∙ on)));
+          (stands (command_id h) (past.pointers (command_id h)) (f.command (ap (λ (m : Known). m.started) (sym same) ∙ on)));
       command_active = λ opened. f.command_active (ap (λ (m : Known). is_open (m.ring (command_id h))) (sym same) ∙ opened);
     }
 
-    pub other_step : steps.reached h (reverse past ++ (Read b ∷ later)) (lazy.lazy_run h past (Read b ∷ later)) ≡ Some w → w.rows ≡ Read b ∷ later → Carries h (Read b ∷ past) later
-    unfolding v y x u steps.counted posts.posted stored_block stored driver.row_done
-    other_step run rest =
-        let rows : List Row = reverse past ++ (Read b ∷ later) in
-        let older : List Step = lazy.lazy_run h past (Read b ∷ later) in
-        let posted_run = post_reached rows older w (posts.posted h w b) b run running (post_made w b can other) in
-        record {
-          world = v;
-          run = ap (λ all. steps.reached h all (lazy.lazy_run h (Read b ∷ past) later)) (one_more h (Read b) past later) ∙ ap (λ made. steps.reached h rows made) (lazy_event b past later other)
-              ∙ next_reached h rows (Other b ∷ older) (steps.counted h u) y (Read b) later posted_run rest reads_it;
-          rest = refl;
-          goes = inl follows;
-        }
+    pub other_step : Leads h past past.made (Plain (Read b) ∷ later) w → Carries h past (Read b) later
+    unfolding v y x u driver.row_done
+    other_step run = record {
+      world = v;
+      run = subst (λ made. Leads h past made later v) (sym (lazy_event b past later other))
+          (next_reached h past (Other b ∷ past.made) (steps.counted h (posts.posted h w b)) y (Read b) later
+          (post_reached past (Plain (Read b) ∷ later) past.made w (posts.posted h w b) b run running (post_made w b can other)) reads_it);
+      goes = inl follows;
+    }

@@ -1,6 +1,6 @@
 -- A Transfer Event: behind its looks the lazy run reports it, and then it is read. What the report and the row leave as it was
 use Rattle.std.proofs.Common.{◌≡◌, ◌≢◌, ◌+◌, ◌<◌, ◌==◌, ◌&&◌, ◌∷◌, ◌++◌, ◌∙◌, ℕ, true, false, List, [], reverse, Some, None, option_map, option_and_then, arith, refl, sym, ap, subst, inl, inr}
-use Rattle.lazy_runs.proofs.Words.{cases_eq, cond-false, false≢true, reverse-append, Block, IsBlock, kind, code, slot, same_words, block_at, is_transfer_event, is_command_completion, Spot, is_open, address_of, Header, Row, Read, Step, NextRow, Report, IsHeader, command_id, event_shape, World, event_at, read_made, Known, command_at, next_command, learned, known, IsLenient, DriverKeeps, Agrees, Runs, event_facts, driver_keeps, run_keeps, one_more, runs_rest, words_itself, post_keeps, read_runs, report_runs, report_is, transfer_kind}
+use Rattle.lazy_runs.proofs.Words.{cases_eq, cond-false, false≢true, reverse-append, Block, IsBlock, kind, code, slot, same_words, block_at, is_transfer_event, is_command_completion, Spot, is_open, address_of, Header, Read, Step, NextRow, Report, TraceRow, Plain, IsHeader, command_id, event_shape, World, event_at, read_made, Known, command_at, next_command, learned, lenient, DriverKeeps, Agrees, Runs, event_facts, run_keeps, scene_with, step_made, words_itself, post_keeps, read_runs, report_runs, report_is, transfer_kind}
 use Rattle.world_state.specs.World as of_world
 use Rattle.controller_model.specs.DriverRows as driver
 use Rattle.controller_model.specs.Posts as posts
@@ -8,8 +8,8 @@ use Rattle.controller_model.specs.Steps as steps
 use Rattle.lazy_runs.specs.Lazy as lazy
 use Rattle.lazy_runs.specs.Needs as needs
 use Rattle.lazy_runs.proofs.AllEventsRead.{agrees_now}
-use Rattle.lazy_runs.proofs.DriverRuns.{with_rest, next_reached}
-use Rattle.lazy_runs.proofs.Follows.{StandsAt, IsActiveIfOpen, Follows, Carries}
+use Rattle.lazy_runs.proofs.DriverRuns.{next_reached}
+use Rattle.lazy_runs.proofs.Follows.{StandsAt, IsActiveIfOpen, Follows, Carries, Leads, Past}
 use Rattle.lazy_runs.proofs.Traced.{Traced, looks_for}
 
 module _ (h : Header) where
@@ -32,48 +32,48 @@ module _ (h : Header) where
 
   -- ---- the schedule's steps
 
-  lazy_transfer : (b : Block) (past later : List Row) → is_transfer_event (kind b) ≡ true →
-      lazy.lazy_run h (Read b ∷ past) later ≡ NextRow ∷ Report b ∷ (reverse (looks_for h past later b) ++ lazy.lazy_run h past (Read b ∷ later))
-  unfolding lazy.lazy_run lazy.steps_before lazy.post_of
+  lazy_transfer : (b : Block) (past : Past h) (later : List TraceRow) → is_transfer_event (kind b) ≡ true →
+      NextRow ∷ reverse (lazy.steps_before h past.known past.pointers (Read b) later) ++ past.made ≡ NextRow ∷ Report b ∷ (reverse (looks_for h past later b) ++ past.made)
+  unfolding lazy.steps_before lazy.post_of
   lazy_transfer b past later transfer =
       let looks : List Step = looks_for h past later b in
-      let older : List Step = lazy.lazy_run h past (Read b ∷ later) in
+      let older : List Step = past.made in
       ap (λ t. NextRow ∷ reverse (looks ++ lazy.post_of h t b ∷ []) ++ older) (transfer_kind (kind b) transfer)
       ∙ ap (λ l. NextRow ∷ l ++ older) (reverse-append looks (Report b ∷ []))
 
-  pub pointers_transfer : (b : Block) (past later : List Row) (r : ℕ) → is_transfer_event (kind b) ≡ true →
-      lazy.pointers_at h (Read b ∷ past) later r ≡ lazy.brought h (lazy.pointers_at h past (Read b ∷ later)) (lazy.goals h (known h past) later (kind b) b) r
-  unfolding lazy.pointers_at lazy.pointers_after needs.is_placed
+  pub pointers_transfer : (b : Block) (past : Past h) (later : List TraceRow) (r : ℕ) → is_transfer_event (kind b) ≡ true →
+      lazy.pointers_after h past.known past.pointers (Read b) later r ≡ lazy.brought h past.pointers (lazy.goals h past.known later (kind b) b) r
+  unfolding lazy.pointers_after needs.is_placed
   pointers_transfer b past later r transfer =
-      let k : Known = known h past in
+      let k : Known = past.known in
       let no_place : needs.is_placed h k r b ≡ false = ap (λ t. is_command_completion t && code b == 1 && needs.is_placed_by h k r (slot b) (command_at h k (next_command h k))) (transfer_kind (kind b) transfer) in
       cond-false (needs.is_placed h k r b) ((learned h k (Read b)).ring r).floor _ no_place
 
-  report_reached : (rows : List Row) (made : List Step) (w u : World) (b : Block) → steps.reached h rows made ≡ Some w → w.stopped ≡ false → posts.reported h w b ≡ Some u →
-      steps.reached h rows (Report b ∷ made) ≡ Some (steps.counted h u)
-  unfolding steps.reached steps.stepped steps.made steps.while_running
-  report_reached rows made w u b run running at =
-      ap (λ o. option_and_then (λ x. steps.stepped h x (Report b)) o) run
-      ∙ ap (λ o. option_map (steps.counted h) o) (cond-false w.stopped None (posts.reported h w b) running ∙ at)
+  report_reached : (past : Past h) (to_come : List TraceRow) (made : List Step) (w u : World) (b : Block) → Leads h past made to_come w → w.stopped ≡ false → posts.reported h w b ≡ Some u →
+      Leads h past (Report b ∷ made) to_come (steps.counted h u)
+  unfolding steps.made steps.while_running
+  report_reached past to_come made w u b run running at =
+      ap (λ o. option_and_then (λ x. step_made x (Report b)) o) run
+      ∙ ap (λ o. option_map (λ x. scene_with h to_come (steps.counted h x)) o) (cond-false w.stopped None (posts.reported h w b) running ∙ at)
 
   -- ---- the world behind the report and the row
 
-  module _ (is : IsHeader h) (past later : List Row) (b : Block) (pointers : ℕ → Spot) (w u : World) (r : ℕ) (t : Spot) (block : IsBlock b) (clean : IsLenient h (Read b ∷ past))
-      (transfer : is_transfer_event (kind b) ≡ true) (trace : Traced h past pointers w) (at : posts.reported h w b ≡ Some u) (leaves : ReportLeaves w u b r)
-      (learns : EventLearns (known h past) (learned h (known h past) (Read b)) r t) where
+  module _ (is : IsHeader h) (past : Past h) (later : List TraceRow) (b : Block) (pointers : ℕ → Spot) (w u : World) (r : ℕ) (t : Spot) (block : IsBlock b) (clean : lenient h past.known (Read b) ≡ [])
+      (transfer : is_transfer_event (kind b) ≡ true) (trace : Traced h past.known pointers w) (at : posts.reported h w b ≡ Some u) (leaves : ReportLeaves w u b r)
+      (learns : EventLearns past.known (learned h past.known (Read b)) r t) where
     k : Known
-    k = known h past
+    k = past.known
 
     l : Known
     l = learned h k (Read b)
 
     keeps : DriverKeeps h k
     unfolding k
-    keeps = driver_keeps h is past clean.0 trace.runs.on
+    keeps = past.keeps
 
     agrees : Agrees h k [] w
     unfolding k
-    agrees = agrees_now h past w trace.runs trace.all_read
+    agrees = agrees_now h past.known w trace.runs trace.all_read
 
     running : w.stopped ≡ false
     unfolding k
@@ -81,7 +81,7 @@ module _ (h : Header) where
 
     -- the world before the row, and behind it
     x : World
-    x = with_rest (steps.counted h u) later
+    x = steps.counted h u
 
     y : World
     y = record x { reads = x.reads + 1 }
@@ -106,11 +106,11 @@ module _ (h : Header) where
     unfolding y
     reads_it = read_made h x b unread (subst (λ e. same_words e b ≡ true) (sym there) (words_itself b))
 
-    runs : Runs h (known h (Read b ∷ past)) v
-    unfolding x y v k known
+    runs : Runs h (learned h past.known (Read b)) v
+    unfolding x y v k
     runs =
-        let reported : Runs h (known h past) (steps.counted h u) = report_runs h is (known h past) w u b block running trace.runs (run_keeps h is (known h past) w keeps trace.runs) at in
-        read_runs h (known h past) b x y block (runs_rest h (known h past) (steps.counted h u) later reported) reads_it
+        let reported : Runs h past.known (steps.counted h u) = report_runs h is past.known w u b block running trace.runs (run_keeps h is past.known w keeps trace.runs) at in
+        read_runs h past.known b x y block reported reads_it
 
     stands : (q : ℕ) (s : Spot) → StandsAt h w q s → StandsAt h v q s
     unfolding v y x steps.counted
@@ -127,10 +127,10 @@ module _ (h : Header) where
 
     started : k.started ≡ true
     unfolding k
-    started = (event_facts h k b clean.1).started
+    started = (event_facts h k b clean).started
 
-    module _ (no_command : r ≢ command_id h) (here : pointers r ≡ t) (others : (s i q : ℕ) → (known h past).ring_of s i ≡ Some q → q ≢ r → pointers q ≡ ((known h past).ring q).floor)
-        (after : (q : ℕ) → lazy.pointers_at h (Read b ∷ past) later q ≡ pointers q) (still : IsActiveIfOpen (learned h (known h past) (Read b)) u r) where
+    module _ (no_command : r ≢ command_id h) (here : pointers r ≡ t) (others : (s i q : ℕ) → past.known.ring_of s i ≡ Some q → q ≢ r → pointers q ≡ (past.known.ring q).floor)
+        (after : (q : ℕ) → lazy.pointers_after h past.known past.pointers (Read b) later q ≡ pointers q) (still : IsActiveIfOpen (learned h past.known (Read b)) u r) where
       pointers_are : (s i q : ℕ) → l.ring_of s i ≡ Some q → pointers q ≡ (l.ring q).floor
       unfolding l k
       pointers_are s i q there =
@@ -147,8 +147,8 @@ module _ (h : Header) where
             | inr other ↦ leaves.active q other ∙ was (subst (λ e. is_open e ≡ true) (learns.others q other) opened)
           ]
 
-      follows : Follows h (Read b ∷ past) later v
-      unfolding known l k v y x steps.counted
+      follows : Follows h (learned h past.known (Read b)) (lazy.pointers_after h past.known past.pointers (Read b) later) v
+      unfolding l k v y x steps.counted
       follows = record {
         runs = runs;
         all_read = omega (arith, trace.all_read, leaves.posted, leaves.reads);
@@ -160,16 +160,13 @@ module _ (h : Header) where
         command_active = active (command_id h) trace.command_active;
       }
 
-      pub report_step : steps.reached h (reverse past ++ (Read b ∷ later)) (reverse (looks_for h past later b) ++ lazy.lazy_run h past (Read b ∷ later)) ≡ Some w → w.rows ≡ Read b ∷ later →
-          u.rows ≡ w.rows → Carries h (Read b ∷ past) later
-      unfolding v y x steps.counted driver.row_done
-      report_step run rest same =
-          let rows : List Row = reverse past ++ (Read b ∷ later) in
-          let mid : List Step = reverse (looks_for h past later b) ++ lazy.lazy_run h past (Read b ∷ later) in
+      pub report_step : Leads h past (reverse (looks_for h past later b) ++ past.made) (Plain (Read b) ∷ later) w → Carries h past (Read b) later
+      unfolding v y x driver.row_done
+      report_step run =
+          let mid : List Step = reverse (looks_for h past later b) ++ past.made in
           record {
             world = v;
-            run = ap (λ all. steps.reached h all (lazy.lazy_run h (Read b ∷ past) later)) (one_more h (Read b) past later) ∙ ap (λ made. steps.reached h rows made) (lazy_transfer b past later transfer)
-                ∙ next_reached h rows (Report b ∷ mid) (steps.counted h u) y (Read b) later (report_reached rows mid w u b run running at) (same ∙ rest) reads_it;
-            rest = refl;
+            run = subst (λ made. Leads h past made later v) (sym (lazy_transfer b past later transfer))
+                (next_reached h past (Report b ∷ mid) (steps.counted h u) y (Read b) later (report_reached past (Plain (Read b) ∷ later) mid w u b run running at) reads_it);
             goes = inl follows;
           }

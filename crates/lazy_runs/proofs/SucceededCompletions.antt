@@ -1,6 +1,6 @@
 -- The success of a command, from its changes: the lazy run goes on
-use Rattle.std.proofs.Common.{◌≡◌, ◌+◌, ◌==◌, ◌&&◌, ◌||◌, if◌then◌else◌, ◌∷◌, ◌∙◌, ℕ, not, true, false, List, [], Option, Some, None, is_some, option_map, unwrap_or, refl, sym, ap, subst}
-use Rattle.lazy_runs.proofs.Words.{or_from, or_parts, cond-false, cond-true, not_from_true, Block, IsBlock, kind, code, slot, is_command_completion, Spot, after, Reaches, Command, EndpointState, changes, command_of, named_context, named_slot, named_endpoint, can_succeed, slot_success, endpoint_success, slot_meant, endpoint_meant, is_slot_enabled, Header, Row, Read, Config, IsHeader, shape_of, command_id, register_or_zero, World, posted, Known, event_read, learned, known, on_ring, command_at, next_command, is_bad_area, has_bad_context, IsLenient, CommandKeeps, Agrees, bad_command_context, ring_elsewhere, StatesMatch, ChangeKeeps, LeavesRest, states_match, let_go, completion_kind, seen_after, stop_ended_is, next_unfinished, are_numbered}
+use Rattle.std.proofs.Common.{◌≡◌, ◌+◌, ◌==◌, ◌&&◌, ◌||◌, if◌then◌else◌, ◌∙◌, ℕ, not, true, false, List, [], Option, Some, None, is_some, option_map, unwrap_or, refl, sym, ap, subst}
+use Rattle.lazy_runs.proofs.Words.{or_from, or_parts, cond-false, cond-true, not_from_true, Block, IsBlock, kind, code, slot, is_command_completion, Spot, after, Reaches, Command, EndpointState, changes, command_of, named_context, named_slot, named_endpoint, can_succeed, slot_success, endpoint_success, slot_meant, endpoint_meant, is_slot_enabled, Header, Read, TraceRow, Config, IsHeader, shape_of, command_id, register_or_zero, World, posted, Known, event_read, learned, lenient, on_ring, command_at, next_command, is_bad_area, has_bad_context, CommandKeeps, Agrees, bad_command_context, ring_elsewhere, StatesMatch, ChangeKeeps, LeavesRest, states_match, let_go, completion_kind, seen_after, stop_ended_is, next_unfinished}
 use Rattle.world_state.specs.World as of_world
 use Rattle.controller_model.specs.Bindings as bindings
 use Rattle.controller_model.specs.Finishes as finishes
@@ -9,7 +9,7 @@ use Rattle.lazy_runs.specs.Needs as needs
 use Rattle.lazy_runs.proofs.ChangesGo.{ListGoes}
 use Rattle.lazy_runs.proofs.CompletionReady.{ReadyToFinish, finish_posted, spots_then}
 use Rattle.lazy_runs.proofs.CompletionStep.{CompletionLearns, FinishLeaves, completion_step}
-use Rattle.lazy_runs.proofs.Follows.{Carries}
+use Rattle.lazy_runs.proofs.Follows.{Carries, Past}
 use Rattle.lazy_runs.proofs.RingsGo.{RingsGo}
 
 same_meant : (f g : ℕ → ℕ → EndpointState) (o : Option (ℕ × ℕ)) → ((s i : ℕ) → f s i ≡ g s i) → endpoint_meant f o ≡ endpoint_meant g o
@@ -43,7 +43,6 @@ module _ (h : Header) where
     memory = ap (λ (y : World). (posted h y b).memory) rest.world;
     posted = ap (λ (y : World). y.posted + 1) rest.world;
     reads = ap (λ (y : World). y.reads) rest.world;
-    rows = ap (λ (y : World). y.rows) rest.world;
     rings = λ q. refl;
     command = rest.command_world;
   }
@@ -83,16 +82,16 @@ module _ (h : Header) where
   EffectGoes k w n c = (changes h.context_size w.memory n c ≡ changes h.context_size k.memory n c) × ListGoes h c k w (changes h.context_size k.memory n c)
 
   -- what was tested of the command when it was given holds still
-  pub given_then : (past later : List Row) (b : Block) → IsHeader h → (ready : ReadyToFinish h past later b) → CommandKeeps h (known h past) (next_command h (known h past)) ready.says.command
+  pub given_then : (past : Past h) (later : List TraceRow) (b : Block) → IsHeader h → (ready : ReadyToFinish h past later b) → CommandKeeps h past.known (next_command h past.known) ready.says.command
   given_then past later b is ready =
-      let k : Known = known h past in
+      let k : Known = past.known in
       let c : Command = ready.says.command in
       ready.keeps.unfinished (next_command h k) c (next_unfinished h is k ready.keeps ready.says.started ready.says.below c ready.says.here)
 
-  module _ (past later : List Row) (b : Block) (completion : is_command_completion (kind b) ≡ true) (one : (code b == 1) ≡ true) (ready : ReadyToFinish h past later b) (is : IsHeader h)
-      (effect : EffectGoes (known h past) ready.world (slot b) ready.says.command) where
+  module _ (past : Past h) (later : List TraceRow) (b : Block) (completion : is_command_completion (kind b) ≡ true) (one : (code b == 1) ≡ true) (ready : ReadyToFinish h past later b) (is : IsHeader h)
+      (effect : EffectGoes past.known ready.world (slot b) ready.says.command) where
     abbrev k : Known
-    k = known h past
+    k = past.known
 
     abbrev w : World
     w = ready.world
@@ -140,12 +139,12 @@ module _ (h : Header) where
     started : m.started ≡ k.started
     started = ap (λ (y : Known). y.started) keeps.rest.known
 
-    pub success_step : IsBlock b → IsLenient h (Read b ∷ past) → Carries h (Read b ∷ past) later
+    pub success_step : IsBlock b → lenient h past.known (Read b) ≡ [] → Carries h past (Read b) later
     success_step block clean =
         completion_step h is past later b block clean completion (spots_then h past later b) (λ q. refl) w (let_go (posted h list.world b)) list.world m ready.traced ready.stay
         ready.says.started ready.opened (finish_posted h past later b (let_go (posted h list.world b)) completion ready ends) (success_leaves k m w list.world b keeps.rest)
-        (success_learns k b c completion one ready.says.here started) rings_go ready.run ready.rest
+        (success_learns k b c completion one ready.says.here started) rings_go ready.run
 
   -- the states of what is known are those of the world, before the first change
-  pub states_then : (past later : List Row) (b : Block) → IsHeader h → (ready : ReadyToFinish h past later b) → StatesMatch h (known h past) ready.world
-  states_then past later b is ready = states_match h is (known h past) ready.world ready.keeps (are_numbered h past) ready.agrees.matches
+  pub states_then : (past : Past h) (later : List TraceRow) (b : Block) → IsHeader h → (ready : ReadyToFinish h past later b) → StatesMatch h past.known ready.world
+  states_then past later b is ready = states_match h is past.known ready.world ready.keeps past.keeps.numbered ready.agrees.matches

@@ -1,6 +1,6 @@
 -- For a Transfer Event the schedule brings its ring behind the block that it names, and what is known of the ring then
 use Rattle.std.proofs.Common.{◌≡◌, ◌≢◌, ◌+◌, ◌≤◌, ◌==◌, ◌||◌, ◌∷◌, ◌∙◌, ℕ, suc, nat_lt, true, false, List, [], Some, arith, refl, sym, ap, subst, inl, inr, lt-ltb, le-ltb, eqb-true}
-use Rattle.lazy_runs.proofs.Words.{cases_lt, cond_both, cond-true, cond-false, or_cases, false≢true, Block, kind, code, slot, endpoint, is_transfer_event, is_success, is_halting, is_trb_error, is_stopping, Spot, Shape, number, rank, after, Reaches, Holds, is_open, stopped_number, same_rank, Header, Row, Read, shape_of, Known, RingSpot, on_ring, event_read, learned, passed, broken_off, stopped_at, transferred, transferred_at, transfer_read, ring_here, learned_read, put_at, put_off, transfer_kind, TransferLeaves, transferred_leaves, with_reads, behind_taken, further, taken_up_to, report_goals, goals, brought}
+use Rattle.lazy_runs.proofs.Words.{cases_lt, cond_both, cond-true, cond-false, or_cases, false≢true, Block, kind, code, slot, endpoint, is_transfer_event, is_success, is_halting, is_trb_error, is_stopping, Spot, Shape, number, rank, after, Reaches, Holds, is_open, stopped_number, same_rank, Header, TraceRow, Read, shape_of, Known, RingSpot, on_ring, event_read, learned, passed, broken_off, stopped_at, transferred, transferred_at, transfer_read, ring_here, learned_read, put_at, put_off, transfer_kind, TransferLeaves, transferred_leaves, with_reads, behind_taken, further, taken_up_to, report_goals, goals, brought}
 use Rattle.lazy_runs.proofs.ReportStep.{EventLearns}
 use Rattle.lazy_runs.proofs.TransferFacts.{TransferFacts, NamesBlock}
 
@@ -53,11 +53,11 @@ module _ (h : Header) where
   brought_off pointers r q t other = put_off pointers r (further (pointers r) t) q other
 
   module _ (k : Known) (b : Block) (transfer : is_transfer_event (kind b) ≡ true) (f : TransferFacts h k b) where
-    pub goals_are : (later : List Row) → goals h k later (kind b) b ≡ report_goals h k later b (Some (record { ring = f.ring; spot = f.spot }))
+    pub goals_are : (later : List TraceRow) → goals h k later (kind b) b ≡ report_goals h k later b (Some (record { ring = f.ring; spot = f.spot }))
     unfolding goals
     goals_are later = ap (λ t. goals h k later t b) (transfer_kind (kind b) transfer) ∙ ap (λ o. report_goals h k later b o) f.at
 
-    pub block_goal : (later : List Row) (n : NamesBlock h k f.ring f.spot) → is_stopping (code b) ≡ false →
+    pub block_goal : (later : List TraceRow) (n : NamesBlock h k f.ring f.spot) → is_stopping (code b) ≡ false →
         goals h k later (kind b) b ≡ record { ring = f.ring; spot = after (shape_of h f.ring) n.position } ∷ []
     unfolding report_goals
     block_goal later n goes_on =

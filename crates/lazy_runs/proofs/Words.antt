@@ -13,14 +13,16 @@ unfoldable pub use Rattle.contexts.specs.Contexts.{added_endpoints}
 pub use Rattle.contexts.specs.declared.size.ContextSize.{ContextSize}
 pub use Rattle.controller_model.proofs.ReadLemmas.{read_made}
 unfoldable pub use Rattle.controller_model.specs.Posts.{can_post, posted}
-unfoldable pub use Rattle.controller_model.specs.Steps.{counted, reached}
+pub use Rattle.controller_model.specs.Scenes.{Scene, scene_reached, step_made}
+unfoldable pub use Rattle.controller_model.specs.RingRows.{emptied, with_ring, without_descriptor, without_ring}
+unfoldable pub use Rattle.controller_model.specs.Steps.{counted}
 pub use Rattle.event_ring.specs.EventRing.{erdp_address, has_room, is_event_place, position_from}
 pub use Rattle.guest_memory.specs.Memory.{put, put_pair}
-pub use Rattle.lazy_runs.specs.LateEvents.{IsTimely, is_report_of_success}
+pub use Rattle.lazy_runs.specs.LateEvents.{IsTimely, is_late_row, is_report_of_success}
 unfoldable pub use Rattle.lazy_runs.specs.LateEvents.{is_held_ring, is_late}
-pub use Rattle.lazy_runs.specs.Law.{AllAreRead, AreAtFloors, ContainsAll, GoesSoFar, LazyLaw}
-unfoldable pub use Rattle.lazy_runs.specs.Lazy.{behind_taken, brought, command_taken, further, goals, lazy_run, looks_to, pointers_at, report_goals, stop_goal, taken_up_to}
-unfoldable pub use Rattle.lazy_runs.specs.Needs.{begins_anew, need, number_behind, number_reported}
+pub use Rattle.lazy_runs.specs.Law.{AllAreRead, AreAtFloors, ContainsAll, GoesSoFar, LazyLaw, scene_with}
+unfoldable pub use Rattle.lazy_runs.specs.Lazy.{behind_taken, brought, command_taken, further, goals, lazy_run, looks_to, pointers_after, pointers_at, pointers_for, report_goals, steps_before, steps_for, stop_goal, taken_up_to}
+unfoldable pub use Rattle.lazy_runs.specs.Needs.{begins_anew, ends_need, need, number_behind, number_needed, number_reported}
 pub use Rattle.ownership_rules.proofs.Among.{IsIn}
 unfoldable pub use Rattle.ownership_rules.specs.Areas.{is_bad_area}
 pub use Rattle.ownership_rules.specs.Clean.{IsLenient}
@@ -30,6 +32,11 @@ unfoldable pub use Rattle.ownership_rules.specs.Doorbells.{is_bad_bell, is_touch
 unfoldable pub use Rattle.ownership_rules.specs.Events.{can_finish, can_report, can_report_at, event_tests, is_impossible, is_impossible_by_kind, is_impossible_completion, is_impossible_transfer, is_in_profile, is_past_room, is_stopping_now, is_working, may_be_taken, was_stop_seen}
 unfoldable pub use Rattle.ownership_rules.specs.Moves.{binding_in, has_repeats, is_among, ring_bound}
 unfoldable pub use Rattle.ownership_rules.specs.Rules.{lenient, lenient_tests}
+pub use Rattle.ring_changes.specs.Histories.{AreKept, FitsFields, IsKept, header_after, header_now, known_after, known_now}
+pub use Rattle.ring_changes.specs.Changes.{IsComing}
+unfoldable pub use Rattle.ring_changes.specs.Changes.{forgotten, is_bad_free, is_bad_ring}
+pub use Rattle.ring_changes.specs.Withdrawals.{restored}
+unfoldable pub use Rattle.ring_changes.specs.Withdrawals.{is_bad_withdraw, is_left, restored_on, ring_restored, some_flips}
 pub use Rattle.ring_knowledge.specs.Known.{Known}
 unfoldable pub use Rattle.ring_knowledge.specs.Known.{nothing}
 unfoldable pub use Rattle.ring_knowledge.specs.Learned.{event_read, known, learned}
@@ -104,6 +111,7 @@ pub use Rattle.safety.proofs.Transfers.{chain, spot_is}
 pub use Rattle.safety.proofs.WithReads.{with_reads}
 pub use Rattle.safety.specs.EndpointsKeep.{EndpointsKeep}
 pub use Rattle.safety.specs.Invariant.{Runs, all_read}
+pub use Rattle.safety.specs.Restoring.{MayCome}
 pub use Rattle.safety.specs.Keeps.{CommandKeeps, DriverKeeps, IsDriverRing, IsTransferRing}
 pub use Rattle.safety.specs.KeptHistories.{IsDriverRow}
 pub use Rattle.safety.specs.Matches.{Agrees, BoundRing, CommandMatches, RingMatches, RingState, TakenCommand, UnderWayMatches, Unreported, state_of}
@@ -123,7 +131,7 @@ unfoldable pub use Rattle.segments.specs.Ceiling.{ceiling, given_count, is_data_
 unfoldable pub use Rattle.segments.specs.Moves.{target}
 pub use Rattle.segments.specs.Places.{address_of, cycle_of, is_inside, place_count}
 pub use Rattle.segments.specs.RingKeeps.{MayReach, RingKeeps}
-pub use Rattle.segments.specs.RingView.{Declares, Holds, Opens, Reaches, RingView, Writes, changed, declared, floor_number, gives}
+pub use Rattle.segments.specs.RingView.{Declares, Holds, Opens, Reaches, Restores, RingChange, RingView, Writes, changed, declared, floor_number, gives, new_ring}
 pub use Rattle.segments.specs.Shape.{IsShape, is_shape}
 pub use Rattle.segments.specs.ShapeValue.{Shape}
 pub use Rattle.segments.specs.Spots.{IsSpot, after, next, number, rank, spot_address, spot_cycle, spots_from}
@@ -146,6 +154,8 @@ pub use Rattle.traces.specs.declared.ring.Ring.{Ring}
 pub use Rattle.traces.specs.declared.row.Row.{Row}
 pub use Rattle.traces.specs.declared.row.Row.TheVariants.{Bell, Read, Reg, Sub, Write}
 pub use Rattle.traces.specs.declared.step.Step.{Step}
+pub use Rattle.traces.specs.declared.trace_row.TraceRow.{TraceRow}
+pub use Rattle.traces.specs.declared.trace_row.TraceRow.TheVariants.{Comes, Goes, Plain, Withdraws}
 pub use Rattle.traces.specs.declared.step.Step.TheVariants.{Finish, Look, NextRow, Other, Report}
 pub use Rattle.trb.specs.Bits.{is_set}
 pub use Rattle.trb.specs.Block.{IsBlock, block_at, code, cycle, endpoint, kind, pointer, same_words, slot, word}

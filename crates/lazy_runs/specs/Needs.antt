@@ -10,11 +10,13 @@ use Rattle.commands.specs.Changes.{Change, Places, changes}
 use Rattle.traces.specs.declared.header.Header.{Header}
 use Rattle.traces.specs.declared.row.Row.{Row}
 use Rattle.traces.specs.declared.row.Row.TheVariants.{Bell, Read}
+use Rattle.traces.specs.declared.trace_row.TraceRow.{TraceRow}
+use Rattle.traces.specs.declared.trace_row.TraceRow.TheVariants.{Goes, Plain}
 use Rattle.traces.specs.Header.{ring_having, is_ring}
 use Rattle.ring_knowledge.specs.Known.{Known}
-use Rattle.ring_knowledge.specs.Learned.{learned}
 use Rattle.ring_knowledge.specs.Rings.{RingSpot, event_at, command_at, next_command}
 use Rattle.ring_knowledge.specs.Completions.{changed_by}
+use Rattle.ring_changes.specs.Histories.{header_after, known_after}
 use Rattle.lazy_runs.specs.LateEvents.{is_report_of_success}
 
 -- one more than the position of the block, where it is one of ring r
@@ -51,7 +53,18 @@ module _ (h : Header) where
   number_reported k r (Read b) = if is_report_of_success b then number_behind r (event_at h k b) else 0
   number_reported k r _ = 0
 
-  -- the need of ring r: the greatest number behind its blocks whose success is read in these rows, before the next doorbell or move
-  unfoldable pub need : Known → ℕ → List Row → ℕ
-  need k r [] = 0
-  need k r (row ∷ later) = if begins_anew k r row then 0 else max (number_reported k r row) (need (learned h k row) r later)
+  -- ring r begins anew, or goes
+  unfoldable pub ends_need : Known → ℕ → TraceRow → Bool
+  ends_need k r (Plain row) = begins_anew k r row
+  ends_need k r (Goes id) = id == r
+  ends_need k r _ = false
+
+  unfoldable pub number_needed : Known → ℕ → TraceRow → ℕ
+  number_needed k r (Plain row) = number_reported k r row
+  number_needed k r _ = 0
+
+-- the need of ring r: the greatest number behind its blocks whose success is read in these rows, before the next doorbell or move, and
+-- before the ring goes
+unfoldable pub need : Header → Known → ℕ → List TraceRow → ℕ
+need h k r [] = 0
+need h k r (row ∷ later) = if ends_need h k r row then 0 else max (number_needed h k r row) (need (header_after h row) (known_after h k row) r later)

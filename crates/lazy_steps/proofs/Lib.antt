@@ -7,4 +7,5 @@ pub mod Walks
 pub mod PointerTables
 pub mod RingShapes
 pub mod WalkedNotes
+pub mod RowsToCome
 pub mod Words

@@ -1,5 +1,5 @@
 -- The notes of rows need of each ring what the rows need
-use Rattle.lazy_steps.proofs.Words.{◌≡◌, ◌+◌, ◌==◌, ◌&&◌, ◌||◌, ◌∷◌, ◌++◌, if◌then◌else◌, ◌∙◌, ℕ, Bool, true, false, not, max, List, [], map, Option, Some, None, refl, sym, ap, arith, append_assoc, Block, BlockKind, TransferEvent, CommandCompletion, kind, code, slot, is_command_completion, is_transfer_event, is_success, is_stopping, number, Header, Row, Sub, Write, Reg, Bell, Read, NextRow, is_ring, Known, learned, RingSpot, event_at, command_at, next_command, number_behind, is_placed_by, is_placed, begins_anew, number_reported, need, post_of, Note, Begun, Succeeded, Made, listed, open_stopped, placed, placed_note, reporting_look, transfer_notes, completing_look, event_notes, row_notes, notes, need_before, need_in, NeedsLaw}
+use Rattle.lazy_steps.proofs.Words.{◌≡◌, ◌+◌, ◌==◌, ◌&&◌, ◌||◌, ◌∷◌, ◌++◌, if◌then◌else◌, ◌∙◌, ℕ, Bool, true, false, not, max, List, [], map, Option, Some, None, refl, sym, ap, arith, append_assoc, Block, BlockKind, TransferEvent, CommandCompletion, kind, code, slot, is_command_completion, is_transfer_event, is_success, is_stopping, number, Header, Row, Sub, Write, Reg, Bell, Read, TraceRow, Comes, Goes, Plain, Withdraws, is_ring, Known, RingSpot, event_at, command_at, next_command, number_behind, is_placed_by, is_placed, begins_anew, number_reported, ends_need, number_needed, need, header_after, known_after, any_notes, Next, post_of, Note, Begun, Succeeded, Made, listed, open_stopped, placed, placed_note, reporting_look, transfer_notes, completing_look, event_notes, row_notes, notes, need_before, need_in, NeedsLaw}
 use Rattle.lazy_steps.proofs.PlacedRings.{has, has_listed, has_placed}
 
 zero_most : (n : ℕ) → max 0 n ≡ n
@@ -108,9 +108,20 @@ module _ (h : Header) where
   row_need k (Write a x) rest r = sym (zero_most (need_in rest r))
   row_need k (Reg a x) rest r = sym (zero_most (need_in rest r))
 
-  pub needs_law : NeedsLaw h
-  unfolding notes need need_in need_before
-  needs_law k [] r = refl
-  needs_law k (row ∷ rows) r =
-      row_need k row (Made NextRow ∷ notes h (learned h k row) rows) r
-      ∙ ap (λ n. if begins_anew h k r row then 0 else max (number_reported h k r row) n) (needs_law (learned h k row) rows r)
+  any_need : (k : Known) (row : TraceRow) (rest : List Note) (r : ℕ) →
+      need_in (any_notes h k row ++ rest) r ≡ (if ends_need h k r row then 0 else max (number_needed h k r row) (need_in rest r))
+  unfolding any_notes ends_need number_needed need_in need_before
+  any_need k (Plain row) rest r = row_need k row rest r
+  any_need k (Comes ring) rest r = sym (zero_most (need_in rest r))
+  any_need k (Goes id) rest r = ap (λ n. if id == r then 0 else n) (sym (zero_most (need_in rest r)))
+  any_need k (Withdraws q p) rest r = sym (zero_most (need_in rest r))
+
+needs_of : (rows : List TraceRow) (h : Header) (k : Known) (r : ℕ) → need_in (notes h k rows) r ≡ need h k r rows
+unfolding notes need need_in need_before
+needs_of [] h k r = refl
+needs_of (row ∷ rows) h k r =
+    any_need h k row (Next ∷ notes (header_after h row) (known_after h k row) rows) r
+    ∙ ap (λ n. if ends_need h k r row then 0 else max (number_needed h k r row) n) (needs_of rows (header_after h row) (known_after h k row) r)
+
+pub needs_law : (h : Header) → NeedsLaw h
+needs_law h k rows r = needs_of rows h k r

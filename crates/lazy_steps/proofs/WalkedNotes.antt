@@ -1,5 +1,5 @@
 -- The steps of a note, and where the pointers stand behind it, by what the code has done
-use Rattle.lazy_steps.proofs.Words.{◌≡◌, ◌+◌, ◌<◌, ◌≤◌, ◌⊎◌, ◌∷◌, ◌++◌, ◌∙◌, ℕ, List, [], length, drop, replicate, refl, sym, ap, get_or, add-one, zero, suc, inl, inr, append_assoc, append-nil, flat_map, fun_ext, drop-cons, drop_all, put, Spot, Data, Header, Step, RingSpot, further, looks_to, brought, stop_goal, taken_up_to, Note, Begun, Succeeded, Taken, StoppedAt, StoppedOpen, Made, Placed, note_goals, note_steps, pointers_behind, steps_of, spot_in}
+use Rattle.lazy_steps.proofs.Words.{◌≡◌, ◌+◌, ◌<◌, ◌≤◌, ◌⊎◌, ◌∷◌, ◌++◌, ◌∙◌, ℕ, List, [], length, drop, replicate, refl, sym, ap, get_or, add-one, zero, suc, inl, inr, append_assoc, append-nil, flat_map, fun_ext, drop-cons, drop_all, put, Spot, Data, Header, Step, RingSpot, further, looks_to, brought, stop_goal, taken_up_to, Note, Begun, Succeeded, Taken, StoppedAt, StoppedOpen, Made, Next, NextRow, Placed, TraceRow, note_goals, note_steps, pointers_behind, header_behind, rows_behind, steps_of, spot_in}
 
 module _ (h : Header) where
   pub one_looked : (p : ℕ → Spot) (made now : List Step) (a : RingSpot) → now ≡ made ++ looks_to h p a → now ≡ made ++ flat_map (looks_to h p) (a ∷ [])
@@ -85,25 +85,36 @@ module _ (h : Header) where
   unfolding pointers_behind
   placed_pointers p note r spot is = ap (λ (n : Note). pointers_behind h p n) (sym is)
 
-  -- the steps so far, and those of the notes from position i on
-  abbrev pub steps_with : List Step → (ℕ → Spot) → ℕ → List Note → List Step
-  steps_with made p i notes = made ++ steps_of h p (drop i notes)
+  pub next_steps : (p : ℕ → Spot) (note : Note) → note ≡ Next → NextRow ∷ [] ≡ note_steps h p note
+  unfolding note_steps
+  next_steps p note is = ap (λ (n : Note). note_steps h p n) (sym is)
 
+  pub next_pointers : (p : ℕ → Spot) (note : Note) → note ≡ Next → p ≡ pointers_behind h p note
+  unfolding note_goals pointers_behind brought
+  next_pointers p note is = ap (λ (n : Note). pointers_behind h p n) (sym is)
+
+-- the steps so far, and those of the notes from position i on
+abbrev pub steps_with : Header → List TraceRow → List Step → (ℕ → Spot) → ℕ → List Note → List Step
+steps_with h rows made p i notes = made ++ steps_of h rows p (drop i notes)
+
+module _ (h : Header) (rows : List TraceRow) where
   pub one_note : (notes : List Note) (i : ℕ) (note : Note) (p q : ℕ → Spot) (made now : List Step) → i < length notes → note ≡ get_or notes i note →
-      now ≡ made ++ note_steps h p note → q ≡ pointers_behind h p note → steps_with now q (i + 1) notes ≡ steps_with made p i notes
+      now ≡ made ++ note_steps h p note → q ≡ pointers_behind h p note → steps_with (header_behind h rows note) (rows_behind rows note) now q (i + 1) notes ≡ steps_with h rows made p i notes
   unfolding steps_of
   one_note notes i note p q made now inside item looked moved =
       let rest : List Note = drop (i + 1) notes in
+      let g : Header = header_behind h rows note in
+      let left : List TraceRow = rows_behind rows note in
       let behind : drop i notes ≡ note ∷ rest =
       drop-cons notes i note inside ∙ ap (λ n. get_or notes i note ∷ drop n notes) (sym (add-one i)) ∙ ap (λ (n : Note). n ∷ rest) (sym item) in
-      ap (λ (l : List Step). l ++ steps_of h q rest) looked
-      ∙ ap (λ (s : ℕ → Spot). (made ++ note_steps h p note) ++ steps_of h s rest) moved
-      ∙ append_assoc made (note_steps h p note) (steps_of h (pointers_behind h p note) rest)
-      ∙ ap (λ (l : List Note). made ++ steps_of h p l) (sym behind)
+      ap (λ (l : List Step). l ++ steps_of g left q rest) looked
+      ∙ ap (λ (s : ℕ → Spot). (made ++ note_steps h p note) ++ steps_of g left s rest) moved
+      ∙ append_assoc made (note_steps h p note) (steps_of g left (pointers_behind h p note) rest)
+      ∙ ap (λ (l : List Note). made ++ steps_of h rows p l) (sym behind)
 
-  pub no_note : (notes : List Note) (i : ℕ) (p : ℕ → Spot) (made : List Step) → length notes ≤ i → steps_with made p i notes ≡ made
+  pub no_note : (notes : List Note) (i : ℕ) (p : ℕ → Spot) (made : List Step) → length notes ≤ i → steps_with h rows made p i notes ≡ made
   unfolding steps_of
-  no_note notes i p made past = ap (λ (l : List Note). made ++ steps_of h p l) (drop_all i notes past) ∙ append-nil made
+  no_note notes i p made past = ap (λ (l : List Note). made ++ steps_of h rows p l) (drop_all i notes past) ∙ append-nil made
 
 all_alike : (n r : ℕ) (s : Spot) → get_or (replicate n s) r s ≡ s
 all_alike zero r s = refl
@@ -111,7 +122,8 @@ all_alike (suc n) zero s = refl
 all_alike (suc n) (suc r) s = all_alike n r s
 
 -- all pointers at the beginnings, and no steps
-pub first_notes : (h : Header) (notes : List Note) (made : List Step) → made ≡ [] → steps_with h made (spot_in (replicate 256 (Data 0))) 0 notes ≡ steps_of h (λ r. Data 0) notes
-first_notes h notes made none =
-    ap (λ (l : List Step). l ++ steps_of h (spot_in (replicate 256 (Data 0))) notes) none
-    ∙ ap (λ (p : ℕ → Spot). steps_of h p notes) (fun_ext (λ r. all_alike 256 r (Data 0)))
+pub first_notes : (h : Header) (rows : List TraceRow) (notes : List Note) (made : List Step) → made ≡ [] →
+    steps_with h rows made (spot_in (replicate 256 (Data 0))) 0 notes ≡ steps_of h rows (λ r. Data 0) notes
+first_notes h rows notes made none =
+    ap (λ (l : List Step). l ++ steps_of h rows (spot_in (replicate 256 (Data 0))) notes) none
+    ∙ ap (λ (p : ℕ → Spot). steps_of h rows p notes) (fun_ext (λ r. all_alike 256 r (Data 0)))

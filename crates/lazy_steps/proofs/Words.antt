@@ -1,18 +1,22 @@
 -- The words of std, of the crates below and of this crate's own definitions that its proofs cite, passed on by one file
-unfoldable pub use Rattle.lazy_runs.specs.Lazy.{behind_taken, brought, command_taken, further, goals, lazy_run, lazy_steps, looks_to, open_goals, pointers_after, pointers_at, post_of, report_goals, spots_before, steps_before, stop_goal, stopped_goals, taken_up_to}
-unfoldable pub use Rattle.lazy_runs.specs.Needs.{begins_anew, is_placed, is_placed_by, is_placed_by_all, need, number_behind, number_reported, ring_placed}
+unfoldable pub use Rattle.lazy_runs.specs.Lazy.{behind_taken, brought, command_taken, further, goals, lazy_run, lazy_steps, looks_to, open_goals, pointers_after, pointers_at, pointers_for, post_of, report_goals, spots_before, steps_before, steps_for, stop_goal, stopped_goals, taken_up_to}
+unfoldable pub use Rattle.lazy_runs.specs.Needs.{begins_anew, ends_need, is_placed, is_placed_by, is_placed_by_all, need, number_behind, number_needed, number_reported, ring_placed}
 pub use Rattle.lazy_steps.specs.Goals.{place_of}
+pub use Rattle.lazy_steps.specs.Headers.{KeepHeaders}
 pub use Rattle.lazy_steps.specs.Law.{NeedsLaw, StepsLaw}
 pub use Rattle.lazy_steps.specs.Notes.{listed}
-unfoldable pub use Rattle.lazy_steps.specs.Notes.{completing_look, event_notes, if_open, notes, open_stopped, placed, placed_by, placed_by_all, placed_note, reporting_look, row_notes, transfer_notes}
-unfoldable pub use Rattle.lazy_steps.specs.Passes.{filled, need_before, need_in, note_goals, note_steps, pointers_behind, steps_of, with_need}
+unfoldable pub use Rattle.lazy_steps.specs.Notes.{any_notes, completing_look, event_notes, if_open, notes, open_stopped, placed, placed_by, placed_by_all, placed_note, reporting_look, row_notes, transfer_notes}
+unfoldable pub use Rattle.lazy_steps.specs.Passes.{filled, header_behind, need_before, need_in, note_goals, note_steps, pointers_behind, rows_behind, steps_of, with_need}
+pub use Rattle.lazy_steps.specs.Passes.{header_next}
 pub use Rattle.lazy_steps.specs.Shapes.{shape_behind}
 pub use Rattle.lazy_steps.specs.Tables.{IsTable, spot_in}
 pub use Rattle.lazy_steps.specs.declared.note.Note.{Note}
-pub use Rattle.lazy_steps.specs.declared.note.Note.TheVariants.{Begun, Made, Placed, StoppedAt, StoppedOpen, Succeeded, Taken}
+pub use Rattle.lazy_steps.specs.declared.note.Note.TheVariants.{Begun, Made, Next, Placed, StoppedAt, StoppedOpen, Succeeded, Taken}
 pub use Rattle.ring_finder.proofs.FoundRings.{none_here, ring_here}
 pub use Rattle.ring_finder.proofs.HeaderRings.{not_found}
-pub use Rattle.safety.proofs.HeadlineFrom.{one_more}
+pub use Rattle.ring_changes.specs.Histories.{header_after, header_now, known_after, known_now}
+unfoldable pub use Rattle.ring_changes.specs.Withdrawals.{restored_on, ring_restored}
+pub use Rattle.safety.specs.KeptHistories.{IsDriverRow}
 pub use Rattle.safety.proofs.Words.{Bell, Block, BlockKind, Change, Command, CommandCompletion, Data, Header, Known, Link, Look, NextRow, Read, Reg, Ring, RingSpot, Row, Shape, Spot, Step, StopEndpoint, Sub, TransferEvent, Write, Xfer, cases_Bool, code, cond-false, cond-true, drop_all, false≢true, flat_map, fun_ext, is_command_completion, is_crossing, is_ring, is_stopping, is_success, is_transfer_event, kind, list_any, list_any-append, number, put, rank, reverse-append, shape_or, slot}
 unfoldable pub use Rattle.safety.proofs.Words.{changed_by, changes, command_at, command_id, event_at, is_open, known, learned, next_command, shape_of}
 pub use Rattle.segments.proofs.Words.{nat_tests, next, position_or_len, spots_from, take_more}
@@ -23,4 +27,6 @@ pub use Rattle.std.proofs.Math.Seq.{drop-cons, set-append_seam}
 pub use Rattle.std.proofs.lemmas.List.{get_or-replicate, length-replicate, reverse-reverse}
 pub use Rattle.std.proofs.lemmas.List.Folds.{find_at}
 pub use Rattle.std.specs.declared.alloc.AllocError.{AllocError}
-pub use Rattle.traces.specs.Header.{no_shape}
+pub use Rattle.traces.specs.Header.{IsHeader, no_shape}
+pub use Rattle.traces.specs.declared.trace_row.TraceRow.{TraceRow}
+pub use Rattle.traces.specs.declared.trace_row.TraceRow.TheVariants.{Comes, Goes, Plain, Withdraws}

@@ -4,3 +4,4 @@ pub mod Law
 pub mod Tables
 pub mod Shapes
 pub mod Goals
+pub mod Headers

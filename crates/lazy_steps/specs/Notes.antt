@@ -6,6 +6,7 @@ use Rattle.trb.specs.declared.kind.BlockKind.TheVariants.{TransferEvent, Command
 use Rattle.trb.specs.Block.{kind, code, slot}
 use Rattle.trb.specs.CompletionCode.{is_success, is_stopping}
 use Rattle.segments.specs.Spots.{number}
+use Rattle.segments.specs.declared.spot.Spot.TheVariants.{Data}
 use Rattle.segments.specs.Ceiling.{is_open}
 use Rattle.commands.specs.declared.command.Command.{Command}
 use Rattle.commands.specs.declared.command.Command.TheVariants.{StopEndpoint}
@@ -13,16 +14,18 @@ use Rattle.commands.specs.Changes.{Change, changes}
 use Rattle.traces.specs.declared.header.Header.{Header}
 use Rattle.traces.specs.declared.row.Row.{Row}
 use Rattle.traces.specs.declared.row.Row.TheVariants.{Bell, Read}
-use Rattle.traces.specs.declared.step.Step.TheVariants.{NextRow}
+use Rattle.traces.specs.declared.trace_row.TraceRow.{TraceRow}
+use Rattle.traces.specs.declared.trace_row.TraceRow.TheVariants.{Comes, Goes, Plain}
 use Rattle.traces.specs.Header.{command_id}
 use Rattle.ring_knowledge.specs.Known.{Known}
 use Rattle.ring_knowledge.specs.Learned.{learned}
 use Rattle.ring_knowledge.specs.Rings.{RingSpot, event_at, command_at, next_command}
 use Rattle.ring_knowledge.specs.Completions.{changed_by}
+use Rattle.ring_changes.specs.Histories.{header_after, known_after}
 use Rattle.lazy_runs.specs.Needs.{ring_placed}
 use Rattle.lazy_runs.specs.Lazy.{post_of}
 use Rattle.lazy_steps.specs.declared.note.Note.{Note}
-use Rattle.lazy_steps.specs.declared.note.Note.TheVariants.{Begun, Succeeded, Taken, StoppedAt, StoppedOpen, Made, Placed}
+use Rattle.lazy_steps.specs.declared.note.Note.TheVariants.{Begun, Succeeded, Taken, StoppedAt, StoppedOpen, Made, Next, Placed}
 
 abbrev pub listed : Option ℕ → List ℕ
 listed None = []
@@ -88,7 +91,14 @@ module _ (h : Header) where
   row_notes k (Read b) = event_notes k (kind b) b
   row_notes k _ = []
 
-  -- the notes of the rows from what is known
-  unfoldable pub notes : Known → List Row → List Note
-  notes k [] = []
-  notes k (row ∷ rows) = row_notes k row ++ (Made NextRow ∷ notes (learned h k row) rows)
+  -- the notes of a row of any kind: a ring that comes stands at its beginning, and of one that goes nothing more is needed
+  unfoldable pub any_notes : Known → TraceRow → List Note
+  any_notes k (Plain row) = row_notes k row
+  any_notes k (Comes ring) = Placed ring.id (Data 0) ∷ []
+  any_notes k (Goes id) = Begun id ∷ Placed id (Data 0) ∷ []
+  any_notes k _ = []
+
+-- the notes of the rows, from the rings that are there and what is known
+unfoldable pub notes : Header → Known → List TraceRow → List Note
+notes h k [] = []
+notes h k (row ∷ rows) = any_notes h k row ++ (Next ∷ notes (header_after h row) (known_after h k row) rows)

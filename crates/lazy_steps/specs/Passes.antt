@@ -1,14 +1,17 @@
 -- What the passes over the notes give: how much of its rings the controller needs, and its steps
-use Rattle.std.specs.Prelude.{ℕ, ◌==◌, if◌then◌else◌, List, [], ◌∷◌, ◌++◌, max}
+use Rattle.std.specs.Prelude.{ℕ, ◌==◌, if◌then◌else◌, List, [], ◌∷◌, ◌++◌, drop, max}
 use Rattle.std.specs.List.{flat_map}
 use Rattle.guest_memory.specs.Memory.{put}
 use Rattle.segments.specs.declared.spot.Spot.{Spot}
 use Rattle.traces.specs.declared.header.Header.{Header}
 use Rattle.traces.specs.declared.step.Step.{Step}
+use Rattle.traces.specs.declared.step.Step.TheVariants.{NextRow}
+use Rattle.traces.specs.declared.trace_row.TraceRow.{TraceRow}
 use Rattle.ring_knowledge.specs.Rings.{RingSpot}
+use Rattle.ring_changes.specs.Histories.{header_after}
 use Rattle.lazy_runs.specs.Lazy.{taken_up_to, stop_goal, looks_to, brought}
 use Rattle.lazy_steps.specs.declared.note.Note.{Note}
-use Rattle.lazy_steps.specs.declared.note.Note.TheVariants.{Begun, Succeeded, Taken, StoppedAt, StoppedOpen, Made, Placed}
+use Rattle.lazy_steps.specs.declared.note.Note.TheVariants.{Begun, Succeeded, Taken, StoppedAt, StoppedOpen, Made, Next, Placed}
 
 -- how many blocks of ring r a note needs, where those behind it need n
 unfoldable pub need_before : Note → ℕ → ℕ → ℕ
@@ -43,6 +46,7 @@ module _ (h : Header) where
   -- the steps of a note, from where the pointers stand
   unfoldable pub note_steps : (ℕ → Spot) → Note → List Step
   note_steps pointers (Made step) = step ∷ []
+  note_steps pointers Next = NextRow ∷ []
   note_steps pointers note = flat_map (looks_to h pointers) (note_goals note)
 
   -- where the pointers stand behind a note
@@ -50,7 +54,22 @@ module _ (h : Header) where
   pointers_behind pointers (Placed r spot) = put pointers r spot
   pointers_behind pointers note = brought h pointers (note_goals note)
 
-  -- the steps of the notes, from where the pointers stand
-  unfoldable pub steps_of : (ℕ → Spot) → List Note → List Step
-  steps_of pointers [] = []
-  steps_of pointers (note ∷ rest) = note_steps pointers note ++ steps_of (pointers_behind pointers note) rest
+-- the rings that are there behind the next of these rows, if there is one
+abbrev pub header_next : Header → List TraceRow → Header
+header_next h [] = h
+header_next h (row ∷ rows) = header_after h row
+
+-- those behind a note, and the rows that are still to come
+unfoldable pub header_behind : Header → List TraceRow → Note → Header
+header_behind h rows Next = header_next h rows
+header_behind h rows note = h
+
+unfoldable pub rows_behind : List TraceRow → Note → List TraceRow
+rows_behind rows Next = drop 1 rows
+rows_behind rows note = rows
+
+-- the steps of the notes, from where the pointers stand, with the rings that are there and these rows to come
+unfoldable pub steps_of : Header → List TraceRow → (ℕ → Spot) → List Note → List Step
+steps_of h rows pointers [] = []
+steps_of h rows pointers (note ∷ rest) =
+    note_steps h pointers note ++ steps_of (header_behind h rows note) (rows_behind rows note) (pointers_behind h pointers note) rest

@@ -6,7 +6,9 @@ mod looks;
 mod needs;
 mod note;
 mod pointers;
+mod there;
 mod walk;
 
 pub use note::Note;
+pub use there::copy_ring;
 pub use walk::steps_of_notes;

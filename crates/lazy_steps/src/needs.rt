@@ -62,6 +62,7 @@ fn filled_note(needs: &[u64], note: &Note) -> Note
         | Note::Succeeded { .. }
         | Note::Taken { .. }
         | Note::Made { .. }
+        | Note::Next
         | Note::Placed { .. } => *note,
     }
 }
@@ -85,6 +86,7 @@ fn go_before(needs: &mut [u64], note: &Note)
         | Note::StoppedAt { .. }
         | Note::StoppedOpen { .. }
         | Note::Made { .. }
+        | Note::Next
         | Note::Placed { .. } => {}
     }
 }

@@ -33,10 +33,12 @@ pub enum Note {
         ring: u8,
         need: u64,
     },
-    /// The step is made.
+    /// The step of the controller is made.
     Made {
         step: Step,
     },
+    /// The next row is made: from now on the rings are there that are there behind it.
+    Next,
     /// The ring's pointer stands at this spot now.
     Placed {
         ring: u8,

@@ -1,52 +1,93 @@
-ghost use Rattle.std.specs.Prelude.{◌≡◌, ◌++◌, ◌∷◌, [], IfOk, OnOk, length, replicate};
+ghost use Rattle.std.specs.Prelude.{◌≡◌, ◌++◌, ◌∷◌, [], All, IfOk, OnOk, drop, length, replicate};
 ghost use Rattle.std.specs.List.{flat_map};
 ghost use Rattle.segments.specs.declared.spot.Spot.TheVariants.{Data};
+ghost use Rattle.traces.specs.Header.{IsHeader};
+ghost use Rattle.traces.specs.TraceRows.{IsTraceRow};
 ghost use Rattle.ring_finder.specs.Finding.{IsFinder};
 ghost use Rattle.lazy_runs.specs.Lazy.{brought, looks_to};
 ghost use Rattle.lazy_steps.specs.Goals.{place_of};
-ghost use Rattle.lazy_steps.specs.Passes.{filled, note_steps, pointers_behind, steps_of};
+ghost use Rattle.lazy_steps.specs.Headers.{KeepHeaders};
+ghost use Rattle.lazy_steps.specs.Passes.{filled, header_behind, note_steps, pointers_behind, rows_behind, steps_of};
 ghost use Rattle.lazy_steps.specs.Tables.{spot_in};
 
 use crate::goal::{Goal, stop_goal, taken_up_to};
 use crate::needs::fill_needs;
 use crate::note::Note;
 use crate::pointers::{look_towards, move_on, place};
+use crate::there::follow_row;
 use ring_finder::Finder;
 use segments::Spot;
 use std::alloc::{AllocError, Global};
-use traces::{Header, Step};
+use traces::{Header, Step, TraceRow};
 
-/// The steps of a schedule from the notes on its rows: needs are filled from the last note to the first, and then the rings are looked
-/// at from the first to the last. Notes of a ring that the header doesn't have are those of a ring without Links.
+/// The steps of a schedule from the notes on its rows, beside which the rings are these at first: needs are filled from the last note to the
+/// first, and then the rings are looked at from the first to the last. Notes of a ring that isn't there are those of a ring without Links.
 pub fn steps_of_notes(
     alloc: Global,
-    header: &Header,
-    finder: &Finder,
+    header: Header,
+    rows: &[TraceRow],
     mut notes: Vec<Note>,
 ) -> Result<Vec<Step>, AllocError>
-    requires found { IsFinder header.now.rings finder.now }
-    ensures { IfOk result (λ steps. steps.items ≡ steps_of header.now (λ r. Data 0) (filled notes.items)) }
+    requires headed { IsHeader header }
+    requires then_headed { KeepHeaders header rows.now }
+    requires fits { All IsTraceRow rows.now }
+    ensures { IfOk result (λ steps. steps.items ≡ steps_of header rows.now (λ r. Data 0) (filled notes.items)) }
 {
     fill_needs(notes.as_mut_slice());
-    walk_notes(alloc, header, finder, notes.as_slice())
+    walk_notes(alloc, header, rows, notes.as_slice())
 }
 
 /// The steps of notes, from the beginning of every ring.
 fn walk_notes(
     alloc: Global,
-    header: &Header,
-    finder: &Finder,
+    header: Header,
+    rows: &[TraceRow],
     notes: &[Note],
 ) -> Result<Vec<Step>, AllocError>
-    requires found { IsFinder header.now.rings finder.now }
-    ensures { IfOk result (λ steps. steps.items ≡ steps_of header.now (λ r. Data 0) notes.now) }
+    requires headed { IsHeader header }
+    requires then_headed { KeepHeaders header rows.now }
+    requires fits { All IsTraceRow rows.now }
+    ensures { IfOk result (λ steps. steps.items ≡ steps_of header rows.now (λ r. Data 0) notes.now) }
 {
+    let mut header = header;
+    let mut finder = Finder::new(alloc, &header)?;
+    let mut next = 0;
     let mut pointers = [Spot::Data(0); 256];
     let mut steps = Vec::new(alloc);
     for note in notes {
-        walk_note(header, finder, note, &mut pointers, &mut steps)?;
+        walk_note(&header, &finder, note, &mut pointers, &mut steps)?;
+        next = follow_note(alloc, &mut header, &mut finder, rows, next, note)?;
     }
     Ok(steps)
+}
+
+/// The rings that are there behind a note, and the number of the next row then.
+fn follow_note(
+    alloc: Global,
+    header: &mut Header,
+    finder: &mut Finder,
+    rows: &[TraceRow],
+    next: usize,
+    note: &Note,
+) -> Result<usize, AllocError>
+    requires found { IsFinder header.now.rings finder.now }
+    requires then_headed { KeepHeaders header.now (drop next rows.now) }
+    requires fits { All IsTraceRow rows.now }
+    ensures header { OnOk result (header.new ≡ header_behind header.old (drop next rows.now) note.now) }
+    ensures found { OnOk result (IsFinder header.new.rings finder.new) }
+    ensures then_headed { IfOk result (λ after. KeepHeaders header.new (drop after rows.now)) }
+    ensures next { IfOk result (λ after. drop after rows.now ≡ rows_behind (drop next rows.now) note.now) }
+{
+    let Note::Next = note else {
+        return Ok(next);
+    };
+    match rows.get(next) {
+        None => Ok(next),
+        Some(row) => {
+            follow_row(alloc, header, finder, row)?;
+            Ok(next + 1)
+        }
+    }
 }
 
 /// Adds the steps of a note, and moves the pointers, which stand in a table by ring ID.
@@ -92,6 +133,10 @@ fn walk_note(
         }
         Note::Made { step } => {
             steps.push(step)?;
+            Ok(())
+        }
+        Note::Next => {
+            steps.push(Step::NextRow)?;
             Ok(())
         }
         Note::Placed { ring, spot } => {

@@ -48,7 +48,7 @@ const TEXT: &[u8] =
 
 /// How many rows there are, or why no further is read.
 fn count_rows<S: Source>(rt: &HostRuntime, source: &mut S) -> Result<usize, StreamFault> {
-    let mut reader = RowReader::open(rt.alloc(), source)?;
+    let mut reader = RowReader::open(rt.alloc(), false, source)?;
     for count in 0..100 {
         if reader.next_row(source)?.is_none() {
             return Ok(count);
@@ -96,7 +96,7 @@ fn each_failed_read_is_told(rt: HostRuntime) -> Result<(), Fail> {
 #[test]
 fn behind_the_end_nothing_is_read(rt: HostRuntime) -> Result<(), Fail> {
     let mut source = device_of(TEXT, 4096, u64::MAX, io::ErrorKind::Other);
-    let mut reader = RowReader::open(rt.alloc(), &mut source)?;
+    let mut reader = RowReader::open(rt.alloc(), false, &mut source)?;
     assert_eq!(rt; reader.lines(), 3);
     assert_eq!(rt; reader.header().rings.as_slice().len(), 1);
     for _ in 0..3 {

@@ -62,7 +62,7 @@ fn leases_of(
     let mut source = device_of(text, most, fails_at, ErrorKind::Other);
     let mut again = device_of(text, most, fails_at, ErrorKind::Other);
     [
-        check_stream(rt.alloc(), &mut source, PageMemory::new(rt.alloc())).map(
+        check_stream(rt.alloc(), false, &mut source, PageMemory::new(rt.alloc())).map(
             |certificate| certificate.leases.len(),
         ),
         count_stream(rt.alloc(), &mut again, PageMemory::new(rt.alloc())),

@@ -12,7 +12,7 @@ ghost use Rattle.ownership_rules.specs.Rules.{lenient};
 ghost use Rattle.safety.specs.Keeps.{DriverKeeps, IsTransferRing};
 ghost use Rattle.lazy_steps.specs.Notes.{placed_note, row_notes};
 ghost use Rattle.trace_record.specs.FollowsTrace.{FollowsTrace};
-ghost use Rattle.row_notes.specs.Noted.{AreNoted};
+ghost use Rattle.row_notes.specs.Noted.{AreNoted, MayBeRead};
 
 use crate::completions::note_completion;
 use crate::notes::add_note;
@@ -40,7 +40,7 @@ pub fn note_row<M: WordMemory>(
 ) -> Result<Vec<u8>, AllocError>
     requires headed { IsHeader header.now }
     requires found { IsFinder header.now.rings finder.now }
-    ensures { IfOk result (λ placed. (k : Known) → FollowsTrace header.now k kept.now (M.words memory.now) → DriverKeeps header.now k → lenient header.now k row.now ≡ [] →
+    ensures { IfOk result (λ placed. (k : Known) → FollowsTrace header.now k kept.now (M.words memory.now) → DriverKeeps header.now k → MayBeRead header.now k row.now →
         AreNoted header.now k row.now notes.old.items notes.new.items placed.items) }
 {
     match row {

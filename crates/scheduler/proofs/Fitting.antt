@@ -1,11 +1,11 @@
 -- The lazy schedule of a clean trace names rings and blocks that there are
-use Rattle.std.proofs.Common.{◌≡◌, ℕ, ◌+◌, ◌<◌, ◌-◌, List, [], ◌∷◌, ◌++◌, Option, Some, None, refl, arith, length, subst, sym}
+use Rattle.std.proofs.Common.{◌≡◌, ℕ, ◌+◌, ◌<◌, ◌-◌, List, [], ◌∷◌, ◌++◌, Option, Some, None, refl, arith, append-nil, length, subst, sym}
 use Rattle.std.specs.Prelude.{◌==◌, ◌&&◌, reverse, nat_lt, All, option_map}
 use Rattle.std.specs.List.{flat_map}
 use Rattle.std.proofs.lemmas.Bool.{and_parts, cond_both, eqb-true, ltb-true}
 use Rattle.std.proofs.lemmas.Option.{none-some, same_Some}
 use Rattle.std.proofs.lemmas.List.{get_or-reverse, length-reverse}
-use Rattle.std.proofs.lemmas.List.Elements.{All-append, All-cons, All-head, All-map, All-nil, All-tail}
+use Rattle.std.proofs.lemmas.List.Elements.{All-append, All-cons, All-head, All-map, All-nil, All-tail, All-weaker}
 use Rattle.trb.specs.declared.block.Block.{Block}
 use Rattle.trb.specs.declared.kind.BlockKind.{BlockKind}
 use Rattle.trb.specs.declared.kind.BlockKind.TheVariants.{CommandCompletion, TransferEvent}
@@ -24,20 +24,28 @@ use Rattle.traces.specs.declared.step.Step.{Step}
 use Rattle.traces.specs.declared.step.Step.TheVariants.{Look, NextRow}
 use Rattle.traces.specs.Header.{IsHeader, command_id, shape_of}
 use Rattle.traces.specs.Rows.{AreSteps, IsRow, IsStep}
+use Rattle.traces.specs.TraceRows.{IsTraceRow}
+use Rattle.traces.specs.declared.trace_row.TraceRow.{TraceRow}
+use Rattle.traces.specs.declared.trace_row.TraceRow.TheVariants.{Comes, Goes, Plain, Withdraws}
 use Rattle.ring_knowledge.specs.Known.{Known}
-use Rattle.ring_knowledge.specs.Learned.{known, learned}
+use Rattle.ring_knowledge.specs.Learned.{learned}
 use Rattle.ring_knowledge.specs.Rings.{RingSpot, command_at, event_at, next_command, spot_on}
-use Rattle.ownership_rules.specs.Clean.{IsLenient}
 use Rattle.ownership_rules.specs.Rules.{lenient}
 use Rattle.safety.specs.Keeps.{DriverKeeps, IsDriverRing}
 use Rattle.safety.proofs.CleanRows.{event_facts}
-use Rattle.safety.proofs.DriverHistories.{driver_keeps}
 use Rattle.safety.proofs.Headers.{header_parts, transfer_driver}
 use Rattle.safety.proofs.RingsOfHeader.{found_allowed, found_passes}
 use Rattle.safety.proofs.SafeContext.{command_is_ring}
-use Rattle.safety.proofs.TestsPassed.{clean_tests}
+use Rattle.ring_changes.specs.Histories.{AreKept, FitsFields, IsKept, header_now, known_now}
+use Rattle.ring_changes.specs.Withdrawals.{restored}
+use Rattle.ring_changes.proofs.GoneRings.{gone_ring_header}
+use Rattle.ring_changes.proofs.Restored.{row_keeps}
+use Rattle.ring_changes.proofs.RingRuns.{comes_header}
+use Rattle.ring_changes.proofs.RingsHeadline.{Keeps, now_keeps}
+use Rattle.lazy_runs.proofs.Induction.{kept_on, later_kept, one_more}
+use Rattle.lazy_steps.specs.Headers.{KeepHeaders}
 use Rattle.lazy_runs.specs.Needs.{need}
-use Rattle.lazy_runs.specs.Lazy.{command_taken, goals, lazy_run, lazy_steps, looks_to, open_goals, pointers_at, post_of, report_goals, spots_before, steps_before, stop_goal, stopped_goals, taken_up_to}
+use Rattle.lazy_runs.specs.Lazy.{command_taken, goals, lazy_run, lazy_steps, looks_to, open_goals, pointers_at, post_of, report_goals, spots_before, steps_before, steps_for, stop_goal, stopped_goals, taken_up_to}
 
 all_reverse : {X : Type 0} (P : X → Type 0) (xs : List X) → All P xs → All P (reverse xs)
 all_reverse P xs are = λ k d inside.
@@ -77,7 +85,7 @@ module _ (h : Header) (headed : IsHeader h) where
   unfolding stop_goal taken_up_to
   stop_low at n is_low = cond_both (n == number at.spot + 1) (taken_up_to h at.ring n) at IsLow (λ _. is_low) (λ _. is_low)
 
-  module _ (k : Known) (d : DriverKeeps h k) (later : List Row) (b : Block) (command_low : command_id h < 256) where
+  module _ (k : Known) (d : DriverKeeps h k) (later : List TraceRow) (b : Block) (command_low : command_id h < 256) where
     command_goal_low : IsLow (command_taken h k)
     unfolding command_taken taken_up_to
     command_goal_low = command_low
@@ -124,7 +132,7 @@ module _ (h : Header) (headed : IsHeader h) where
         All-cons IsLow (command_taken h k) (stopped_goals h k later b (command_at h k (next_command h k))) command_goal_low (stopped_low (command_at h k (next_command h k)))
     goals_low _ = All-nil IsLow
 
-  row_steps_are : (k : Known) (p : ℕ → Spot) (row : Row) (later : List Row) → DriverKeeps h k → IsRow row → lenient h k row ≡ [] → AreSteps (steps_before h k p row later)
+  row_steps_are : (k : Known) (p : ℕ → Spot) (row : Row) (later : List TraceRow) → DriverKeeps h k → IsRow row → lenient h k row ≡ [] → AreSteps (steps_before h k p row later)
   unfolding steps_before
   row_steps_are k p (Read b) later d is clean =
       let command_low : command_id h < 256 = low (command_id h) (command_is_ring h k d (event_facts h k b clean).started) in
@@ -135,18 +143,65 @@ module _ (h : Header) (headed : IsHeader h) where
   row_steps_are k p (Reg r x) later d is clean = All-nil IsStep
   row_steps_are k p (Bell s t) later d is clean = All-nil IsStep
 
-  run_is : (past later : List Row) → All IsRow past → IsLenient h past → AreSteps (lazy_run h past later)
+module _ (h : Header) (headed : IsHeader h) where
+  for_row : (past later : List TraceRow) (row : TraceRow) (p : ℕ → Spot) → Keeps h headed past → FitsFields row → IsKept (header_now h past) (known_now h past) row →
+      AreSteps (steps_for (header_now h past) (known_now h past) p row later)
+  unfolding steps_for
+  for_row past later (Plain row) p keeps is kept =
+      let g : Header = header_now h past in
+      let k : Known = known_now h past in
+      row_steps_are g keeps.headed (restored g k row) p row later (row_keeps g keeps.headed k keeps.keeps row kept.1) is kept.0
+  for_row past later (Comes ring) p keeps is kept = All-nil IsStep
+  for_row past later (Goes id) p keeps is kept = All-nil IsStep
+  for_row past later (Withdraws r q) p keeps is kept = All-nil IsStep
+
+  run_is : (past later : List TraceRow) → All FitsFields past → AreKept h past → AreSteps (lazy_run h past later)
   unfolding lazy_run
-  run_is [] later are clean = All-nil IsStep
-  run_is (row ∷ past) later are clean =
-      let k : Known = known h past in
-      let d : DriverKeeps h k = driver_keeps h headed past clean.0 (clean_tests h k row clean.1).0 in
-      let before : List Step = steps_before h k (pointers_at h past (row ∷ later)) row later in
+  run_is [] later are kept = All-nil IsStep
+  run_is (row ∷ past) later are kept =
+      let g : Header = header_now h past in
+      let k : Known = known_now h past in
+      let made : All FitsFields past = All-tail FitsFields row past are in
+      let keeps : Keeps h headed past = now_keeps h headed past made kept.0 (kept_on g k row kept.1) in
+      let p : ℕ → Spot = pointers_at h past (row ∷ later) in
+      let before : List Step = steps_for g k p row later in
       All-cons IsStep NextRow (reverse before ++ lazy_run h past (row ∷ later)) tt
       (All-append IsStep (reverse before) (lazy_run h past (row ∷ later))
-      (all_reverse IsStep before (row_steps_are k (pointers_at h past (row ∷ later)) row later d (All-head IsRow row past are) clean.1))
-      (run_is past (row ∷ later) (All-tail IsRow row past are) clean.0))
+      (all_reverse IsStep before (for_row past later row p keeps (All-head FitsFields row past are) kept.1)) (run_is past (row ∷ later) made kept.0))
 
-  pub lazy_steps_are : (rows : List Row) → All IsRow rows → IsLenient h (reverse rows) → AreSteps (lazy_steps h rows)
+  pub lazy_steps_are : (rows : List TraceRow) → All FitsFields rows → AreKept h (reverse rows) → AreSteps (lazy_steps h rows)
   unfolding lazy_steps
-  lazy_steps_are rows are clean = all_reverse IsStep (lazy_run h (reverse rows) []) (run_is (reverse rows) [] (all_reverse IsRow rows are) clean)
+  lazy_steps_are rows are kept = all_reverse IsStep (lazy_run h (reverse rows) []) (run_is (reverse rows) [] (all_reverse FitsFields rows are) kept)
+
+  -- the rings behind each row may stand in a header
+  keep_headers : (rows past : List TraceRow) → All FitsFields past → All FitsFields rows → AreKept h (reverse rows ++ past) → KeepHeaders (header_now h past) rows
+  keep_headers [] past made left kept = tt
+  keep_headers (row ∷ rows) past made left kept =
+      let then_kept : AreKept h (reverse rows ++ (row ∷ past)) = subst (AreKept h) (one_more row rows past) kept in
+      let then_made : All FitsFields (row ∷ past) = All-cons FitsFields row past (All-head FitsFields row rows left) made in
+      let own : AreKept h (row ∷ past) = later_kept h (reverse rows) (row ∷ past) then_kept in
+      (header_then row past then_made own, keep_headers rows (row ∷ past) then_made (All-tail FitsFields row rows left) then_kept)
+    where
+      header_then : (row : TraceRow) (past : List TraceRow) → All FitsFields (row ∷ past) → AreKept h (row ∷ past) → IsHeader (header_now h (row ∷ past))
+      header_then (Plain row) past made own = (now_keeps h headed past (All-tail FitsFields (Plain row) past made) own.0 (kept_on (header_now h past) (known_now h past) (Plain row) own.1)).headed
+      header_then (Withdraws r p) past made own =
+          (now_keeps h headed past (All-tail FitsFields (Withdraws r p) past made) own.0 (kept_on (header_now h past) (known_now h past) (Withdraws r p) own.1)).headed
+      header_then (Comes ring) past made own =
+          let p = now_keeps h headed past (All-tail FitsFields (Comes ring) past made) own.0 own.1.0 in
+          comes_header (header_now h past) p.headed ring (All-head FitsFields (Comes ring) past made) (known_now h past) p.keeps own.1.1
+      header_then (Goes id) past made own =
+          let p = now_keeps h headed past (All-tail FitsFields (Goes id) past made) own.0 own.1.0 in
+          gone_ring_header (header_now h past) p.headed (known_now h past) p.keeps id own.1.1
+
+  pub all_headers : (rows : List TraceRow) → All FitsFields rows → AreKept h (reverse rows) → KeepHeaders h rows
+  all_headers rows are kept = keep_headers rows [] (All-nil FitsFields) are (subst (AreKept h) (sym (append-nil (reverse rows))) kept)
+
+-- what a row's line can say fits its fields
+row_fits : (row : TraceRow) → IsTraceRow row → FitsFields row
+row_fits (Plain row) is = is.0
+row_fits (Comes ring) is = record { low = is.0; kind = is.2; shape = is.1 }
+row_fits (Goes id) is = is
+row_fits (Withdraws r p) is = is
+
+pub rows_fit : (rows : List TraceRow) → All IsTraceRow rows → All FitsFields rows
+rows_fit rows are = All-weaker IsTraceRow FitsFields row_fits rows are

@@ -1,8 +1,7 @@
 //! A schedule that does harm, beside a trace with a row that breaks a rule.
-ghost use Rattle.std.specs.Prelude.{◌≡◌, ◌+◌, ◌<◌, ◌≤◌, ◌^◌, All, length, IfOk, IfSome};
+ghost use Rattle.std.specs.Prelude.{◌≡◌, ◌+◌, ◌<◌, ◌≤◌, All, length, IfOk, IfSome};
 ghost use Rattle.traces.specs.Header.{IsHeader};
 ghost use Rattle.traces.specs.Limits.{most_lines};
-ghost use Rattle.traces.specs.Rows.{IsRow};
 ghost use Rattle.traces.specs.TraceRows.{IsTraceRow};
 ghost use Rattle.world_state.specs.declared.harm.Harm.{Harm as HarmValue};
 ghost use Rattle.controller_model.specs.Steps.{Harmful};
@@ -44,39 +43,35 @@ pub fn harmful_schedule(
     alloc: Global,
     header: &Header,
     rows: &[TraceRow],
-    driver: &[Row],
     refused: usize,
 ) -> Result<Option<Schedule>, AllocError>
     requires headed { IsHeader header.now }
     requires fits { All IsTraceRow rows.now }
-    requires driver { All IsRow driver.now }
-    requires few { length driver.now ≤ most_lines }
+    requires few { length rows.now ≤ most_lines }
     requires inside { refused < length rows.now }
     ensures harm { IfOk result (λ found. IfSome found (λ schedule.
         (harm : HarmValue) × DoesHarm header.now rows.now (refused + 1) schedule.steps harm)) }
 {
-    match harmful_run(alloc, header, rows, driver, refused, Search::Brief)? {
+    match harmful_run(alloc, header, rows, refused, Search::Brief)? {
         Some(run) => Ok(Some(run.schedule)),
         None => Ok(None),
     }
 }
 
 /// A run that does harm beside the rows of a trace, of which `check` tells that the row with this number, from 0, is the first that breaks
-/// a rule: the eager schedule of the rows up to that one, or else, where all rows are
-/// the driver's and given as such too, the lazy one, with looks at each ring behind it, up to the first step after which the world isn't safe. That is told by the replay of what was made. A wide search
-/// tries more, where neither does harm. None where no schedule that was tried does, which doesn't say that no run does.
+/// a rule: the eager schedule of the rows up to that one, or else the lazy one, with looks at each ring behind it, up to the first step
+/// after which the world isn't safe. That is told by the replay of what was made. A wide search tries more, where neither does harm. None
+/// where no schedule that was tried does, which doesn't say that no run does.
 pub fn harmful_run(
     alloc: Global,
     header: &Header,
     rows: &[TraceRow],
-    driver: &[Row],
     refused: usize,
     search: Search,
 ) -> Result<Option<HarmfulRun>, AllocError>
     requires headed { IsHeader header.now }
     requires fits { All IsTraceRow rows.now }
-    requires driver { All IsRow driver.now }
-    requires few { length driver.now ≤ most_lines }
+    requires few { length rows.now ≤ most_lines }
     requires inside { refused < length rows.now }
     ensures harm { IfOk result (λ found. IfSome found (λ run. DoesHarm header.now rows.now (refused + 1) run.schedule.steps run.harm)) }
 {
@@ -88,7 +83,7 @@ pub fn harmful_run(
     if let Some(run) = harm_of(alloc, header, rows, refused + 1, eager)? {
         return Ok(Some(run));
     }
-    let found = lazy_run(alloc, header, rows, driver, refused)?;
+    let found = lazy_run(alloc, header, rows, refused)?;
     if found.is_some() || search == Search::Brief {
         return Ok(found);
     }
@@ -177,39 +172,35 @@ fn eager_schedule(
     Ok(attempt.into_schedule())
 }
 
-/// A run that does harm by the lazy schedule of the rows before the refused one, where all rows are the driver's.
+/// A run that does harm by the lazy schedule of the rows before the refused one.
 fn lazy_run(
     alloc: Global,
     header: &Header,
     rows: &[TraceRow],
-    driver: &[Row],
     refused: usize,
 ) -> Result<Option<HarmfulRun>, AllocError>
     requires headed { IsHeader header.now }
     requires fits { All IsTraceRow rows.now }
-    requires driver { All IsRow driver.now }
-    requires few { length driver.now ≤ most_lines }
-    requires count { refused + 1 < 2 ^ 64 }
+    requires few { length rows.now ≤ most_lines }
+    requires inside { refused < length rows.now }
     ensures { IfOk result (λ found. IfSome found (λ run. DoesHarm header.now rows.now (refused + 1) run.schedule.steps run.harm)) }
 {
-    if driver.len() <= refused {
-        return Ok(None);
-    }
-    let lazy = lazy_schedule_behind(alloc, header, rows, &driver[..refused]);
+    let lazy = lazy_schedule_behind(alloc, header, rows, &rows[..refused]);
     harm_of(alloc, header, rows, refused + 1, lazy)
 }
 
-/// The lazy schedule of rows of the driver, if none of them breaks a rule, then the next row, and looks at each active ring until it waits.
+/// The lazy schedule of rows, if none of them breaks a rule, then the next row, and looks at each active ring until it waits, at one that
+/// just went too.
 fn lazy_schedule_behind(
     alloc: Global,
     header: &Header,
     rows: &[TraceRow],
-    before: &[Row],
+    before: &[TraceRow],
 ) -> Result<Schedule, Unmade>
     requires headed { IsHeader header.now }
     requires fits { All IsTraceRow rows.now }
     requires few { length before.now ≤ most_lines }
-    requires fitting { All IsRow before.now }
+    requires fitting { All IsTraceRow before.now }
 {
     let memory = PageMemory::new(alloc);
     let steps = match steps_of(alloc, header, 1, before, memory) {
@@ -220,9 +211,22 @@ fn lazy_schedule_behind(
     let mut attempt = Attempt::new(alloc, header, rows)?;
     attempt.make_all(&steps)?;
     attempt.make(Step::NextRow)?;
-    let rings = prompt_rings(alloc, header, None)?;
+    let rings = rings_behind(alloc, header, before)?;
     attempt.look_at_each(alloc, &rings)?;
     Ok(attempt.into_schedule())
+}
+
+/// The rings that are there behind rows.
+fn rings_behind<'t>(
+    alloc: Global,
+    header: &'t Header,
+    rows: &'t [TraceRow],
+) -> Result<Vec<&'t Ring>, AllocError> {
+    let mut rings = prompt_rings(alloc, header, None)?;
+    for row in rows {
+        follow_rings(&mut rings, row)?;
+    }
+    Ok(rings)
 }
 
 /// A schedule that was made up to the first step after which the world isn't safe; none where none was made, or that does no harm.

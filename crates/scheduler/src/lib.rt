@@ -6,6 +6,7 @@ mod attempt;
 mod fault;
 mod harmful;
 mod lazy;
+mod no_log;
 mod notes;
 
 pub use fault::ScheduleFault;

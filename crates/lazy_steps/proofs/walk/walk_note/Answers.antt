@@ -1,6 +1,6 @@
 use Rattle.lazy_steps.proofs.Words.{◌++◌, ◌∷◌, ◌∙◌, [], List, ap, sym, append-nil, Step, place_of, spot_in}
 use Rattle.lazy_steps.proofs.PointerTables.{on_ok}
-use Rattle.lazy_steps.proofs.WalkedNotes.{HasGoals, none_moved, begun_goals, taken_goals, stopped_goals, open_goals, made_steps, made_pointers, placed_steps, placed_pointers}
+use Rattle.lazy_steps.proofs.WalkedNotes.{HasGoals, none_moved, begun_goals, taken_goals, stopped_goals, open_goals, made_steps, made_pointers, next_steps, next_pointers, placed_steps, placed_pointers}
 use Rattle.lazy_steps.proofs.walk.walk_note.Goals as goal
 
 pub returns-in-Begun-clause-steps : goal.returns-in-Begun-clause-steps
@@ -70,3 +70,11 @@ returns-in-Placed-clause-steps c =
 pub returns-in-Placed-clause-pointers : goal.returns-in-Placed-clause-pointers
 returns-in-Placed-clause-pointers c =
     c.place.ensures.placed ∙ placed_pointers c.args.header.now (spot_in c.args.pointers.now) c.args.note.now c.in-Placed.ring c.in-Placed.spot c.in-Placed.is
+
+pub returns-in_ok-push-in-Next-clause-steps : goal.returns-in_ok-push-in-Next-clause-steps
+returns-in_ok-push-in-Next-clause-steps c =
+    let made : List Step = c.args.steps.now.items in
+    c.in_ok-push-in-Next.ensures.items ∙ ap (λ (l : List Step). made ++ l) (next_steps c.args.header.now (spot_in c.args.pointers.now) c.args.note.now c.in-Next.is)
+
+pub returns-in_ok-push-in-Next-clause-pointers : goal.returns-in_ok-push-in-Next-clause-pointers
+returns-in_ok-push-in-Next-clause-pointers c = next_pointers c.args.header.now (spot_in c.args.pointers.now) c.args.note.now c.in-Next.is

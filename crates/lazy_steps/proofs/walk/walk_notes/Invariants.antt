@@ -1,9 +1,12 @@
-use Rattle.lazy_steps.proofs.Words.{◌≡◌, length, Data, steps_of, spot_in}
+use Rattle.lazy_steps.proofs.Words.{◌≡◌, drop, length, Data, KeepHeaders, steps_of, spot_in}
+use Rattle.ring_finder.specs.Finding.{IsFinder}
 use Rattle.lazy_steps.proofs.WalkedNotes.{steps_with}
 use Rattle.lazy_steps.proofs.walk.walk_notes.Given as goal
 
 abbrev pub invariant-loop-note : goal.invariant-loop-note
 invariant-loop-note l = record {
   size : length l.pointers ≡ 256;
-  so_far : steps_with l.header l.steps.items (spot_in l.pointers) l.note-index l.notes ≡ steps_of l.header (λ r. Data 0) l.notes;
+  found : IsFinder l.header.rings l.finder;
+  then_headed : KeepHeaders l.header (drop l.next l.rows);
+  so_far : steps_with l.header (drop l.next l.rows) l.steps.items (spot_in l.pointers) l.note-index l.notes ≡ steps_of l.fn.header l.rows (λ r. Data 0) l.notes;
 }

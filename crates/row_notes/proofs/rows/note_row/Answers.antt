@@ -1,7 +1,6 @@
-use Rattle.std.proofs.Common.{◌≡◌, [], ◌∙◌, ◌++◌, ap, subst, sym}
-use Rattle.ownership_rules.specs.Rules.{lenient}
+use Rattle.std.proofs.Common.{◌∙◌, ◌++◌, ap, subst, sym}
 use Rattle.lazy_steps.specs.Notes.{row_notes}
-use Rattle.row_notes.specs.Noted.{AreNoted}
+use Rattle.row_notes.specs.Noted.{AreNoted, MayBeRead}
 use Rattle.row_notes.proofs.Lists.{more_ok}
 use Rattle.row_notes.proofs.Notings.{alone, none_said, quiet}
 use Rattle.row_notes.proofs.rows.note_row.Goals as goal
@@ -17,7 +16,7 @@ pub returns-in-Read : goal.returns-in-Read
 returns-in-Read g c =
     let h = c.args.header.now in
     more_ok _ _ c.note_event.result (λ placed says. λ k f d clean.
-    subst (λ r. AreNoted h k r c.args.notes.now.items c.note_event.new.notes.items placed.items) (sym c.in-Read.is) (says k f d (subst (λ r. lenient h k r ≡ []) c.in-Read.is clean)))
+    subst (λ r. AreNoted h k r c.args.notes.now.items c.note_event.new.notes.items placed.items) (sym c.in-Read.is) (says k f d (subst (λ r. MayBeRead h k r) c.in-Read.is clean)))
     c.note_event.ensures
 
 pub returns-in_default : goal.returns-in_default

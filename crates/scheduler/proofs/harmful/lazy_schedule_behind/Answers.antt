@@ -1,9 +1,9 @@
 use Rattle.std.proofs.Common.{◌≡◌, ◌∙◌, sym, subst}
+use Rattle.std.specs.Prelude.{reverse}
 use Rattle.traces.specs.Rows.{AreSteps}
 use Rattle.lazy_runs.specs.Lazy.{lazy_steps}
-use Rattle.row_checks.proofs.CleanHistories.{lenient_history}
-use Rattle.std.specs.Prelude.{reverse}
-use Rattle.scheduler.proofs.Fitting.{lazy_steps_are}
+use Rattle.ring_pass.proofs.Histories.{kept_now}
+use Rattle.scheduler.proofs.Fitting.{lazy_steps_are, rows_fit}
 use Rattle.scheduler.proofs.harmful.lazy_schedule_behind.Goals as goal
 
 pub make_all-requires : goal.make_all-requires
@@ -11,4 +11,4 @@ make_all-requires c =
     let h = c.args.header.now in
     let rows = c.args.before.now in
     let same : c.deref.result.now ≡ lazy_steps h rows = c.deref.ensures.value ∙ c.in-Ok.ensures.steps in
-    subst AreSteps (sym same) (lazy_steps_are h c.requires.headed rows c.requires.fitting (lenient_history h (reverse rows) c.in-Ok.ensures.clean))
+    subst AreSteps (sym same) (lazy_steps_are h c.requires.headed rows (rows_fit rows c.requires.fitting) (kept_now h (reverse rows) c.in-Ok.ensures.clean))

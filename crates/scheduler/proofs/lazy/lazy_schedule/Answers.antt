@@ -1,55 +1,79 @@
 use Rattle.std.proofs.Common.{◌≡◌, ◌∙◌, ◌+◌, ◌*◌, ◌≤◌, ℕ, List, ap, arith, length, reverse, subst, sym}
 use Rattle.std.specs.Prelude.{All}
-use Rattle.std.proofs.lemmas.List.Elements.{All-weaker}
-use Rattle.traces.specs.declared.row.Row.{Row}
+use Rattle.traces.specs.declared.header.Header.{Header}
 use Rattle.traces.specs.declared.step.Step.{Step}
-use Rattle.traces.specs.Rows.{AreSteps, FitsLine, IsRow}
-use Rattle.ownership_rules.specs.Clean.{IsClean}
+use Rattle.traces.specs.declared.trace_row.TraceRow.{TraceRow}
+use Rattle.traces.specs.Header.{IsHeader}
+use Rattle.traces.specs.Rows.{AreSteps}
+use Rattle.traces.specs.TraceRows.{IsTraceRow}
+use Rattle.controller_model.specs.Scenes.{scene_replayed}
+use Rattle.controller_model.specs.Steps.{NoHarm}
+use Rattle.ring_changes.specs.Histories.{AreKept, FitsFields}
+use Rattle.ring_changes.proofs.RingsHeadline.{rings_headline}
+use Rattle.ring_pass.specs.Clean.{AreClean}
+use Rattle.ring_pass.proofs.Histories.{kept_now}
+use Rattle.lazy_runs.specs.LateEvents.{IsTimely}
 use Rattle.lazy_runs.specs.Lazy.{lazy_steps}
 use Rattle.lazy_runs.specs.Law.{ContainsAll}
 use Rattle.lazy_runs.proofs.LazyRuns.{all_are_read}
 use Rattle.lazy_runs.proofs.StepsCounted.{few_steps}
-use Rattle.row_checks.proofs.CleanHistories.{lenient_history}
-use Rattle.row_checks.proofs.Harmless.{harmless}
-use Rattle.scheduler.proofs.Fitting.{lazy_steps_are}
+use Rattle.scheduler.proofs.Fitting.{lazy_steps_are, rows_fit}
 use Rattle.scheduler.proofs.Replays.{without_harm}
 use Rattle.scheduler.proofs.lazy.lazy_schedule.Goals as goal
-
-are_rows : (rows : List Row) → All (λ row. IsRow row × FitsLine row) rows → All IsRow rows
-are_rows rows are = All-weaker (λ row. IsRow row × FitsLine row) IsRow (λ row fits. fits.0) rows are
 
 few_are : (l m : List Step) (n : ℕ) → l ≡ m → length m ≤ n → length l ≤ n
 few_are l m n same few = omega (arith, ap length same, few)
 
+module _ (h : Header) (headed : IsHeader h) (rows : List TraceRow) (fitting : All IsTraceRow rows) (clean : AreClean h (reverse rows)) (steps : List Step) (same : steps ≡ lazy_steps h rows) where
+  fits : All FitsFields rows
+  fits = rows_fit rows fitting
+
+  kept : AreKept h (reverse rows)
+  kept = kept_now h (reverse rows) clean
+
+  are : AreSteps steps
+  are = subst AreSteps (sym same) (lazy_steps_are h headed rows fits kept)
+
+  few : length steps ≤ 3 * length rows + 3
+  few = few_are steps (lazy_steps h rows) (3 * length rows + 3) same (few_steps h rows headed fits kept)
+
+  runs : IsTimely h (reverse rows) → ContainsAll h rows (reverse steps)
+  runs timely = subst (λ l. ContainsAll h rows (reverse l)) (sym same) (all_are_read h rows headed fits kept timely)
+
+  replays : IsTimely h (reverse rows) → (scene_replayed h rows steps).ending ≡ NoHarm
+  replays timely = without_harm h rows (rings_headline h rows headed fits kept) steps are (runs timely)
+
 pub invariant_of-result : goal.invariant_of-result
 invariant_of-result c =
     let t = c.args.trace.now in
-    let clean : IsClean t.header (reverse t.rows) = subst (λ rows. IsClean t.header (reverse rows)) c.as_slice.ensures c.in_ok-steps.ensures.clean in
-    let steps : c.new-2.result ≡ lazy_steps t.header t.rows = c.new-2.ensures ∙ c.in_ok-steps.ensures.steps ∙ ap (λ rows. lazy_steps t.header rows) c.as_slice.ensures in
+    let rows = t.rows.items in
+    let clean : AreClean t.header (reverse rows) = subst (λ l. AreClean t.header (reverse l)) c.as_slice.ensures.value c.in_ok-steps.ensures.clean in
+    let same : c.new-2.result ≡ lazy_steps t.header rows = c.new-2.ensures ∙ c.in_ok-steps.ensures.steps ∙ ap (λ l. lazy_steps t.header l) c.as_slice.ensures.value in
     record {
-      fitting = subst AreSteps (sym steps) (lazy_steps_are t.header t.headed t.rows (are_rows t.rows t.fitting) (lenient_history t.header (reverse t.rows) clean));
-      within = omega (arith, t.placed, t.within, few_are c.new-2.result (lazy_steps t.header t.rows) (3 * length t.rows + 3) steps (few_steps t.header t.rows t.headed (lenient_history t.header (reverse t.rows) clean)));
+      fitting = are t.header t.headed rows t.fitting clean c.new-2.result same;
+      within = omega (arith, t.within, few t.header t.headed rows t.fitting clean c.new-2.result same);
     }
 
 pub returns-clause-runs : goal.returns-clause-runs
-returns-clause-runs c = λ timely.
+returns-clause-runs c =
     let t = c.args.trace.now in
-    let clean : IsClean t.header (reverse t.rows) = subst (λ rows. IsClean t.header (reverse rows)) c.as_slice.ensures c.in_ok-steps.ensures.clean in
-    let steps : c.new-2.result ≡ lazy_steps t.header t.rows = c.new-2.ensures ∙ c.in_ok-steps.ensures.steps ∙ ap (λ rows. lazy_steps t.header rows) c.as_slice.ensures in
-    subst (λ l. ContainsAll t.header t.rows (reverse l)) (sym steps) (all_are_read t.header t.rows t.headed (are_rows t.rows t.fitting) (lenient_history t.header (reverse t.rows) clean) timely)
+    let rows = t.rows.items in
+    let clean : AreClean t.header (reverse rows) = subst (λ l. AreClean t.header (reverse l)) c.as_slice.ensures.value c.in_ok-steps.ensures.clean in
+    let same : c.new-2.result ≡ lazy_steps t.header rows = c.new-2.ensures ∙ c.in_ok-steps.ensures.steps ∙ ap (λ l. lazy_steps t.header l) c.as_slice.ensures.value in
+    runs t.header t.headed rows t.fitting clean c.new-2.result same
 
 pub returns-clause-replays : goal.returns-clause-replays
-returns-clause-replays c = λ timely.
+returns-clause-replays c =
     let t = c.args.trace.now in
-    let clean : IsClean t.header (reverse t.rows) = subst (λ rows. IsClean t.header (reverse rows)) c.as_slice.ensures c.in_ok-steps.ensures.clean in
-    let steps : c.new-2.result ≡ lazy_steps t.header t.rows = c.new-2.ensures ∙ c.in_ok-steps.ensures.steps ∙ ap (λ rows. lazy_steps t.header rows) c.as_slice.ensures in
-    let fitting : AreSteps c.new-2.result = subst AreSteps (sym steps) (lazy_steps_are t.header t.headed t.rows (are_rows t.rows t.fitting) (lenient_history t.header (reverse t.rows) clean)) in
-    without_harm t.header t.rows (harmless t.header t.rows t.headed t.fitting clean) c.new-2.result fitting
-    (subst (λ l. ContainsAll t.header t.rows (reverse l)) (sym steps) (all_are_read t.header t.rows t.headed (are_rows t.rows t.fitting) (lenient_history t.header (reverse t.rows) clean) timely))
+    let rows = t.rows.items in
+    let clean : AreClean t.header (reverse rows) = subst (λ l. AreClean t.header (reverse l)) c.as_slice.ensures.value c.in_ok-steps.ensures.clean in
+    let same : c.new-2.result ≡ lazy_steps t.header rows = c.new-2.ensures ∙ c.in_ok-steps.ensures.steps ∙ ap (λ l. lazy_steps t.header l) c.as_slice.ensures.value in
+    replays t.header t.headed rows t.fitting clean c.new-2.result same
 
 pub returns-clause-few : goal.returns-clause-few
 returns-clause-few c =
     let t = c.args.trace.now in
-    let clean : IsClean t.header (reverse t.rows) = subst (λ rows. IsClean t.header (reverse rows)) c.as_slice.ensures c.in_ok-steps.ensures.clean in
-    let steps : c.new-2.result ≡ lazy_steps t.header t.rows = c.new-2.ensures ∙ c.in_ok-steps.ensures.steps ∙ ap (λ rows. lazy_steps t.header rows) c.as_slice.ensures in
-    few_are c.new-2.result (lazy_steps t.header t.rows) (3 * length t.rows + 3) steps (few_steps t.header t.rows t.headed (lenient_history t.header (reverse t.rows) clean))
+    let rows = t.rows.items in
+    let clean : AreClean t.header (reverse rows) = subst (λ l. AreClean t.header (reverse l)) c.as_slice.ensures.value c.in_ok-steps.ensures.clean in
+    let same : c.new-2.result ≡ lazy_steps t.header rows = c.new-2.ensures ∙ c.in_ok-steps.ensures.steps ∙ ap (λ l. lazy_steps t.header l) c.as_slice.ensures.value in
+    few t.header t.headed rows t.fitting clean c.new-2.result same

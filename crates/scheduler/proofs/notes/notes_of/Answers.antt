@@ -1,69 +1,53 @@
-use Rattle.std.proofs.Common.{◌≡◌, ◌+◌, Some, arith, subst, sym}
-use Rattle.std.specs.Prelude.{◌++◌, All, map, reverse, take}
-use Rattle.ring_knowledge.specs.Known.{Known, nothing}
-use Rattle.ring_knowledge.specs.Learned.{known}
+use Rattle.std.proofs.Common.{◌≡◌, ◌+◌, List, Some, arith, subst, sym}
+use Rattle.traces.specs.declared.header.Header.{Header}
+use Rattle.traces.specs.declared.trace_row.TraceRow.{TraceRow}
 use Rattle.ownership_rules.specs.declared.refusal.Refusal.{Refusal}
-use Rattle.ownership_rules.specs.Rules.{verdict_from}
-use Rattle.safety.specs.Keeps.{IsTransferRing}
-use Rattle.lazy_steps.specs.Notes.{placed_note}
-use Rattle.row_checks.specs.Tracking.{IsTracked}
-use Rattle.row_checks.proofs.CleanHistories.{lenient_row}
-use Rattle.row_checks.proofs.Passes.{by_place, refused}
-use Rattle.scheduler.proofs.Noting.{IsNoted, ended, ended_clean, keeps, started, stepped, tracked}
+use Rattle.ring_changes.specs.Histories.{header_now, known_now}
+use Rattle.trace_record.specs.declared.fault.StepFault.{StepFault}
+use Rattle.trace_record.specs.Steps.{IfRefused}
+use Rattle.ring_pass.specs.Clean.{IsLeastOfRow}
+use Rattle.ring_pass.specs.Passing.{IsRingPassed}
+use Rattle.ring_pass.specs.Rules.{ring_verdict}
+use Rattle.scheduler.proofs.Noting.{IsNoted, ended, ended_clean, few, refused, started, stepped}
 use Rattle.scheduler.proofs.notes.notes_of.Goals as goal
 
 pub loop-row-init : goal.loop-row-init
 loop-row-init g c =
-    let m = g.M.WordMemory.words c.args.memory in
-    subst (λ list. IsNoted c.args.header.now c.args.rows.now c.args.first 0 c.args.first c.in_ok-kept.kept m list) (sym c.new-list.ensures.items)
-    (started c.args.header.now c.requires.headed c.args.rows.now c.args.first c.in_ok-kept.kept m (c.in_ok-kept.ensures.follows m c.requires.zero) c.in_ok-kept.ensures.unread)
+    started g.M.WordMemory.words c.args.header c.args.rows.now c.args.first c.in_ok-pass.pass c.new-list.result.items c.new-list.ensures.items c.in_ok-pass.ensures.passed
+
+pub note_next-requires-clause-so_far : goal.note_next-requires-clause-so_far
+note_next-requires-clause-so_far g c =
+    few g.M.WordMemory.words c.args.header c.args.rows.now c.args.first c.loop-row.row-index c.loop-row.number c.loop-row.pass c.row-item.result c.row-item.result c.loop-row.list.items
+    c.loop-row.invariant c.loop-row-test.true (sym c.row-item.is) c.requires.within
 
 pub returns-in-Err-Refused-clause-refused : goal.returns-in-Err-Refused-clause-refused
 returns-in-Err-Refused-clause-refused g c =
-    let h = c.args.header.now in
-    let m = g.M.WordMemory.words c.loop-row.memory in
+    let h = c.args.header in
+    let words = g.M.WordMemory.words in
     let row = c.row-item.result in
-    subst (λ (r : Refusal). verdict_from h nothing c.args.first c.args.rows.now ≡ Some (c.loop-row.number, r)) (sym c.in-Err-Refused.refusal-is)
-    (refused h c.args.rows.now c.args.first c.loop-row.row-index c.loop-row.number c.loop-row.kept m row row c.in-Err-Refused.refusal c.in-Err-Refused.field-0 c.in-Err-Refused.field-0-is
-    c.loop-row.invariant.pass c.loop-row-test.true (sym c.row-item.is)
-    (by_place h c.loop-row.kept m row c.place-place.result c.owns-owned.result (λ k f. c.place-place.ensures k m f) (λ k f placed. c.owns-owned.ensures k f placed)
-    c.in-Err-Refused.field-0 c.in-Err-Refused.ensures.refused))
+    let least = subst (λ (e : StepFault). IfRefused e (λ y. (g : Header) (so : List TraceRow) → IsRingPassed words g so c.loop-row.pass → IsLeastOfRow (header_now g so) (known_now g so) row y)) c.in-Err-Refused.field-0-is
+    c.in-Err-Refused.ensures.refused in
+    subst (λ (r : Refusal). ring_verdict h c.args.first c.args.rows.now ≡ Some (c.loop-row.number, r)) (sym c.in-Err-Refused.refusal-is)
+    (refused words h c.args.rows.now c.args.first c.loop-row.row-index c.loop-row.number c.loop-row.pass row row c.loop-row.list.items c.loop-row.invariant c.loop-row-test.true (sym c.row-item.is)
+    c.in-Err-Refused.refusal least)
 
 pub loop-row-preserved : goal.loop-row-preserved
 loop-row-preserved g c =
-    let h = c.args.header.now in
-    let i = c.loop-row.row-index in
-    let m = g.M.WordMemory.words c.loop-row.memory in
-    let o = g.M.WordMemory.words c.check_row.new.memory in
+    let h = c.args.header in
+    let words = g.M.WordMemory.words in
     let row = c.row-item.result in
-    let rows = c.args.rows.now in
-    let p = c.loop-row.invariant in
-    let k : Known = known h (reverse (take i rows)) in
-    let t : IsTracked h k c.loop-row.kept m = tracked h c.requires.headed rows c.args.first i c.loop-row.number c.loop-row.kept m row row c.loop-row.list.items p c.loop-row-test.true (sym c.row-item.is) in
-    let step = λ (j : Known) (u : IsTracked h j c.loop-row.kept m). let placed = c.place-place.ensures j m u.follows in c.in-Ok.ensures.ok j u placed (c.owns-owned.ensures j u.follows placed) in
-    let none = lenient_row h k row (step k t).clean in
-    let d = keeps h c.requires.headed rows c.args.first i c.loop-row.number c.loop-row.kept m row row c.loop-row.list.items p c.loop-row-test.true (sym c.row-item.is) none in
-    let noted = c.in_ok-placed.ensures k t.follows d none in
-    let after = (step k t).followed in
-    let placed = c.in_ok-placed.placed.items in
-    let old = c.note_row.new.notes.items in
-    let new = c.note_placed.new.notes.items in
-    let at = subst (λ l. new ≡ old ++ map (placed_note h k row) l) c.as_slice.ensures.value
-    (c.in_ok-note_placed.ensures k row o after (subst (λ l. All (IsTransferRing h) l) (sym c.as_slice.ensures.value) noted.rings)) in
-    subst (λ list. IsNoted h rows c.args.first (i + 1) (c.loop-row.number + 1) c.check_row.new.kept o list) (sym c.in_ok-note_made.ensures)
-    (stepped h c.requires.headed rows c.args.first i c.loop-row.number c.loop-row.kept m row row c.loop-row.list.items p c.loop-row-test.true (sym c.row-item.is)
-    c.check_row.new.kept o old new placed (c.in-Ok.ensures.reads i p.pass.few_reads) step noted at)
+    subst (λ list. IsNoted words h c.args.rows.now c.args.first (c.loop-row.row-index + 1) (c.loop-row.number + 1) c.note_next.new.pass list) (sym c.in_ok-add_note.ensures)
+    (stepped words h c.args.rows.now c.args.first c.loop-row.row-index c.loop-row.number c.loop-row.pass row row c.loop-row.list.items c.loop-row.invariant c.loop-row-test.true (sym c.row-item.is)
+    c.note_next.new.pass c.note_next.new.list.items c.in-Ok.ensures.passed c.in-Ok.ensures.noted)
 
 pub returns-clause-clean : goal.returns-clause-clean
 returns-clause-clean g c =
     let ends = c.loop-row.auto.row-index-end in
     let past = c.loop-row-test.false in
-    ended_clean c.args.header.now c.requires.headed c.args.rows.now c.args.first c.loop-row.row-index c.loop-row.number c.loop-row.kept (g.M.WordMemory.words c.loop-row.memory) c.loop-row.list.items
-    c.loop-row.invariant (omega arith)
+    ended_clean g.M.WordMemory.words c.args.header c.args.rows.now c.args.first c.loop-row.row-index c.loop-row.number c.loop-row.pass c.loop-row.list.items c.loop-row.invariant (omega arith)
 
 pub returns-clause-notes : goal.returns-clause-notes
 returns-clause-notes g c =
     let ends = c.loop-row.auto.row-index-end in
     let past = c.loop-row-test.false in
-    ended c.args.header.now c.requires.headed c.args.rows.now c.args.first c.loop-row.row-index c.loop-row.number c.loop-row.kept (g.M.WordMemory.words c.loop-row.memory) c.loop-row.list.items
-    c.loop-row.invariant (omega arith)
+    ended g.M.WordMemory.words c.args.header c.args.rows.now c.args.first c.loop-row.row-index c.loop-row.number c.loop-row.pass c.loop-row.list.items c.loop-row.invariant (omega arith)
