@@ -15,6 +15,7 @@ pub(crate) struct Why {
     pub(crate) head: String,
     /// An earlier line that has to do with it, and what that is.
     pub(crate) earlier: Option<(u32, &'static str)>,
+    pub(crate) note: Option<&'static str>,
     pub(crate) help: &'static str,
 }
 
@@ -24,6 +25,7 @@ impl Why {
         Ok(Why {
             head: String::from_str(alloc, head)?,
             earlier: None,
+            note: None,
             help,
         })
     }
@@ -113,12 +115,16 @@ fn diagnostic_of_text(
         Some((line, label)) => Some(quote(alloc, text, line, String::from_str(alloc, label)?)?),
         None => None,
     };
+    let mut notes = Vec::new(alloc);
+    if let Some(note) = why.note {
+        notes.push(String::from_str(alloc, note)?)?;
+    }
     Ok(Diagnostic {
         matter: Matter::Fault(fault),
         head: why.head,
         refused: quote(alloc, text, line, here)?,
         earlier,
-        notes: Vec::new(alloc),
+        notes,
         help: Some(String::from_str(alloc, why.help)?),
     })
 }
@@ -143,7 +149,7 @@ fn condition(
         LineFault::Header => header_fault(alloc, text, bytes, line, kind),
         LineFault::Row => row_fault(alloc, text, bytes, line, kind),
         LineFault::Number => number_fault(alloc, bytes),
-        LineFault::Limit => limit_fault(alloc, bytes, line, kind),
+        LineFault::Limit => limit_fault(alloc, text, bytes, line, kind),
         LineFault::Shape => match kind {
             TextKind::Plan => plan_ring_fault(alloc, bytes),
             TextKind::Trace | TextKind::Schedule => ring_fault(alloc, text, bytes, line),
@@ -242,7 +248,7 @@ fn row_fault(
     }
     match first_field(bytes) {
         Some(form) => form_fault(alloc, text, bytes, line, kind, form),
-        None => unknown_word(alloc, line, kind),
+        None => unknown_word(alloc, text, line, kind),
     }
 }
 
@@ -264,13 +270,16 @@ fn unended(alloc: Global, bytes: &[u8], line: u32, kind: TextKind) -> Result<Why
 }
 
 /// A line that begins with a word of no line of its text.
-fn unknown_word(alloc: Global, line: u32, kind: TextKind) -> Result<Why, AllocError> {
+fn unknown_word(alloc: Global, text: &[u8], line: u32, kind: TextKind) -> Result<Why, AllocError> {
     match kind {
-        TextKind::Trace => Why::plain(
-            alloc,
-            "no row begins with this word",
-            "rows begin with sub, w, reg, db or ev, and `ring` lines stand before them",
-        ),
+        TextKind::Trace => {
+            let begins = if has_ring_rows(text) {
+                "rows begin with sub, w, reg, db, ev, ring, free or nop"
+            } else {
+                "rows begin with sub, w, reg, db or ev, and `ring` lines stand before them"
+            };
+            Why::plain(alloc, "no row begins with this word", begins)
+        }
         TextKind::Plan => if line == 2 {
             Why::plain(
                 alloc,
@@ -303,14 +312,11 @@ fn form_fault(
 ) -> Result<Why, AllocError> {
     let is_ring = form == Field::Ring;
     if !form.is_in(kind) || (kind == TextKind::Plan && is_ring != (line == 2)) {
-        return unknown_word(alloc, line, kind);
+        return unknown_word(alloc, text, line, kind);
     }
-    if is_ring && kind == TextKind::Trace && !is_header_line(text, line) {
-        return Why::plain(
-            alloc,
-            "a `ring` line stands behind a row",
-            "write all `ring` lines before the first row",
-        );
+    let comes = is_ring && kind == TextKind::Trace && !is_header_line(text, line);
+    if (comes || form == Field::Free || form == Field::Nop) && !has_ring_rows(text) {
+        return row_of_later_versions(alloc, form);
     }
     if !word_count(form, bytes) {
         return Why::plain(
@@ -320,12 +326,7 @@ fn form_fault(
         );
     }
     if is_ring {
-        let help = if kind == TextKind::Plan {
-            "the ring of a plan is cmd or xfer"
-        } else {
-            "rings are cmd, evt or xfer"
-        };
-        return Why::plain(alloc, "no ring is of this kind", help);
+        return ring_kind_fault(alloc, bytes, kind, comes);
     }
     Why::plain(
         alloc,
@@ -334,8 +335,61 @@ fn form_fault(
     )
 }
 
+/// Whether the rows of a trace may have rings that come and go, and TDs that are withdrawn: its version is 2 or 3.
+fn has_ring_rows(text: &[u8]) -> bool {
+    text.starts_with(b"xtrace 2\n") || is_of_version_three(text)
+}
+
+fn is_of_version_three(text: &[u8]) -> bool {
+    text.starts_with(b"xtrace 3\n")
+}
+
+/// A row of a trace of version 1 that only later versions have.
+fn row_of_later_versions(alloc: Global, form: Field) -> Result<Why, AllocError> {
+    match form {
+        Field::Free => Why::plain(
+            alloc,
+            "version 1 has no `free` rows",
+            "begin the trace with `xtrace 3`, where rings come and go between rows",
+        ),
+        Field::Nop => Why::plain(
+            alloc,
+            "version 1 has no `nop` rows",
+            "begin the trace with `xtrace 3`, where TDs are withdrawn",
+        ),
+        _ => Why::plain(
+            alloc,
+            "a `ring` line stands behind a row",
+            "write all `ring` lines before the first row, or begin the trace with `xtrace 3`, where Transfer Rings come between rows",
+        ),
+    }
+}
+
+/// A line of a ring with a kind that the ring can't be of.
+fn ring_kind_fault(
+    alloc: Global,
+    bytes: &[u8],
+    kind: TextKind,
+    comes: bool,
+) -> Result<Why, AllocError> {
+    let word = bytes.split(|b| *b == b' ').nth(2).unwrap_or(&[]);
+    if comes && (word == b"cmd".as_slice() || word == b"evt".as_slice()) {
+        return Why::plain(
+            alloc,
+            "only a Transfer Ring comes between rows",
+            "write the `ring` lines of cmd and evt before the first row",
+        );
+    }
+    let help = match kind {
+        TextKind::Plan => "the ring of a plan is cmd or xfer",
+        _ if comes => "a ring that comes between rows is xfer",
+        _ => "rings are cmd, evt or xfer",
+    };
+    Why::plain(alloc, "no ring is of this kind", help)
+}
+
 /// Whether all lines before a line, behind the first two, are of rings.
-fn is_header_line(text: &[u8], line: u32) -> bool {
+pub(crate) fn is_header_line(text: &[u8], line: u32) -> bool {
     let many = (line as usize).saturating_sub(3);
     text.split(|b| *b == b'\n')
         .skip(2)
@@ -344,7 +398,13 @@ fn is_header_line(text: &[u8], line: u32) -> bool {
 }
 
 /// A line past a limit.
-fn limit_fault(alloc: Global, bytes: &[u8], line: u32, kind: TextKind) -> Result<Why, AllocError> {
+fn limit_fault(
+    alloc: Global,
+    text: &[u8],
+    bytes: &[u8],
+    line: u32,
+    kind: TextKind,
+) -> Result<Why, AllocError> {
     if bytes.len() > 16384 {
         return Why::plain(
             alloc,
@@ -352,23 +412,50 @@ fn limit_fault(alloc: Global, bytes: &[u8], line: u32, kind: TextKind) -> Result
             "no line that says something is so long: a ring has at most 64 segments, a TD 256 TRBs",
         );
     }
-    if kind == TextKind::Schedule {
-        return Why::plain(
+    match kind {
+        TextKind::Schedule => Why::plain(
             alloc,
             "a schedule has at most 4194304 lines",
             "replay the first ones: head -n 4194304",
+        ),
+        TextKind::Plan if line > 1048576 => Why::plain(
+            alloc,
+            "a plan has at most 1048576 lines",
+            "take the first ones: head -n 1048576",
+        ),
+        TextKind::Trace if line > 1048576 => too_many_lines(alloc, text, line),
+        TextKind::Plan | TextKind::Trace => Why::plain(
+            alloc,
+            "a `sub` row has at most 256 TRBs",
+            "write a `sub` row for each TD",
+        ),
+    }
+}
+
+/// A trace of more lines than its version has, or than a command takes that keeps its rows.
+fn too_many_lines(alloc: Global, text: &[u8], line: u32) -> Result<Why, AllocError> {
+    if !is_of_version_three(text) {
+        return Ok(Why {
+            head: String::from_str(alloc, "a trace of version 1 or 2 has at most 1048576 lines")?,
+            earlier: None,
+            note: Some("`check` and `verify` take up to 4294967294 lines of version 3"),
+            help: "begin the trace with `xtrace 3`, or take the first lines: head -n 1048576",
+        });
+    }
+    if line > 4294967294 {
+        return Why::plain(
+            alloc,
+            "a trace has at most 4294967294 lines",
+            "take the first ones: head -n 4294967294",
         );
     }
-    if line > 1048576 {
-        let head = match kind {
-            TextKind::Plan => "a plan has at most 1048576 lines",
-            TextKind::Trace | TextKind::Schedule => "a trace has at most 1048576 lines",
-        };
-        return Why::plain(alloc, head, "take the first ones: head -n 1048576");
-    }
-    Why::plain(
-        alloc,
-        "a `sub` row has at most 256 TRBs",
-        "write a `sub` row for each TD",
-    )
+    Ok(Why {
+        head: String::from_str(
+            alloc,
+            "this command keeps all rows, and takes at most 1048576 lines",
+        )?,
+        earlier: None,
+        note: Some("`check` and `verify` keep none, and take up to 4294967294 lines of version 3"),
+        help: "take the first ones: head -n 1048576",
+    })
 }

@@ -20,6 +20,10 @@ pub(crate) enum Field {
     Reg,
     Bell,
     Event,
+    /// A ring goes.
+    Free,
+    /// A TD is withdrawn.
+    Nop,
     /// TRBs of a plan's ring come back.
     Ret,
     /// The driver's next row.
@@ -41,6 +45,8 @@ impl Field {
             Field::Reg => "write `reg NAME VALUE`",
             Field::Bell => "write `db SLOT TARGET`",
             Field::Event => "write `ev W W W W`",
+            Field::Free => "write `free ID`",
+            Field::Nop => "write `nop ID POSITION`",
             Field::Ret => "write `ret P`",
             Field::Row => "write `row` alone",
             Field::Look => "write `look ID`",
@@ -54,7 +60,9 @@ impl Field {
     pub(crate) fn is_in(self, kind: TextKind) -> bool {
         match self {
             Field::Ring | Field::Sub => kind != TextKind::Schedule,
-            Field::Write | Field::Reg | Field::Bell | Field::Event => kind == TextKind::Trace,
+            Field::Write | Field::Reg | Field::Bell | Field::Event | Field::Free | Field::Nop => {
+                kind == TextKind::Trace
+            }
             Field::Ret => kind == TextKind::Plan,
             Field::Row | Field::Look | Field::Post | Field::Scrib => kind == TextKind::Schedule,
         }
@@ -70,7 +78,8 @@ impl Field {
             Field::Sub => if number == 2 { 2 } else { 8 },
             Field::Write | Field::Scrib => if number == 2 { 16 } else { 8 },
             Field::Reg => if number == 2 { 0 } else { 16 },
-            Field::Bell | Field::Look => 2,
+            Field::Nop => if number == 2 { 2 } else { 16 },
+            Field::Bell | Field::Look | Field::Free => 2,
             Field::Event | Field::Post => 8,
             Field::Ret => 16,
             Field::Row => 0,
@@ -88,6 +97,8 @@ pub(crate) fn first_field(line: &[u8]) -> Option<Field> {
         "reg" => Some(Field::Reg),
         "db" => Some(Field::Bell),
         "ev" => Some(Field::Event),
+        "free" => Some(Field::Free),
+        "nop" => Some(Field::Nop),
         "ret" => Some(Field::Ret),
         "row" => Some(Field::Row),
         "look" => Some(Field::Look),
@@ -103,9 +114,9 @@ pub(crate) fn word_count(form: Field, line: &[u8]) -> bool {
     match form {
         Field::Ring => count > 3,
         Field::Sub => count > 5 && count % 4 == 2,
-        Field::Write | Field::Reg | Field::Bell | Field::Scrib => count == 3,
+        Field::Write | Field::Reg | Field::Bell | Field::Scrib | Field::Nop => count == 3,
         Field::Event | Field::Post => count == 5,
-        Field::Ret | Field::Look => count == 2,
+        Field::Ret | Field::Look | Field::Free => count == 2,
         Field::Row => count == 1,
     }
 }
@@ -147,6 +158,7 @@ fn field_fault(
         return Ok(Some(Why {
             head: format!(in alloc; "field {number}, `{shown}`, isn't BASE:COUNT")?,
             earlier: None,
+            note: None,
             help: "write an address of 16 hex digits, a colon, and the segment's TRBs in 4 hex digits",
         }));
     }
@@ -162,6 +174,7 @@ fn field_fault(
                 "field {number}, `{shown}`, has {count} {noun}, and must have {wanted}"
             )?,
             earlier: None,
+            note: None,
             help: "write numbers in hex, with zeros before them, without `0x`",
         }));
     }
@@ -169,6 +182,7 @@ fn field_fault(
         return Ok(Some(Why {
             head: format!(in alloc; "field {number}, `{shown}`, isn't a number in hex")?,
             earlier: None,
+            note: None,
             help: DIGITS,
         }));
     }

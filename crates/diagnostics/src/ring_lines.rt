@@ -1,9 +1,7 @@
 //! Lines of rings whose segments make no ring, or that can't stand beside earlier ones.
-use crate::faults::Why;
+use crate::faults::{Why, is_header_line};
 use std::alloc::{AllocError, Global};
 use std::str::from_utf8;
-use trace_reader::{ReadFault, read_trace};
-use traces::Ring;
 use trb::RingKind;
 
 /// A segment as a line says it: its first address and its number of TRBs.
@@ -105,6 +103,7 @@ fn parts_fault(alloc: Global, kind: RingKind, parts: &[Part]) -> Result<Option<W
         return Ok(Some(Why {
             head: format!(in alloc; "the ring has {count} segments, and may have 64")?,
             earlier: None,
+            note: None,
             help: "use fewer, longer segments",
         }));
     }
@@ -121,6 +120,7 @@ fn parts_fault(alloc: Global, kind: RingKind, parts: &[Part]) -> Result<Option<W
                     "the segment at {base:016x} overlaps the ring's segment at {first:016x}"
                 )?,
                 earlier: None,
+                note: None,
                 help: "give each segment memory of its own",
             }));
         }
@@ -143,6 +143,7 @@ fn part_fault(alloc: Global, kind: RingKind, part: Part) -> Result<Option<Why>, 
                 "a segment of the `{kind}` ring has {count} TRBs, and must have {least} to 4096"
             )?,
             earlier: None,
+            note: None,
             help: "COUNT is in hex, and counts the Link TRB of a cmd or xfer segment too",
         }));
     }
@@ -153,6 +154,7 @@ fn part_fault(alloc: Global, kind: RingKind, part: Part) -> Result<Option<Why>, 
                 "a segment of a `{kind}` ring lies on a {boundary}-byte boundary, and {base:016x} is none"
             )?,
             earlier: None,
+            note: None,
             help: "write the segment's first address (xHCI table 6-1)",
         }));
     }
@@ -161,6 +163,7 @@ fn part_fault(alloc: Global, kind: RingKind, part: Part) -> Result<Option<Why>, 
         return Ok(Some(Why {
             head,
             earlier: None,
+            note: None,
             help: "write the segment's first address and its number of TRBs, in hex",
         }));
     }
@@ -171,13 +174,14 @@ fn part_fault(alloc: Global, kind: RingKind, part: Part) -> Result<Option<Why>, 
         return Ok(Some(Why {
             head: format!(in alloc; "the segment crosses the 64 KB boundary at {page:016x}")?,
             earlier: None,
+            note: None,
             help: "no segment of a ring may (xHCI table 6-1): lay it elsewhere, or use two",
         }));
     }
     Ok(None)
 }
 
-/// How a ring clashes with one of an earlier line.
+/// How a ring clashes with one of an earlier line. All lines before it are good.
 fn clash(
     alloc: Global,
     text: &[u8],
@@ -186,70 +190,85 @@ fn clash(
     kind: RingKind,
     parts: &[Part],
 ) -> Result<Option<Why>, AllocError> {
-    let word = line.split(|b| *b == b' ').nth(1).unwrap_or(&[]);
-    let id = hex(word);
-    let trace = match read_trace(alloc, before_line(text, number)) {
-        Ok(trace) => trace,
-        Err(ReadFault::Memory) => return Err(AllocError),
-        Err(ReadFault::Line { .. }) => return Ok(None),
-    };
-    let mut other_line = 3u32;
-    for ring in trace.header.rings.as_slice() {
-        if let Some(why) = clash_with(alloc, ring, other_line, id, kind, parts)? {
-            return Ok(Some(why));
+    let id = id_of(line);
+    let comes = !is_header_line(text, number);
+    let before = (number as usize).saturating_sub(1);
+    let mut earlier_number = 1u32;
+    for earlier in text.split(|b| *b == b'\n').take(before) {
+        if earlier.starts_with(b"ring ") {
+            let why = if comes {
+                used_id(alloc, earlier, earlier_number, id)?
+            } else {
+                clash_with(alloc, earlier, earlier_number, id, kind, parts)?
+            };
+            if why.is_some() {
+                return Ok(why);
+            }
         }
-        other_line = other_line.saturating_add(1);
+        earlier_number = earlier_number.saturating_add(1);
     }
     Ok(None)
 }
 
-/// How a ring clashes with that of an earlier line.
+/// The ID that the line of a ring says.
+fn id_of(line: &[u8]) -> u64 {
+    hex(line.split(|b| *b == b' ').nth(1).unwrap_or(&[]))
+}
+
+/// A ring that comes between rows has the ID of that of an earlier line.
+fn used_id(alloc: Global, earlier: &[u8], number: u32, id: u64) -> Result<Option<Why>, AllocError> {
+    if id_of(earlier) != id {
+        return Ok(None);
+    }
+    Ok(Some(Why {
+        head: format!(in alloc; "ring ID {id:02x} was used before")?,
+        earlier: Some((number, "by this ring")),
+        note: None,
+        help: "give each ring an ID of its own, also where the earlier one has gone",
+    }))
+}
+
+/// How a ring of the header clashes with that of an earlier line.
 fn clash_with(
     alloc: Global,
-    ring: &Ring,
-    line: u32,
+    earlier: &[u8],
+    number: u32,
     id: u64,
     kind: RingKind,
     parts: &[Part],
 ) -> Result<Option<Why>, AllocError> {
-    if u64::from(ring.id) == id {
+    let other = id_of(earlier);
+    if other == id {
         return Ok(Some(Why {
             head: format!(in alloc; "ring ID {id:02x} is in use")?,
-            earlier: Some((line, "this ring has the ID")),
+            earlier: Some((number, "this ring has the ID")),
+            note: None,
             help: "give each ring an ID of its own",
         }));
     }
-    if kind != RingKind::Xfer && ring.shape.kind() == kind {
+    if kind != RingKind::Xfer && kind_of(earlier) == kind {
         let name = kind.name();
         return Ok(Some(Why {
             head: format!(in alloc; "a trace has one `{name}` ring")?,
-            earlier: Some((line, "the trace's ring of this kind")),
+            earlier: Some((number, "the trace's ring of this kind")),
+            note: None,
             help: "leave one of the two out",
         }));
     }
-    match parts.iter().find(|part| touches(ring, **part)) {
+    let others = parts_of(alloc, earlier)?;
+    match parts
+        .iter()
+        .find(|part| others.iter().any(|other| other.meets(**part)))
+    {
         Some(part) => {
-            let (base, other) = (part.base, ring.id);
+            let base = part.base;
             Ok(Some(Why {
                 head: format!(in alloc; "the segment at {base:016x} overlaps ring {other:02x}")?,
-                earlier: Some((line, "this ring has memory of it")),
+                earlier: Some((number, "this ring has memory of it")),
+                note: None,
                 help: "give each ring memory of its own",
             }))
         }
         None => Ok(None),
     }
-}
-
-fn touches(ring: &Ring, part: Part) -> bool {
-    ring.shape.overlaps(part.base, part.bytes())
-}
-
-/// The bytes before a line.
-fn before_line(text: &[u8], line: u32) -> &[u8] {
-    let mut end = 0usize;
-    let many = (line as usize).saturating_sub(1);
-    for bytes in text.split(|b| *b == b'\n').take(many) {
-        end = end.saturating_add(bytes.len()).saturating_add(1);
-    }
-    &text[..end.min(text.len())]
 }

@@ -1,7 +1,6 @@
 //! The diagnostic of a refused row, by the rule that it breaks.
-ghost use Rattle.std.specs.Prelude.{◌≡◌, IfOk, IsOk, string_bytes};
+ghost use Rattle.std.specs.Prelude.{◌≡◌, IfOk, string_bytes};
 ghost use Rattle.diagnostics.specs.Layout.{IsToldOf};
-ghost use Rattle.trace_reader.specs.Reading.{trace_of};
 
 use crate::reading::rows_of;
 use command_findings::{
@@ -22,7 +21,11 @@ use row_reader::TextRows;
 use std::alloc::{AllocError, Global};
 use traces::{Row, TraceRow};
 
-/// What is told of a refused row of a text, which is read again; nothing where the text is no trace.
+/// What is told of a row behind more lines than are kept.
+const NOT_LOOKED_FOR: &str =
+    "what led to it is looked for in the first 1048576 lines alone, and the row stands behind them";
+
+/// What is told of a refused row of a text, of which the lines up to that row are read again.
 pub fn explain_refused(
     alloc: Global,
     path: &str,
@@ -30,12 +33,59 @@ pub fn explain_refused(
     row: u32,
     refusal: Refusal,
 ) -> Result<String, AllocError>
-    ensures { IsOk (trace_of text.now) → IfOk result (λ told. IsToldOf path.now (Matter.Rule refusal) row (string_bytes told)) }
+    ensures { IfOk result (λ told. IsToldOf path.now (Matter.Rule refusal) row (string_bytes told)) }
 {
-    match rows_of(alloc, text)? {
+    match rows_of(alloc, lines_to(text, row))? {
         Some(trace) => explain_row(alloc, path, text, &trace, row, refusal),
-        None => Ok(String::new(alloc)),
+        None => explain_alone(alloc, path, text, row, refusal),
     }
+}
+
+/// The lines of a text up to one.
+fn lines_to(text: &[u8], line: u32) -> &[u8] {
+    let mut end = 0usize;
+    for bytes in text.split(|b| *b == b'\n').take(line as usize) {
+        end = end.saturating_add(bytes.len()).saturating_add(1);
+    }
+    &text[..end.min(text.len())]
+}
+
+/// What is told of a refused row behind more rows than are kept.
+fn explain_alone(
+    alloc: Global,
+    path: &str,
+    text: &[u8],
+    row: u32,
+    refusal: Refusal,
+) -> Result<String, AllocError>
+    ensures { IfOk result (λ told. IsToldOf path.now (Matter.Rule refusal) row (string_bytes told)) }
+{
+    let diagnostic = diagnostic_alone(alloc, text, row, refusal)?;
+    diagnostic.told(alloc, path)
+}
+
+/// The diagnostic of a row of which nothing but its rule is told.
+fn diagnostic_alone(
+    alloc: Global,
+    text: &[u8],
+    row: u32,
+    refusal: Refusal,
+) -> Result<Diagnostic, AllocError>
+    ensures rule { IfOk result (λ diagnostic. diagnostic.matter ≡ Matter.Rule refusal) }
+    ensures row { IfOk result (λ diagnostic. diagnostic.refused.line ≡ row) }
+{
+    let mut notes = Vec::new(alloc);
+    for note in [why_refused(refusal), NOT_LOOKED_FOR] {
+        notes.push(String::from_str(alloc, note)?)?;
+    }
+    Ok(Diagnostic {
+        matter: Matter::Rule(refusal),
+        head: String::from_str(alloc, general_head(refusal))?,
+        refused: quote(alloc, text, row, String::from_str(alloc, "refused")?)?,
+        earlier: None,
+        notes,
+        help: None,
+    })
 }
 
 /// What is told of a refused row of a trace.

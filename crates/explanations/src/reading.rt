@@ -8,7 +8,7 @@ use trace_reader::ReadFault;
 
 /// The rows of a text; none where it is no trace.
 pub(crate) fn rows_of(alloc: Global, text: &[u8]) -> Result<Option<TextRows>, AllocError>
-    ensures { IfOk result (λ read. IsOk (trace_of text.now) → is_some read ≡ true) }
+    ensures { IfOk result (λ read. IsOk (trace_of true text.now) → is_some read ≡ true) }
 {
     match read_rows(alloc, text) {
         Ok(rows) => Ok(Some(rows)),

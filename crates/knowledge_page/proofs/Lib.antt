@@ -1,2 +1,1 @@
-pub mod Standings
 pub mod Verdicts

@@ -1,18 +1,20 @@
 -- What stands behind rows that break no rule
 use Rattle.std.specs.Prelude.{◌≡◌, ℕ, List, None, reverse}
+use Rattle.guest_memory.specs.Page.{word_in}
 use Rattle.traces.specs.declared.header.Header.{Header}
-use Rattle.traces.specs.declared.row.Row.{Row}
-use Rattle.ring_knowledge.specs.Known.{nothing}
-use Rattle.ring_knowledge.specs.Learned.{known}
-use Rattle.ownership_rules.specs.Clean.{IsClean}
-use Rattle.ownership_rules.specs.Rules.{verdict_from}
-use Rattle.ownership_rules.specs.Leases.{leases as leases_of}
+use Rattle.traces.specs.declared.trace_row.TraceRow.{TraceRow}
 use Rattle.trace_record.specs.FollowsTrace.{FollowsTrace}
+use Rattle.ring_changes.specs.Histories.{header_now, known_now}
+use Rattle.ring_pass.specs.Accepted.{leases_of}
+use Rattle.ring_pass.specs.Clean.{AreClean}
+use Rattle.ring_pass.specs.Rules.{ring_verdict}
 use Rattle.knowledge_page.specs.declared.standing.Standing.{Standing}
 
--- no row breaks a rule; the record holds what is known behind them, and the leases are theirs
-pub record IsStanding (h : Header) (first : ℕ) (rows : List Row) (s : Standing) : Type 0 where
-  pub clean : IsClean h (reverse rows)
-  pub verdict : verdict_from h nothing first rows ≡ None
-  pub followed : FollowsTrace h (known h (reverse rows)) s.kept (known h (reverse rows)).memory
+-- no row breaks a rule; the header lists the rings that are there behind them, the record and the memory hold what is known then, and the leases are
+-- theirs
+pub record IsStanding (h : Header) (first : ℕ) (rows : List TraceRow) (s : Standing) : Type 0 where
+  pub clean : AreClean h (reverse rows)
+  pub verdict : ring_verdict h first rows ≡ None
+  pub header : s.header ≡ header_now h (reverse rows)
+  pub followed : FollowsTrace s.header (known_now h (reverse rows)) s.kept (word_in s.memory)
   pub leased : s.leases.items ≡ leases_of h first rows

@@ -92,7 +92,21 @@ fn is_next(run: &Run, piece: &Piece) -> bool {
 
 /// The TRBs and Links of a ring that are under lease, on one line.
 pub(crate) fn write_runs(page: &mut String, ring: u8, runs: &[Run]) -> Result<(), AllocError> {
-    let mut separator = "  under lease: ";
+    if runs.iter().any(|run| run.ring == u32::from(ring)) {
+        write_list(page, "  under lease: ", ring, runs)?;
+        page.push_str("\n")?;
+    }
+    Ok(())
+}
+
+/// The runs of a ring, one behind the other; this stands before them.
+pub(crate) fn write_list(
+    page: &mut String,
+    head: &str,
+    ring: u8,
+    runs: &[Run],
+) -> Result<(), AllocError> {
+    let mut separator = head;
     for run in runs {
         if run.ring == u32::from(ring) {
             page.push_str(separator)?;
@@ -100,11 +114,7 @@ pub(crate) fn write_runs(page: &mut String, ring: u8, runs: &[Run]) -> Result<()
             separator = ", ";
         }
     }
-    if separator == ", " {
-        page.push_str("\n")
-    } else {
-        Ok(())
-    }
+    Ok(())
 }
 
 fn write_run(page: &mut String, run: &Run) -> Result<(), AllocError> {

@@ -5,21 +5,21 @@ use crate::leased::{pieces_of, ranges_of, runs_of};
 use crate::rings::write_rings;
 use crate::shown::{Place, Shown};
 use std::alloc::{AllocError, Global};
-use traces::Trace;
 
 /// What stands at a place of a trace, as a page of text: whether the controller runs and its registers, each ring, the slots, the
 /// unfinished commands, and the ranges of bytes under lease.
-pub fn page_of(alloc: Global, trace: &Trace, shown: &Shown) -> Result<String, AllocError> {
-    let header = &trace.header;
-    let kept = &shown.standing.kept;
-    let leases = shown.standing.leases.as_slice();
+pub fn page_of(alloc: Global, shown: &Shown) -> Result<String, AllocError> {
+    let standing = &shown.standing;
+    let header = &standing.header;
+    let kept = &standing.kept;
+    let leases = standing.leases.as_slice();
     let pieces = pieces_of(alloc, leases)?;
     let runs = runs_of(alloc, pieces.as_slice())?;
     let ranges = ranges_of(alloc, leases)?;
     let mut page = String::new(alloc);
     write_place(&mut page, shown.place)?;
     write_controller(&mut page, &kept.registers)?;
-    write_rings(&mut page, header, kept, runs.as_slice())?;
+    write_rings(alloc, &mut page, standing, runs.as_slice())?;
     write_slots(&mut page, &kept.devices)?;
     write_commands(&mut page, header, kept, pieces.as_slice())?;
     write_ranges(&mut page, header, kept, ranges.as_slice())?;

@@ -8,14 +8,15 @@ ghost use Rattle.device_record.specs.Devices.{FollowsDevices};
 ghost use Rattle.knowledge_page.specs.Rings.{AreFacts};
 
 use crate::leased::{Run, write_runs};
+use crate::standing::Standing;
+use crate::withdrawn::write_withdrawn;
 use crate::words::endpoint_state_name;
 use device_record::DeviceRecord;
 use event_ring::EventPlace;
 use ring_knowledge::RingRecord;
 use segments::{RingShape, Spot};
-use std::alloc::AllocError;
-use trace_record::TraceRecord;
-use traces::{Header, Ring};
+use std::alloc::{AllocError, Global};
+use traces::Ring;
 use trb::RingKind;
 
 /// What is known of a Command or Transfer Ring (xHCI 4.9.2). TRBs count from 0 from the beginning of the trace, without the Links.
@@ -85,13 +86,15 @@ fn endpoint_of(devices: &DeviceRecord, slot: u8, ring: u8) -> Option<u8>
 
 /// A paragraph for each ring with which something was done.
 pub(crate) fn write_rings(
+    alloc: Global,
     page: &mut String,
-    header: &Header,
-    kept: &TraceRecord,
+    standing: &Standing,
     runs: &[Run],
 ) -> Result<(), AllocError> {
+    let kept = &standing.kept;
+    let rings = standing.header.rings.as_slice();
     let mut idle = 0u32;
-    for (ring, known) in header.rings.as_slice().iter().zip(kept.rings.iter()) {
+    for (number, (ring, known)) in rings.iter().zip(kept.rings.iter()).enumerate() {
         let facts = ring_facts(known);
         if ring.shape.kind() == RingKind::Evt {
             write_event_ring(page, ring, &kept.events)?;
@@ -99,6 +102,7 @@ pub(crate) fn write_rings(
             idle = idle.saturating_add(1);
         } else {
             write_ring(page, ring, &kept.devices, &facts, runs)?;
+            write_withdrawn(alloc, page, standing, number)?;
         }
     }
     match idle {

@@ -1,13 +1,16 @@
 //! Which row a page is about, and what stands before it.
 ghost use Rattle.std.specs.Prelude.{◌≡◌, ◌≤◌, Some, length, take, IfOk, IfErr};
+ghost use Rattle.row_reader.specs.TextRows.{trace_kept};
 ghost use Rattle.knowledge_page.specs.Shown.{IfNoRow, IsBefore, IsNoRow, IsRange, IsShown};
 
-use crate::standing::{Standing, standing_behind};
+use crate::behind::standing_behind;
+use crate::standing::Standing;
 use ownership_checker::CheckFault;
 use ownership_rules::Refusal;
+use row_reader::TextRows;
 use std::alloc::Global;
 use thiserror::Error;
-use traces::{Row, Trace};
+use traces::TraceRow;
 
 /// Where in a trace a page stands. Rows are named by their lines, which count from 1.
 #[derive(Clone, Copy, Debug, PartialEq, Eq)]
@@ -41,9 +44,9 @@ pub enum ShowFault {
 
 /// What stands before a row; where none is named, before the first that breaks a rule, or behind all where none does. Nothing is said of
 /// the rows behind one that breaks a rule: the rules tell what is known only of a driver that keeps them.
-pub fn shown_before(alloc: Global, trace: &Trace, row: Option<u32>) -> Result<Shown, ShowFault>
-    ensures shown { IfOk result (IsShown trace.now row) }
-    ensures none { IfErr result (λ e. IfNoRow e (IsNoRow trace.now row)) }
+pub fn shown_before(alloc: Global, trace: &TextRows, row: Option<u32>) -> Result<Shown, ShowFault>
+    ensures shown { IfOk result (IsShown (trace_kept trace.now) row) }
+    ensures none { IfErr result (λ e. IfNoRow e (IsNoRow (trace_kept trace.now) row)) }
 {
     if let Some(row) = row {
         let standing = standing_before(alloc, trace, row)?;
@@ -69,9 +72,9 @@ pub fn shown_before(alloc: Global, trace: &Trace, row: Option<u32>) -> Result<Sh
 }
 
 /// What stands before the row of this line.
-fn standing_before(alloc: Global, trace: &Trace, row: u32) -> Result<Standing, ShowFault>
-    ensures before { IfOk result (IsBefore trace.now row) }
-    ensures none { IfErr result (λ e. IfNoRow e (IsNoRow trace.now (Some row))) }
+fn standing_before(alloc: Global, trace: &TextRows, row: u32) -> Result<Standing, ShowFault>
+    ensures before { IfOk result (IsBefore (trace_kept trace.now) row) }
+    ensures none { IfErr result (λ e. IfNoRow e (IsNoRow (trace_kept trace.now) (Some row))) }
 {
     let rows = trace.rows.as_slice();
     if row < trace.first || (row - trace.first) as usize >= rows.len() {
@@ -89,7 +92,7 @@ fn standing_before(alloc: Global, trace: &Trace, row: u32) -> Result<Standing, S
 }
 
 /// So many of the first rows.
-fn first_rows(rows: &[Row], count: usize) -> &[Row]
+fn first_rows(rows: &[TraceRow], count: usize) -> &[TraceRow]
     requires { count ≤ length rows.now }
     ensures { result.now ≡ take count rows.now }
 {
@@ -97,8 +100,8 @@ fn first_rows(rows: &[Row], count: usize) -> &[Row]
 }
 
 /// Which rows may be asked for.
-fn no_row(alloc: Global, trace: &Trace) -> ShowFault
-    ensures { IfNoRow result (IsRange trace.now) }
+fn no_row(alloc: Global, trace: &TextRows) -> ShowFault
+    ensures { IfNoRow result (IsRange (trace_kept trace.now)) }
 {
     let rows = trace.rows.as_slice();
     let first = trace.first;

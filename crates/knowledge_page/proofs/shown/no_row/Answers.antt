@@ -1,6 +1,6 @@
 use Rattle.std.proofs.Common.{◌≡◌, Some, ap, arith, length}
-use Rattle.ring_knowledge.specs.Known.{nothing}
-use Rattle.ownership_rules.specs.Rules.{verdict_from}
+use Rattle.row_reader.specs.TextRows.{trace_kept}
+use Rattle.ring_pass.specs.Rules.{ring_verdict}
 use Rattle.knowledge_page.specs.Shown.{IsRange}
 use Rattle.knowledge_page.proofs.Verdicts.{range_of_all, range_to}
 use Rattle.knowledge_page.proofs.shown.no_row.Goals as goal
@@ -8,14 +8,14 @@ use Rattle.knowledge_page.proofs.shown.no_row.Goals.{in-Ok, in-Err-Refused, in-E
 
 pub returns : goal.returns
 returns c =
-    let trace = c.args.trace.now in
-    let placed = trace.placed in
-    let same = c.as_slice-rows.ensures in
+    let trace = trace_kept c.args.trace.now in
+    let placed = c.args.trace.now.placed in
+    let same = c.as_slice-rows.ensures.value in
     let many : length c.as_slice-rows.result.now ≡ length trace.rows = ap (λ xs. length xs) same in
     elim c.match-standing_behind.branch [
       | in-Ok w ↦ rw w.result-is (range_of_all trace _ (rw same at w.in-Ok.ensures.standing.verdict) (omega (arith, placed, many)))
       | in-Err-Refused w ↦
-          let refused : verdict_from trace.header nothing trace.first c.as_slice-rows.result.now ≡ Some (w.in-Err-Refused.row, w.in-Err-Refused.field-0-1) =
+          let refused : ring_verdict trace.header trace.first c.as_slice-rows.result.now ≡ Some (w.in-Err-Refused.row, w.in-Err-Refused.field-0-1) =
           rw w.in-Err-Refused.field-0-is at w.in-Err-Refused.ensures.refused in
           let range : IsRange trace trace.first w.in-Err-Refused.row = range_to trace w.in-Err-Refused.row w.in-Err-Refused.field-0-1 (rw same at refused) in
           rw w.result-is (rw w.in-Err-Refused.row-is range)

@@ -1,15 +1,15 @@
 use Rattle.std.proofs.Common.{◌≡◌, Some}
 use Rattle.std.proofs.lemmas.Result.{err_from_is_err_and}
-use Rattle.ring_knowledge.specs.Known.{nothing}
-use Rattle.ownership_rules.specs.Rules.{verdict_from}
+use Rattle.row_reader.specs.TextRows.{trace_kept}
+use Rattle.ring_pass.specs.Rules.{ring_verdict}
 use Rattle.knowledge_page.proofs.Verdicts.{is_there}
 use Rattle.knowledge_page.proofs.shown.shown_before.Goals as goal
 
 pub returns-in_err-standing-in-Err-Refused-clause-none : goal.returns-in_err-standing-in-Err-Refused-clause-none
 returns-in_err-standing-in-Err-Refused-clause-none c =
     let p = err_from_is_err_and c.from_residual-in_err-standing-in-Err-Refused.result c.from_residual-in_err-standing-in-Err-Refused.ensures.1 in
-    let trace = c.args.trace.now in
-    let same = c.as_slice.ensures in
-    let refused : verdict_from trace.header nothing trace.first c.as_slice.result.now ≡ Some (c.in-Err-Refused.row, c.in-Err-Refused.refusal) =
+    let trace = trace_kept c.args.trace.now in
+    let same = c.as_slice.ensures.value in
+    let refused : ring_verdict trace.header trace.first c.as_slice.result.now ≡ Some (c.in-Err-Refused.row, c.in-Err-Refused.refusal) =
     rw (c.in-Err-Refused.row-is, c.in-Err-Refused.refusal-is) (rw c.in-Err-Refused.field-0-is at c.in-Err-Refused.ensures.refused) in
     rw (p.1, p.2) (is_there trace _ c.in-Err-Refused.row c.in-Err-Refused.refusal _ (rw same at refused) c.in_err-standing-in-Err-Refused.ensures.none)

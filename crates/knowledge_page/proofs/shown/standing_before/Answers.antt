@@ -1,30 +1,30 @@
 use Rattle.std.proofs.Common.{◌≡◌, ◌-◌, Some, ap, inl, inr, arith, length}
-use Rattle.ring_knowledge.specs.Known.{nothing}
-use Rattle.ownership_rules.specs.Rules.{verdict_from}
+use Rattle.row_reader.specs.TextRows.{trace_kept}
+use Rattle.ring_pass.specs.Rules.{ring_verdict}
 use Rattle.knowledge_page.proofs.Verdicts.{behind_broken, not_there}
 use Rattle.knowledge_page.proofs.shown.standing_before.Goals as goal
 use Rattle.knowledge_page.proofs.shown.standing_before.Goals.{then-row-trace-via-then-row-trace, then-row-trace-via-else-row-trace+then-row-trace-2}
 
 pub returns-then-row-trace-clause-none : goal.returns-then-row-trace-clause-none
 returns-then-row-trace-clause-none c =
-    let many : length c.as_slice-rows.result.now ≡ length c.args.trace.now.rows = ap (λ xs. length xs) c.as_slice-rows.ensures in
+    let many : length c.as_slice-rows.result.now ≡ length c.args.trace.now.rows.items = ap (λ xs. length xs) c.as_slice-rows.ensures.value in
     elim c.then-row-trace.branch [
-      | then-row-trace-via-then-row-trace w ↦ not_there c.args.trace.now c.no_row.result c.args.row (inl w.if-row-trace.true) c.no_row.ensures
+      | then-row-trace-via-then-row-trace w ↦ not_there (trace_kept c.args.trace.now) c.no_row.result c.args.row (inl w.if-row-trace.true) c.no_row.ensures
       | then-row-trace-via-else-row-trace+then-row-trace-2 w ↦
           let before = w.if-row-trace.false in
           let behind = w.if-row-trace-2.true in
-          not_there c.args.trace.now c.no_row.result c.args.row (inr (omega (arith, before, behind, many))) c.no_row.ensures
+          not_there (trace_kept c.args.trace.now) c.no_row.result c.args.row (inr (omega (arith, before, behind, many))) c.no_row.ensures
     ]
 
 pub returns-in-Err-Refused-clause-none : goal.returns-in-Err-Refused-clause-none
 returns-in-Err-Refused-clause-none c =
-    let trace = c.args.trace.now in
+    let trace = trace_kept c.args.trace.now in
     let before = c.if-row-trace.false in
     let within = c.if-row-trace-2.false in
-    let same = c.as_slice-rows.ensures in
+    let same = c.as_slice-rows.ensures.value in
     let many : length c.as_slice-rows.result.now ≡ length trace.rows = ap (λ xs. length xs) same in
     let taken = c.first_rows-before.ensures in
-    let refused : verdict_from trace.header nothing trace.first c.first_rows-before.result.now ≡ Some (c.in-Err-Refused.row, c.in-Err-Refused.field-0-1) =
+    let refused : ring_verdict trace.header trace.first c.first_rows-before.result.now ≡ Some (c.in-Err-Refused.row, c.in-Err-Refused.field-0-1) =
     rw c.in-Err-Refused.field-0-is at c.in-Err-Refused.ensures.refused in
     behind_broken trace (c.args.row - trace.first) c.args.row c.in-Err-Refused.row c.in-Err-Refused.field-0-1 (omega (arith, within, many)) (omega (arith, before))
     (rw same at (rw taken at refused))
