@@ -10,38 +10,38 @@ use Rattle.answers.specs.declared.answer.Answer.{Answer}
 use Rattle.answers.specs.declared.answer.Answer.TheVariants.{Accepted, Written, Refused, HarmShown, Unfollowed, BadLine, Memory, Device}
 
 -- what is right of bytes is right of an input of which nothing is known
-forget_hindered : {C : Type 0} (contents : C → Option (List ℕ)) (before after : Option C) (text : List ℕ) → IsHindered contents before after (Some text) → IsHindered contents before after None
-forget_hindered contents before after text (inl same) = inl same
-forget_hindered contents before after text (inr cut) = inr (cut.0, tt, cut.2)
+forget_hindered : {C : Type 0} (keeps : Bool) (contents : C → Option (List ℕ)) (before after : Option C) (text : List ℕ) → IsHindered keeps contents before after (Some text) → IsHindered keeps contents before after None
+forget_hindered keeps contents before after text (inl same) = inl same
+forget_hindered keeps contents before after text (inr cut) = inr (cut.0, tt, cut.2)
 
-forget_check : {C : Type 0} (shows : Bool) (contents : C → Option (List ℕ)) (before after : Option C) (text : List ℕ) (a : Answer) → IsCheckAnswer shows contents before after (Some text) a → IsCheckAnswer shows contents before after None a
-forget_check shows contents before after text (Accepted leases) right = (right.0, tt, right.2)
-forget_check shows contents before after text (Refused row refusal) right = (right.0, tt, right.2)
-forget_check shows contents before after text (HarmShown row refusal harm) right = (right.0, tt, right.2)
-forget_check shows contents before after text (BadLine line fault) right = (tt, right.1)
-forget_check shows contents before after text Memory right = forget_hindered contents before after text right
-forget_check shows contents before after text Device right = forget_hindered contents before after text right
-forget_check shows contents before after text _ right = absurd right
+forget_check : {C : Type 0} (keeps shows : Bool) (contents : C → Option (List ℕ)) (before after : Option C) (text : List ℕ) (a : Answer) → IsCheckAnswer keeps shows contents before after (Some text) a → IsCheckAnswer keeps shows contents before after None a
+forget_check keeps shows contents before after text (Accepted leases) right = (right.0, tt, right.2)
+forget_check keeps shows contents before after text (Refused row refusal) right = (right.0, tt, right.2)
+forget_check keeps shows contents before after text (HarmShown row refusal harm) right = (right.0, tt, right.2)
+forget_check keeps shows contents before after text (BadLine line fault) right = (tt, right.1)
+forget_check keeps shows contents before after text Memory right = forget_hindered keeps contents before after text right
+forget_check keeps shows contents before after text Device right = forget_hindered keeps contents before after text right
+forget_check keeps shows contents before after text _ right = absurd right
 
-pub check_held : {C : Type 0} (shows : Bool) (contents : C → Option (List ℕ)) (before after : Option C) (known : Option (List ℕ)) (text : List ℕ) (a : Answer) → IfSome known (λ xs. text ≡ xs) →
-    IsCheckAnswer shows contents before after (Some text) a → IsCheckAnswer shows contents before after known a
-check_held shows contents before after None text a same right = forget_check shows contents before after text a right
-check_held shows contents before after (Some xs) text a same right = subst (λ (l : List ℕ). IsCheckAnswer shows contents before after (Some l) a) same right
+pub check_held : {C : Type 0} (keeps shows : Bool) (contents : C → Option (List ℕ)) (before after : Option C) (known : Option (List ℕ)) (text : List ℕ) (a : Answer) → IfSome known (λ xs. text ≡ xs) →
+    IsCheckAnswer keeps shows contents before after (Some text) a → IsCheckAnswer keeps shows contents before after known a
+check_held keeps shows contents before after None text a same right = forget_check keeps shows contents before after text a right
+check_held keeps shows contents before after (Some xs) text a same right = subst (λ (l : List ℕ). IsCheckAnswer keeps shows contents before after (Some l) a) same right
 
-pub hindered_held : {C : Type 0} (contents : C → Option (List ℕ)) (before after : Option C) (known : Option (List ℕ)) (text : List ℕ) → IfSome known (λ xs. text ≡ xs) →
-    IsHindered contents before after (Some text) → IsHindered contents before after known
-hindered_held contents before after known text same hindered = check_held false contents before after known text Memory same hindered
+pub hindered_held : {C : Type 0} (keeps : Bool) (contents : C → Option (List ℕ)) (before after : Option C) (known : Option (List ℕ)) (text : List ℕ) → IfSome known (λ xs. text ≡ xs) →
+    IsHindered keeps contents before after (Some text) → IsHindered keeps contents before after known
+hindered_held keeps contents before after known text same hindered = check_held keeps false contents before after known text Memory same hindered
 
 -- where an answer can't be told for want of memory, the certificate may stand there whole
-pub hindered : {C : Type 0} (shows : Bool) (contents : C → Option (List ℕ)) (before after : Option C) (known : Option (List ℕ)) (a : Answer) → IsCheckAnswer shows contents before after known a → IsHindered contents before after known
-hindered shows contents before after known (Accepted leases) right =
+pub hindered : {C : Type 0} (keeps shows : Bool) (contents : C → Option (List ℕ)) (before after : Option C) (known : Option (List ℕ)) (a : Answer) → IsCheckAnswer keeps shows contents before after known a → IsHindered keeps contents before after known
+hindered keeps shows contents before after known (Accepted leases) right =
     inr (right.0, right.1, (right.2.0, right.2.1.accepted, begun (kept_bytes contents before) (kept_bytes contents after) (spelling right.2.0) right.2.3))
-hindered shows contents before after known (Refused row refusal) right = inl right.2.1
-hindered shows contents before after known (HarmShown row refusal harm) right = inl right.2.1
-hindered shows contents before after known (BadLine line fault) right = inl right.1
-hindered shows contents before after known Memory right = right
-hindered shows contents before after known Device right = right
-hindered shows contents before after known _ right = absurd right
+hindered keeps shows contents before after known (Refused row refusal) right = inl right.2.1
+hindered keeps shows contents before after known (HarmShown row refusal harm) right = inl right.2.1
+hindered keeps shows contents before after known (BadLine line fault) right = inl right.1
+hindered keeps shows contents before after known Memory right = right
+hindered keeps shows contents before after known Device right = right
+hindered keeps shows contents before after known _ right = absurd right
 
 forget_plan : (text : List ℕ) (a : Answer) → IsPlanAnswer (Some text) a → IsPlanAnswer None a
 forget_plan text (Written bytes) right = (right.0, tt, right.2, right.3)

@@ -29,19 +29,19 @@ IsVerdict shows contents before after _ trace = ⊥
 
 -- where memory or the device failed nothing was kept, or the input holds a trace that is accepted and a beginning of its
 -- certificate was kept, which may be all of it
-abbrev pub IsHindered : {C : Type 0} → (C → Option (List ℕ)) → Option C → Option C → Option (List ℕ) → Type 0
-IsHindered contents before after known = (after ≡ before) ⊎ ((trace : TraceText) × IsTextOf known trace × IsCutShort contents before after trace)
+abbrev pub IsHindered : {C : Type 0} → Bool → (C → Option (List ℕ)) → Option C → Option C → Option (List ℕ) → Type 0
+IsHindered keeps contents before after known = (after ≡ before) ⊎ ((trace : TraceText) × IsTextOf keeps known trace × IsCutShort contents before after trace)
 
--- an answer to an input is right, and so is what was done where the certificate goes: the verdict on the trace that it holds; or
+-- an answer to an input is right, all rows of which are kept or not, and so is what was done where the certificate goes: the verdict on the trace that it holds; or
 -- where it holds none its first bad line, and then nothing was kept; or that memory or the device failed
-abbrev pub IsCheckAnswer : {C : Type 0} → Bool → (C → Option (List ℕ)) → Option C → Option C → Option (List ℕ) → Answer → Type 0
-IsCheckAnswer shows contents before after known (Accepted leases) = (trace : TraceText) × IsTextOf known trace × IsVerdict shows contents before after (Accepted leases) trace
-IsCheckAnswer shows contents before after known (Refused row refusal) = (trace : TraceText) × IsTextOf known trace × IsVerdict shows contents before after (Refused row refusal) trace
-IsCheckAnswer shows contents before after known (HarmShown row refusal harm) = (trace : TraceText) × IsTextOf known trace × IsVerdict shows contents before after (HarmShown row refusal harm) trace
-IsCheckAnswer shows contents before after known (BadLine line fault) = IsFirstBad known line fault × (after ≡ before)
-IsCheckAnswer shows contents before after known Memory = IsHindered contents before after known
-IsCheckAnswer shows contents before after known Device = IsHindered contents before after known
-IsCheckAnswer shows contents before after known _ = ⊥
+abbrev pub IsCheckAnswer : {C : Type 0} → Bool → Bool → (C → Option (List ℕ)) → Option C → Option C → Option (List ℕ) → Answer → Type 0
+IsCheckAnswer keeps shows contents before after known (Accepted leases) = (trace : TraceText) × IsTextOf keeps known trace × IsVerdict shows contents before after (Accepted leases) trace
+IsCheckAnswer keeps shows contents before after known (Refused row refusal) = (trace : TraceText) × IsTextOf keeps known trace × IsVerdict shows contents before after (Refused row refusal) trace
+IsCheckAnswer keeps shows contents before after known (HarmShown row refusal harm) = (trace : TraceText) × IsTextOf keeps known trace × IsVerdict shows contents before after (HarmShown row refusal harm) trace
+IsCheckAnswer keeps shows contents before after known (BadLine line fault) = IsFirstBad keeps known line fault × (after ≡ before)
+IsCheckAnswer keeps shows contents before after known Memory = IsHindered keeps contents before after known
+IsCheckAnswer keeps shows contents before after known Device = IsHindered keeps contents before after known
+IsCheckAnswer keeps shows contents before after known _ = ⊥
 
 -- what is answered where a trace isn't accepted, or none is read
 abbrev pub answer_of_check_fault : StreamCheckFault → Answer

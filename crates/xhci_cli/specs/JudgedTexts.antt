@@ -1,5 +1,5 @@
 -- What the text of a trace says that is judged as it is read, and what is right to answer to it
-use Rattle.std.specs.Prelude.{◌≡◌, ◌⊎◌, ℕ, List, Option, Some, None, Ok, Err}
+use Rattle.std.specs.Prelude.{Bool, ◌≡◌, ◌⊎◌, ℕ, List, Option, Some, None, Ok, Err}
 use Rattle.trace_reader.specs.DriverRows.{text_taken}
 use Rattle.trace_reader.specs.Reading.{TraceText}
 use Rattle.trace_reader.specs.declared.fault.LineFault.{LineFault}
@@ -7,23 +7,23 @@ use Rattle.ring_pass.specs.RingRows.{ring_row}
 use Rattle.answers.specs.declared.answer.Answer.{Answer}
 use Rattle.answers.specs.declared.answer.Answer.TheVariants.{BadLine, Memory, Device}
 
--- the known bytes of an input spell the trace; of bytes that aren't known nothing is said
-abbrev pub IsTextOf : Option (List ℕ) → TraceText → Type 0
-IsTextOf None trace = Unit {0}
-IsTextOf (Some bytes) trace = text_taken ring_row bytes ≡ Ok trace
+-- the known bytes of an input spell the trace, whose rows are all kept or not; of bytes that aren't known nothing is said
+abbrev pub IsTextOf : Bool → Option (List ℕ) → TraceText → Type 0
+IsTextOf keeps None trace = Unit {0}
+IsTextOf keeps (Some bytes) trace = text_taken keeps ring_row bytes ≡ Ok trace
 
 -- the first bad line of the known bytes of an input, and the least of its faults
-abbrev pub IsFirstBad : Option (List ℕ) → ℕ → LineFault → Type 0
-IsFirstBad None line fault = Unit {0}
-IsFirstBad (Some bytes) line fault = text_taken ring_row bytes ≡ Err (line, fault)
+abbrev pub IsFirstBad : Bool → Option (List ℕ) → ℕ → LineFault → Type 0
+IsFirstBad keeps None line fault = Unit {0}
+IsFirstBad keeps (Some bytes) line fault = text_taken keeps ring_row bytes ≡ Err (line, fault)
 
 -- what is right to answer where no trace is read: its first bad line, or that memory or the device failed
-abbrev pub IsUnread : Option (List ℕ) → Answer → Type 0
-IsUnread known (BadLine line fault) = IsFirstBad known line fault
-IsUnread known Memory = Unit {0}
-IsUnread known Device = Unit {0}
-IsUnread known _ = ⊥
+abbrev pub IsUnread : Bool → Option (List ℕ) → Answer → Type 0
+IsUnread keeps known (BadLine line fault) = IsFirstBad keeps known line fault
+IsUnread keeps known Memory = Unit {0}
+IsUnread keeps known Device = Unit {0}
+IsUnread keeps known _ = ⊥
 
 -- what is right to answer to the text of a trace: that none is read, or what is right of the trace that the text spells
-abbrev pub IsTraceAnswer : (TraceText → Answer → Type 0) → Option (List ℕ) → Answer → Type 0
-IsTraceAnswer IsRight known answer = IsUnread known answer ⊎ ((trace : TraceText) × IsTextOf known trace × IsRight trace answer)
+abbrev pub IsTraceAnswer : Bool → (TraceText → Answer → Type 0) → Option (List ℕ) → Answer → Type 0
+IsTraceAnswer keeps IsRight known answer = IsUnread keeps known answer ⊎ ((trace : TraceText) × IsTextOf keeps known trace × IsRight trace answer)

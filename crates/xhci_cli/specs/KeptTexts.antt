@@ -1,5 +1,5 @@
 -- What the text of a trace says all rows of which are kept, and what is right to answer to it
-use Rattle.std.specs.Prelude.{◌≡◌, ◌⊎◌, ℕ, List, Option, Some, None, Ok, Err}
+use Rattle.std.specs.Prelude.{true, ◌≡◌, ◌⊎◌, ℕ, List, Option, Some, None, Ok, Err}
 use Rattle.trace_reader.specs.Reading.{TraceText, trace_of}
 use Rattle.trace_reader.specs.declared.fault.LineFault.{LineFault}
 use Rattle.answers.specs.declared.answer.Answer.{Answer}
@@ -8,12 +8,12 @@ use Rattle.answers.specs.declared.answer.Answer.TheVariants.{BadLine, Memory, De
 -- the known bytes of an input spell the trace; of bytes that aren't known nothing is said
 abbrev pub IsTextOf : Option (List ℕ) → TraceText → Type 0
 IsTextOf None trace = Unit {0}
-IsTextOf (Some bytes) trace = trace_of bytes ≡ Ok trace
+IsTextOf (Some bytes) trace = trace_of true bytes ≡ Ok trace
 
 -- the first bad line of the known bytes of an input, and the least of its faults
 abbrev pub IsFirstBad : Option (List ℕ) → ℕ → LineFault → Type 0
 IsFirstBad None line fault = Unit {0}
-IsFirstBad (Some bytes) line fault = trace_of bytes ≡ Err (line, fault)
+IsFirstBad (Some bytes) line fault = trace_of true bytes ≡ Err (line, fault)
 
 -- what is right to answer where no trace is read: its first bad line, or that memory or the device failed
 abbrev pub IsUnread : Option (List ℕ) → Answer → Type 0

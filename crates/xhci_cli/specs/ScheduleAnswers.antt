@@ -1,34 +1,34 @@
 -- What is right to answer to the text of a trace whose lazy schedule is asked for
 use Rattle.std.specs.Prelude.{◌≡◌, ℕ, List, reverse, Option, Some, Ok}
-use Rattle.traces.specs.declared.trace.Trace.{Trace}
+use Rattle.trace_reader.specs.Reading.{TraceText}
 use Rattle.trace_reader.specs.Schedules.{schedule_of}
 use Rattle.trace_reader.specs.ScheduleSpelling.{printed_schedule}
-use Rattle.controller_model.specs.Showing.{Replay, replayed}
+use Rattle.controller_model.specs.Scenes.{scene_replayed}
+use Rattle.controller_model.specs.Showing.{Replay}
 use Rattle.controller_model.specs.Steps.{NoHarm}
-use Rattle.ring_knowledge.specs.Known.{nothing}
-use Rattle.ownership_rules.specs.Clean.{IsClean}
-use Rattle.ownership_rules.specs.Rules.{verdict_from}
+use Rattle.ring_pass.specs.Clean.{AreClean}
+use Rattle.ring_pass.specs.Rules.{ring_verdict}
 use Rattle.lazy_runs.specs.LateEvents.{IsTimely}
 use Rattle.lazy_runs.specs.Law.{ContainsAll}
 use Rattle.lazy_runs.specs.Lazy.{lazy_steps}
-use Rattle.answers.specs.Inputs.{IsTraceAnswer}
 use Rattle.answers.specs.declared.answer.Answer.{Answer}
 use Rattle.answers.specs.declared.answer.Answer.TheVariants.{Scheduled, Refused, Memory}
+use Rattle.xhci_cli.specs.KeptTexts.{IsTraceAnswer}
 
 -- the text is the lazy schedule of a trace that breaks no rule, and is read as that; where no event is late, it is a run of the
 -- controller's model that contains all rows, and its replay does no harm
-pub record IsLazySchedule (trace : Trace) (text : List ℕ) : Type 0 where
-  pub clean : IsClean trace.header (reverse trace.rows)
+pub record IsLazySchedule (trace : TraceText) (text : List ℕ) : Type 0 where
+  pub clean : AreClean trace.header (reverse trace.rows)
   pub printed : text ≡ printed_schedule (lazy_steps trace.header trace.rows)
   pub reread : schedule_of text ≡ Ok (lazy_steps trace.header trace.rows)
   pub runs : IsTimely trace.header (reverse trace.rows) → ContainsAll trace.header trace.rows (reverse (lazy_steps trace.header trace.rows))
-  pub harmless : IsTimely trace.header (reverse trace.rows) → (replayed trace.header trace.rows (lazy_steps trace.header trace.rows)).ending ≡ NoHarm
+  pub harmless : IsTimely trace.header (reverse trace.rows) → (scene_replayed trace.header trace.rows (lazy_steps trace.header trace.rows)).ending ≡ NoHarm
 
 -- what is right to answer of a trace: its lazy schedule; its first row that breaks a rule, and the least rule that it breaks; or that
 -- memory was wanted
-abbrev pub IsScheduled : Trace → Answer → Type 0
+abbrev pub IsScheduled : TraceText → Answer → Type 0
 IsScheduled trace (Scheduled schedule) = IsLazySchedule trace schedule.items
-IsScheduled trace (Refused row refusal) = verdict_from trace.header nothing trace.first trace.rows ≡ Some (row, refusal)
+IsScheduled trace (Refused row refusal) = ring_verdict trace.header trace.first trace.rows ≡ Some (row, refusal)
 IsScheduled trace Memory = Unit {0}
 IsScheduled trace _ = ⊥
 

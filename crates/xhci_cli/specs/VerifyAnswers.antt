@@ -1,5 +1,5 @@
 -- What is right to answer to the bytes of a certificate and the text of a trace
-use Rattle.std.specs.Prelude.{◌≡◌, ◌≢◌, ◌⊎◌, ℕ, List, Option, Some, None, Ok, Err}
+use Rattle.std.specs.Prelude.{false, ◌≡◌, ◌≢◌, ◌⊎◌, ℕ, List, Option, Some, None, Ok, Err}
 use Rattle.trace_reader.specs.Reading.{TraceText}
 use Rattle.ring_knowledge.specs.declared.lease.Lease.{Lease}
 use Rattle.certificate.specs.Spelling.{certificate_of}
@@ -35,7 +35,7 @@ IsVerdictOn leases trace _ = ⊥
 
 -- what is right to answer to leases beside the text of a trace
 abbrev pub IsVerdictBeside : List Lease → Option (List ℕ) → Answer → Type 0
-IsVerdictBeside leases rows answer = IsTraceAnswer (IsVerdictOn leases) rows answer
+IsVerdictBeside leases rows answer = IsTraceAnswer false (IsVerdictOn leases) rows answer
 
 -- what is right to answer to the bytes of a certificate, which is read first, and the text of a trace
 abbrev pub IsVerifyAnswer : Option (List ℕ) → Option (List ℕ) → Answer → Type 0

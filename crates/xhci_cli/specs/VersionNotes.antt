@@ -1,14 +1,14 @@
 -- Which rows of a trace break no rule of version 3
 use Rattle.std.specs.Prelude.{ℕ, Bool, true, nat_lt, Option, None, Some}
-use Rattle.traces.specs.declared.trace.Trace.{Trace}
+use Rattle.traces.specs.declared.header.Header.{Header}
 use Rattle.traces.specs.declared.version.Version.TheVariants.{Three}
-use Rattle.ring_knowledge.specs.Known.{nothing}
+use Rattle.trace_reader.specs.Reading.{TraceText}
 use Rattle.ownership_rules.specs.declared.refusal.Refusal.{Refusal}
-use Rattle.ownership_rules.specs.Rules.{verdict_from}
+use Rattle.ring_pass.specs.Rules.{ring_verdict}
 
--- the same rows, to be judged by version 3
-abbrev pub in_version_three : Trace → Trace
-in_version_three trace = record trace { header = record trace.header { version = Three } }
+-- the same header, for rows that version 3 judges
+abbrev pub in_version_three : Header → Header
+in_version_three h = record h { version = Three }
 
 -- the row that is refused, if one is, stands behind this one
 abbrev pub is_behind : ℕ → Option (ℕ × Refusal) → Bool
@@ -16,5 +16,5 @@ is_behind row None = true
 is_behind row (Some refused) = nat_lt row refused.0
 
 -- version 3 refuses neither the row nor one before it
-unfoldable pub breaks_no_rule_of_three : Trace → ℕ → Bool
-breaks_no_rule_of_three trace row = is_behind row (verdict_from (in_version_three trace).header nothing trace.first trace.rows)
+unfoldable pub breaks_no_rule_of_three : TraceText → ℕ → Bool
+breaks_no_rule_of_three trace row = is_behind row (ring_verdict (in_version_three trace.header) trace.first trace.rows)

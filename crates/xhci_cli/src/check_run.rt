@@ -32,7 +32,7 @@ pub fn run_check<R: Read + Seek + Drop, C: Write, O: Write, E: Write>(
     out: &mut O,
     err: &mut E,
 ) -> Status
-    ensures told { (answer : Answer) × IsCheckAnswer (is_some shows) C.contents certificate.old certificate.new (opened R.remaining input) answer
+    ensures told { (answer : Answer) × IsCheckAnswer (is_some shows) (is_some shows) C.contents certificate.old certificate.new (opened R.remaining input) answer
         × IsTold asked.now.explains answer result (O.contents out.old) (O.contents out.new) (E.contents err.old) (E.contents err.new) }
     ensures out { result ≡ Status.Unreadable → out.new ≡ out.old }
     ensures err { asked.now.explains ≡ false → goes_out result ≡ true → err.new ≡ err.old }
@@ -57,7 +57,7 @@ fn judged<R: Read + Seek + Drop, C: Write>(
     input: R,
     certificate: &mut Option<C>,
 ) -> Judged
-    ensures right { IsCheckAnswer (is_some shows) C.contents certificate.old certificate.new (R.remaining input) result.answer }
+    ensures right { IsCheckAnswer (is_some shows) (is_some shows) C.contents certificate.old certificate.new (R.remaining input) result.answer }
     ensures noted { IfOk result.note (λ note. IsNote asked.now.explains (string_bytes note)) }
 {
     match shows {
@@ -73,7 +73,7 @@ fn judged_as_read<R: Read + Seek + Drop, C: Write>(
     input: R,
     certificate: &mut Option<C>,
 ) -> Judged
-    ensures right { IsCheckAnswer false C.contents certificate.old certificate.new (R.remaining input) result.answer }
+    ensures right { IsCheckAnswer false false C.contents certificate.old certificate.new (R.remaining input) result.answer }
     ensures noted { IfOk result.note (λ note. IsNote asked.now.explains (string_bytes note)) }
 {
     let mut source = Recorded::new(alloc, input, asked.explains);
@@ -93,25 +93,26 @@ fn answer_as_read<S: Source, C: Write>(
     source: &mut S,
     certificate: &mut Option<C>,
 ) -> io::Result<Answer>
-    ensures answered { IfOk result (λ answer. IsCheckAnswer false C.contents certificate.old certificate.new (S.held source.old) answer) }
-    ensures hindered { IfErr result (λ _. IsHindered C.contents certificate.old certificate.new (S.held source.old)) }
+    ensures answered { IfOk result (λ answer. IsCheckAnswer false false C.contents certificate.old certificate.new (S.held source.old) answer) }
+    ensures hindered { IfErr result (λ _. IsHindered false C.contents certificate.old certificate.new (S.held source.old)) }
 {
     if certificate.is_none() {
         return Ok(counted_answer(alloc, source));
     }
-    kept_answer(alloc, source, certificate)
+    kept_answer(alloc, false, source, certificate)
 }
 
-/// The same, where all leases are kept.
+/// The same, where all leases are kept. The caller `keeps` all rows too, or doesn't.
 pub(crate) fn kept_answer<S: Source, C: Write>(
     alloc: Global,
+    keeps: bool,
     source: &mut S,
     certificate: &mut Option<C>,
 ) -> io::Result<Answer>
-    ensures answered { IfOk result (λ answer. IsCheckAnswer false C.contents certificate.old certificate.new (S.held source.old) answer) }
-    ensures hindered { IfErr result (λ _. IsHindered C.contents certificate.old certificate.new (S.held source.old)) }
+    ensures answered { IfOk result (λ answer. IsCheckAnswer keeps false C.contents certificate.old certificate.new (S.held source.old) answer) }
+    ensures hindered { IfErr result (λ _. IsHindered keeps C.contents certificate.old certificate.new (S.held source.old)) }
 {
-    match check_stream(alloc, source, PageMemory::new(alloc)) {
+    match check_stream(alloc, keeps, source, PageMemory::new(alloc)) {
         Ok(found) => {
             keep(alloc, &found.leases, certificate)?;
             Ok(Answer::Accepted {

@@ -1,7 +1,5 @@
 //! Checks a trace, and looks for a run that does harm beside it. That needs all its rows in memory.
-ghost use Rattle.std.specs.Prelude.{Some, ◌≡◌, ◌≤◌, true, All, IfErr, IfOk, Ok, length, string_bytes};
-ghost use Rattle.traces.specs.Limits.{most_lines};
-ghost use Rattle.traces.specs.Rows.{IsRow};
+ghost use Rattle.std.specs.Prelude.{Some, ◌≡◌, true, IfErr, IfOk, Ok, string_bytes};
 ghost use Rattle.answers.specs.Telling.{IsNote};
 ghost use Rattle.xhci_cli.specs.CheckAnswers.{IsCheckAnswer, IsHindered};
 ghost use Rattle.trace_reader.specs.DriverRows.{text_taken};
@@ -21,8 +19,7 @@ use row_reader::{Counted, TextRows, read_rows};
 use scheduler::{Search, harmful_run};
 use std::alloc::{AllocError, Global};
 use std::io::{self, Read, Write};
-use trace_reader::{ReadFault, print_schedule, read_trace};
-use traces::Row;
+use trace_reader::{ReadFault, print_schedule};
 
 /// Judges the trace that an input holds; of a refused one a run that does harm is looked for.
 pub fn judged_with_harm<R: Read + Drop, C: Write>(
@@ -32,7 +29,7 @@ pub fn judged_with_harm<R: Read + Drop, C: Write>(
     input: R,
     certificate: &mut Option<C>,
 ) -> Judged
-    ensures right { IsCheckAnswer true C.contents certificate.old certificate.new (R.remaining input) result.answer }
+    ensures right { IsCheckAnswer true true C.contents certificate.old certificate.new (R.remaining input) result.answer }
     ensures noted { IfOk result.note (λ note. IsNote asked.now.explains (string_bytes note)) }
 {
     let text = match bytes_of(alloc, Ok(input)) {
@@ -55,11 +52,11 @@ fn check_answer<C: Write>(
     text: &[u8],
     certificate: &mut Option<C>,
 ) -> io::Result<Answer>
-    ensures answered { IfOk result (λ answer. IsCheckAnswer true C.contents certificate.old certificate.new (Some text.now) answer) }
-    ensures hindered { IfErr result (λ _. IsHindered C.contents certificate.old certificate.new (Some text.now)) }
+    ensures answered { IfOk result (λ answer. IsCheckAnswer true true C.contents certificate.old certificate.new (Some text.now) answer) }
+    ensures hindered { IfErr result (λ _. IsHindered true C.contents certificate.old certificate.new (Some text.now)) }
 {
     let mut source = Counted::new(text);
-    match kept_answer(alloc, &mut source, certificate)? {
+    match kept_answer(alloc, true, &mut source, certificate)? {
         Answer::Refused { row, refusal } => Ok(shown_answer(alloc, search, text, row, refusal)),
         answer => Ok(answer),
     }
@@ -67,7 +64,7 @@ fn check_answer<C: Write>(
 
 /// The answer to the text of a trace with a row that breaks a rule, with a run that does harm, if one is found.
 fn shown_answer(alloc: Global, search: Search, text: &[u8], row: u32, refusal: Refusal) -> Answer
-    ensures { (trace : TraceText) → text_taken ring_row text.now ≡ Ok trace → ring_verdict trace.header trace.first trace.rows ≡ Some (row, refusal) → IsRefusalTold true trace result }
+    ensures { (trace : TraceText) → text_taken true ring_row text.now ≡ Ok trace → ring_verdict trace.header trace.first trace.rows ≡ Some (row, refusal) → IsRefusalTold true trace result }
 {
     match found_harm(alloc, search, text, row) {
         Ok(harm) => Answer::HarmShown { row, refusal, harm },
@@ -82,42 +79,22 @@ fn found_harm(
     text: &[u8],
     row: u32,
 ) -> Result<Option<FoundHarm>, AllocError>
-    ensures { IfOk result (λ found. (trace : TraceText) → text_taken ring_row text.now ≡ Ok trace → IsHarmFound trace row found) }
+    ensures { IfOk result (λ found. (trace : TraceText) → text_taken true ring_row text.now ≡ Ok trace → IsHarmFound trace row found) }
 {
     match read_rows(alloc, text) {
-        Ok(trace) => harm_in_text(alloc, search, text, &trace, row),
+        Ok(trace) => harm_beside(alloc, search, &trace, row),
         Err(ReadFault::Line { .. }) => Ok(None),
         Err(ReadFault::Memory) => Err(AllocError),
     }
 }
 
-/// The same, beside the rows of the text. Where all are the driver's the scheduler is given them as such too.
-fn harm_in_text(
-    alloc: Global,
-    search: Search,
-    text: &[u8],
-    trace: &TextRows,
-    row: u32,
-) -> Result<Option<FoundHarm>, AllocError>
-    ensures { IfOk result (λ found. IsHarmFound (trace_kept trace.now) row found) }
-{
-    match read_trace(alloc, text) {
-        Ok(plain) => harm_beside(alloc, search, trace, plain.rows.as_slice(), row),
-        Err(ReadFault::Line { .. }) => harm_beside(alloc, search, trace, &[], row),
-        Err(ReadFault::Memory) => Err(AllocError),
-    }
-}
-
-/// The same, beside all rows of a trace.
+/// The same, beside the rows of a trace.
 fn harm_beside(
     alloc: Global,
     search: Search,
     trace: &TextRows,
-    driver: &[Row],
     row: u32,
 ) -> Result<Option<FoundHarm>, AllocError>
-    requires driver { All IsRow driver.now }
-    requires few { length driver.now ≤ most_lines }
     ensures { IfOk result (λ found. IsHarmFound (trace_kept trace.now) row found) }
 {
     let rows = trace.rows.as_slice();
@@ -125,7 +102,7 @@ fn harm_beside(
     if refused >= rows.len() {
         return Ok(None);
     }
-    match harmful_run(alloc, &trace.header, rows, driver, refused, search)? {
+    match harmful_run(alloc, &trace.header, rows, refused, search)? {
         Some(run) => {
             let schedule = print_schedule(alloc, &run.schedule)?;
             Ok(Some(FoundHarm {

@@ -4,10 +4,11 @@ ghost use Rattle.answers.specs.Telling.{IsNote};
 
 use crate::version_note::note_on_check;
 use answers::{Answer, Asked, note_on_leases};
-use ownership_checker::{CheckFault, check};
+use guest_memory::PageMemory;
+use ownership_checker::{StreamCheckFault, check_stream};
 use ring_knowledge::Lease;
+use row_reader::{Counted, StreamFault};
 use std::alloc::{AllocError, Global};
-use trace_reader::{ReadFault, read_trace};
 
 /// What a person is told of an answer to the text of a trace, or to leases beside it. Where the answer is no: the row that breaks a rule,
 /// or else the first lease that isn't the trace's; nothing where it would be yes.
@@ -27,17 +28,15 @@ pub fn note_on_verdict(
     if !asked.explains {
         return Ok(String::new(alloc));
     }
-    match read_trace(alloc, text) {
-        Ok(trace) => match check(alloc, &trace) {
-            Ok(own) if own.leases.as_slice() == leases => Ok(String::new(alloc)),
-            Ok(own) => note_on_leases(alloc, asked, leases, &own.leases),
-            Err(CheckFault::Refused { row, refusal }) => {
-                let refused = Answer::Refused { row, refusal };
-                note_on_check(alloc, asked, text, &refused)
-            }
-            Err(CheckFault::Memory) => Err(AllocError),
-        },
-        Err(ReadFault::Memory) => Err(AllocError),
-        Err(ReadFault::Line { .. }) => Ok(String::new(alloc)),
+    let mut source = Counted::new(text);
+    match check_stream(alloc, true, &mut source, PageMemory::new(alloc)) {
+        Ok(own) if own.leases.as_slice() == leases => Ok(String::new(alloc)),
+        Ok(own) => note_on_leases(alloc, asked, leases, &own.leases),
+        Err(StreamCheckFault::Refused { row, refusal }) => {
+            let refused = Answer::Refused { row, refusal };
+            note_on_check(alloc, asked, text, &refused)
+        }
+        Err(StreamCheckFault::Unread(StreamFault::Memory)) => Err(AllocError),
+        Err(StreamCheckFault::Unread(_)) => Ok(String::new(alloc)),
     }
 }

@@ -1,5 +1,5 @@
 //! What is told of an answer to an input that was judged as it was read.
-ghost use Rattle.std.specs.Prelude.{IfOk, string_bytes};
+ghost use Rattle.std.specs.Prelude.{◌≡◌, true, IfOk, string_bytes};
 ghost use Rattle.answers.specs.Telling.{IsNote};
 
 use crate::no_note::note_on_verdict;
@@ -12,6 +12,7 @@ use ring_knowledge::Lease;
 use row_reader::Counted;
 use std::alloc::{AllocError, Global};
 use std::io::{Read, Seek};
+use trace_reader::MOST_LINES;
 
 /// What a person is told of an answer to the trace that an input held; the leases are those of a certificate, where one is verified. A text
 /// that was too long to be kept is read once more.
@@ -35,20 +36,48 @@ pub fn note_as_read<R: Read + Seek + Drop>(
             Some(error) => note_on_failure(alloc, asked, error),
             None => Ok(String::new(alloc)),
         },
-        _ => match explained_text(alloc, input, answer)? {
-            Some(text) => note_on_verdict(alloc, asked, leases, &text, answer),
-            None => too_long(alloc, asked, answer),
-        },
+        _ => note_on_lines(alloc, asked, leases, input, answer),
     }
 }
 
-/// The text that an answer is explained from; none where it can't be read once more, or its answer is another one then.
+/// The same of an answer that is explained from the text.
+fn note_on_lines<R: Read + Seek + Drop>(
+    alloc: Global,
+    asked: &Asked,
+    leases: &[Lease],
+    input: Recorded<R>,
+    answer: &Answer,
+) -> Result<String, AllocError>
+    requires { asked.now.explains ≡ true }
+    ensures { IfOk result (λ note. IsNote asked.now.explains (string_bytes note)) }
+{
+    let line = last_line(answer);
+    if line > MOST_LINES + 1 {
+        return too_far(alloc, asked, answer, line);
+    }
+    match explained_text(alloc, input, answer, line)? {
+        Some(text) => note_on_verdict(alloc, asked, leases, &text, answer),
+        None => too_long(alloc, asked, answer),
+    }
+}
+
+/// The line of which an answer speaks; else one more than are kept.
+fn last_line(answer: &Answer) -> u32 {
+    match answer {
+        Answer::Refused { row, .. } | Answer::HarmShown { row, .. } => *row,
+        Answer::BadLine { line, .. } => *line,
+        _ => MOST_LINES + 1,
+    }
+}
+
+/// The text that an answer is explained from, as far as that line; none where it can't be read once more, or its answer is another one then.
 fn explained_text<R: Read + Seek + Drop>(
     alloc: Global,
     input: Recorded<R>,
     answer: &Answer,
+    lines: u32,
 ) -> Result<Option<Vec<u8>>, AllocError> {
-    match input.into_text(alloc)? {
+    match input.into_text(alloc, lines)? {
         Text::Kept(text) => Ok(Some(text)),
         Text::ReadAgain(text) => {
             let same = has_answer(alloc, &text, answer)?;
@@ -72,7 +101,7 @@ fn has_answer(alloc: Global, text: &[u8], answer: &Answer) -> Result<bool, Alloc
 /// The answer to a text by itself.
 fn answer_again(alloc: Global, text: &[u8]) -> Answer {
     let mut source = Counted::new(text);
-    match check_stream(alloc, &mut source, PageMemory::new(alloc)) {
+    match check_stream(alloc, false, &mut source, PageMemory::new(alloc)) {
         Ok(Certificate { leases }) => Answer::Accepted {
             leases: leases.len() as u64,
         },
@@ -90,4 +119,19 @@ fn too_long(alloc: Global, asked: &Asked, answer: &Answer) -> Result<String, All
     format!(in alloc;
         "xhcitrace: {input}: too long to keep for an explanation; stored in a file it is explained: xhcitrace {words} FILE\n"
     )
+}
+
+/// That an answer speaks of a line behind those from which it could be explained.
+fn too_far(alloc: Global, asked: &Asked, answer: &Answer, line: u32) -> Result<String, AllocError> {
+    let input = asked.input;
+    let mut note = format!(in alloc;
+        "xhcitrace: {input}: line {line} is behind the first {MOST_LINES}, and those alone are kept for an explanation"
+    )?;
+    if let Answer::Refused { refusal, .. } = answer {
+        let number = refusal.number();
+        let page = format!(in alloc; "; of the rule tells: xhcitrace explain {number}")?;
+        note.push_str(&page)?;
+    }
+    note.push_str("\n")?;
+    Ok(note)
 }

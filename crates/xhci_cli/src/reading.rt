@@ -1,5 +1,5 @@
-//! Reads an input whole.
-ghost use Rattle.std.specs.Prelude.{◌≡◌, IfOk, IfSome, IsErr};
+//! Reads an input whole, or its first lines.
+ghost use Rattle.std.specs.Prelude.{◌≡◌, ◌≤◌, length, IfOk, IfSome, IsErr};
 ghost use Rattle.answers.specs.Inputs.{opened};
 
 use std::alloc::Global;
@@ -38,4 +38,44 @@ fn read_whole<R: Read>(alloc: Global, reader: &mut R) -> io::Result<Vec<u8>>
         }
     }
     Err(ErrorKind::Interrupted.into())
+}
+
+/// The first so many lines that a reader still has.
+pub fn first_lines<R: Read>(alloc: Global, reader: &mut R, lines: u32) -> io::Result<Vec<u8>> {
+    let mut bytes = Vec::new(alloc);
+    let mut piece = [0u8; PIECE];
+    let mut left = lines;
+    for _ in 0..u64::MAX {
+        match reader.read(&mut piece) {
+            Ok(0) => return Ok(bytes),
+            Ok(count) => {
+                let end = end_of_lines(&piece[..count], &mut left);
+                bytes.extend_from_slice(&piece[..end])?;
+                if left == 0 {
+                    return Ok(bytes);
+                }
+            }
+            Err(error) => {
+                if error.kind() != ErrorKind::Interrupted {
+                    return Err(error);
+                }
+            }
+        }
+    }
+    Err(ErrorKind::Interrupted.into())
+}
+
+/// Where the lines end of which so many are left: behind the last one's line feed, or behind the piece.
+fn end_of_lines(piece: &[u8], left: &mut u32) -> usize
+    ensures { result ≤ length piece.now }
+{
+    for (at, byte) in piece.iter().enumerate() {
+        if *byte == b'\n' {
+            *left = left.saturating_sub(1);
+            if *left == 0 {
+                return at + 1;
+            }
+        }
+    }
+    piece.len()
 }

@@ -1,7 +1,7 @@
 //! An input that is judged as it is read, and the text that an answer to it is explained from.
 ghost use Rattle.std.specs.Prelude.{◌≡◌};
 
-use crate::reading::bytes_of;
+use crate::reading::first_lines;
 use row_reader::{Counted, Failed, Source};
 use std::alloc::{AllocError, Global};
 use std::io::{self, ErrorKind, Read, Seek};
@@ -22,7 +22,7 @@ pub struct Recorded<R> {
 pub enum Text {
     /// It was kept.
     Kept(Vec<u8>),
-    /// It was too long to be kept, and the input was read once more.
+    /// It was too long to be kept, and its first lines were read once more.
     ReadAgain(Vec<u8>),
     /// It was too long to be kept, and the input can't be read once more.
     Gone,
@@ -47,12 +47,12 @@ impl<R: Read + Seek + Drop> Recorded<R> {
         input.into_parts().1
     }
 
-    /// The text that an answer is explained from.
-    pub fn into_text(self, alloc: Global) -> Result<Text, AllocError> {
+    /// The text that an answer is explained from; where it has to be read once more, its first so many lines.
+    pub fn into_text(self, alloc: Global, lines: u32) -> Result<Text, AllocError> {
         let Recorded { input, text } = self;
         match text? {
             Some(text) => Ok(Text::Kept(text)),
-            None => read_again(alloc, input.into_parts().0),
+            None => read_again(alloc, input.into_parts().0, lines),
         }
     }
 }
@@ -85,12 +85,16 @@ fn extended(mut text: Vec<u8>, piece: &[u8]) -> Result<Option<Vec<u8>>, AllocErr
     Ok(Some(text))
 }
 
-/// An input that is read from its beginning once more.
-fn read_again<R: Read + Seek + Drop>(alloc: Global, mut reader: R) -> Result<Text, AllocError> {
+/// The first so many lines of an input that is read from its beginning once more.
+fn read_again<R: Read + Seek + Drop>(
+    alloc: Global,
+    mut reader: R,
+    lines: u32,
+) -> Result<Text, AllocError> {
     if reader.rewind().is_err() {
         return Ok(Text::Gone);
     }
-    match bytes_of(alloc, Ok(reader)) {
+    match first_lines(alloc, &mut reader, lines) {
         Ok(text) => Ok(Text::ReadAgain(text)),
         Err(error) if error.kind() == ErrorKind::OutOfMemory => Err(AllocError),
         Err(_) => Ok(Text::Gone),

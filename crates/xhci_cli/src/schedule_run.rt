@@ -1,5 +1,6 @@
 //! Makes the lazy schedule of a trace, and writes the answer.
 ghost use Rattle.std.specs.Prelude.{Some, ◌≡◌, false, true, IsErr};
+ghost use Rattle.row_reader.specs.TextRows.{trace_kept};
 ghost use Rattle.answers.specs.Answers.{goes_out};
 ghost use Rattle.answers.specs.Inputs.{opened};
 ghost use Rattle.answers.specs.Telling.{IsTold};
@@ -8,11 +9,11 @@ ghost use Rattle.xhci_cli.specs.ScheduleAnswers.{IsScheduleAnswer, IsScheduled};
 use crate::reading::bytes_of;
 use crate::version_note::note_on_check;
 use answers::{Answer, Asked, Status, tell, tell_failure};
+use row_reader::{TextRows, read_rows};
 use scheduler::{ScheduleFault, lazy_schedule};
 use std::alloc::Global;
 use std::io::{self, Read, Write};
-use trace_reader::{print_schedule, read_trace};
-use traces::Trace;
+use trace_reader::print_schedule;
 
 /// Writes the lazy schedule of the trace that `input` holds to `out`: all its rows, and directly before each event that is read the
 /// controller's steps that it needs. A row that breaks a rule is told there in its place, and what hinders the answer to `err`.
@@ -44,15 +45,15 @@ pub fn run_schedule<R: Read + Drop, O: Write, E: Write>(
 fn schedule_answer(alloc: Global, text: &[u8]) -> Answer
     ensures { IsScheduleAnswer (Some text.now) result }
 {
-    match read_trace(alloc, text) {
+    match read_rows(alloc, text) {
         Ok(trace) => scheduled_answer(alloc, &trace),
         Err(fault) => Answer::from(fault),
     }
 }
 
 /// The answer to a trace.
-fn scheduled_answer(alloc: Global, trace: &Trace) -> Answer
-    ensures { IsScheduled trace.now result }
+fn scheduled_answer(alloc: Global, trace: &TextRows) -> Answer
+    ensures { IsScheduled (trace_kept trace.now) result }
 {
     match lazy_schedule(alloc, trace) {
         Ok(schedule) => match print_schedule(alloc, &schedule) {

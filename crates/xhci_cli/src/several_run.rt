@@ -1,5 +1,5 @@
 //! Checks one of several traces, and writes the answer behind its name.
-ghost use Rattle.std.specs.Prelude.{IfOk, string_bytes};
+ghost use Rattle.std.specs.Prelude.{false, IfOk, string_bytes};
 ghost use Rattle.answers.specs.Inputs.{opened};
 ghost use Rattle.answers.specs.Telling.{IsNote, IsToldOf};
 ghost use Rattle.answers.specs.declared.answer.Answer.{Answer};
@@ -23,7 +23,7 @@ pub fn run_check_named<R: Read + Seek + Drop, O: Write, E: Write>(
     out: &mut O,
     err: &mut E,
 ) -> io::Result<Status>
-    ensures { (answer : Answer) × IsTraceAnswer IsVerdictAlone (opened R.remaining input) answer
+    ensures { (answer : Answer) × IsTraceAnswer false IsVerdictAlone (opened R.remaining input) answer
         × IsToldOf asked.now.input.now asked.now.explains answer result (O.contents out.old) (O.contents out.new) (E.contents err.old) (E.contents err.new) }
 {
     let Judged { answer, note } = judged_alone(alloc, asked, input);
@@ -32,7 +32,7 @@ pub fn run_check_named<R: Read + Seek + Drop, O: Write, E: Write>(
 
 /// Judges the trace that an input holds, as it is read.
 fn judged_alone<R: Read + Seek + Drop>(alloc: Global, asked: &Asked, input: io::Result<R>) -> Judged
-    ensures right { IsTraceAnswer IsVerdictAlone (opened R.remaining input) result.answer }
+    ensures right { IsTraceAnswer false IsVerdictAlone (opened R.remaining input) result.answer }
     ensures noted { IfOk result.note (λ note. IsNote asked.now.explains (string_bytes note)) }
 {
     match input {

@@ -1,6 +1,7 @@
 //! Shows who owns what before a row of a trace.
 ghost use Rattle.std.specs.Prelude.{Some, ◌≡◌, false, true, IsErr};
 ghost use Rattle.answers.specs.Answers.{goes_out};
+ghost use Rattle.row_reader.specs.TextRows.{trace_kept};
 ghost use Rattle.answers.specs.Inputs.{opened};
 ghost use Rattle.answers.specs.Telling.{IsTold};
 ghost use Rattle.xhci_cli.specs.ShowAnswers.{IsPageAnswer, IsShowAnswer};
@@ -8,10 +9,9 @@ ghost use Rattle.xhci_cli.specs.ShowAnswers.{IsPageAnswer, IsShowAnswer};
 use crate::reading::bytes_of;
 use answers::{Answer, Asked, Status, note_on_trace, tell, tell_failure};
 use knowledge_page::{ShowFault, page_of, shown_before};
+use row_reader::{TextRows, read_rows};
 use std::alloc::Global;
 use std::io::{self, Read, Write};
-use trace_reader::read_trace;
-use traces::Trace;
 
 /// Writes to `out` what is known, and who owns what, before a row of the trace that `input` holds: before the first that breaks a rule,
 /// or behind all, where none is named. What hinders the page goes to `err`.
@@ -44,18 +44,18 @@ pub fn run_show<R: Read + Drop, O: Write, E: Write>(
 fn show_answer(alloc: Global, row: Option<u32>, text: &[u8]) -> Answer
     ensures { IsShowAnswer row (Some text.now) result }
 {
-    match read_trace(alloc, text) {
+    match read_rows(alloc, text) {
         Ok(trace) => page_answer(alloc, row, &trace),
         Err(fault) => Answer::from(fault),
     }
 }
 
 /// The answer to a trace.
-fn page_answer(alloc: Global, row: Option<u32>, trace: &Trace) -> Answer
-    ensures { IsPageAnswer row trace.now result }
+fn page_answer(alloc: Global, row: Option<u32>, trace: &TextRows) -> Answer
+    ensures { IsPageAnswer row (trace_kept trace.now) result }
 {
     match shown_before(alloc, trace, row) {
-        Ok(shown) => match page_of(alloc, trace, &shown) {
+        Ok(shown) => match page_of(alloc, &shown) {
             Ok(page) => Answer::Shown {
                 page: page.into_bytes(),
             },

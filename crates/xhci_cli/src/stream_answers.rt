@@ -1,5 +1,5 @@
 //! Answers to a trace that is judged as a device gives it.
-ghost use Rattle.std.specs.Prelude.{◌≡◌};
+ghost use Rattle.std.specs.Prelude.{◌≡◌, false};
 ghost use Rattle.xhci_cli.specs.CheckAnswers.{IsVerdictAlone, answer_of_check_fault};
 ghost use Rattle.xhci_cli.specs.JudgedTexts.{IsTraceAnswer};
 ghost use Rattle.xhci_cli.specs.VerifyAnswers.{IsVerdictBeside};
@@ -14,7 +14,7 @@ use verifier::verify_stream;
 
 /// The answer to a trace of which no certificate is asked for: its leases are counted.
 pub fn counted_answer<S: Source>(alloc: Global, source: &mut S) -> Answer
-    ensures { IsTraceAnswer IsVerdictAlone (S.held source.old) result }
+    ensures { IsTraceAnswer false IsVerdictAlone (S.held source.old) result }
 {
     match count_stream(alloc, source, PageMemory::new(alloc)) {
         Ok(leases) => Answer::Accepted {

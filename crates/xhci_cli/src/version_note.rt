@@ -1,13 +1,16 @@
 //! What is told of a row that an older version of the format refuses, and version 3 doesn't.
 ghost use Rattle.std.specs.Prelude.{◌≡◌, IfOk, string_bytes};
+ghost use Rattle.row_reader.specs.TextRows.{trace_kept};
 ghost use Rattle.answers.specs.Telling.{IsNote};
 ghost use Rattle.xhci_cli.specs.VersionNotes.{breaks_no_rule_of_three, in_version_three};
 
 use answers::{Answer, Asked, note_on_trace};
-use ownership_checker::{CheckFault, check};
+use guest_memory::PageMemory;
+use ownership_checker::{CheckFault, check_kept};
+use row_reader::{TextRows, read_rows};
 use std::alloc::{AllocError, Global};
-use trace_reader::{ReadFault, read_trace};
-use traces::{Header, Trace, Version};
+use trace_reader::ReadFault;
+use traces::{Header, Version};
 
 /// What a person is told of a verdict, beside its line; of a refused row also whether version 3 refuses it.
 pub(crate) fn note_on_check(
@@ -35,7 +38,7 @@ pub(crate) fn note_on_check(
 
 /// Whether a row of a trace, the first one that its version refuses, breaks no rule of version 3; of a trace of version 3, or of none, no row does so.
 fn breaks_older_rules_alone(alloc: Global, text: &[u8], row: u32) -> Result<bool, AllocError> {
-    let trace = match read_trace(alloc, text) {
+    let trace = match read_rows(alloc, text) {
         Ok(trace) => trace,
         Err(ReadFault::Line { .. }) => return Ok(false),
         Err(ReadFault::Memory) => return Err(AllocError),
@@ -47,34 +50,30 @@ fn breaks_older_rules_alone(alloc: Global, text: &[u8], row: u32) -> Result<bool
 }
 
 /// Whether version 3 refuses neither this row of a trace nor one before it.
-fn breaks_no_rule_of_three(alloc: Global, trace: Trace, row: u32) -> Result<bool, AllocError>
-    ensures { IfOk result (λ none. none ≡ breaks_no_rule_of_three trace row) }
+fn breaks_no_rule_of_three(alloc: Global, trace: TextRows, row: u32) -> Result<bool, AllocError>
+    ensures { IfOk result (λ none. none ≡ breaks_no_rule_of_three (trace_kept trace) row) }
 {
-    match check(alloc, &in_version_three(trace)) {
+    let TextRows {
+        header,
+        first,
+        rows,
+    } = trace;
+    let header = in_version_three(header);
+    match check_kept(alloc, header, first, &rows, PageMemory::new(alloc)) {
         Ok(_) => Ok(true),
         Err(CheckFault::Refused { row: refused, .. }) => Ok(row < refused),
         Err(CheckFault::Memory) => Err(AllocError),
     }
 }
 
-/// The same rows, to be judged by version 3.
-fn in_version_three(trace: Trace) -> Trace
-    ensures { result ≡ in_version_three trace }
+/// The same header, for rows that version 3 judges.
+fn in_version_three(header: Header) -> Header
+    ensures { result ≡ in_version_three header }
 {
-    let Trace {
-        header,
-        first,
-        rows,
-    } = trace;
-    let header = Header {
+    Header {
         version: Version::Three,
         context_size: header.context_size,
         rings: header.rings,
-    };
-    Trace {
-        header,
-        first,
-        rows,
     }
 }
 

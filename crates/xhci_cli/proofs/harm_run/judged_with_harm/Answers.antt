@@ -8,7 +8,7 @@ use Rattle.xhci_cli.proofs.harm_run.judged_with_harm.Goals as goal
 
 pub returns-in-Ok-check_answer-clause-right : goal.returns-in-Ok-check_answer-clause-right
 returns-in-Ok-check_answer-clause-right g c =
-    check_held true g.C.Write.contents c.args.certificate.now c.check_answer.new.certificate (g.R.Read.remaining c.args.input) _ c.in-Ok-check_answer.answer c.in-Ok.ensures.bytes
+    check_held true true g.C.Write.contents c.args.certificate.now c.check_answer.new.certificate (g.R.Read.remaining c.args.input) _ c.in-Ok-check_answer.answer c.in-Ok.ensures.bytes
     (rw c.deref.ensures.value at c.in-Ok-check_answer.ensures.answered)
 
 pub returns-clause-right : goal.returns-clause-right
@@ -16,7 +16,7 @@ returns-clause-right g c =
     let known = g.R.Read.remaining c.args.input in
     let before = c.args.certificate.now in
     let after = c.check_answer.new.certificate in
-    let cut = hindered_held g.C.Write.contents before after known _ c.in-Ok.ensures.bytes
+    let cut = hindered_held true g.C.Write.contents before after known _ c.in-Ok.ensures.bytes
     (rw c.deref.ensures.value at c.in-Err-check_answer.ensures.hindered) in
-    subst (λ (a : Answer). IsCheckAnswer true g.C.Write.contents before after known a) (sym c.unkept.ensures.answer)
-    (failure (λ a. IsCheckAnswer true g.C.Write.contents before after known a) cut cut _)
+    subst (λ (a : Answer). IsCheckAnswer true true g.C.Write.contents before after known a) (sym c.unkept.ensures.answer)
+    (failure (λ a. IsCheckAnswer true true g.C.Write.contents before after known a) cut cut _)

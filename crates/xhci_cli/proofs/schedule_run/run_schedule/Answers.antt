@@ -1,7 +1,7 @@
 use Rattle.std.proofs.Common.{inl}
-use Rattle.answers.proofs.Held.{answer_held}
 use Rattle.answers.specs.Inputs.{opened}
 use Rattle.answers.proofs.Told.{failure, told_right}
+use Rattle.xhci_cli.proofs.KeptHeld.{answer_held}
 use Rattle.xhci_cli.specs.ScheduleAnswers.{IsScheduleAnswer, IsScheduled}
 use Rattle.xhci_cli.proofs.schedule_run.run_schedule.Goals as goal
 

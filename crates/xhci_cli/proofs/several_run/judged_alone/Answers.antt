@@ -1,4 +1,4 @@
-use Rattle.std.proofs.Common.{inl, subst, sym}
+use Rattle.std.proofs.Common.{false, inl, subst, sym}
 use Rattle.answers.specs.Inputs.{opened}
 use Rattle.answers.proofs.Held.{opened_holds}
 use Rattle.answers.proofs.Told.{failure}
@@ -10,4 +10,4 @@ use Rattle.xhci_cli.proofs.several_run.judged_alone.Goals as goal
 pub returns-in-Ok-clause-right : goal.returns-in-Ok-clause-right
 returns-in-Ok-clause-right g c =
     let answer = c.counted_answer-answer.result in
-    opened_holds (λ k. IsTraceAnswer IsVerdictAlone k answer) g.R.Read.remaining c.args.input c.in-Ok.input c.in-Ok.is (rw c.new-source.ensures at c.counted_answer-answer.ensures)
+    opened_holds (λ k. IsTraceAnswer false IsVerdictAlone k answer) g.R.Read.remaining c.args.input c.in-Ok.input c.in-Ok.is (rw c.new-source.ensures at c.counted_answer-answer.ensures)

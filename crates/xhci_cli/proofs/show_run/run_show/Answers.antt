@@ -1,8 +1,8 @@
 use Rattle.std.proofs.Common.{inl}
-use Rattle.answers.proofs.Held.{answer_held}
 use Rattle.answers.specs.Inputs.{opened}
 use Rattle.answers.proofs.Told.{failure, told_right}
 use Rattle.xhci_cli.specs.ShowAnswers.{IsPageAnswer, IsShowAnswer}
+use Rattle.xhci_cli.proofs.KeptHeld.{answer_held}
 use Rattle.xhci_cli.proofs.show_run.run_show.Goals as goal
 
 pub returns-in-Ok-clause-told : goal.returns-in-Ok-clause-told

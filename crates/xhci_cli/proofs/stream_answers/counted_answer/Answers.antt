@@ -1,4 +1,4 @@
-use Rattle.std.proofs.Common.{subst, sym}
+use Rattle.std.proofs.Common.{false, subst, sym}
 use Rattle.answers.specs.declared.answer.Answer.{Answer}
 use Rattle.xhci_cli.specs.CheckAnswers.{IsVerdictAlone}
 use Rattle.xhci_cli.specs.JudgedTexts.{IsTraceAnswer}
@@ -6,10 +6,10 @@ use Rattle.xhci_cli.proofs.Streamed.{counted_right, unaccepted_right}
 use Rattle.xhci_cli.proofs.stream_answers.counted_answer.Goals as goal
 
 pub returns-in-Ok : goal.returns-in-Ok
-returns-in-Ok g c = counted_right (g.S.Source.held c.args.source.now) (g.S.Source.held c.count_stream.new.source) c.in-Ok.leases c.in-Ok.ensures.accepted
+returns-in-Ok g c = counted_right false (g.S.Source.held c.args.source.now) (g.S.Source.held c.count_stream.new.source) c.in-Ok.leases c.in-Ok.ensures.accepted
 
 pub returns-in-Err : goal.returns-in-Err
 returns-in-Err g c =
     let known = g.S.Source.held c.args.source.now in
-    subst (λ (a : Answer). IsTraceAnswer IsVerdictAlone known a) (sym c.unaccepted.ensures)
-    (unaccepted_right known (g.S.Source.held c.count_stream.new.source) c.in-Err.fault c.in-Err.ensures.refused c.in-Err.ensures.line)
+    subst (λ (a : Answer). IsTraceAnswer false IsVerdictAlone known a) (sym c.unaccepted.ensures)
+    (unaccepted_right false known (g.S.Source.held c.count_stream.new.source) c.in-Err.fault c.in-Err.ensures.refused c.in-Err.ensures.line)

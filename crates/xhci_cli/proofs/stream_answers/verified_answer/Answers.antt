@@ -1,4 +1,4 @@
-use Rattle.std.proofs.Common.{inl, subst, sym}
+use Rattle.std.proofs.Common.{false, inl, subst, sym}
 use Rattle.answers.specs.declared.answer.Answer.{Answer}
 use Rattle.xhci_cli.specs.JudgedTexts.{IsUnread}
 use Rattle.xhci_cli.proofs.Streamed.{unread_right, verified_right}
@@ -10,4 +10,4 @@ returns-in-Ok g c = verified_right c.args.leases.now (g.S.Source.held c.args.sou
 pub returns-in-Err : goal.returns-in-Err
 returns-in-Err g c =
     let known = g.S.Source.held c.args.source.now in
-    inl (subst (λ (a : Answer). IsUnread known a) (sym c.from.ensures) (unread_right known (g.S.Source.held c.verify_stream.new.source) c.in-Err.fault c.in-Err.ensures.line))
+    inl (subst (λ (a : Answer). IsUnread false known a) (sym c.from.ensures) (unread_right false known (g.S.Source.held c.verify_stream.new.source) c.in-Err.fault c.in-Err.ensures.line))
