@@ -75,7 +75,7 @@ class Trace:
         self.run_notes = run.notes
         if is_full:
             rows = rows[:MOST_LINES - len(header)]
-            run.notes.append(f'the trace ends after the {MOST_LINES} lines that it may have')
+            run.notes.append(f'the trace ends after {MOST_LINES} lines, as many as a replay keeps')
         self.text = ''.join(line + '\n' for line in header + [row_list.text(row) for row in rows])
         schedule = Schedule(rows, items_until(run, rows, len(rows) < len(plain) or finder.cut), finder.rings)
         self.schedule = schedule.text()

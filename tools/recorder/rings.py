@@ -14,8 +14,8 @@ class Ring:
         self.comes = self.goes = None  # keys, where it comes or goes between the rows
         self.is_over = False           # another ring has its memory, or it began anew
 
-    def lay(self, segments, notes=()):
-        self.segments, self.notes = segments, list(notes)
+    def lay(self, segments, notes=(), joined=None):
+        self.segments, self.notes, self.joined = segments, list(notes), joined or {}
         self.data, self.links = [], []  # addresses of data places, of Links
         for start, count in segments:
             data = count if self.kind == 'evt' else count - 1
@@ -30,6 +30,10 @@ class Ring:
 
     def line(self):
         return f'ring {self.number:02x} {self.kind} ' + ' '.join(f'{start:016x}:{count:04x}' for start, count in self.segments)
+
+    def has_since(self, start, use):
+        """From when on a segment is of the ring, by this use: what was in its memory before a Link led there is none of the ring's."""
+        return max(use.named, self.joined.get(start, use.named))
 
     def over(self):
         """When no endpoint has the ring any more, and no command that names it is unfinished; None where that is never."""
@@ -150,14 +154,14 @@ class Finder:
 
     def laid(self, ring, use):
         """Whether the ring's segments, by all its uses so far, are of no other ring."""
-        segments, notes = (self.areas.segments, []) if use.what == 'evt' else self.segments_of(ring.uses)
+        segments, notes, joined = (self.areas.segments, [], {}) if use.what == 'evt' else self.segments_of(ring.uses)
         earlier = [other for other in self.rings if other is not ring and not other.is_over and self.overlap(other, segments)]
         if not all(self.can_go(other, use) for other in earlier):
             self.end_with(use, f'memory of an earlier ring is used for another one at {use.start:#x}')
             return False
         for other in earlier:
             other.is_over = True
-        ring.lay(segments, notes)
+        ring.lay(segments, notes, joined)
         return True
 
     # rings that come and go
@@ -176,7 +180,8 @@ class Finder:
         earlier = [other.goes for other in self.rings if other.is_over and other.goes is not None and other.goes < named
                    and self.overlap(other, ring.segments)]
         since = max(earlier, default=None)
-        givings = [self.memory.set_since(at + 12, named, since) for start, count in ring.segments for at in range(start, start + 16 * count, 16)]
+        segments = [(start, count) for start, count in ring.segments if ring.joined.get(start, named) <= named]
+        givings = [self.memory.set_since(at + 12, named, since) for start, count in segments for at in range(start, start + 16 * count, 16)]
         ring.comes = min([named] + [key for key in givings if key is not None])
 
     def end_with(self, use, why):
@@ -190,7 +195,7 @@ class Finder:
         return any(a < d + 16 * n and d < a + 16 * m for a, m in ring.segments for d, n in segments)
 
     def segments_of(self, uses):
-        """Every segment that a Link ever led to, in the order in which the last Links lead; and what to note of them."""
+        """Every segment that a Link ever led to, in the order in which the last Links lead; what to note of them; and since when each is one."""
         first, found, notes = uses[0].start, self.linked(uses), []
         starts, last = [first], {}
         for start in starts:
@@ -205,7 +210,16 @@ class Finder:
             notes.append(f'the ring at {first:#x} has lost segments: they stand last in its line')
         ordered += [start for start in starts if start not in ordered]
         counts = [(found[start][0] - start) // 16 + 1 if start in found else self.guess(start, uses, notes) for start in ordered]
-        return list(zip(ordered, counts)), notes
+        return list(zip(ordered, counts)), notes, self.joined(uses, found)
+
+    def joined(self, uses, found):
+        """From when on each segment is of the ring: since Links lead there from the first one."""
+        joined = {uses[0].start: uses[0].named}
+        for _ in found:
+            for start in joined.keys() & found.keys():
+                for key, target in self.states(found[start][0], uses):
+                    joined[target] = min(joined.get(target, FOREVER), max(joined[start], key))
+        return joined
 
     def linked(self, uses):
         """The Link of each segment of a ring with the targets it ever had: one from which Links lead back to the first segment."""

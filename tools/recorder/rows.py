@@ -50,7 +50,7 @@ def stretches(areas, rings, cut):
         for use in ring.uses:
             if cut is None or use.named < cut:
                 for start, count in ring.segments:
-                    yield start, 16 * count, use.named, use.ended, ring.kind == 'evt'
+                    yield start, 16 * count, ring.has_since(start, use), use.ended, ring.kind == 'evt'
 
 
 def collected(run, registers, areas, rings, memory, cut):

@@ -19,6 +19,7 @@ class Schedule:
         self.memory = {}
         self.cycle = 1           # the command ring's
         self.taken = {}          # by ring: (line, address) of the looks of its transfers
+        self.given_back = {}     # by ring: the addresses of the looks that were given back when it stopped last
         self.fetched = self.other_words = self.not_followed = 0
         for row in rows:
             self.before(row)
@@ -69,9 +70,16 @@ class Schedule:
         if ring.kind == 'cmd':
             self.cycle ^= not waits and blocks.kind(item.words) == blocks.LINK and blocks.toggles(item.words)
         else:
+            self.go_on(ring, item.at)
             self.taken.setdefault(ring.number, []).append((len(self.lines), item.at))
         self.lines.append(f'look {ring.number:02x}')
         return True
+
+    def go_on(self, ring, at):
+        """QEMU goes on behind all that it had fetched: a controller comes there over what it gave back."""
+        back = self.given_back.pop(ring, [])
+        if at not in back:
+            self.lines += [f'look {ring.number:02x}'] * len(back)
 
     def post(self, item):
         if item.interrupter:
@@ -79,18 +87,28 @@ class Schedule:
         kind, at = blocks.kind(item.words), blocks.pointer(item.words)
         stops = blocks.code(item.words) in blocks.HALTING_CODES + blocks.STOPPED_CODES
         if kind == blocks.TRANSFER_EVENT and stops and at in self.owner:
-            self.give_back(self.owner[at].number, at)
+            self.give_back(self.owner[at], at)
+        if kind == blocks.COMMAND_COMPLETION:
+            self.finish((0, 0, 0, self.memory.get(at + 12, 0)))
         name = {blocks.TRANSFER_EVENT: 'report', blocks.COMMAND_COMPLETION: 'finish'}.get(kind, 'other')
         self.lines.append(name + ' %08x %08x %08x %08x' % item.words)
 
-    def give_back(self, number, at):
+    def give_back(self, ring, at):
         """What QEMU had fetched beyond the block at which it halted or stopped is no take."""
-        looks = self.taken.get(number, [])
+        looks = self.taken.get(ring.number, [])
         last = max((i for i, (line, where) in enumerate(looks) if where == at), default=None)
         if last is not None:
             for line, where in looks[last + 1:]:
                 self.lines[line] = None
-        self.taken[number] = []
+            self.given_back[ring] = [where for line, where in looks[last + 1:]]
+        self.taken[ring.number] = []
+
+    def finish(self, command):
+        """A command that isn't known to leave an endpoint's ring where it stands: what was given back of it isn't come over."""
+        kind, slot, index = blocks.kind(command), blocks.slot(command), blocks.endpoint(command)
+        if kind not in (blocks.STOP_ENDPOINT, blocks.RESET_ENDPOINT, blocks.EVALUATE_CONTEXT):
+            self.given_back = {ring: back for ring, back in self.given_back.items() if not any(
+                use.slot == slot and (kind != blocks.SET_TR_DEQUEUE or use.index == index) for use in ring.uses)}
 
     def text(self):
         return 'xsched 1\n' + ''.join(line + '\n' for line in self.lines if line)

@@ -305,6 +305,6 @@ def converted(lines, version=3):
         notes.append(f'a TD was not given whole: the trace ends before its first row, and {len(plain) - cut} rows are left out')
     if len(header) + len(text) > MOST_LINES:
         text = text[:MOST_LINES - len(header)]
-        notes.append(f'the trace ends after the {MOST_LINES} lines that it may have')
+        notes.append(f'the trace ends after {MOST_LINES} lines, as many as a replay keeps')
     lines = [''.join(line + '\n' for line in part) for part in (header + text, notes)]
     return *lines, f'{len(text)} rows, {len(run.rings)} rings'
