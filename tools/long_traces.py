@@ -17,9 +17,10 @@ says what most rows are:
     moves      Set TR Dequeue commands, each past a block that was given on a ring of 64 segments
     soiled     writes to words that a controller has soiled
     cancels    Normal TRBs, eight at a time, of which the last seven are withdrawn once the endpoint is stopped (version 3)
+    rounds     as `four`, with an Event Ring of 64 TRBs (version 3): the rows are the same again and again, so that a trace of millions is made at once
     comes      No Ops on one ring after the other, 250 in all, each of which comes for an endpoint and goes with it, in the same memory (version 3)
 """
-import sys
+import io, sys
 
 import long_replays
 from long_replays import (ADDRESS_DEVICE, COMMAND_COMPLETION, CONFIGURE_ENDPOINT, CONTEXTS, DCBAAP, ENABLE_SLOT, EVENT, FIRST_RING, NO_OP, SEGMENT, SET_TR_DEQUEUE, STOP_ENDPOINT, Ring)
@@ -219,6 +220,28 @@ def cancels(file, lines):
         run.report(ring.address(ring.enqueued - 1), slot, index)
 
 
+def rounds(file, lines):
+    run = Run(file, 4, 1, 16, 1, 3)
+    run.events = Ring(run, EVENT, run.events.bases[0], 1, 64)
+    run.start()
+    holders = run.bind_all()
+    turns = 480  # both laps of each ring, and of the Event Ring
+
+    def once():
+        for _ in range(turns):
+            for slot, index, ring in holders:
+                ring.give((0, 0, 0, NO_OP | 1 << 5))
+                run.row('db %02x %02x' % (slot, index))
+                run.report(ring.take(), slot, index)
+
+    once()
+    before, run.file = run.count, io.StringIO()
+    once()
+    rows, text = run.count - before, run.file.getvalue()
+    for _ in range(max(0, (lines - before) // rows)):
+        file.write(text)
+
+
 def comes(file, lines):
     run = Run(file, 1, 1, 16, 1, 3)
     run.start()
@@ -257,7 +280,7 @@ KINDS = {'ring': lambda file, lines: on_rings(file, 1, 64, 4096, lines, False, 6
          'rings': lambda file, lines: on_rings(file, 250, 1, 16, lines, True, 1), 'laps': lambda file, lines: on_rings(file, 1, 64, 4, lines, True, 1),
          'contexts': lambda file, lines: contexts(file, 1, 1, 4096, lines), 'areas': lambda file, lines: contexts(file, 250, 64, 16, lines),
          'devices': devices, 'devices40': devices40, 'bound': lambda file, lines: bound(file, 252, 1, lines),
-         'bound30': lambda file, lines: bound(file, 8, 30, lines), 'moves': moves, 'soiled': soiled, 'cancels': cancels, 'comes': comes}
+         'bound30': lambda file, lines: bound(file, 8, 30, lines), 'moves': moves, 'soiled': soiled, 'cancels': cancels, 'rounds': rounds, 'comes': comes}
 
 
 def main(words):

@@ -2,7 +2,7 @@
 import re,sys,os
 def names(path):
     return re.findall(r'^\s*unfoldable pub (\S+) :', open(path).read(), re.M)
-def write(crate, name, lower, comment):
+def write(crate, name, lower, comment, beside=()):
     d=f'crates/{crate}/specs'
     files=sorted(f for f in os.listdir(d) if f.endswith('.antt') and f not in('Lib.antt','OnLiterals.antt'))
     uses=[];items=[]
@@ -13,6 +13,10 @@ def write(crate, name, lower, comment):
             alias='of_'+m.lower()
             uses.append(f'use Rattle.{crate}.specs.{m} as {alias}')
             items+= [f'{alias}.{n}' for n in ns]
+    for c,m in beside:
+        alias='of_'+m.lower()
+        uses.append(f'use Rattle.{c}.specs.{m} as {alias}')
+        items+= [f'{alias}.{n}' for n in names(f'crates/{c}/specs/{m}.antt')]
     for c,n in lower:
         uses.append(f'use Rattle.{c}.specs.OnLiterals.{{{n}}}')
         items.append(n)
@@ -27,4 +31,4 @@ write('world_state','world_on_literals',[('traces','header_on_literals'),('segme
 write('controller_model','model_on_literals',[('world_state','world_on_literals'),('commands','commands_on_literals')],c)
 write('ring_knowledge','knowledge_on_literals',[('traces','header_on_literals'),('segments','views_on_literals'),('commands','commands_on_literals')],c)
 write('ownership_rules','rules_on_literals',[('ring_knowledge','knowledge_on_literals')],c)
-write('lazy_runs','lazy_on_literals',[('ring_knowledge','knowledge_on_literals')],c)
+write('lazy_runs','lazy_on_literals',[('ring_knowledge','knowledge_on_literals')],c,[('ring_changes','Changes'),('ring_changes','Withdrawals')])

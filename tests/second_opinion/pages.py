@@ -10,8 +10,9 @@ from commands import named_context, names_endpoint, names_slot
 from known import histories
 from leases import leases_of, open_leases
 from rings import is_data
+from rings_that_come import is_left
 from rules import name_of
-from trace import WIDE_REGISTERS, Trace, read_trace
+from trace import WIDE_REGISTERS, Trace, Withdraws, read_trace
 from verify import verdict
 
 # in the order of their addresses (xHCI 5.4, 5.5.2)
@@ -39,10 +40,10 @@ def leased_now(trace, known):
     return [(lease.start, uses[lease.kind, lease.ring, lease.position]) for lease in open_ones]
 
 
-def runs_of(leased, ring):
-    """Of the TRBs of a ring: first and last position of those one behind the other, and the lines that gave them."""
+def runs_of(trbs):
+    """Of positions with lines: first and last of those one behind the other, and their lines."""
     runs = []
-    for position, line in sorted((what.position, line) for line, what in leased if what.kind == 0 and what.ring == ring.number):
+    for position, line in sorted(trbs):
         if runs and runs[-1][1] + 1 == position:
             first, _, lines = runs.pop()
             runs.append((first, position, [*lines, line]))
@@ -58,8 +59,31 @@ def run_line(first, last, lines):
 
 def lease_lines(leased, ring):
     links = sorted((what.position, line) for line, what in leased if what.kind == 1 and what.ring == ring.number)
-    told = [run_line(*run) for run in runs_of(leased, ring)] + [f'Link behind TRB {p} (row {line})' for p, line in links]
+    trbs = [(what.position, line) for line, what in leased if what.kind == 0 and what.ring == ring.number]
+    told = [run_line(*run) for run in runs_of(trbs)] + [f'Link behind TRB {p} (row {line})' for p, line in links]
     return ['  under lease: ' + ', '.join(told)] if told else []
+
+
+def withdrawing_lines(trace, count, ring):
+    """By position: the line of the row that withdrew it, among the first rows."""
+    lines = {}
+    for i, row in enumerate(trace.rows[:count]):
+        if isinstance(row, Withdraws) and row.ring == ring.number:
+            length = histories(trace)[i].descriptor_length(ring, row.position)
+            lines.update({p: trace.first + i for p in range(row.position, row.position + length)})
+    return lines
+
+
+def withdrawn_lines(trace, count, ring):
+    """The TRBs that were withdrawn and aren't restored, with the rows that withdrew them."""
+    known = histories(trace)[count]
+    freed = known.unrestored(ring)
+    if not freed:
+        return []
+    lines = withdrawing_lines(trace, count, ring)
+    told = ', '.join(run_line(*run) for run in runs_of((p, lines[p]) for p in freed))
+    no_ops = 'No Ops are to be written there' if is_left(known, ring) else 'No Ops stand there'
+    return [f"  withdrawn: {told}: the driver's until the ring goes on; {no_ops}"]
 
 
 def use_of(use):
@@ -105,7 +129,8 @@ def use_line(known, ring):
     return f'{name}, Transfer Ring of slot {slot}, DCI {index} ({known.endpoint_state(*place)}{due})'
 
 
-def ring_lines(known, ring, leased):
+def ring_lines(trace, count, ring, leased):
+    known = histories(trace)[count]
     if ring.kind == 'evt':
         at = known.dequeue
         return [f'ring {ring.number:02x}, Event Ring', f'  events: {known.reads} read; ERDP stands at event {at}, {ring.address(at):016x}']
@@ -113,12 +138,14 @@ def ring_lines(known, ring, leased):
     standing = f'{"TRB" if is_data(floor) else "Link before TRB"} {floor.number} at {ring.spot_address(floor):016x}'
     counts = f'{known.declared(ring)} declared, {known.given_count(ring)} given, {floor.number} passed'
     openness = 'open' if known.is_open(ring) else 'held'
-    return [use_line(known, ring), f'  TRBs: {counts}; floor {standing}, ceiling {known.ceiling(ring)}, {openness}', *lease_lines(leased, ring)]
+    return [use_line(known, ring), f'  TRBs: {counts}; floor {standing}, ceiling {known.ceiling(ring)}, {openness}', *lease_lines(leased, ring),
+            *withdrawn_lines(trace, count, ring)]
 
 
-def rings_lines(known, leased):
+def rings_lines(trace, count, leased):
+    known = histories(trace)[count]
     idle = [ring for ring in known.driver_rings if known.declared(ring) == 0 and not known.was_bound(ring)]
-    lines = [line for ring in known.rings if ring not in idle for line in ring_lines(known, ring, leased)]
+    lines = [line for ring in known.rings if ring not in idle for line in ring_lines(trace, count, ring, leased)]
     if idle:
         lines.append(f'{len(idle)} ring{"s" if len(idle) > 1 else ""} with nothing declared, and no endpoint')
     return lines
@@ -154,7 +181,7 @@ def page_behind(trace, count, head):
     """The page on a trace behind so many rows."""
     known = histories(trace)[count]
     leased = leased_now(beginning(trace, count), known)
-    lines = [head, *controller_lines(known), *rings_lines(known, leased), *slot_lines(known), *command_lines(known, leased), *range_lines(leased)]
+    lines = [head, *controller_lines(known), *rings_lines(trace, count, leased), *slot_lines(known), *command_lines(known, leased), *range_lines(leased)]
     return '\n'.join(lines) + '\n'
 
 

@@ -99,7 +99,7 @@ class Trace(RingList):
         return 33 * self.context_bytes
 
 
-# the rows that `schedule` and `show` don't take yet; beside them `check --show` tries no lazy schedule
+# the rows that `show` doesn't take yet; beside them this folder makes no schedules of its own
 UNKEPT = (Comes, Goes, Withdraws)
 
 
