@@ -2,8 +2,9 @@
 import re,sys,os
 def names(path):
     return re.findall(r'^\s*unfoldable pub (\S+) :', open(path).read(), re.M)
-def write(crate, name, lower, comment, beside=()):
-    d=f'crates/{crate}/specs'
+def write(crate, name, lower, comment, beside=(), folder=''):
+    d=f'crates/{crate}/specs'+(f'/{folder}' if folder else '')
+    inside=f'{folder}.' if folder else ''
     files=sorted(f for f in os.listdir(d) if f.endswith('.antt') and f not in('Lib.antt','OnLiterals.antt'))
     uses=[];items=[]
     for f in files:
@@ -11,12 +12,12 @@ def write(crate, name, lower, comment, beside=()):
         if ns:
             m=f[:-5]
             alias='of_'+m.lower()
-            uses.append(f'use Rattle.{crate}.specs.{m} as {alias}')
+            uses.append(f'use Rattle.{crate}.specs.{inside}{m} as {alias}')
             items+= [f'{alias}.{n}' for n in ns]
     for c,m in beside:
-        alias='of_'+m.lower()
+        alias='of_'+m.split('.')[-1].lower()
         uses.append(f'use Rattle.{c}.specs.{m} as {alias}')
-        items+= [f'{alias}.{n}' for n in names(f'crates/{c}/specs/{m}.antt')]
+        items+= [f'{alias}.{n}' for n in names(f'crates/{c}/specs/{m.replace(".","/")}.antt')]
     for c,n in lower:
         uses.append(f'use Rattle.{c}.specs.OnLiterals.{{{n}}}')
         items.append(n)
@@ -31,4 +32,4 @@ write('world_state','world_on_literals',[('traces','header_on_literals'),('segme
 write('controller_model','model_on_literals',[('world_state','world_on_literals'),('commands','commands_on_literals')],c)
 write('ring_knowledge','knowledge_on_literals',[('traces','header_on_literals'),('segments','views_on_literals'),('commands','commands_on_literals')],c)
 write('ownership_rules','rules_on_literals',[('ring_knowledge','knowledge_on_literals')],c)
-write('lazy_runs','lazy_on_literals',[('ring_knowledge','knowledge_on_literals')],c,[('ring_changes','Changes'),('ring_changes','Withdrawals')])
+write('safety','lazy_on_literals',[('ring_knowledge','knowledge_on_literals')],c,[('safety','RingChanges.Changes'),('safety','RingChanges.Withdrawals')],'LazyRuns')

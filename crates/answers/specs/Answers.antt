@@ -8,8 +8,8 @@ use Rattle.trace_reader.specs.Faults.{fault_number, fault_name}
 use Rattle.trace_reader.specs.Values.{block_of}
 use Rattle.trace_reader.specs.declared.fault.ReadFault.{ReadFault}
 use Rattle.trace_reader.specs.declared.fault.ReadFault.TheVariants.{Line, Memory as OutOfMemory}
-use Rattle.row_reader.specs.declared.fault.StreamFault.{StreamFault}
-use Rattle.row_reader.specs.declared.fault.StreamFault.TheVariants.{Line as BadStreamLine, Device as NoStreamDevice, Memory as NoStreamMemory}
+use Rattle.trace_reader.specs.declared.row_reader.fault.StreamFault.{StreamFault}
+use Rattle.trace_reader.specs.declared.row_reader.fault.StreamFault.TheVariants.{Line as BadStreamLine, Device as NoStreamDevice, Memory as NoStreamMemory}
 use Rattle.certificate.specs.Spelling.{cert_fault_number, cert_fault_name}
 use Rattle.certificate.specs.declared.fault.CertFault.{CertFault}
 use Rattle.certificate.specs.declared.fault.CertFault.TheVariants.{Memory as NoLeaseMemory}

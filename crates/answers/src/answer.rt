@@ -8,10 +8,9 @@ use certificate::CertFault;
 use controller_model::Seen;
 use ownership_rules::Refusal;
 use plan_writer::{PlanFault, PlanRefusal};
-use row_reader::StreamFault;
 use std::alloc::{AllocError, Global};
 use std::io;
-use trace_reader::{LineFault, ReadFault};
+use trace_reader::{LineFault, ReadFault, StreamFault};
 use trb::Block;
 use world_state::Harm;
 

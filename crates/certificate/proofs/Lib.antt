@@ -1,3 +1,4 @@
 pub mod Appending
 pub mod Records
 pub mod RoundTrip
+pub mod Verifying

@@ -1,4 +1,5 @@
 ghost use Rattle.std.specs.Prelude.{◌≡◌, ◌↔◌, IsTrue, Some};
+ghost use Rattle.commands.specs.Command.{is_stop_of};
 ghost use Rattle.trb.specs.Descriptor.{is_command_left_out, is_no_command};
 
 use crate::fields::command_by_kind;
@@ -106,5 +107,20 @@ impl Command {
             } => Some(input_context),
             _ => None,
         }
+    }
+}
+
+/// Whether a command is a Stop Endpoint for this endpoint (xHCI 4.6.9).
+pub fn is_stop_of(command: Option<Command>, slot: u8, endpoint: u8) -> bool
+    ensures { result ≡ is_stop_of slot endpoint command }
+{
+    match command {
+        Some(
+            Command::StopEndpoint {
+                slot: stopped,
+                endpoint: stopping,
+            },
+        ) => slot == stopped && endpoint == stopping,
+        _ => false,
     }
 }

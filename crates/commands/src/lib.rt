@@ -5,5 +5,5 @@ mod command;
 mod fields;
 mod state;
 
-pub use command::Command;
-pub use state::{EndpointState, SlotState, State, after};
+pub use command::{Command, is_stop_of};
+pub use state::{EndpointState, SlotState, State, after, is_off};

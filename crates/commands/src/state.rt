@@ -1,6 +1,6 @@
 ghost use Rattle.std.specs.Prelude.{◌≡◌, ℕ, Option};
 ghost use Rattle.commands.specs.declared.command.Command.{Command};
-ghost use Rattle.commands.specs.States.{slot_success, endpoint_success, slot_after, endpoint_after};
+ghost use Rattle.commands.specs.States.{slot_success, endpoint_success, slot_after, endpoint_after, is_off};
 
 use crate::command::Command;
 
@@ -133,4 +133,12 @@ fn endpoint_success(command: &Command, state: EndpointState) -> Option<EndpointS
         ) => None,
         _ => Some(state),
     }
+}
+
+/// Whether the endpoint is Disabled (xHCI 4.8.3).
+#[inline(always)]
+pub fn is_off(state: EndpointState) -> bool
+    ensures { result ≡ is_off state }
+{
+    matches!(state, EndpointState::Disabled)
 }

@@ -11,7 +11,6 @@ mod effects;
 mod endpoints;
 mod fault;
 mod finishes;
-mod headers;
 mod history;
 mod inputs;
 mod kept;
@@ -39,7 +38,6 @@ mod watches;
 mod world;
 
 pub use fault::StepFault;
-pub use headers::copy_header;
 pub use plain::plain_rows;
 pub use seen::Seen;
 pub use world::World;

@@ -22,10 +22,10 @@ use crate::looks::command_of;
 use crate::posts::{can_post, event_ring, post};
 use crate::rings::{deactivate, ring_state};
 use crate::seen::Seen;
-use commands::{Command, EndpointState};
+use commands::{Command, EndpointState, is_stop_of};
 use guest_memory::WordMemory;
 use traces::Header;
-use trb::{Block, BlockKind};
+use trb::{Block, BlockKind, is_halting, is_stopping, is_success, is_trb_error};
 
 /// So many more takes of a ring are reported, the oldest first.
 fn report_takes(kept: &mut Kept, ring: u8, count: usize)
@@ -124,20 +124,6 @@ fn report_error(
     true
 }
 
-fn is_stop_of(command: Option<Command>, slot: u8, index: u8) -> bool
-    ensures { result ≡ is_stop_of slot index command }
-{
-    match command {
-        Some(
-            Command::StopEndpoint {
-                slot: stopped,
-                endpoint,
-            },
-        ) => slot == stopped && index == endpoint,
-        _ => false,
-    }
-}
-
 /// Whether a Stop Endpoint for this endpoint is under way.
 #[tactic(auto, unfolding(crate::specs::Posts::is_stop_under_way))]
 fn is_stop_under_way(kept: &Kept, slot: u8, index: u8) -> bool
@@ -197,30 +183,6 @@ fn report_stop(kept: &mut Kept, slot: u8, index: u8, ring: u8, address: u64) -> 
     }
     stop_after(kept, ring, count);
     true
-}
-
-fn is_success(code: u8) -> bool
-    ensures { result ≡ is_success code }
-{
-    code == 1 || code == 13
-}
-
-fn is_halting(code: u8) -> bool
-    ensures { result ≡ is_halting code }
-{
-    code == 3 || code == 4 || code == 6 || code == 36
-}
-
-fn is_trb_error(code: u8) -> bool
-    ensures { result ≡ is_trb_error code }
-{
-    code == 5
-}
-
-fn is_stopping(code: u8) -> bool
-    ensures { result ≡ is_stopping code }
-{
-    code == 26 || code == 27 || code == 28
 }
 
 /// What a Transfer Event with this completion code says of an endpoint and its ring (xHCI 6.4.5).

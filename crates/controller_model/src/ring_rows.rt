@@ -7,7 +7,6 @@ ghost use Rattle.world_state.specs.World.{World};
 ghost use Rattle.controller_model.specs.RingRows.{emptied, with_ring, without_descriptor, without_ring};
 ghost use Rattle.controller_model.specs.Following.{Follows};
 
-use crate::headers::copy_ring;
 use crate::kept::Kept;
 use std::alloc::AllocError;
 use traces::{Header, Ring};
@@ -28,7 +27,7 @@ pub(crate) fn add_ring(header: &mut Header, kept: &mut Kept, ring: &Ring) -> Res
     ensures kept { OnOk result ((rows : List RowValue) (words : ℕ → ℕ) (w : World) → Follows header.old rows words kept.old w →
         Follows header.new rows words kept.new (emptied w ring.now.id)) }
 {
-    let copy = copy_ring(ring)?;
+    let copy = ring.copy()?;
     header.rings.push(copy)?;
     empty(kept, ring.id);
     Ok(())

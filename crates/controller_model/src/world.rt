@@ -5,7 +5,6 @@ ghost use Rattle.controller_model.specs.Following.{IsStep};
 ghost use Rattle.controller_model.specs.RingHarms.{IsFollowed};
 
 use crate::fault::StepFault;
-use crate::headers::copy_header;
 use crate::kept::Kept;
 use crate::opening::opening;
 use crate::rows_left::RowsLeft;
@@ -79,7 +78,7 @@ impl<'t, M: WordMemory + Drop> World<'t, M> {
         requires fits { All IsTraceRow rows.now }
         ensures { IfOk result (λ v. StandsFor M.words v (scene_before header.now rows.now)) }
     {
-        let header = copy_header(alloc, header)?;
+        let header = header.copy(alloc)?;
         let kept = opening(alloc)?;
         let rings = ring_harms(&header, &memory, &kept);
         Ok(World {

@@ -17,8 +17,8 @@ use ring_findings::{
     not_as_submitted, not_declared, not_restored, not_whole, ring_full, write_to_owned,
 };
 use row_history::{Case, Finding, command_at, general_head, known_after, line_of, why_refused};
-use row_reader::TextRows;
 use std::alloc::{AllocError, Global};
+use trace_reader::TextRows;
 use traces::{Row, TraceRow};
 
 /// What is told of a row behind more lines than are kept.

@@ -2,9 +2,8 @@
 ghost use Rattle.std.specs.Prelude.{◌≡◌, true, IfOk, IsOk, is_some};
 ghost use Rattle.trace_reader.specs.Reading.{trace_of};
 
-use row_reader::{TextRows, read_rows};
 use std::alloc::{AllocError, Global};
-use trace_reader::ReadFault;
+use trace_reader::{ReadFault, TextRows, read_rows};
 
 /// The rows of a text; none where it is no trace.
 pub(crate) fn rows_of(alloc: Global, text: &[u8]) -> Result<Option<TextRows>, AllocError>

@@ -9,8 +9,8 @@ use Rattle.trace_reader.specs.Reading.{TraceText}
 use Rattle.ring_knowledge.specs.Known.{Known, nothing}
 use Rattle.ownership_rules.specs.declared.refusal.Refusal.{Refusal}
 use Rattle.ownership_rules.specs.Rules.{first_or}
-use Rattle.ring_changes.specs.Histories.{header_after, known_after}
-use Rattle.ring_pass.specs.Rules.{ring_verdict, ring_verdict_from, row_broken}
+use Rattle.safety.specs.RingChanges.Histories.{header_after, known_after}
+use Rattle.ownership_checker.specs.RingPasses.Rules.{ring_verdict, ring_verdict_from, row_broken}
 use Rattle.knowledge_page.specs.Shown.{IfNoRow, IsLast, IsNoRow, IsRange, verdict_on}
 use Rattle.knowledge_page.specs.declared.shown.ShowFault.{ShowFault}
 use Rattle.knowledge_page.specs.declared.shown.ShowFault.TheVariants.{NoRow, Memory}

@@ -2,7 +2,7 @@
 use Rattle.std.specs.Prelude.{◌≡◌, ◌⊎◌, ℕ, ◌+◌, ◌-◌, ◌<◌, ◌≤◌, length, take, Option, Some, None}
 use Rattle.trace_reader.specs.Reading.{TraceText}
 use Rattle.ownership_rules.specs.declared.refusal.Refusal.{Refusal}
-use Rattle.ring_pass.specs.Rules.{ring_verdict}
+use Rattle.ownership_checker.specs.RingPasses.Rules.{ring_verdict}
 use Rattle.knowledge_page.specs.Standing.{IsStanding}
 use Rattle.knowledge_page.specs.declared.standing.Standing.{Standing}
 use Rattle.knowledge_page.specs.declared.shown.Place.{Place}

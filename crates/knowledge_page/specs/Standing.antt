@@ -4,10 +4,10 @@ use Rattle.guest_memory.specs.Page.{word_in}
 use Rattle.traces.specs.declared.header.Header.{Header}
 use Rattle.traces.specs.declared.trace_row.TraceRow.{TraceRow}
 use Rattle.trace_record.specs.FollowsTrace.{FollowsTrace}
-use Rattle.ring_changes.specs.Histories.{header_now, known_now}
-use Rattle.ring_pass.specs.Accepted.{leases_of}
-use Rattle.ring_pass.specs.Clean.{AreClean}
-use Rattle.ring_pass.specs.Rules.{ring_verdict}
+use Rattle.safety.specs.RingChanges.Histories.{header_now, known_now}
+use Rattle.ownership_checker.specs.RingPasses.Accepted.{leases_of}
+use Rattle.ownership_checker.specs.RingPasses.Clean.{AreClean}
+use Rattle.ownership_checker.specs.RingPasses.Rules.{ring_verdict}
 use Rattle.knowledge_page.specs.declared.standing.Standing.{Standing}
 
 -- no row breaks a rule; the header lists the rings that are there behind them, the record and the memory hold what is known then, and the leases are

@@ -3,16 +3,14 @@ ghost use Rattle.std.specs.Prelude.{◌≡◌, ◌+◌, ◌≤◌, All, Some, le
 ghost use Rattle.traces.specs.Header.{IsHeader};
 ghost use Rattle.traces.specs.Limits.{most_lines};
 ghost use Rattle.traces.specs.TraceRows.{IsTraceRow};
-ghost use Rattle.ring_pass.specs.Rules.{ring_verdict};
+ghost use Rattle.ownership_checker.specs.RingPasses.Rules.{ring_verdict};
 ghost use Rattle.ownership_checker.specs.Verdicts.{IfRefusedAt};
 ghost use Rattle.knowledge_page.specs.Standing.{IsStanding};
 
 use crate::standing::Standing;
-use controller_model::copy_header;
 use guest_memory::PageMemory;
-use lease_book::LeaseBook;
-use ownership_checker::CheckFault;
-use ring_pass::{Behind, Passed, pass_kept};
+use leases::LeaseBook;
+use ownership_checker::{Behind, CheckFault, Passed, pass_kept};
 use std::alloc::Global;
 use traces::{Header, TraceRow};
 
@@ -30,7 +28,7 @@ pub(crate) fn standing_behind(
     ensures standing { IfOk result (IsStanding header.now first rows.now) }
     ensures refused { IfErr result (λ e. IfRefusedAt e (λ row c. ring_verdict header.now first rows.now ≡ Some (row, c))) }
 {
-    let own = copy_header(alloc, header)?;
+    let own = header.copy(alloc)?;
     let book = LeaseBook::new(alloc, &own)?;
     match pass_kept(alloc, own, first, rows, book, PageMemory::new(alloc))? {
         Passed::Whole(pass) => {

@@ -2,10 +2,9 @@
 use crate::leased::Piece;
 use crate::words::{command_name, slot_state_name};
 use commands::{Command, SlotState};
-use device_record::DeviceRecord;
 use ring_knowledge::{Lease, RingRecord};
 use std::alloc::AllocError;
-use trace_record::TraceRecord;
+use trace_record::{DeviceRecord, TraceRecord};
 use traces::{Header, Register, Ring};
 use trb::RingKind;
 

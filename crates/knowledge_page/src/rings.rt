@@ -4,18 +4,18 @@ ghost use Rattle.segments.specs.ShapeValue.{Shape};
 ghost use Rattle.segments.specs.RingView.{RingView};
 ghost use Rattle.ring_knowledge.specs.Known.{Known};
 ghost use Rattle.ring_knowledge.specs.RingRecords.{FollowsRing};
-ghost use Rattle.device_record.specs.Devices.{FollowsDevices};
+ghost use Rattle.trace_record.specs.DeviceSlots.Devices.{FollowsDevices};
 ghost use Rattle.knowledge_page.specs.Rings.{AreFacts};
 
 use crate::leased::{Run, write_runs};
 use crate::standing::Standing;
 use crate::withdrawn::write_withdrawn;
 use crate::words::endpoint_state_name;
-use device_record::DeviceRecord;
 use event_ring::EventPlace;
 use ring_knowledge::RingRecord;
 use segments::{RingShape, Spot};
 use std::alloc::{AllocError, Global};
+use trace_record::DeviceRecord;
 use traces::Ring;
 use trb::RingKind;
 

@@ -1,15 +1,15 @@
 //! Which row a page is about, and what stands before it.
 ghost use Rattle.std.specs.Prelude.{◌≡◌, ◌≤◌, Some, length, take, IfOk, IfErr};
-ghost use Rattle.row_reader.specs.TextRows.{trace_kept};
+ghost use Rattle.trace_reader.specs.Streaming.TextRows.{trace_kept};
 ghost use Rattle.knowledge_page.specs.Shown.{IfNoRow, IsBefore, IsNoRow, IsRange, IsShown};
 
 use crate::behind::standing_behind;
 use crate::standing::Standing;
 use ownership_checker::CheckFault;
 use ownership_rules::Refusal;
-use row_reader::TextRows;
 use std::alloc::Global;
 use thiserror::Error;
+use trace_reader::TextRows;
 use traces::TraceRow;
 
 /// Where in a trace a page stands. Rows are named by their lines, which count from 1.

@@ -1,5 +1,5 @@
 use contexts::ContextSize;
-use lease_book::{LeaseBook, LeaseLog};
+use leases::{LeaseBook, LeaseLog};
 use ring_knowledge::Lease;
 use segments::RingShape;
 use std::test::Fail;

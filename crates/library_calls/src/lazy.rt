@@ -2,7 +2,7 @@ ghost use Rattle.std.specs.Prelude.{IfOk};
 ghost use Rattle.traces.specs.Header.{IsHeader};
 
 use contexts::ContextSize;
-use lazy_steps::{Note, steps_of_notes};
+use replayer::{Note, steps_of_notes};
 use segments::{RingShape, Spot};
 use std::alloc::Global;
 use std::test::Fail;

@@ -1,7 +1,6 @@
-use row_reader::{Counted, RowReader, Source, StreamFault};
 use std::io::{self, Read};
 use std::test::Fail;
-use trace_reader::{ReadFault, read_trace};
+use trace_reader::{Counted, ReadFault, RowReader, Source, StreamFault, read_trace};
 
 /// Gives so many bytes a read, and fails at one of the reads, counted from 0.
 #[derive(Drop)]

@@ -1,14 +1,13 @@
 //! Traces that are checked and verified as they are read: the same at every cut of the bytes, and a failed read is told.
 use crate::sources::device_of;
+use certificate::verify_stream;
 use guest_memory::PageMemory;
 use ownership_checker::{StreamCheckFault, check_stream, count_stream};
 use ownership_rules::Refusal;
 use ring_knowledge::Lease;
-use row_reader::StreamFault;
 use std::io::ErrorKind;
 use std::test::Fail;
-use trace_reader::LineFault;
-use verifier::verify_stream;
+use trace_reader::{LineFault, StreamFault};
 
 /// Two blocks are given.
 const ACCEPTED: &[u8] =

@@ -1,9 +1,8 @@
-use row_reader::read_rows;
 use std::alloc::AllocError;
 use std::test::Fail;
 use trace_reader::{
     LineFault, PlanLine, ReadFault, Step, TraceRow, print_schedule, print_trace, read_plan,
-    read_schedule, read_trace,
+    read_rows, read_schedule, read_trace,
 };
 
 const TRACE: &str =

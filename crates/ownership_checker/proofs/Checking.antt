@@ -11,18 +11,18 @@ use Rattle.ring_knowledge.specs.Known.{Known, nothing}
 use Rattle.ring_knowledge.specs.Learned.{known}
 use Rattle.ring_knowledge.specs.declared.lease.Lease.{Lease}
 use Rattle.ownership_rules.specs.Leases.{leases as leases_of, without_end}
-use Rattle.lease_book.specs.declared.lease_book.LeaseBook.{LeaseBook}
-use Rattle.lease_book.specs.declared.ranges.RangeIndexes.{RangeIndexes}
-use Rattle.lease_book.specs.Books.{FollowsLeases, HoldsLents}
-use Rattle.lease_rows.specs.CleanRows.{FollowsBook, IsCleanRow}
+use Rattle.leases.specs.declared.book.lease_book.LeaseBook.{LeaseBook}
+use Rattle.leases.specs.declared.book.ranges.RangeIndexes.{RangeIndexes}
+use Rattle.leases.specs.LeaseBooks.Books.{FollowsLeases, HoldsLents}
+use Rattle.leases.specs.LeaseRows.CleanRows.{FollowsBook, IsCleanRow}
 use Rattle.trace_record.specs.declared.trace_record.TraceRecord.{TraceRecord}
 use Rattle.trace_record.specs.FollowsTrace.{FollowsTrace}
 use Rattle.trace_record.specs.Fresh.{IsWithin}
 use Rattle.trace_record.specs.Steps.{IsRowStep}
-use Rattle.row_checks.specs.Accepted.{IsAccepted}
-use Rattle.row_checks.specs.Tracking.{IsTracked}
-use Rattle.row_checks.proofs.CleanHistories.{lenient_history, lenient_row}
-use Rattle.row_checks.proofs.Passes as passes
+use Rattle.ownership_checker.specs.JudgedRows.Accepted.{IsAccepted}
+use Rattle.ownership_checker.specs.JudgedRows.Tracking.{IsTracked}
+use Rattle.ownership_checker.proofs.JudgedRows.CleanHistories.{lenient_history, lenient_row}
+use Rattle.ownership_checker.proofs.JudgedRows.Passes as passes
 use Rattle.ownership_checker.specs.Tracking.{IsProgress}
 
 length_reversed : (rows : List Row) → length (reverse rows) ≡ length rows

@@ -5,8 +5,8 @@ use Rattle.traces.specs.declared.row.Row.{Row}
 use Rattle.traces.specs.Header.{IsHeader}
 use Rattle.traces.specs.Rows.{AreRows}
 use Rattle.safety.specs.Headline.{IsHarmless}
-use Rattle.row_checks.specs.Accepted.{IsAccepted}
-use Rattle.row_checks.proofs.Harmless.{harmless}
+use Rattle.ownership_checker.specs.JudgedRows.Accepted.{IsAccepted}
+use Rattle.ownership_checker.proofs.JudgedRows.Harmless.{harmless}
 use Rattle.ownership_checker.specs.declared.certificate.Certificate.{Certificate}
 use Rattle.ownership_checker.specs.declared.fault.CheckFault.{CheckFault}
 

@@ -6,18 +6,18 @@ use Rattle.trace_reader.specs.Reading.{TraceText}
 use Rattle.traces.specs.declared.header.Header.{Header}
 use Rattle.ring_knowledge.specs.declared.lease.Lease.{Lease}
 use Rattle.ownership_rules.specs.OpenLeases.{Leased}
-use Rattle.lease_book.specs.Lents.{Lent, ended_where, lease_of, with_begun}
-use Rattle.ring_leases.specs.RingLents.{ring_lents}
-use Rattle.row_reader.specs.declared.fault.StreamFault.{StreamFault}
-use Rattle.row_reader.specs.declared.fault.StreamFault.TheVariants.{Line, Device, Memory}
-use Rattle.row_reader.specs.ReaderState.{IsOpened}
-use Rattle.row_reader.specs.Streams.{IfBadLine}
-use Rattle.row_reader.specs.WholeTexts.{joined_behind}
-unfoldable use Rattle.row_reader.specs.WholeTexts.{taken_by_calls}
-use Rattle.row_reader.proofs.CallsJoined.{calls_say_what_is_taken}
-use Rattle.ring_pass.specs.Accepted.{IsSound, leases_of}
-use Rattle.ring_pass.specs.Reading.{IsBadLine, IsWholeLog}
-use Rattle.ring_pass.specs.RingRows.{ring_row}
+use Rattle.leases.specs.LeaseBooks.Lents.{Lent, ended_where, lease_of, with_begun}
+use Rattle.leases.specs.RingLeases.RingLents.{ring_lents}
+use Rattle.trace_reader.specs.declared.row_reader.fault.StreamFault.{StreamFault}
+use Rattle.trace_reader.specs.declared.row_reader.fault.StreamFault.TheVariants.{Line, Device, Memory}
+use Rattle.trace_reader.specs.Streaming.ReaderState.{IsOpened}
+use Rattle.trace_reader.specs.Streaming.Streams.{IfBadLine}
+use Rattle.trace_reader.specs.Streaming.WholeTexts.{joined_behind}
+unfoldable use Rattle.trace_reader.specs.Streaming.WholeTexts.{taken_by_calls}
+use Rattle.trace_reader.proofs.Streaming.CallsJoined.{calls_say_what_is_taken}
+use Rattle.ownership_checker.specs.RingPasses.Accepted.{IsSound, leases_of}
+use Rattle.ownership_checker.specs.RingPasses.Reading.{IsBadLine, IsWholeLog}
+use Rattle.ownership_checker.specs.RingPasses.RingRows.{ring_row}
 
 module _ {B : Type 0} (Holds : Header → List Lent → B → Type 0) (trace : TraceText) (log : B) (w : IsWholeLog Holds trace log) where
   -- the leases that the log keeps

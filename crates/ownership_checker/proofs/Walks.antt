@@ -20,7 +20,7 @@ use Rattle.safety.proofs.KeptRings.{still_of}
 use Rattle.safety.proofs.Histories.{keeps_rings}
 use Rattle.safety.proofs.NothingFree.{nothing_free}
 use Rattle.safety.proofs.RingsOfHeader.{HasRing, has_ring, shape_allowed}
-use Rattle.row_checks.proofs.CleanHistories.{earlier_clean, lenient_history}
+use Rattle.ownership_checker.proofs.JudgedRows.CleanHistories.{earlier_clean, lenient_history}
 use Rattle.ownership_checker.specs.Walks.{WalksRead}
 
 -- completions of a clean history place endpoints where they may

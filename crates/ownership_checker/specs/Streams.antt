@@ -2,13 +2,13 @@
 use Rattle.std.specs.Prelude.{ℕ, Result, Ok, Err}
 use Rattle.trace_reader.specs.declared.fault.LineFault.{LineFault}
 use Rattle.ownership_rules.specs.declared.refusal.Refusal.{Refusal}
-use Rattle.row_reader.specs.Answers.{told_failures}
+use Rattle.trace_reader.specs.Streaming.Answers.{told_failures}
 use Rattle.ownership_checker.specs.declared.fault.StreamCheckFault.{StreamCheckFault}
 use Rattle.ownership_checker.specs.declared.fault.StreamCheckFault.TheVariants.{Refused, Unread}
-pub use Rattle.row_reader.specs.Streams.{IfBadLine, OfStream}
-pub use Rattle.ring_pass.specs.Accepted.{IsAccepted as IsAcceptedText, IsSound}
-pub use Rattle.ring_pass.specs.Reading.{IsBadLine, OfTrace}
-pub use Rattle.ring_pass.specs.Rules.{ring_verdict}
+pub use Rattle.trace_reader.specs.Streaming.Streams.{IfBadLine, OfStream}
+pub use Rattle.ownership_checker.specs.RingPasses.Accepted.{IsAccepted as IsAcceptedText, IsSound}
+pub use Rattle.ownership_checker.specs.RingPasses.Reading.{IsBadLine, OfTrace}
+pub use Rattle.ownership_checker.specs.RingPasses.Rules.{ring_verdict}
 
 -- a refused row, by its number
 abbrev pub IfRefusedIn : StreamCheckFault → (ℕ → Refusal → Type 0) → Type 0

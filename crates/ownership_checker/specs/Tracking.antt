@@ -2,12 +2,12 @@
 use Rattle.std.specs.Prelude.{ℕ, List, reverse, take}
 use Rattle.traces.specs.declared.header.Header.{Header}
 use Rattle.traces.specs.declared.row.Row.{Row}
-use Rattle.lease_book.specs.declared.lease_book.LeaseBook.{LeaseBook}
-use Rattle.lease_book.specs.Books.{HoldsLents}
-use Rattle.lease_book.specs.declared.ranges.RangeIndexes.{RangeIndexes}
-use Rattle.lease_rows.specs.CleanRows.{FollowsBook}
+use Rattle.leases.specs.declared.book.lease_book.LeaseBook.{LeaseBook}
+use Rattle.leases.specs.LeaseBooks.Books.{HoldsLents}
+use Rattle.leases.specs.declared.book.ranges.RangeIndexes.{RangeIndexes}
+use Rattle.leases.specs.LeaseRows.CleanRows.{FollowsBook}
 use Rattle.trace_record.specs.declared.trace_record.TraceRecord.{TraceRecord}
-use Rattle.row_checks.specs.Tracking.{IsPass}
+use Rattle.ownership_checker.specs.JudgedRows.Tracking.{IsPass}
 
 -- so many rows were checked, and the book holds their leases
 pub record IsProgress (h : Header) (rows : List Row) (first done number : ℕ) (kept : TraceRecord) (memory : ℕ → ℕ) (book : LeaseBook) (ranges : RangeIndexes) : Type 0 where

@@ -1,9 +1,9 @@
 ghost use Rattle.std.specs.Prelude.{◌≡◌};
 
 use ownership_rules::Refusal;
-use row_reader::StreamFault;
 use std::alloc::AllocError;
 use thiserror::Error;
+use trace_reader::StreamFault;
 
 /// Why a trace isn't accepted.
 #[derive(Debug, Drop, Error, PartialEq, Eq)]
@@ -48,7 +48,7 @@ impl From<StreamFault> for StreamCheckFault {
 }
 
 impl From<AllocError> for StreamCheckFault {
-    ghost use Rattle.row_reader.specs.declared.fault.StreamFault.TheVariants.{Memory as NoMemory};
+    ghost use Rattle.trace_reader.specs.declared.row_reader.fault.StreamFault.TheVariants.{Memory as NoMemory};
     ghost use Rattle.ownership_checker.specs.declared.fault.StreamCheckFault.TheVariants.{Unread};
 
     ghost from_gives = { λ f e. e ≡ Unread NoMemory };

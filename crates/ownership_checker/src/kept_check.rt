@@ -3,15 +3,15 @@ ghost use Rattle.std.specs.Prelude.{◌≡◌, ◌+◌, ◌≤◌, ℕ, All, Som
 ghost use Rattle.traces.specs.Header.{IsHeader};
 ghost use Rattle.traces.specs.Limits.{most_lines};
 ghost use Rattle.traces.specs.TraceRows.{IsTraceRow};
-ghost use Rattle.ring_pass.specs.Accepted.{IsSound};
-ghost use Rattle.ring_pass.specs.Rules.{ring_verdict};
+ghost use Rattle.ownership_checker.specs.RingPasses.Accepted.{IsSound};
+ghost use Rattle.ownership_checker.specs.RingPasses.Rules.{ring_verdict};
 ghost use Rattle.ownership_checker.specs.Verdicts.{IfRefusedAt};
 
 use crate::certificate::Certificate;
 use crate::fault::CheckFault;
+use crate::pass::{Passed, pass_kept};
 use guest_memory::WordMemory;
-use lease_book::LeaseBook;
-use ring_pass::{Passed, pass_kept};
+use leases::LeaseBook;
 use std::alloc::Global;
 use traces::{Header, TraceRow};
 

@@ -1,7 +1,7 @@
 ghost use Rattle.std.specs.Prelude.{◌≡◌, ◌+◌, ℕ, [], length, IfOk, OnOk};
-ghost use Rattle.lease_book.specs.Lents.{lents};
+ghost use Rattle.leases.specs.LeaseBooks.Lents.{lents};
 
-use lease_book::{LeaseLog, opening_leases};
+use leases::{LeaseLog, opening_leases};
 use std::alloc::{AllocError, Global};
 use traces::{Header, Ring};
 

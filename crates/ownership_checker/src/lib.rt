@@ -5,6 +5,8 @@ mod certificate;
 mod fault;
 mod kept_check;
 mod lease_count;
+mod pass;
+mod rows;
 mod stream_check;
 mod trace_check;
 
@@ -12,5 +14,7 @@ pub use certificate::Certificate;
 pub use fault::{CheckFault, StreamCheckFault};
 pub use kept_check::check_kept;
 pub use lease_count::LeaseCount;
+pub use pass::{Behind, Passed, RingPass, pass_kept, pass_rows};
+pub use rows::check_row;
 pub use stream_check::{check_stream, count_stream};
 pub use trace_check::{check, check_in};

@@ -1,19 +1,19 @@
 //! The check of a trace whose rows are read one by one.
 ghost use Rattle.std.specs.Prelude.{◌≡◌, false, ℕ, List, Some, length, IfErr, IfOk};
 ghost use Rattle.ring_knowledge.specs.declared.lease.Lease.{Lease};
-ghost use Rattle.ring_pass.specs.Accepted.{IsSound};
-ghost use Rattle.ring_pass.specs.Reading.{IsBadLine, OfTrace};
-ghost use Rattle.ring_pass.specs.Rules.{ring_verdict};
+ghost use Rattle.ownership_checker.specs.RingPasses.Accepted.{IsSound};
+ghost use Rattle.ownership_checker.specs.RingPasses.Reading.{IsBadLine, OfTrace};
+ghost use Rattle.ownership_checker.specs.RingPasses.Rules.{ring_verdict};
 ghost use Rattle.ownership_checker.specs.Streams.{IfBadLineIn, IfRefusedIn, told_in_check};
 
 use crate::certificate::Certificate;
 use crate::fault::StreamCheckFault;
 use crate::lease_count::LeaseCount;
+use crate::pass::{Passed, pass_rows};
 use guest_memory::WordMemory;
-use lease_book::{LeaseBook, LeaseLog};
-use ring_pass::{Passed, pass_rows};
-use row_reader::{RowReader, Source};
+use leases::{LeaseBook, LeaseLog};
 use std::alloc::Global;
+use trace_reader::{RowReader, Source};
 
 /// Checks a trace as it is read, in one pass that keeps no row: its leases, or the first row that breaks a rule and the least of the rules
 /// that it breaks. Behind that row it reads on: where a later line is bad, the first such line is answered in place of the refusal. Where the

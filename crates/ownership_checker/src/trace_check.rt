@@ -9,13 +9,11 @@ ghost use Rattle.ownership_checker.specs.Walks.{WalksRead};
 
 use crate::certificate::Certificate;
 use crate::fault::CheckFault;
+use crate::rows::check_row;
 use guest_memory::{PageMemory, WordMemory};
-use lease_book::{LeaseBook, RangeIndexes};
-use lease_rows::note_row;
-use ring_finder::Finder;
-use row_checks::check_row;
+use leases::{LeaseBook, RangeIndexes, note_row};
 use std::alloc::Global;
-use trace_record::{StepFault, TraceRecord};
+use trace_record::{Finder, StepFault, TraceRecord};
 use traces::{Header, Row, Trace};
 
 /// Checks the rows of a trace, `first` the number of the first; its leases.
@@ -41,7 +39,6 @@ fn check_rows<M: WordMemory + Drop>(
     let mut ranges = RangeIndexes::new(alloc);
     for row in rows {
         let place = kept.place(header, &finder, row);
-        let owned = kept.owns(header, &memory, row, place);
         note_row(
             &mut book,
             &mut ranges,
@@ -53,7 +50,7 @@ fn check_rows<M: WordMemory + Drop>(
             row,
             place,
         )?;
-        match check_row(header, &finder, &mut kept, &mut memory, row, place, owned) {
+        match check_row(header, &finder, &mut kept, &mut memory, row, place) {
             Ok(()) => {}
             Err(StepFault::Refused(refusal)) => return Err(CheckFault::Refused {
                 row: number,

@@ -1,1 +1,4 @@
 pub mod Replays
+pub mod LazySteps
+pub mod RowNotes
+pub mod Schedules

@@ -1,18 +1,17 @@
 //! What is known before the refused row: memory, rings, slots and endpoints, as the rows tell of them.
 ghost use Rattle.std.specs.Prelude.{◌≡◌, ◌<◌, ◌%◌, OnOk};
 ghost use Rattle.traces.specs.Header.{IsHeader};
-ghost use Rattle.ring_finder.specs.Finding.{IsFinder};
+ghost use Rattle.trace_record.specs.RingFinder.Finding.{IsFinder};
 
-use crate::live_rings::{add_ring, clashes_with_one, copy_header, remove_ring};
+use crate::live_rings::{add_ring, clashes_with_one, remove_ring};
 use crate::positions::is_handed_over;
 use crate::ring_past::RingPast;
 use commands::{Command, EndpointState};
 use contexts::{EndpointContext, InputContext};
-use device_record::{DeviceRecord, Named};
 use guest_memory::{Addr, PageMemory, WordMemory};
-use ring_finder::Finder;
 use ring_knowledge::{RingGiving, RingRecord};
 use std::alloc::{AllocError, Global};
+use trace_record::{DeviceRecord, Finder, Named};
 use traces::{Header, Register, Ring, Row, TraceRow};
 use trb::{Block, BlockKind};
 
@@ -88,7 +87,7 @@ pub struct Behind {
 pub fn known_after(alloc: Global, header: &Header, rows: &[TraceRow]) -> Result<Behind, AllocError>
     requires { IsHeader header.now }
 {
-    let mut header = copy_header(alloc, header)?;
+    let mut header = header.copy(alloc)?;
     let mut finder = Finder::new(alloc, &header)?;
     let mut known = Known::new(alloc, &header)?;
     for (index, row) in rows.iter().enumerate() {

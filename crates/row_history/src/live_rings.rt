@@ -2,41 +2,11 @@
 ghost use Rattle.std.specs.Prelude.{◌≡◌, ◌<◌, false, length, IfOk, OnOk};
 ghost use Rattle.std.specs.List.{list_any};
 ghost use Rattle.traces.specs.Header.{IsHeader, clash};
-ghost use Rattle.ring_finder.specs.Finding.{IsFinder};
+ghost use Rattle.trace_record.specs.RingFinder.Finding.{IsFinder};
 
-use ring_finder::{Finder, is_command_ring, is_event_ring};
 use std::alloc::{AllocError, Global};
+use trace_record::{Finder, is_command_ring, is_event_ring};
 use traces::{Header, Ring, Rings};
-
-/// An equal header in memory of its own.
-pub(crate) fn copy_header(alloc: Global, header: &Header) -> Result<Header, AllocError>
-    ensures { IfOk result (λ copy. copy ≡ header.now) }
-{
-    Ok(Header {
-        version: header.version,
-        context_size: header.context_size,
-        rings: Rings::new(copy_rings(alloc, header.rings.as_slice())?),
-    })
-}
-
-fn copy_rings(alloc: Global, rings: &[Ring]) -> Result<Vec<Ring>, AllocError>
-    ensures { IfOk result (λ copies. copies.items ≡ rings.now) }
-{
-    let mut copies = Vec::new(alloc);
-    for ring in rings {
-        copies.push(copy_ring(ring)?)?;
-    }
-    Ok(copies)
-}
-
-fn copy_ring(ring: &Ring) -> Result<Ring, AllocError>
-    ensures { IfOk result (λ copy. copy ≡ ring.now) }
-{
-    Ok(Ring {
-        id: ring.id,
-        shape: ring.shape.copy()?,
-    })
-}
 
 /// Whether a ring can't stand beside one of these.
 pub(crate) fn clashes_with_one(rings: &[Ring], ring: &Ring) -> bool
@@ -68,7 +38,7 @@ pub(crate) fn add_ring(
     ensures found { OnOk result (IsFinder header.new.rings finder.new) }
 {
     let _places = ring.shape.places();
-    let ring = copy_ring(ring)?;
+    let ring = ring.copy()?;
     header.rings.push(ring)?;
     *finder = Finder::new(alloc, header)?;
     Ok(())

@@ -1,11 +1,11 @@
 //! Rings that come or go: which endpoint has one, and where a segment shows the Cycle bit of the first lap.
 ghost use Rattle.std.specs.Prelude.{◌≡◌, ◌≢◌, ◌+◌, ◌*◌, ◌%◌, ◌^◌, ◌≤◌, ◌<◌, ℕ, Some, IfSome, IfNone, true, false};
 ghost use Rattle.ring_knowledge.specs.Known.{Known};
-ghost use Rattle.device_record.specs.Devices.{FollowsDevices};
+ghost use Rattle.trace_record.specs.DeviceSlots.Devices.{FollowsDevices};
 
-use device_record::DeviceRecord;
 use guest_memory::{Addr, WordMemory};
 use segments::Segment;
+use trace_record::DeviceRecord;
 
 /// An endpoint, by its slot and its DCI.
 #[derive(Clone, Copy, Debug, PartialEq, Eq)]

@@ -218,3 +218,5 @@ pub mod Words
 pub mod RingsKept
 pub mod OpenedBefore
 pub mod BoundBehind
+pub mod RingChanges
+pub mod LazyRuns

@@ -10,3 +10,5 @@ pub mod Matches
 pub mod Invariant
 pub mod Headline
 pub mod Beneath
+pub mod RingChanges
+pub mod LazyRuns

@@ -34,3 +34,4 @@ pub mod ScheduleSteps
 pub mod RowsAhead
 pub mod Examples
 pub mod Words
+pub mod Streaming

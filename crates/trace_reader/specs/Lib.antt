@@ -18,3 +18,4 @@ pub mod PlanValues
 pub mod Schedules
 pub mod SegmentsApart
 pub mod ScheduleSpelling
+pub mod Streaming

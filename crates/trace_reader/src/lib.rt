@@ -1,4 +1,4 @@
-//! The texts of traces, plans and schedules, read and printed exactly.
+//! The texts of traces, plans and schedules, read and printed exactly: from memory, or the rows of a trace one by one from a device.
 #![tactic(auto)]
 
 mod clashes;
@@ -12,6 +12,7 @@ mod plans;
 mod print;
 mod quick;
 mod read;
+mod row_reader;
 mod schedules;
 mod segments_so_far;
 mod so_far;
@@ -26,6 +27,7 @@ pub use plans::read_plan;
 pub use print::{print_trace, with_ring, with_row, with_sub, with_write};
 pub use quick::{bell_ahead, declaration_ahead, erdp_ahead, event_ahead, write_ahead};
 pub use read::read_trace;
+pub use row_reader::{Counted, Failed, RowReader, Source, StreamFault, TextRows, read_rows};
 pub use schedules::{print_schedule, read_schedule};
 pub use so_far::TraceSoFar;
 pub use traces::{

@@ -8,3 +8,6 @@ mod OpenEntries
 pub mod PlacedWords
 pub mod FirstBroken
 pub mod Words
+pub mod RangeWords
+pub mod RingFinder
+pub mod DeviceSlots

@@ -10,12 +10,12 @@ use Rattle.traces.specs.Header.{event_ring, event_shape}
 use Rattle.ring_knowledge.specs.Known.{Known}
 use Rattle.ring_knowledge.specs.Rings.{unfinished}
 use Rattle.ring_knowledge.specs.RegisterRecords.{FollowsRegisters}
-use Rattle.ring_finder.specs.RecordsOfRings.{FollowsRings}
-use Rattle.device_record.specs.Devices.{FollowsDevices}
-use Rattle.device_record.specs.Unfinished.{FollowsUnfinished}
+use Rattle.trace_record.specs.RingFinder.RecordsOfRings.{FollowsRings}
+use Rattle.trace_record.specs.DeviceSlots.Devices.{FollowsDevices}
+use Rattle.trace_record.specs.DeviceSlots.Unfinished.{FollowsUnfinished}
 use Rattle.ownership_rules.specs.Moves.{is_being_bound}
 use Rattle.ownership_rules.specs.OpenLeases.{slots}
-use Rattle.range_words.specs.Holding.{HoldsAreas, HoldsSoiled}
+use Rattle.trace_record.specs.RangeWords.Holding.{HoldsAreas, HoldsSoiled}
 use Rattle.trace_record.specs.declared.ring_set.RingSet.{RingSet}
 use Rattle.trace_record.specs.declared.trace_record.TraceRecord.{TraceRecord}
 use Rattle.trace_record.specs.RingSets.{has}

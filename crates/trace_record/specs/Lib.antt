@@ -5,3 +5,6 @@ pub mod Premises
 pub mod Fresh
 pub mod Owned
 pub mod WordPlaces
+pub mod RangeWords
+pub mod RingFinder
+pub mod DeviceSlots

@@ -4,8 +4,8 @@ ghost use Rattle.ring_knowledge.specs.Known.{nothing};
 ghost use Rattle.trace_record.specs.FollowsTrace.{FollowsEvents};
 ghost use Rattle.trace_record.specs.Fresh.{AreFresh, IsWithin};
 
+use crate::ring_finder::is_event_ring;
 use event_ring::EventPlace;
-use ring_finder::is_event_ring;
 use ring_knowledge::RingRecord;
 use std::alloc::{AllocError, Global};
 use traces::{Header, Ring};

@@ -6,7 +6,7 @@ ghost use Rattle.traces.specs.Header.{event_shape};
 ghost use Rattle.traces.specs.declared.header.Header.{Header as HeaderValue};
 ghost use Rattle.ring_knowledge.specs.Known.{Known};
 ghost use Rattle.ring_knowledge.specs.RegisterRecords.{FollowsRegisters};
-ghost use Rattle.device_record.specs.Devices.{FollowsDevices};
+ghost use Rattle.trace_record.specs.DeviceSlots.Devices.{FollowsDevices};
 ghost use Rattle.ownership_rules.specs.OpenLeases.{covers, is_leased, is_the_controllers, segment_ranges};
 ghost use Rattle.trace_record.specs.FollowsTrace.{FollowsEvents, FollowsTrace};
 ghost use Rattle.trace_record.specs.WordPlaces.{IsOwnedSo, IsPlaced};

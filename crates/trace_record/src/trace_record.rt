@@ -2,11 +2,11 @@ ghost use Rattle.std.specs.Prelude.{◌≡◌, ℕ, IfOk};
 ghost use Rattle.traces.specs.Header.{IsHeader};
 ghost use Rattle.ring_knowledge.specs.Known.{nothing};
 
+use crate::device_record::{DeviceRecord, UnfinishedCommands};
 use crate::fresh::{event_place, fresh_records};
+use crate::range_words::{Areas, SoiledWords};
 use crate::ring_set::RingSet;
-use device_record::{DeviceRecord, UnfinishedCommands};
 use event_ring::EventPlace;
-use range_words::{Areas, SoiledWords};
 use ring_knowledge::{RegisterRecord, RingRecord};
 use std::alloc::{AllocError, Global};
 use traces::Header;

@@ -1,14 +1,14 @@
 ghost use Rattle.std.specs.Prelude.{ℕ};
 ghost use Rattle.traces.specs.Header.{IsHeader};
 ghost use Rattle.ring_knowledge.specs.Known.{Known};
-ghost use Rattle.ring_finder.specs.Finding.{IsFinder};
-ghost use Rattle.ring_finder.specs.RecordsOfRings.{FollowsRings};
+ghost use Rattle.trace_record.specs.RingFinder.Finding.{IsFinder};
+ghost use Rattle.trace_record.specs.RingFinder.RecordsOfRings.{FollowsRings};
 ghost use Rattle.trace_record.specs.FollowsTrace.{FollowsTrace};
 ghost use Rattle.trace_record.specs.WordPlaces.{IsPlaced, IsPlacedSo};
 
+use crate::ring_finder::{Finder, is_event_ring};
 use crate::trace_record::TraceRecord;
 use guest_memory::Addr;
-use ring_finder::{Finder, is_event_ring};
 use ring_knowledge::RingGiving;
 use traces::{Header, Row};
 

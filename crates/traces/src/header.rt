@@ -1,9 +1,9 @@
-ghost use Rattle.std.specs.Prelude.{◌≡◌, ◌<◌, ◌∷◌, ◌++◌, [], length, remove, OnErr, OnOk};
+ghost use Rattle.std.specs.Prelude.{◌≡◌, ◌<◌, ◌∷◌, ◌++◌, [], length, remove, IfOk, OnErr, OnOk};
 
 use crate::ring::Ring;
 use crate::version::Version;
 use contexts::ContextSize;
-use std::alloc::AllocError;
+use std::alloc::{AllocError, Global};
 use std::marker::Model;
 
 /// The rings of a trace, in the order of their declaration. Contracts see the list.
@@ -63,4 +63,27 @@ pub struct Header {
     pub context_size: ContextSize,
     /// The rings, in the order of their declaration.
     pub rings: Rings,
+}
+
+impl Header {
+    /// An equal header in memory of its own.
+    pub fn copy(&self, alloc: Global) -> Result<Header, AllocError>
+        ensures { IfOk result (λ copy. copy ≡ self.now) }
+    {
+        Ok(Header {
+            version: self.version,
+            context_size: self.context_size,
+            rings: Rings::new(copy_rings(alloc, self.rings.as_slice())?),
+        })
+    }
+}
+
+fn copy_rings(alloc: Global, rings: &[Ring]) -> Result<Vec<Ring>, AllocError>
+    ensures { IfOk result (λ copies. copies.items ≡ rings.now) }
+{
+    let mut copies = Vec::new(alloc);
+    for ring in rings {
+        copies.push(ring.copy()?)?;
+    }
+    Ok(copies)
 }

@@ -4,6 +4,7 @@
 mod bits;
 mod block;
 mod blocks;
+mod completion_code;
 mod descriptor;
 mod fault;
 mod flags;
@@ -14,6 +15,7 @@ mod ring_kind;
 pub use bitflags::Flags;
 pub use block::Block;
 pub use blocks::Blocks;
+pub use completion_code::{is_halting, is_stopping, is_success, is_trb_error};
 pub use descriptor::{descriptor_fault, is_command_left_out, is_no_command};
 pub use fault::Fault;
 pub use flags::BlockFlags;

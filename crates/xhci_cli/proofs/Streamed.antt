@@ -3,19 +3,19 @@ use Rattle.std.proofs.Common.{◌≡◌, ◌∙◌, ℕ, Bool, true, false, List
 use Rattle.std.specs.Prelude.{IfErr, IfOk, is_some}
 use Rattle.trace_reader.specs.DriverRows.{text_taken}
 use Rattle.trace_reader.specs.Reading.{TraceText, trace_of}
-use Rattle.ring_pass.proofs.RowsTaken.{text_is_trace}
+use Rattle.ownership_checker.proofs.RingPasses.RowsTaken.{text_is_trace}
 use Rattle.xhci_cli.specs.HarmAnswers.{IsHarmFound}
 use Rattle.answers.specs.declared.answer.FoundHarm.{FoundHarm}
 use Rattle.trace_reader.specs.declared.fault.LineFault.{LineFault}
-use Rattle.row_reader.specs.declared.fault.StreamFault.{StreamFault}
-use Rattle.row_reader.specs.declared.fault.StreamFault.TheVariants.{Line, Device as NoDevice, Memory as NoMemory}
+use Rattle.trace_reader.specs.declared.row_reader.fault.StreamFault.{StreamFault}
+use Rattle.trace_reader.specs.declared.row_reader.fault.StreamFault.TheVariants.{Line, Device as NoDevice, Memory as NoMemory}
 use Rattle.ring_knowledge.specs.declared.lease.Lease.{Lease}
-use Rattle.row_reader.specs.Streams.{IfBadLine, OfStream}
-use Rattle.row_reader.proofs.Streams.{known_text}
-use Rattle.ring_pass.specs.Accepted.{IsSound}
-use Rattle.ring_pass.specs.Reading.{IsBadLine, OfTrace}
-use Rattle.ring_pass.specs.RingRows.{ring_row}
-use Rattle.ring_pass.specs.Rules.{ring_verdict}
+use Rattle.trace_reader.specs.Streaming.Streams.{IfBadLine, OfStream}
+use Rattle.trace_reader.proofs.Streaming.Streams.{known_text}
+use Rattle.ownership_checker.specs.RingPasses.Accepted.{IsSound}
+use Rattle.ownership_checker.specs.RingPasses.Reading.{IsBadLine, OfTrace}
+use Rattle.ownership_checker.specs.RingPasses.RingRows.{ring_row}
+use Rattle.ownership_checker.specs.RingPasses.Rules.{ring_verdict}
 use Rattle.ownership_checker.specs.Streams.{IfBadLineIn, IfRefusedIn}
 use Rattle.ownership_checker.specs.declared.fault.StreamCheckFault.{StreamCheckFault}
 use Rattle.ownership_checker.specs.declared.fault.StreamCheckFault.TheVariants.{Refused as RefusedRow, Unread}

@@ -4,7 +4,7 @@ use Rattle.traces.specs.declared.header.Header.{Header}
 use Rattle.traces.specs.Header.{IsHeader}
 use Rattle.trace_reader.specs.Reading.{TraceText}
 use Rattle.ownership_rules.specs.declared.refusal.Refusal.{Refusal}
-use Rattle.ring_pass.specs.Rules.{ring_verdict}
+use Rattle.ownership_checker.specs.RingPasses.Rules.{ring_verdict}
 use Rattle.xhci_cli.specs.VersionNotes.{breaks_no_rule_of_three, in_version_three, is_behind}
 
 -- which rings may stand together doesn't depend on the version

@@ -2,7 +2,7 @@
 use Rattle.std.specs.Prelude.{◌≡◌, ◌⊎◌, ℕ, Bool, false, List, length, Option, Some, None}
 use Rattle.trace_reader.specs.Reading.{TraceText}
 use Rattle.ring_knowledge.specs.declared.lease.Lease.{Lease}
-use Rattle.ring_pass.specs.Accepted.{IsAccepted, IsSound}
+use Rattle.ownership_checker.specs.RingPasses.Accepted.{IsAccepted, IsSound}
 use Rattle.ownership_checker.specs.declared.fault.StreamCheckFault.{StreamCheckFault}
 use Rattle.ownership_checker.specs.declared.fault.StreamCheckFault.TheVariants.{Refused as RefusedRow, Unread}
 use Rattle.answers.specs.Answers.{answer_of_stream_fault}

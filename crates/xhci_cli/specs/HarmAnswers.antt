@@ -4,8 +4,8 @@ use Rattle.traces.specs.declared.step.Step.{Step}
 use Rattle.trace_reader.specs.Schedules.{schedule_of}
 use Rattle.trace_reader.specs.ScheduleSpelling.{printed_schedule}
 use Rattle.trace_reader.specs.Reading.{TraceText}
-use Rattle.ring_pass.specs.Rules.{ring_verdict}
-use Rattle.scheduler.specs.Harmful.{DoesHarm}
+use Rattle.ownership_checker.specs.RingPasses.Rules.{ring_verdict}
+use Rattle.replayer.specs.Schedules.Harmful.{DoesHarm}
 use Rattle.answers.specs.declared.answer.FoundHarm.{FoundHarm}
 use Rattle.answers.specs.declared.answer.Answer.{Answer}
 use Rattle.answers.specs.declared.answer.Answer.TheVariants.{Refused, HarmShown, Memory}

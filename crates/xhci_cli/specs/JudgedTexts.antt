@@ -3,7 +3,7 @@ use Rattle.std.specs.Prelude.{Bool, ◌≡◌, ◌⊎◌, ℕ, List, Option, Som
 use Rattle.trace_reader.specs.DriverRows.{text_taken}
 use Rattle.trace_reader.specs.Reading.{TraceText}
 use Rattle.trace_reader.specs.declared.fault.LineFault.{LineFault}
-use Rattle.ring_pass.specs.RingRows.{ring_row}
+use Rattle.ownership_checker.specs.RingPasses.RingRows.{ring_row}
 use Rattle.answers.specs.declared.answer.Answer.{Answer}
 use Rattle.answers.specs.declared.answer.Answer.TheVariants.{BadLine, Memory, Device}
 

@@ -6,11 +6,11 @@ use Rattle.trace_reader.specs.ScheduleSpelling.{printed_schedule}
 use Rattle.controller_model.specs.Scenes.{scene_replayed}
 use Rattle.controller_model.specs.Showing.{Replay}
 use Rattle.controller_model.specs.Steps.{NoHarm}
-use Rattle.ring_pass.specs.Clean.{AreClean}
-use Rattle.ring_pass.specs.Rules.{ring_verdict}
-use Rattle.lazy_runs.specs.LateEvents.{IsTimely}
-use Rattle.lazy_runs.specs.Law.{ContainsAll}
-use Rattle.lazy_runs.specs.Lazy.{lazy_steps}
+use Rattle.ownership_checker.specs.RingPasses.Clean.{AreClean}
+use Rattle.ownership_checker.specs.RingPasses.Rules.{ring_verdict}
+use Rattle.safety.specs.LazyRuns.LateEvents.{IsTimely}
+use Rattle.safety.specs.LazyRuns.Law.{ContainsAll}
+use Rattle.safety.specs.LazyRuns.Lazy.{lazy_steps}
 use Rattle.answers.specs.declared.answer.Answer.{Answer}
 use Rattle.answers.specs.declared.answer.Answer.TheVariants.{Scheduled, Refused, Memory}
 use Rattle.xhci_cli.specs.KeptTexts.{IsTraceAnswer}

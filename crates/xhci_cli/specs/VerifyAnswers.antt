@@ -5,7 +5,7 @@ use Rattle.ring_knowledge.specs.declared.lease.Lease.{Lease}
 use Rattle.certificate.specs.Spelling.{certificate_of}
 use Rattle.certificate.specs.declared.fault.CertFault.{CertFault}
 use Rattle.certificate.specs.declared.fault.CertFault.TheVariants.{Memory as NoLeaseMemory}
-pub use Rattle.ring_pass.specs.Accepted.{IsVerified}
+pub use Rattle.ownership_checker.specs.RingPasses.Accepted.{IsVerified}
 use Rattle.answers.specs.declared.answer.Answer.{Answer}
 use Rattle.answers.specs.declared.answer.Answer.TheVariants.{Verified, BadCertificate, Memory, Device}
 use Rattle.xhci_cli.specs.JudgedTexts.{IsTraceAnswer}

@@ -4,7 +4,7 @@ use Rattle.traces.specs.declared.header.Header.{Header}
 use Rattle.traces.specs.declared.version.Version.TheVariants.{Three}
 use Rattle.trace_reader.specs.Reading.{TraceText}
 use Rattle.ownership_rules.specs.declared.refusal.Refusal.{Refusal}
-use Rattle.ring_pass.specs.Rules.{ring_verdict}
+use Rattle.ownership_checker.specs.RingPasses.Rules.{ring_verdict}
 
 -- the same header, for rows that version 3 judges
 abbrev pub in_version_three : Header → Header

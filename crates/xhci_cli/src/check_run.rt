@@ -13,10 +13,10 @@ use crate::stream_answers::{counted_answer, unaccepted};
 use answers::{Answer, Asked, Status, keep, tell, tell_failure};
 use guest_memory::PageMemory;
 use ownership_checker::check_stream;
-use row_reader::Source;
-use scheduler::Search;
+use replayer::Search;
 use std::alloc::Global;
 use std::io::{self, Read, Seek, Write};
+use trace_reader::Source;
 
 /// Checks the trace that `input` holds. A verdict goes to `out`, and what hinders one to `err`, and there goes what is explained.
 /// Where the trace is accepted its certificate is written before that is told; where it can't be written, this is told in its place.

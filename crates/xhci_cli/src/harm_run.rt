@@ -4,9 +4,9 @@ ghost use Rattle.answers.specs.Telling.{IsNote};
 ghost use Rattle.xhci_cli.specs.CheckAnswers.{IsCheckAnswer, IsHindered};
 ghost use Rattle.trace_reader.specs.DriverRows.{text_taken};
 ghost use Rattle.trace_reader.specs.Reading.{TraceText};
-ghost use Rattle.row_reader.specs.TextRows.{trace_kept};
-ghost use Rattle.ring_pass.specs.RingRows.{ring_row};
-ghost use Rattle.ring_pass.specs.Rules.{ring_verdict};
+ghost use Rattle.trace_reader.specs.Streaming.TextRows.{trace_kept};
+ghost use Rattle.ownership_checker.specs.RingPasses.RingRows.{ring_row};
+ghost use Rattle.ownership_checker.specs.RingPasses.Rules.{ring_verdict};
 ghost use Rattle.xhci_cli.specs.HarmAnswers.{IsHarmFound, IsRefusalTold};
 
 use crate::check_run::kept_answer;
@@ -15,11 +15,10 @@ use crate::reading::bytes_of;
 use crate::version_note::note_on_check;
 use answers::{Answer, Asked, FoundHarm};
 use ownership_rules::Refusal;
-use row_reader::{Counted, TextRows, read_rows};
-use scheduler::{Search, harmful_run};
+use replayer::{Search, harmful_run};
 use std::alloc::{AllocError, Global};
 use std::io::{self, Read, Write};
-use trace_reader::{ReadFault, print_schedule};
+use trace_reader::{Counted, ReadFault, TextRows, print_schedule, read_rows};
 
 /// Judges the trace that an input holds; of a refused one a run that does harm is looked for.
 pub fn judged_with_harm<R: Read + Drop, C: Write>(

@@ -7,8 +7,8 @@ use answers::{Answer, Asked, note_on_leases};
 use guest_memory::PageMemory;
 use ownership_checker::{StreamCheckFault, check_stream};
 use ring_knowledge::Lease;
-use row_reader::{Counted, StreamFault};
 use std::alloc::{AllocError, Global};
+use trace_reader::{Counted, StreamFault};
 
 /// What a person is told of an answer to the text of a trace, or to leases beside it. Where the answer is no: the row that breaks a rule,
 /// or else the first lease that isn't the trace's; nothing where it would be yes.

@@ -9,10 +9,9 @@ use answers::{Answer, Asked, note_on_failure};
 use guest_memory::PageMemory;
 use ownership_checker::{Certificate, check_stream};
 use ring_knowledge::Lease;
-use row_reader::Counted;
 use std::alloc::{AllocError, Global};
 use std::io::{Read, Seek};
-use trace_reader::MOST_LINES;
+use trace_reader::{Counted, MOST_LINES};
 
 /// What a person is told of an answer to the trace that an input held; the leases are those of a certificate, where one is verified. A text
 /// that was too long to be kept is read once more.

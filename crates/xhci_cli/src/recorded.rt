@@ -2,10 +2,10 @@
 ghost use Rattle.std.specs.Prelude.{◌≡◌};
 
 use crate::reading::first_lines;
-use row_reader::{Counted, Failed, Source};
 use std::alloc::{AllocError, Global};
 use std::io::{self, ErrorKind, Read, Seek};
 use std::mem;
+use trace_reader::{Counted, Failed, Source};
 
 /// So many bytes of a text are kept at most.
 const MOST_KEPT: usize = 1 << 23;

@@ -1,6 +1,6 @@
 //! Replays a schedule beside a trace, and writes the answer.
 ghost use Rattle.std.specs.Prelude.{Some, ◌≡◌, ◌⊎◌, false, true, IsErr};
-ghost use Rattle.row_reader.specs.TextRows.{trace_kept};
+ghost use Rattle.trace_reader.specs.Streaming.TextRows.{trace_kept};
 ghost use Rattle.answers.specs.Answers.{goes_out};
 ghost use Rattle.answers.specs.Inputs.{opened};
 ghost use Rattle.xhci_cli.specs.KeptTexts.{IsUnread};
@@ -12,10 +12,9 @@ use answers::{
     Answer, Asked, ReplayEnd, Status, note_on_schedule, note_on_trace, tell, tell_failure,
 };
 use replayer::{ReplayFault, replay};
-use row_reader::{TextRows, read_rows};
 use std::alloc::Global;
 use std::io::{self, Read, Write};
-use trace_reader::read_schedule;
+use trace_reader::{TextRows, read_rows, read_schedule};
 use traces::Schedule;
 
 /// Replays the schedule of the input that `open_schedule` opens beside the trace that `trace` holds, with all its rows, once it was read;

@@ -1,6 +1,6 @@
 //! Makes the lazy schedule of a trace, and writes the answer.
 ghost use Rattle.std.specs.Prelude.{Some, ◌≡◌, false, true, IsErr};
-ghost use Rattle.row_reader.specs.TextRows.{trace_kept};
+ghost use Rattle.trace_reader.specs.Streaming.TextRows.{trace_kept};
 ghost use Rattle.answers.specs.Answers.{goes_out};
 ghost use Rattle.answers.specs.Inputs.{opened};
 ghost use Rattle.answers.specs.Telling.{IsTold};
@@ -9,11 +9,10 @@ ghost use Rattle.xhci_cli.specs.ScheduleAnswers.{IsScheduleAnswer, IsScheduled};
 use crate::reading::bytes_of;
 use crate::version_note::note_on_check;
 use answers::{Answer, Asked, Status, tell, tell_failure};
-use row_reader::{TextRows, read_rows};
-use scheduler::{ScheduleFault, lazy_schedule};
+use replayer::{ScheduleFault, lazy_schedule};
 use std::alloc::Global;
 use std::io::{self, Read, Write};
-use trace_reader::print_schedule;
+use trace_reader::{TextRows, print_schedule, read_rows};
 
 /// Writes the lazy schedule of the trace that `input` holds to `out`: all its rows, and directly before each event that is read the
 /// controller's steps that it needs. A row that breaks a rule is told there in its place, and what hinders the answer to `err`.

@@ -1,7 +1,7 @@
 //! Shows who owns what before a row of a trace.
 ghost use Rattle.std.specs.Prelude.{Some, ◌≡◌, false, true, IsErr};
 ghost use Rattle.answers.specs.Answers.{goes_out};
-ghost use Rattle.row_reader.specs.TextRows.{trace_kept};
+ghost use Rattle.trace_reader.specs.Streaming.TextRows.{trace_kept};
 ghost use Rattle.answers.specs.Inputs.{opened};
 ghost use Rattle.answers.specs.Telling.{IsTold};
 ghost use Rattle.xhci_cli.specs.ShowAnswers.{IsPageAnswer, IsShowAnswer};
@@ -9,9 +9,9 @@ ghost use Rattle.xhci_cli.specs.ShowAnswers.{IsPageAnswer, IsShowAnswer};
 use crate::reading::bytes_of;
 use answers::{Answer, Asked, Status, note_on_trace, tell, tell_failure};
 use knowledge_page::{ShowFault, page_of, shown_before};
-use row_reader::{TextRows, read_rows};
 use std::alloc::Global;
 use std::io::{self, Read, Write};
+use trace_reader::{TextRows, read_rows};
 
 /// Writes to `out` what is known, and who owns what, before a row of the trace that `input` holds: before the first that breaks a rule,
 /// or behind all, where none is named. What hinders the page goes to `err`.

@@ -5,12 +5,12 @@ ghost use Rattle.xhci_cli.specs.JudgedTexts.{IsTraceAnswer};
 ghost use Rattle.xhci_cli.specs.VerifyAnswers.{IsVerdictBeside};
 
 use answers::Answer;
+use certificate::verify_stream;
 use guest_memory::PageMemory;
 use ownership_checker::{StreamCheckFault, count_stream};
 use ring_knowledge::Lease;
-use row_reader::Source;
 use std::alloc::Global;
-use verifier::verify_stream;
+use trace_reader::Source;
 
 /// The answer to a trace of which no certificate is asked for: its leases are counted.
 pub fn counted_answer<S: Source>(alloc: Global, source: &mut S) -> Answer

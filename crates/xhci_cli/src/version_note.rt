@@ -1,15 +1,14 @@
 //! What is told of a row that an older version of the format refuses, and version 3 doesn't.
 ghost use Rattle.std.specs.Prelude.{◌≡◌, IfOk, string_bytes};
-ghost use Rattle.row_reader.specs.TextRows.{trace_kept};
+ghost use Rattle.trace_reader.specs.Streaming.TextRows.{trace_kept};
 ghost use Rattle.answers.specs.Telling.{IsNote};
 ghost use Rattle.xhci_cli.specs.VersionNotes.{breaks_no_rule_of_three, in_version_three};
 
 use answers::{Answer, Asked, note_on_trace};
 use guest_memory::PageMemory;
 use ownership_checker::{CheckFault, check_kept};
-use row_reader::{TextRows, read_rows};
 use std::alloc::{AllocError, Global};
-use trace_reader::ReadFault;
+use trace_reader::{ReadFault, TextRows, read_rows};
 use traces::{Header, Version};
 
 /// What a person is told of a verdict, beside its line; of a refused row also whether version 3 refuses it.

@@ -2,8 +2,8 @@ use Rattle.std.proofs.Common.{[], sym, subst}
 use Rattle.std.specs.Prelude.{reverse}
 use Rattle.traces.specs.declared.header.Header.{Header}
 use Rattle.traces.specs.Header.{IsHeader}
-use Rattle.ring_changes.specs.Histories.{header_now}
-use Rattle.ring_leases.specs.RingLents.{ring_lents}
+use Rattle.safety.specs.RingChanges.Histories.{header_now}
+use Rattle.leases.specs.RingLeases.RingLents.{ring_lents}
 use Rattle.knowledge_page.proofs.behind.standing_behind.Goals as goal
 
 pub pass_kept-requires-clause-headed : goal.pass_kept-requires-clause-headed

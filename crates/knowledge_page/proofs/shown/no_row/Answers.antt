@@ -1,6 +1,6 @@
 use Rattle.std.proofs.Common.{◌≡◌, Some, ap, arith, length}
-use Rattle.row_reader.specs.TextRows.{trace_kept}
-use Rattle.ring_pass.specs.Rules.{ring_verdict}
+use Rattle.trace_reader.specs.Streaming.TextRows.{trace_kept}
+use Rattle.ownership_checker.specs.RingPasses.Rules.{ring_verdict}
 use Rattle.knowledge_page.specs.Shown.{IsRange}
 use Rattle.knowledge_page.proofs.Verdicts.{range_of_all, range_to}
 use Rattle.knowledge_page.proofs.shown.no_row.Goals as goal

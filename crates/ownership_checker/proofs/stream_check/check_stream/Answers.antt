@@ -2,9 +2,9 @@ use Rattle.std.proofs.Common.{ℕ, [], subst}
 use Rattle.std.specs.Prelude.{reverse}
 use Rattle.std.proofs.lemmas.Result.{err_from_is_err_and}
 use Rattle.traces.specs.declared.header.Header.{Header}
-use Rattle.lease_book.specs.Books.{FollowsLeases, HoldsLents}
-use Rattle.ring_changes.specs.Histories.{header_now}
-use Rattle.ring_leases.specs.RingLents.{ring_lents}
+use Rattle.leases.specs.LeaseBooks.Books.{FollowsLeases, HoldsLents}
+use Rattle.safety.specs.RingChanges.Histories.{header_now}
+use Rattle.leases.specs.RingLeases.RingLents.{ring_lents}
 use Rattle.ownership_checker.proofs.Streams.{opened_bad, sound_so}
 use Rattle.ownership_checker.proofs.stream_check.check_stream.Goals as goal
 

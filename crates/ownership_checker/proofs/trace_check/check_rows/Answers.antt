@@ -3,9 +3,9 @@ use Rattle.ring_knowledge.specs.Known.{nothing}
 use Rattle.ring_knowledge.specs.Learned.{known}
 use Rattle.ownership_rules.specs.declared.refusal.Refusal.{Refusal}
 use Rattle.ownership_rules.specs.Rules.{verdict_from}
-use Rattle.lease_book.specs.Lents.{lents}
-use Rattle.lease_book.proofs.Growing.{leases_are}
-use Rattle.row_checks.proofs.Passes.{by_place, refused, room_for}
+use Rattle.leases.specs.LeaseBooks.Lents.{lents}
+use Rattle.leases.proofs.LeaseBooks.Growing.{leases_are}
+use Rattle.ownership_checker.proofs.JudgedRows.Passes.{by_place, refused, room_for}
 use Rattle.ownership_checker.proofs.Checking.{started, stepped, ended, walked}
 use Rattle.ownership_checker.proofs.trace_check.check_rows.Goals as goal
 
@@ -22,8 +22,7 @@ loop-row-preserved g c =
     (room_for c.args.first (length c.args.rows.now) c.requires.within) p c.loop-row-test.true (sym c.row-item.is)
     (c.in-Ok.ensures.reads c.loop-row.row-index p.pass.few_reads)
     (λ k t.
-    let placed = c.place-place.ensures k (g.M.WordMemory.words c.loop-row.memory) t.follows in
-    c.in-Ok.ensures.ok k t placed (c.owns-owned.ensures k t.follows placed))
+    c.in-Ok.ensures.ok k t (c.place-place.ensures k (g.M.WordMemory.words c.loop-row.memory) t.follows))
     (λ past clean held. c.in_ok-note_row.ensures.history [] c.args.first past (c.place-place.ensures (known c.args.header.now past) (g.M.WordMemory.words c.loop-row.memory) clean.followed) clean held)
 
 pub returns-in-Err-Refused-clause-refused : goal.returns-in-Err-Refused-clause-refused
@@ -31,8 +30,8 @@ returns-in-Err-Refused-clause-refused g c =
     subst (λ (r : Refusal). verdict_from c.args.header.now nothing c.args.first c.args.rows.now ≡ Some (c.loop-row.number, r)) (sym c.in-Err-Refused.refusal-is)
     (refused c.args.header.now c.args.rows.now c.args.first c.loop-row.row-index c.loop-row.number c.loop-row.kept (g.M.WordMemory.words c.loop-row.memory)
     c.row-item.result c.row-item.result c.in-Err-Refused.refusal c.in-Err-Refused.field-0 c.in-Err-Refused.field-0-is c.loop-row.invariant.pass c.loop-row-test.true (sym c.row-item.is)
-    (by_place c.args.header.now c.loop-row.kept (g.M.WordMemory.words c.loop-row.memory) c.row-item.result c.place-place.result c.owns-owned.result
-    (λ k f. c.place-place.ensures k (g.M.WordMemory.words c.loop-row.memory) f) (λ k f placed. c.owns-owned.ensures k f placed)
+    (by_place c.args.header.now c.loop-row.kept (g.M.WordMemory.words c.loop-row.memory) c.row-item.result c.place-place.result
+    (λ k f. c.place-place.ensures k (g.M.WordMemory.words c.loop-row.memory) f)
     c.in-Err-Refused.field-0 c.in-Err-Refused.ensures.refused))
 
 pub returns-clause-accepted : goal.returns-clause-accepted

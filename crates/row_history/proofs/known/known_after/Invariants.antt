@@ -1,5 +1,5 @@
 use Rattle.traces.specs.Header.{IsHeader}
-use Rattle.ring_finder.specs.Finding.{IsFinder}
+use Rattle.trace_record.specs.RingFinder.Finding.{IsFinder}
 use Rattle.row_history.proofs.known.known_after.Given as goal
 
 -- the rings that are there now may stand together, and the finder finds them

@@ -1,5 +1,5 @@
 use Rattle.answers.specs.Inputs.{opened}
-use Rattle.row_reader.specs.TextRows.{trace_kept}
+use Rattle.trace_reader.specs.Streaming.TextRows.{trace_kept}
 use Rattle.xhci_cli.specs.ReplayAnswers.{IsReplayBeside}
 use Rattle.xhci_cli.proofs.Replayed.{beside_held}
 use Rattle.answers.proofs.Told.{failure, told_right}

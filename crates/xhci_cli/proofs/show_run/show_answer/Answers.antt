@@ -1,5 +1,5 @@
 use Rattle.std.proofs.Common.{inr}
-use Rattle.row_reader.specs.TextRows.{trace_kept}
+use Rattle.trace_reader.specs.Streaming.TextRows.{trace_kept}
 use Rattle.xhci_cli.proofs.show_run.show_answer.Goals as goal
 
 pub returns-in-Ok : goal.returns-in-Ok

@@ -1,7 +1,7 @@
 use Rattle.std.proofs.Common.{◌∙◌, [], ap, length}
 use Rattle.std.proofs.lemmas.List.{length-map}
-use Rattle.lease_book.specs.Lents.{lease_of, lents}
-use Rattle.lease_book.proofs.FirstBook.{first_list}
+use Rattle.leases.specs.LeaseBooks.Lents.{lease_of, lents}
+use Rattle.leases.proofs.LeaseBooks.FirstBook.{first_list}
 use Rattle.ownership_checker.proofs.lease_count.LeaseCount.new.Goals as goal
 
 pub returns : goal.returns

@@ -1,5 +1,5 @@
 use Rattle.std.proofs.Common.{false}
-use Rattle.device_record.proofs.NewRecord.{alike}
+use Rattle.trace_record.proofs.DeviceSlots.NewRecord.{alike}
 use Rattle.trace_record.proofs.ring_set.RingSet.new.Goals as goal
 
 pub returns : goal.returns

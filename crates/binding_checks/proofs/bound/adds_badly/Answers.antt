@@ -1,8 +1,0 @@
-use Rattle.std.proofs.Common.{◌∙◌}
-use Rattle.binding_checks.proofs.BindingLists.{bad_is}
-use Rattle.binding_checks.proofs.bound.adds_badly.Goals as goal
-
-pub returns : goal.returns
-returns g c = λ k f keeps here.
-    c.binds_badly.ensures k f keeps here (c.rings_dropped-dropped.ensures k (record { followed = f.devices; words = f.words }) here)
-    ∙ bad_is c.args.header.now k c.args.t.now.bound f.bound c.args.command.now

@@ -1,4 +1,0 @@
-use Rattle.binding_checks.proofs.moves.number_in.Goals as goal
-
-pub returns : goal.returns
-returns c = c.ring_named.ensures c.args.header.now.rings c.requires

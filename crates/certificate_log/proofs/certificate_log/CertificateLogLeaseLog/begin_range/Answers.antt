@@ -1,9 +1,0 @@
-use Rattle.certificate_log.proofs.CitedWords.{subst, Begins}
-use Rattle.ring_knowledge.specs.declared.lease.Lease.{Lease}
-use Rattle.certificate_log.proofs.Beginning.{range_begins}
-use Rattle.certificate_log.proofs.certificate_log.CertificateLogLeaseLog.begin_range.Goals as goal
-
-pub returns : goal.returns
-returns c = λ list h ts purpose known.
-    range_begins list h ts c.args.self.now.list c.begin.new.self c.args.self.now.blocks c.args.self.now.links c.args.row c.args.bytes c.args.address purpose known
-    (subst (λ (l : Lease). Begins l c.args.self.now.list c.begin.new.self) (c.range_lease.ensures purpose) c.in_ok-begin.ensures)

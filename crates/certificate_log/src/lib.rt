@@ -1,7 +1,0 @@
-//! The log of a certificate: whether its leases are those of the rows, followed row by row.
-#![tactic(auto)]
-
-mod certificate_log;
-mod followed;
-
-pub use certificate_log::CertificateLog;

@@ -1,8 +1,0 @@
-use Rattle.std.proofs.Common.{ap, sym, ◌∙◌}
-use Rattle.std.specs.Prelude.{not}
-use Rattle.ownership_rules.specs.Events.{can_finish}
-use Rattle.command_ends.proofs.Ends.{none_finishes}
-use Rattle.command_ends.proofs.possible.cannot_finish.Goals as goal
-
-pub returns-in-None : goal.returns-in-None
-returns-in-None c = λ k f g. sym (ap not (ap (λ o. can_finish k c.args.event o) c.in-None.is ∙ none_finishes k c.args.event))

@@ -1,7 +1,0 @@
-use Rattle.commands.specs.Changes.{SlotGoesOn}
-use Rattle.ring_knowledge.specs.Completions.{changed_by, changed_by_all}
-use Rattle.command_ends.proofs.success.drop_endpoints.Goals as goal
-
-pub returns : goal.returns
-unfolding changed_by_all
-returns c = λ h k f. c.disable.ensures h c.args.command.now (changed_by h c.args.command.now k (SlotGoesOn c.args.slot)) (c.go_on.ensures h k f)

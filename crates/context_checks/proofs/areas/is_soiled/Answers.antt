@@ -1,6 +1,0 @@
-use Rattle.ownership_rules.specs.Areas.{is_soiled}
-use Rattle.context_checks.proofs.areas.is_soiled.Goals as goal
-
-pub returns : goal.returns
-unfolding is_soiled
-returns c = λ h k memory f. c.any_in.ensures k.soiled f.soiled

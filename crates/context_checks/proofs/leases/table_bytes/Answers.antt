@@ -1,7 +1,0 @@
-use Rattle.std.proofs.Common.{ap, sym}
-use Rattle.event_ring.specs.EventRing.{table_bytes}
-use Rattle.context_checks.proofs.EventShapes.{no_events}
-use Rattle.context_checks.proofs.leases.table_bytes.Goals as goal
-
-pub returns-in-None : goal.returns-in-None
-returns-in-None c = λ h k memory f. sym (ap (λ shape. table_bytes shape) (no_events h k _ f.events c.in-None.is))

@@ -1,7 +1,0 @@
-use Rattle.device_record.proofs.Words.{changed_by, named_by}
-use Rattle.device_record.proofs.TurnedOff.{follows_disabled}
-use Rattle.device_record.proofs.kept.DeviceRecord.disable.Goals as goal
-
-pub returns : goal.returns
-unfolding changed_by
-returns c = λ h command k f. follows_disabled h k c.args.slot (named_by c.args.named) c.args.self.now c.disable_each.new.self f c.disable_each.ensures

@@ -1,6 +1,0 @@
-use Rattle.ring_knowledge.specs.Completions.{changed_by}
-use Rattle.device_record.proofs.kept.DeviceRecord.reset.Goals as goal
-
-pub returns : goal.returns
-unfolding changed_by
-returns c = λ h command k f. c.set_state.ensures h k f

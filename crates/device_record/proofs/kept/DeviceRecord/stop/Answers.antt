@@ -1,7 +1,0 @@
-use Rattle.device_record.proofs.Words.{Stopped, changed_by, in_state}
-use Rattle.device_record.proofs.Moves.{follows_held}
-use Rattle.device_record.proofs.kept.DeviceRecord.stop.Goals as goal
-
-pub returns : goal.returns
-unfolding changed_by
-returns c = λ h command k f. follows_held h (in_state h k c.args.slot c.args.index Stopped) c.set_state.new.self (c.set_state.ensures h k f) (k.ring_of c.args.slot c.args.index)

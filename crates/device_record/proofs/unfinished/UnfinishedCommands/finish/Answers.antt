@@ -1,6 +1,0 @@
-use Rattle.device_record.proofs.NamedCommands.{endpoint_of, follows_finished}
-use Rattle.device_record.proofs.unfinished.UnfinishedCommands.finish.Goals as goal
-
-pub returns : goal.returns
-returns c = λ xs ys f.
-    follows_finished c.args.self.now c.keep.new.self c.args.command.now xs ys (c.keep.ensures (endpoint_of c.args.self.now c.args.command.now xs ys f)) f

@@ -1,5 +1,0 @@
-use Rattle.device_record.proofs.NamedCommands.{follows_given}
-use Rattle.device_record.proofs.unfinished.UnfinishedCommands.give.Goals as goal
-
-pub returns : goal.returns
-returns c = λ endpoint xs ys free f. follows_given c.args.self.now c.keep.new.self c.args.command xs ys endpoint (c.keep.ensures endpoint) free f

@@ -1,0 +1,53 @@
+-- Which rules a declaration breaks
+use Rattle.std.proofs.Common.{◌≡◌, ℕ, List, [], ◌∷◌, true, false, Some, refl, ap, sym, ◌∙◌}
+use Rattle.std.specs.Prelude.{◌==◌, not, if◌then◌else◌}
+use Rattle.trb.specs.declared.block.Block.{Block}
+use Rattle.trb.specs.declared.ring_kind.RingKind.{RingKind}
+use Rattle.trb.specs.declared.ring_kind.RingKind.TheVariants.{Cmd, Evt, Xfer}
+use Rattle.traces.specs.declared.ring.Ring.{Ring}
+use Rattle.traces.specs.declared.header.Header.{Header}
+use Rattle.traces.specs.declared.row.Row.TheVariants.{Sub}
+use Rattle.traces.specs.Header.{IsHeader, is_driver_kind, is_event_kind, ring_with, shape_of}
+use Rattle.ring_knowledge.specs.Known.{Known}
+use Rattle.ownership_rules.specs.declared.refusal.Refusal.TheVariants.{NotDeclared, AfterStop}
+use Rattle.ownership_rules.specs.Refusal.{first_of, first_broken, broken_of}
+use Rattle.ownership_rules.specs.Declarations.{declaration_tests, is_driver_ring}
+use Rattle.ownership_rules.specs.Older.{older, stricter}
+use Rattle.ownership_rules.specs.Rules.{broken, lenient_tests, tests}
+use Rattle.driver_rows.specs.DeclarationRows.OneRing.{room_tests}
+use Rattle.trace_record.proofs.FirstBroken.{first_broken-is}
+use Rattle.trace_record.proofs.RingFinder.RingsApart.{IsAmong}
+use Rattle.trace_record.proofs.RingFinder.HeaderRings.{ring_found, not_found, shape_there}
+
+no_driver : (kind : RingKind) → is_event_kind kind ≡ true → is_driver_kind kind ≡ false
+no_driver Cmd e = absurd (cc)
+no_driver Evt e = refl
+no_driver Xfer e = absurd (cc)
+
+module _ (h : Header) (k : Known) (on : k.stopped ≡ false) (id : ℕ) (blocks : List Block) where
+  declared_is : first_of (broken h k (Sub id blocks)) ≡ first_broken (declaration_tests h k id blocks)
+  unfolding broken tests lenient_tests older stricter declaration_tests
+  declared_is = ap (λ b. first_of (if b then AfterStop ∷ [] else broken_of (declaration_tests h k id blocks))) on ∙ first_broken-is (declaration_tests h k id blocks)
+
+  -- no ring has the ID
+  pub declared_nowhere : ((q : Ring) → IsAmong q h.rings → (q.id == id) ≡ false) → first_of (broken h k (Sub id blocks)) ≡ Some NotDeclared
+  unfolding declaration_tests is_driver_ring
+  declared_nowhere none = declared_is ∙ rw (not_found (λ q. q.id == id) h.rings none) refl
+
+  module _ (headed : IsHeader h) (r : Ring) (among : IsAmong r h.rings) (named : r.id ≡ id) where
+    found : ring_with h id ≡ Some r
+    found = ap (λ i. ring_with h i) (sym named) ∙ ring_found h headed r among
+
+    -- the event ring has
+    pub declared_on_events : is_event_kind r.shape.kind ≡ true → first_of (broken h k (Sub id blocks)) ≡ Some NotDeclared
+    unfolding declaration_tests is_driver_ring
+    declared_on_events event = declared_is ∙ ap (λ o. first_broken ((NotDeclared, not (is_driver_ring o)) ∷ room_tests (shape_of h id) (k.ring id) blocks)) found ∙ rw (no_driver r.shape.kind event) refl
+
+    -- a command or transfer ring has
+    pub declared_on_ring : is_driver_kind r.shape.kind ≡ true → first_of (broken h k (Sub id blocks)) ≡ first_broken (room_tests r.shape (k.ring r.id) blocks)
+    unfolding declaration_tests is_driver_ring
+    declared_on_ring driver =
+        declared_is ∙ ap (λ i. first_broken (declaration_tests h k i blocks)) (sym named)
+        ∙ ap (λ o. first_broken ((NotDeclared, not (is_driver_ring o)) ∷ room_tests (shape_of h r.id) (k.ring r.id) blocks)) (ring_found h headed r among)
+        ∙ ap (λ b. first_broken ((NotDeclared, not b) ∷ room_tests (shape_of h r.id) (k.ring r.id) blocks)) driver
+        ∙ ap (λ s. first_broken (room_tests s (k.ring r.id) blocks)) (shape_there h headed r among)

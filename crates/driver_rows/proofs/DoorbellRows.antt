@@ -1,0 +1,4 @@
+pub mod Followed
+pub mod Touching
+pub mod Bells
+pub mod Ringing

@@ -1,0 +1,119 @@
+-- What a doorbell adds to the record of a trace
+use Rattle.std.proofs.Common.{◌≡◌, ◌≢◌, ℕ, Bool, List, true, false, Option, Some, None, refl, ap, sym, ◌∙◌, inl, inr, subst}
+use Rattle.std.specs.Prelude.{◌==◌, slice_get, position, if◌then◌else◌}
+use Rattle.std.proofs.lemmas.Bool.{cases_eq, eqb-true, eq-eqb, ne_eqb, cond_both, false≢true}
+use Rattle.guest_memory.specs.Memory.{put_pair}
+use Rattle.commands.specs.declared.state.EndpointState.{EndpointState}
+use Rattle.commands.specs.declared.state.EndpointState.TheVariants.{Disabled as Off, Running, Halted, Stopped, Error}
+use Rattle.commands.specs.States.{is_off, is_stopped}
+use Rattle.segments.specs.RingView.{Opens}
+use Rattle.traces.specs.declared.ring.Ring.{Ring}
+use Rattle.traces.specs.declared.header.Header.{Header}
+use Rattle.traces.specs.declared.row.Row.TheVariants.{Bell}
+use Rattle.traces.specs.Header.{IsHeader, is_command_kind, command_id}
+use Rattle.ring_knowledge.specs.declared.ring_record.RingRecord.{RingRecord}
+use Rattle.ring_knowledge.specs.Known.{Known}
+use Rattle.ring_knowledge.specs.Rings.{on_ring, unfinished}
+use Rattle.ring_knowledge.specs.Registers.{rung, endpoint_rung}
+use Rattle.ring_knowledge.specs.Learned.{learned}
+use Rattle.trace_record.specs.DeviceSlots.Devices.{FollowsDevices}
+use Rattle.trace_record.proofs.DeviceSlots.Bells.{rung_first, rung_later}
+use Rattle.trace_record.proofs.DeviceSlots.UnfinishedSame.{ring_elsewhere, unfinished_rung}
+use Rattle.trace_record.specs.RingFinder.RecordsOfRings.{FollowsRings}
+use Rattle.trace_record.proofs.RingFinder.RingsApart.{IsAmong, among_at}
+use Rattle.trace_record.proofs.RingFinder.HeaderRings.{no_command_here}
+use Rattle.trace_record.specs.declared.trace_record.TraceRecord.{TraceRecord}
+use Rattle.trace_record.specs.FollowsTrace.{FollowsTrace}
+use Rattle.driver_rows.specs.DoorbellRows.Numbers.{number_of, number_rung}
+use Rattle.driver_rows.proofs.DoorbellRows.Followed.{AreOffAs, IsBeside, put_on, rings_same, followed, found_at, none_found, command_found, command_id_is}
+
+module _ (h : Header) (k : Known) (s t : ℕ) where
+  -- nothing but rings and the state of endpoints changes
+  opened_beside : (r : ℕ) → IsBeside k (on_ring h k r Opens)
+  unfolding on_ring
+  opened_beside r = record { memory = refl; started = refl; stopped = refl; register = refl; reads = refl; dequeue = refl; device = refl; soiled = refl }
+
+  endpoint_beside : (o : Option ℕ) → IsBeside k (endpoint_rung h k s t o)
+  unfolding endpoint_rung on_ring
+  endpoint_beside None = record { memory = refl; started = refl; stopped = refl; register = refl; reads = refl; dequeue = refl; device = refl; soiled = refl }
+  endpoint_beside (Some r) = record { memory = refl; started = refl; stopped = refl; register = refl; reads = refl; dequeue = refl; device = refl; soiled = refl }
+
+  rung_beside : IsBeside k (rung h k s t)
+  unfolding rung
+  rung_beside = cond_both (s == 0) (on_ring h k (command_id h) Opens) (endpoint_rung h k s t (k.ring_of s t)) (λ l. IsBeside k l) (λ _. opened_beside (command_id h)) (λ _. endpoint_beside (k.ring_of s t))
+
+  -- a Stopped endpoint is on, and so is a Running one
+  endpoint_off : (o : Option ℕ) → AreOffAs k (endpoint_rung h k s t o)
+  unfolding endpoint_rung on_ring
+  endpoint_off None q = refl
+  endpoint_off (Some r) q = by (is_stopped (k.endpoint_state s t)) refl
+    where
+      on : (e : EndpointState) → is_stopped e ≡ true → is_off e ≡ false
+      on Stopped e = refl
+      on Off e = absurd (false≢true e)
+      on Running e = refl
+      on Halted e = refl
+      on Error e = refl
+
+      by : (b : Bool) → is_stopped (k.endpoint_state s t) ≡ b → is_off ((if b then put_pair k.endpoint_state s t Running else k.endpoint_state) q 1) ≡ is_off (k.endpoint_state q 1)
+      by true e = put_on k.endpoint_state s t Running (on (k.endpoint_state s t) e) refl q
+      by false e = refl
+
+  rung_off : AreOffAs k (rung h k s t)
+  unfolding rung on_ring
+  rung_off = cond_both (s == 0) (on_ring h k (command_id h) Opens) (endpoint_rung h k s t (k.ring_of s t)) (λ l. AreOffAs k l) (λ _ q. refl) (λ _. endpoint_off (k.ring_of s t))
+
+  rung_unfinished : unfinished h (rung h k s t) ≡ unfinished h k
+  unfolding learned
+  rung_unfinished = unfinished_rung h k s t
+
+  module _ (headed : IsHeader h) (items after : List RingRecord) (f : FollowsRings h k items) where
+    -- a ring that none of the header is
+    elsewhere : (r : ℕ) → ((q : Ring) → IsAmong q h.rings → q.id ≢ r) → FollowsRings h (on_ring h k r Opens) items
+    elsewhere r none = rings_same h headed k (on_ring h k r Opens) items f (λ q among. ring_elsewhere h k r q.id Opens (none q among))
+
+    module _ (opened : (o : Option ℕ) (n : ℕ) (ring : Ring) → o ≡ number_rung h k s t → o ≡ Some n → slice_get h.rings n ≡ Some ring → FollowsRings h (on_ring h k ring.id Opens) after)
+        (none : number_rung h k s t ≡ None → after ≡ items) where
+      of_host : (o : Option ℕ) → (s == 0) ≡ true → position (λ ring. is_command_kind ring.shape.kind) h.rings ≡ o → FollowsRings h (on_ring h k (command_id h) Opens) after
+      of_host None host is =
+          subst (λ (xs : List RingRecord). FollowsRings h (on_ring h k (command_id h) Opens) xs) (sym (none (ap (λ b. if b then position (λ ring. is_command_kind ring.shape.kind) h.rings else number_of h.rings (k.ring_of s t)) host ∙ is)))
+          (elsewhere (command_id h) (λ q among. no_command_here h headed q among (none_found (λ ring. is_command_kind ring.shape.kind) h.rings is q among)))
+      of_host (Some n) host is =
+          let found = found_at (λ ring. is_command_kind ring.shape.kind) h.rings n is in
+          let id = command_id_is h found.0 (command_found h headed found.0 (among_at h.rings n found.0 found.1) found.2) in
+          subst (λ (r : ℕ). FollowsRings h (on_ring h k r Opens) after) (sym id)
+          (opened (Some n) n found.0 (sym (ap (λ b. if b then position (λ ring. is_command_kind ring.shape.kind) h.rings else number_of h.rings (k.ring_of s t)) host ∙ is)) refl found.1)
+
+      same_number : (s == 0) ≡ false → number_rung h k s t ≡ number_of h.rings (k.ring_of s t)
+      same_number other = ap (λ b. if b then position (λ ring. is_command_kind ring.shape.kind) h.rings else number_of h.rings (k.ring_of s t)) other
+
+      with_state : (r : ℕ) → FollowsRings h (on_ring h k r Opens) after → FollowsRings h (endpoint_rung h k s t (Some r)) after
+      unfolding endpoint_rung
+      with_state r g = rings_same h headed (on_ring h k r Opens) (endpoint_rung h k s t (Some r)) after g (λ q among. refl)
+
+      of_ring : (r : ℕ) (o : Option ℕ) → number_rung h k s t ≡ o → position (λ ring. ring.id == r) h.rings ≡ o → FollowsRings h (on_ring h k r Opens) after
+      of_ring r None number is =
+          subst (λ (xs : List RingRecord). FollowsRings h (on_ring h k r Opens) xs) (sym (none number))
+          (elsewhere r (λ q among same. false≢true (sym (none_found (λ ring. ring.id == r) h.rings is q among) ∙ eq-eqb q.id r same)))
+      of_ring r (Some n) number is =
+          let found = found_at (λ ring. ring.id == r) h.rings n is in
+          subst (λ (i : ℕ). FollowsRings h (on_ring h k i Opens) after) (eqb-true found.0.id r found.2) (opened (Some n) n found.0 (sym number) refl found.1)
+
+      of_endpoint : (o : Option ℕ) → number_rung h k s t ≡ number_of h.rings o → FollowsRings h (endpoint_rung h k s t o) after
+      unfolding endpoint_rung
+      of_endpoint None number = subst (λ (xs : List RingRecord). FollowsRings h k xs) (sym (none number)) f
+      of_endpoint (Some r) number = with_state r (of_ring r (position (λ ring. ring.id == r) h.rings) number refl)
+
+      rung_rings : FollowsRings h (rung h k s t) after
+      rung_rings = elim (cases_eq s 0) [
+        | inl host ↦ subst (λ (l : Known). FollowsRings h l after) (sym (rung_first h k s t host)) (of_host (position (λ ring. is_command_kind ring.shape.kind) h.rings) (eq-eqb s 0 host) refl)
+        | inr other ↦ subst (λ (l : Known). FollowsRings h l after) (sym (rung_later h k s t other)) (of_endpoint (k.ring_of s t) (same_number (ne_eqb s 0 other)))
+      ]
+
+  -- the whole record
+  pub follows_rung : IsHeader h → (before after : TraceRecord) (m : ℕ → ℕ) → FollowsTrace h k before m → after ≡ record before { rings = after.rings; devices = after.devices } →
+      ((o : Option ℕ) (n : ℕ) (ring : Ring) → o ≡ number_rung h k s t → o ≡ Some n → slice_get h.rings n ≡ Some ring → FollowsRings h (on_ring h k ring.id Opens) after.rings.items) →
+      (number_rung h k s t ≡ None → after.rings.items ≡ before.rings.items) → FollowsDevices (rung h k s t) after.devices → FollowsTrace h (learned h k (Bell s t)) after m
+  unfolding learned
+  follows_rung headed before after m f is opened none devices =
+      followed h k (rung h k s t) before m f rung_beside rung_off rung_unfinished after is (rung_rings headed before.rings.items after.rings.items f.rings opened none) devices

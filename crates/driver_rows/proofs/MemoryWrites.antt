@@ -1,0 +1,7 @@
+pub mod WrongLinks
+pub mod Given
+pub mod GivenTests
+pub mod OnRing
+pub mod CommandsOn
+pub mod RingWrites
+pub mod WriteSteps

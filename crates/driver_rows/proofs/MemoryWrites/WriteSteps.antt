@@ -1,0 +1,76 @@
+-- What the check of a write answers
+use Rattle.std.proofs.Common.{◌≡◌, ℕ, ◌%◌, Bool, true, false, Option, None, Some, ap, sym, ◌∙◌, inl, inr}
+use Rattle.std.specs.Prelude.{if◌then◌else◌, slice_get}
+use Rattle.std.proofs.lemmas.Bool.{cases_Bool}
+use Rattle.std.proofs.Math.Path.{fun_ext}
+use Rattle.segments.specs.Places.{touches}
+use Rattle.segments.specs.RingView.{positions_given, crossings_given}
+use Rattle.traces.specs.declared.ring.Ring.{Ring}
+use Rattle.traces.specs.declared.header.Header.{Header}
+use Rattle.traces.specs.declared.row.Row.TheVariants.{Write}
+use Rattle.traces.specs.Header.{IsHeader, is_command_kind, is_driver_kind}
+use Rattle.commands.specs.declared.command.Command.{Command}
+use Rattle.ring_knowledge.specs.Known.{Known}
+use Rattle.ring_knowledge.specs.Writes.{command_given}
+use Rattle.ring_knowledge.specs.RingRecords.{positions_of, crossings_of}
+use Rattle.ring_knowledge.specs.declared.ring_record.RingGiving.{RingGiving}
+use Rattle.ownership_rules.specs.declared.refusal.Refusal.{Refusal}
+use Rattle.ownership_rules.specs.Refusal.{first_of, first_broken}
+use Rattle.ownership_rules.specs.Older.{writes_to_owned}
+use Rattle.ownership_rules.specs.Rules.{broken}
+use Rattle.safety.specs.Keeps.{DriverKeeps}
+use Rattle.trace_record.proofs.RingFinder.RingsApart.{IsAmong, among_at}
+use Rattle.trace_record.specs.declared.trace_record.TraceRecord.{TraceRecord}
+use Rattle.trace_record.specs.FollowsTrace.{FollowsTrace}
+use Rattle.driver_rows.specs.MemoryWrites.WriteTests.{GivesOnPosition, command_on, given_tests}
+use Rattle.driver_rows.specs.MemoryWrites.Allowed.{IsAllowed}
+use Rattle.trace_record.proofs.FirstBroken.{nothing_broken}
+use Rattle.driver_rows.proofs.MemoryWrites.OnRing.{inside, inside_is}
+use Rattle.driver_rows.proofs.MemoryWrites.CommandsOn.{awaits_none, command_is, none_nowhere, stays_put}
+use Rattle.driver_rows.proofs.MemoryWrites.RingWrites.{IsStill, nothing_breaks, least_of_ring}
+
+none_some : {X Y : Type 0} (x : X) → None ≡ Some x → Y
+none_some x e = cc
+
+-- no ring has the word
+pub nowhere_allowed : (h : Header) → IsHeader h → (k : Known) → k.stopped ≡ false → (a w : ℕ) → a % 4 ≡ 0 → writes_to_owned h k a w ≡ false →
+    ((q : Ring) → IsAmong q h.rings → touches q.shape a 4 ≡ false) → IsAllowed h k a w None
+nowhere_allowed h headed k on a w aligned free none =
+    let no_command : command_given h k a w ≡ None = none_nowhere h headed k a w aligned (λ q among. sym (inside_is h headed k a aligned q among) ∙ none q among) in
+    record {
+      clean = nothing_broken (broken h k (Write a w)) (nothing_breaks h headed k on a w aligned none free no_command);
+      command = no_command;
+    }
+
+-- one has it
+module _ (h : Header) (headed : IsHeader h) (a w : ℕ) (aligned : a % 4 ≡ 0) (n : ℕ) (r : Ring) (at : slice_get h.rings n ≡ Some r)
+    (driver : is_driver_kind r.shape.kind ≡ true) (has : touches r.shape a 4 ≡ true) (giving : Option RingGiving) (command : Option Command) where
+  among : IsAmong r h.rings
+  among = among_at h.rings n r at
+
+  -- what the record of the ring tells
+  pub record IsTold (k : Known) : Type 0 where
+    pub positions : positions_given r.shape (k.ring r.id) a w ≡ positions_of giving
+    pub crossings : crossings_given r.shape (k.ring r.id) a w ≡ crossings_of giving
+    pub said : command ≡ (if is_command_kind r.shape.kind then command_on (k.ring r.id) (positions_of giving) else None)
+    pub quiet : GivesOnPosition giving command
+
+  module _ (k : Known) (t : TraceRecord) (m : ℕ → ℕ) (f : FollowsTrace h k t m) (keeps : DriverKeeps h k) (on : k.stopped ≡ false) (free : writes_to_owned h k a w ≡ false) (told : IsTold k) where
+    gives : command_given h k a w ≡ command
+    gives =
+        command_is h headed k a w aligned r among (inside h headed k a aligned r among driver has)
+        ∙ ap (λ ps. if is_command_kind r.shape.kind then command_on (k.ring r.id) ps else None) told.positions ∙ sym told.said
+
+    still : (c : Command) → command ≡ Some c → IsStill h k a w r
+    still c is = elim (cases_Bool (is_command_kind r.shape.kind)) [
+      | inl commands ↦ (stays_put h headed k keeps r among commands, awaits_none h headed k keeps r among commands)
+      | inr other ↦ none_some c (sym (told.said ∙ ap (λ (b : Bool). if b then command_on (k.ring r.id) (positions_of giving) else None) other) ∙ is)
+    ]
+
+    pub judged : (o : Option Refusal) → o ≡ first_broken (given_tests h k r m a w giving command) → first_of (broken h k (Write a w)) ≡ o
+    judged o is =
+        least_of_ring h headed k on a w aligned r among driver has free giving command told.positions told.crossings gives told.quiet still
+        ∙ ap (λ words. first_broken (given_tests h k r words a w giving command)) (fun_ext f.words) ∙ sym is
+
+    pub allowed : None ≡ first_broken (given_tests h k r m a w giving command) → IsAllowed h k a w command
+    allowed well = record { clean = nothing_broken (broken h k (Write a w)) (judged None well); command = gives }

@@ -1,0 +1,3 @@
+pub mod RegisterTests
+pub mod StartRules
+pub mod RegisterRows

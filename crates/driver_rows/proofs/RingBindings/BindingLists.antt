@@ -1,0 +1,203 @@
+-- What a command binds, endpoint by endpoint
+use Rattle.std.proofs.Common.{◌≡◌, ℕ, zero, suc, ◌+◌, ◌-◌, ◌<◌, ◌≤◌, ◌==◌, ◌&&◌, ◌||◌, if◌then◌else◌, Bool, true, false, List, [], ◌∷◌, Option, Some, None, map, refl, ap, sym, ◌∙◌, arith, inl, inr}
+use Rattle.std.specs.Prelude.{not, nat_le, filter}
+use Rattle.std.specs.List.{cons_option, filter_map, list_any, range_with_len}
+use Rattle.std.specs.Option.{option_map}
+use Rattle.std.proofs.lemmas.Bool.{cases_lt}
+use Rattle.std.proofs.lemmas.Bool.Decides.{nat_tests}
+use Rattle.contexts.specs.Contexts.{has_flag, input_add_flag, added_endpoints}
+use Rattle.commands.specs.declared.command.Command.{Command}
+use Rattle.commands.specs.declared.command.Command.TheVariants.{AddressDevice, ConfigureEndpoint}
+use Rattle.commands.specs.States.{is_off}
+use Rattle.traces.specs.declared.header.Header.{Header}
+use Rattle.traces.specs.Header.{is_ring}
+use Rattle.ring_knowledge.specs.Known.{Known}
+use Rattle.ring_knowledge.specs.Rings.{unfinished}
+use Rattle.ownership_rules.specs.Moves.{Binding, binding_in, binds, binds_again, binds_ring, has_repeats, is_among, is_bad_binding, is_bad_place, is_being_bound, is_kept, is_placed, is_taken, ring_bound, was_ring_bound}
+use Rattle.driver_rows.specs.declared.bindings.binding.RingBinding.{RingBinding}
+use Rattle.driver_rows.specs.declared.bindings.context.Bound.{Bound}
+use Rattle.driver_rows.specs.declared.bindings.context.Dequeue.{Dequeue}
+use Rattle.trace_record.specs.declared.ring_set.RingSet.{RingSet}
+use Rattle.driver_rows.specs.RingBindings.Contexts.{HasBound, dequeue_at, dequeue_in}
+use Rattle.driver_rows.specs.RingBindings.Bindings.{are_bad, binding_at, binding_of, bindings_from, is_bad, is_in_set, is_kept_ring, is_misplaced, is_to, was_bound}
+use Rattle.trace_record.specs.RingSets.{has}
+use Rattle.contexts.proofs.BitsOfWords.{unchanged}
+use Rattle.driver_rows.proofs.RingBindings.Lists.{any_same, any_or, any_map, map_twice, or_none, or_true, crossed, or_assoc}
+
+pub range_is : (i : ℕ) → i < 32 → range_with_len i (32 - i) ≡ i ∷ range_with_len (i + 1) (32 - (i + 1))
+range_is i below = ap (λ n. range_with_len i n) (let e : 32 - i ≡ suc (32 - (i + 1)) = omega arith in e)
+
+module _ (h : Header) (k : Known) where
+  module _ (c : Command) where
+    pub bindings_next : (i : ℕ) → i < 32 → bindings_from h k c i ≡ cons_option (binding_at h k c i) (bindings_from h k c (i + 1))
+    unfolding bindings_from
+    bindings_next i below = ap (λ xs. filter_map (binding_at h k c) xs) (range_is i below)
+
+    pub bindings_end : (i : ℕ) → 32 ≤ i → bindings_from h k c i ≡ []
+    unfolding bindings_from
+    bindings_end i past = ap (λ n. filter_map (binding_at h k c) (range_with_len i n)) (let none : 32 - i ≡ 0 = omega (arith, past) in none)
+
+    -- from one endpoint on that the command binds
+    pub bindings_at : (i : ℕ) (b : RingBinding) → i < 32 → binding_at h k c i ≡ Some b → bindings_from h k c i ≡ b ∷ bindings_from h k c (i + 1)
+    bindings_at i b below is = bindings_next i below ∙ ap (λ o. cons_option o (bindings_from h k c (i + 1))) is
+
+    -- endpoints without a flag are left out
+    pub bindings_skipped : (bound : Bound) → HasBound h k c bound → (i j : ℕ) → i ≤ j → ((s : ℕ) → i ≤ s → s < j → s < 32 → has_flag bound.flags s ≡ false) →
+        bindings_from h k c i ≡ bindings_from h k c j
+    bindings_skipped bound has i j low clear = unchanged (bindings_from h k c) i j low (λ s first last. elim (cases_lt s 32) [
+      | inl below ↦
+          bindings_next s below
+          ∙ ap (λ o. cons_option o (bindings_from h k c (s + 1)))
+          (ap (option_map (binding_of h))
+          (has.said s below ∙ ap (λ b. if b then Some (dequeue_in h.context_size k.memory bound.context s) else None) (clear s first last below)))
+      | inr past ↦ bindings_end s past ∙ sym (bindings_end (s + 1) (omega (arith, past)))
+    ])
+
+  abbrev pub with_ring : Binding → RingBinding
+  with_ring b = record { ring = ring_bound h b; dequeue = record { pointer = b.pointer; cycle = b.cycle } }
+
+  same_binding : (c i : ℕ) → binding_of h (dequeue_in h.context_size k.memory c i) ≡ with_ring (binding_in h k c i)
+  unfolding ring_bound binding_in
+  same_binding c i = refl
+
+  addressed : (s c : ℕ) (bsr b : Bool) →
+      filter_map (λ i. option_map (binding_of h) (if i == 1 && b then Some (dequeue_in h.context_size k.memory c 1) else None)) (range_with_len 1 31)
+      ≡ map with_ring (if b then binding_in h k c 1 ∷ [] else [])
+  addressed s c bsr true = ap (λ x. x ∷ []) (same_binding c 1)
+  addressed s c bsr false = refl
+
+  module _ (s c : ℕ) where
+    one : (i : ℕ) (b : Bool) (xs : List ℕ) →
+        cons_option (option_map (binding_of h) (if b then Some (dequeue_in h.context_size k.memory c i) else None)) (map with_ring (map (binding_in h k c) xs))
+        ≡ map with_ring (map (binding_in h k c) (if b then i ∷ xs else xs))
+    one i true xs = ap (λ x. x ∷ map with_ring (map (binding_in h k c) xs)) (same_binding c i)
+    one i false xs = refl
+
+    added : (n i : ℕ) → 2 ≤ i → filter_map (binding_at h k (ConfigureEndpoint s false c)) (range_with_len i n)
+        ≡ map with_ring (map (binding_in h k c) (filter (input_add_flag k.memory c) (range_with_len i n)))
+    added zero i low = refl
+    added (suc n) i low =
+        ap (λ b. cons_option (option_map (binding_of h) (if b && input_add_flag k.memory c i then Some (dequeue_in h.context_size k.memory c i) else None))
+        (filter_map (binding_at h k (ConfigureEndpoint s false c)) (range_with_len (i + 1) n))) (let there : nat_le 2 i ≡ true = grind (arith, nat_tests, low) in there)
+        ∙ ap (λ xs. cons_option (option_map (binding_of h) (if input_add_flag k.memory c i then Some (dequeue_in h.context_size k.memory c i) else None)) xs) (added n (i + 1) (omega arith))
+        ∙ one i (input_add_flag k.memory c i) (filter (input_add_flag k.memory c) (range_with_len (i + 1) n))
+
+  -- all that a command binds
+  pub bindings_all : (c : Command) → bindings_from h k c 1 ≡ map with_ring (binds h k c)
+  unfolding bindings_from binds added_endpoints
+  bindings_all (AddressDevice s bsr c) = addressed s c bsr (is_off (k.endpoint_state s 1))
+  bindings_all (ConfigureEndpoint s false c) = added s c 30 2 (omega arith)
+  bindings_all _ = refl
+
+  -- a ring that a command binds
+  pub binds_ring_is : (c : Command) (r : ℕ) → binds_ring h k r c ≡ list_any (is_to r) (bindings_from h k c 1)
+  unfolding binds_ring
+  binds_ring_is c r = sym (ap (list_any (is_to r)) (bindings_all c) ∙ any_map (is_to r) with_ring (binds h k c))
+
+  -- other commands bind nothing
+  pub binds_none : (c : Command) → ((s : ℕ) (bsr : Bool) (n : ℕ) → c ≡ AddressDevice s bsr n → ⊥) → ((s : ℕ) (dc : Bool) (n : ℕ) → c ≡ ConfigureEndpoint s dc n → ⊥) → binds h k c ≡ []
+  unfolding binds
+  binds_none (AddressDevice s bsr n) first second = absurd (first s bsr n refl)
+  binds_none (ConfigureEndpoint s dc n) first second = absurd (second s dc n refl)
+  binds_none _ first second = refl
+
+  pub binds_no_ring : (c : Command) (r : ℕ) → binds h k c ≡ [] → binds_ring h k r c ≡ false
+  unfolding binds_ring
+  binds_no_ring c r none = ap (λ bs. list_any (λ b. is_ring r (ring_bound h b)) bs) none
+
+  pub nothing_bad : (c : Command) → binds h k c ≡ [] → is_bad_binding h k c ≡ false
+  unfolding is_bad_binding has_repeats
+  nothing_bad c none = ap (λ bs. list_any (is_bad_place h k c) bs || has_repeats (map (ring_bound h) bs)) none
+
+  -- with a set of the rings that unfinished commands bind
+  module _ (taken : RingSet) (all : (r : ℕ) → has taken r ≡ is_being_bound h k r) where
+    place_is : (c : Command) (o : Option ℕ) (n : Bool) → (is_in_set taken o || (is_kept_ring h k c o || n)) ≡ (is_taken h k c o || n)
+    unfolding is_taken
+    place_is c None n = refl
+    place_is c (Some r) n =
+        ap (λ b. b || (is_kept h k c r || n)) (all r) ∙ crossed (is_being_bound h k r) (is_kept h k c r) n ∙ sym (or_assoc (is_kept h k c r) (is_being_bound h k r) n)
+
+    bad_place_is : (c : Command) (b : Binding) → is_bad (is_misplaced h k c) taken (with_ring b) ≡ is_bad_place h k c b
+    unfolding is_bad_place
+    bad_place_is c b = place_is c (ring_bound h b) (not (is_placed h k (ring_bound h b) b))
+
+    pub bad_is : (c : Command) → are_bad (is_misplaced h k c) taken (bindings_from h k c 1) ≡ is_bad_binding h k c
+    unfolding is_bad_binding
+    bad_is c =
+        ap (are_bad (is_misplaced h k c) taken) (bindings_all c)
+        ∙ (λ i. (any_map (is_bad (is_misplaced h k c) taken) with_ring (binds h k c) ∙ any_same _ _ (binds h k c) (bad_place_is c)) i
+        || has_repeats (map_twice (λ (b : RingBinding). b.ring) with_ring (binds h k c) i))
+
+  -- a ring that a command binds again
+  pub again_is : (c : Command) → list_any (was_bound k) (bindings_from h k c 1) ≡ binds_again h k c
+  unfolding binds_again
+  again_is c = ap (list_any (was_bound k)) (bindings_all c) ∙ any_map (was_bound k) with_ring (binds h k c)
+
+  pub again_none : (c : Command) → binds h k c ≡ [] → binds_again h k c ≡ false
+  unfolding binds_again
+  again_none c none = ap (λ bs. list_any (λ b. was_ring_bound k (ring_bound h b)) bs) none
+
+of_some : (h : Header) (o : Option Dequeue) (b : RingBinding) → option_map (binding_of h) o ≡ Some b → b ≡ binding_of h b.dequeue
+of_some h None b e = none_some e
+  where
+    none_some : None ≡ Some b → b ≡ binding_of h b.dequeue
+    none_some e = cc
+of_some h (Some d) b e =
+    let same : binding_of h d ≡ b = cc in
+    sym same ∙ ap (λ (x : RingBinding). binding_of h x.dequeue) same
+
+-- the ring of a binding is the one that has the block at its pointer
+pub of_dequeue : (h : Header) (k : Known) (c : Command) (i : ℕ) (b : RingBinding) → binding_at h k c i ≡ Some b → b ≡ binding_of h b.dequeue
+of_dequeue h k c i b e = of_some h (dequeue_at h k c i) b e
+
+-- ---- one binding more
+
+-- its ring is noted
+pub noted : (old new : RingSet) (r : ℕ) (b : RingBinding) (rest : List RingBinding) → has new r ≡ (is_to r b || has old r) →
+    (has new r || list_any (is_to r) rest) ≡ (has old r || list_any (is_to r) (b ∷ rest))
+noted old new r b rest is = ap (λ x. x || list_any (is_to r) rest) is ∙ or_assoc (is_to r b) (has old r) (list_any (is_to r) rest) ∙ crossed (is_to r b) (has old r) (list_any (is_to r) rest)
+
+-- its ring is forgotten
+pub forgotten : (old new : RingSet) (r : ℕ) (b : RingBinding) (rest : List RingBinding) → has new r ≡ (not (is_to r b) && has old r) →
+    (has new r && not (list_any (is_to r) rest)) ≡ (has old r && not (list_any (is_to r) (b ∷ rest)))
+forgotten old new r b rest is = ap (λ x. x && not (list_any (is_to r) rest)) is ∙ by (is_to r b) (has old r)
+  where
+    by : (a b : Bool) → ((not a && b) && not (list_any (is_to r) rest)) ≡ (b && not (a || list_any (is_to r) rest))
+    by true true = refl
+    by true false = refl
+    by false true = refl
+    by false false = refl
+
+either_way : (m n : ℕ) → (m == n) ≡ (n == m)
+either_way m n = grind (arith, nat_tests)
+
+last : (e t n : Bool) → ((e || t) || n) ≡ ((t || n) || e)
+last true t n = sym (or_true (t || n))
+last false t n = sym (or_none (t || n))
+
+module _ (bad : RingBinding → Bool) (old new : RingSet) (r : ℕ) (inserted : (q : ℕ) → has new q ≡ (r == q || has old q)) where
+  bad_then : (o : Option ℕ) (n : Bool) → (is_in_set new o || n) ≡ ((is_in_set old o || n) || is_ring r o)
+  bad_then None n = sym (or_none n)
+  bad_then (Some q) n = ap (λ x. x || n) (inserted q ∙ ap (λ x. x || has old q) (either_way r q)) ∙ last (q == r) (has old q) n
+
+  -- its ring is taken
+  pub taken_next : (b : RingBinding) (rest : List RingBinding) → bad b ≡ false → b.ring ≡ Some r → has old r ≡ false →
+      are_bad bad old (b ∷ rest) ≡ are_bad bad new rest
+  unfolding has_repeats is_among
+  taken_next b rest good ring free =
+      ap (λ x. (x || list_any (is_bad bad old) rest) || (is_among (map (λ a. a.ring) rest) b.ring || has_repeats (map (λ a. a.ring) rest)))
+      ((λ i. is_in_set old (ring i) || good i) ∙ or_none (has old r) ∙ free)
+      ∙ ap (λ o. list_any (is_bad bad old) rest || (is_among (map (λ a. a.ring) rest) o || has_repeats (map (λ a. a.ring) rest))) ring
+      ∙ ap (λ x. list_any (is_bad bad old) rest || (x || has_repeats (map (λ a. a.ring) rest))) (any_map (is_ring r) (λ a. a.ring) rest)
+      ∙ sym (or_assoc (list_any (is_bad bad old) rest) (list_any (λ a. is_ring r a.ring) rest) (has_repeats (map (λ a. a.ring) rest)))
+      ∙ ap (λ x. x || has_repeats (map (λ a. a.ring) rest))
+      (sym (any_same (is_bad bad new) _ rest (λ a. bad_then a.ring (bad a)) ∙ any_or (is_bad bad old) (λ a. is_ring r a.ring) rest))
+
+-- a bad one
+pub bad_first : (bad : RingBinding → Bool) (taken : RingSet) (b : RingBinding) (rest : List RingBinding) → is_bad bad taken b ≡ true → are_bad bad taken (b ∷ rest) ≡ true
+unfolding has_repeats
+bad_first bad taken b rest is = ap (λ x. (x || list_any (is_bad bad taken) rest) || has_repeats (map (λ a. a.ring) (b ∷ rest))) is
+
+-- where the ring doesn't stand still
+pub or_last : (a b n : Bool) → n ≡ false → (a || (b || not n)) ≡ true
+or_last a b n e = ap (λ x. a || (b || not x)) e ∙ ap (λ x. a || x) (or_true b) ∙ or_true a

@@ -1,0 +1,64 @@
+-- The ring that a row starts or moves, and the Cycle bits that a write flips, by the ring that has the word
+use Rattle.std.proofs.Common.{◌≡◌, ◌+◌, ◌%◌, ◌==◌, ◌&&◌, ◌∙◌, ℕ, Bool, true, false, not, nat_lt, ap, arith, sym, inl, inr, eqb-true}
+use Rattle.segments.specs.Ceiling.{ceiling}
+use Rattle.segments.specs.Givings.{flips_passed, unrestored}
+use Rattle.segments.specs.Places.{address_of, cycle_of, is_inside, touches}
+use Rattle.segments.specs.RingView.{RingView}
+use Rattle.segments.specs.Shape.{IsShape}
+use Rattle.segments.specs.ShapeValue.{Shape}
+use Rattle.segments.proofs.Elsewhere.{address_inside}
+use Rattle.traces.specs.declared.header.Header.{Header}
+use Rattle.traces.specs.declared.ring.Ring.{Ring}
+use Rattle.traces.specs.declared.row.Row.TheVariants.{Write}
+use Rattle.traces.specs.Header.{IsHeader, driver_rings, is_driver_kind, is_event_kind}
+use Rattle.ring_knowledge.specs.Known.{Known}
+use Rattle.trace_record.proofs.RingFinder.HeaderRings.{no_driver, one_driver, shape_allowed, together}
+use Rattle.trace_record.proofs.RingFinder.ListTests.{and_left, and_right, any_nowhere, false_unless}
+use Rattle.trace_record.proofs.RingFinder.RingsApart.{Apart, IsAmong, same_or_apart}
+use Rattle.trace_record.proofs.OneRingHas.{no_driver_event}
+use Rattle.safety.specs.RingChanges.Withdrawals.{some_flips}
+use Rattle.driver_rows.proofs.MemoryWrites.OnRing.{inside_is}
+
+-- a word outside a ring isn't of its blocks
+pub flips_outside : (shape : Shape) → IsShape shape → (v : RingView) (a w : ℕ) → is_inside shape a ≡ false → flips_passed shape v a w ≡ false
+unfolding flips_passed
+flips_outside shape is v a w outside =
+    any_nowhere (λ p. nat_lt p (ceiling shape v) && a == address_of shape p + 12 && not (w % 2 == cycle_of shape p)) (λ p. false_unless _ (λ flips.
+    let here : a ≡ address_of shape p + 12 = eqb-true a (address_of shape p + 12) (and_right (nat_lt p (ceiling shape v)) _ (and_left (nat_lt p (ceiling shape v) && a == address_of shape p + 12) _ flips)) in
+    no_word p here)) (unrestored shape v)
+  where
+    no_word : (p : ℕ) → a ≡ address_of shape p + 12 → ⊥
+    no_word p here = not_both (is_inside shape a) outside (ap (is_inside shape) here ∙ address_inside shape is p 12 (omega arith))
+      where
+        not_both : (b : Bool) → b ≡ false → b ≡ true → ⊥
+        not_both true is_false is_true = cc is_false
+        not_both false is_false is_true = cc is_true
+
+module _ (h : Header) (headed : IsHeader h) (k : Known) (a w : ℕ) (aligned : a % 4 ≡ 0) where
+  none_outside : (q : Ring) → IsAmong q h.rings → is_inside q.shape a ≡ false → flips_passed q.shape (k.ring q.id) a w ≡ false
+  none_outside q among outside = flips_outside q.shape (shape_allowed h headed q among) (k.ring q.id) a w outside
+
+  -- no ring has the word
+  pub none_flips : ((q : Ring) → IsAmong q h.rings → touches q.shape a 4 ≡ false) → false ≡ some_flips h k (Write a w)
+  unfolding some_flips driver_rings
+  none_flips none =
+      sym (no_driver (λ q. flips_passed q.shape (k.ring q.id) a w) h.rings (λ q among driver. none_outside q among (sym (inside_is h headed k a aligned q among) ∙ none q among)))
+
+  -- one has it
+  module _ (r : Ring) (among : IsAmong r h.rings) (has : touches r.shape a 4 ≡ true) where
+    outside : (q : Ring) → IsAmong q h.rings → Apart r q → is_inside q.shape a ≡ false
+    outside q there apart = false_unless (is_inside q.shape a) (λ e. apart.memory a (sym (inside_is h headed k a aligned r among) ∙ has) e)
+
+    -- the event ring
+    pub event_flips : is_event_kind r.shape.kind ≡ true → false ≡ some_flips h k (Write a w)
+    unfolding some_flips driver_rings
+    event_flips event =
+        sym (no_driver (λ q. flips_passed q.shape (k.ring q.id) a w) h.rings (λ q there driver. elim (same_or_apart h.rings (together h headed) r q among there) [
+          | inl same ↦ absurd (no_driver_event q.shape.kind driver (ap (λ (y : Ring). is_event_kind y.shape.kind) same ∙ event))
+          | inr apart ↦ none_outside q there (outside q there apart)
+        ]))
+
+    -- a command or transfer ring
+    pub ring_flips : is_driver_kind r.shape.kind ≡ true → flips_passed r.shape (k.ring r.id) a w ≡ some_flips h k (Write a w)
+    unfolding some_flips driver_rings
+    ring_flips driver = sym (one_driver (λ q. flips_passed q.shape (k.ring q.id) a w) h.rings (together h headed) r among driver (λ q there apart. none_outside q there (outside q there apart)))

@@ -1,0 +1,56 @@
+use Rattle.std.proofs.Common.{◌+◌, ◌∙◌, ap, sym, arith}
+use Rattle.std.specs.Prelude.{◌||◌, not}
+use Rattle.ownership_rules.specs.Moves.{has_repeats}
+use Rattle.driver_rows.specs.RingBindings.Contexts.{HoldsContexts}
+use Rattle.driver_rows.specs.RingBindings.Bindings.{are_bad, bindings_from, is_misplaced}
+use Rattle.driver_rows.proofs.RingBindings.BindingLists.{bindings_at, bindings_end, of_dequeue}
+use Rattle.driver_rows.proofs.bindings.binding.binds_badly.Goals as goal
+
+pub loop-index-init : goal.loop-index-init
+loop-index-init g c = (
+  c.next_bound-index.ensures.set,
+  λ k f keeps fits holds.
+      let h = c.args.header.now in
+      let contexts : HoldsContexts k c.args.t.now.devices (g.M.WordMemory.words c.args.memory.now) = record { followed = f.devices; words = f.words } in
+      ap (are_bad (is_misplaced h k c.args.command.now) c.args.t.now.bound)
+      (c.next_bound-index.ensures.rest h k c.args.command.now (c.bound_by-bound.ensures h k contexts fits)),
+)
+
+pub loop-index-preserved : goal.loop-index-preserved
+loop-index-preserved g c = (
+  c.next_bound-index-in-loop-index.ensures.set,
+  λ k f keeps fits holds.
+      let h = c.args.header.now in
+      let command = c.args.command.now in
+      let bad = is_misplaced h k command in
+      let contexts : HoldsContexts k c.args.t.now.devices (g.M.WordMemory.words c.args.memory.now) = record { followed = f.devices; words = f.words } in
+      let bound = c.bound_by-bound.ensures h k contexts fits in
+      let here = c.binding_in-binding.ensures k command f.words bound in
+      let rest = bindings_from h k command (c.loop-index.index + 1) in
+      c.loop-index.invariant.1 k f keeps fits holds
+      ∙ ap (λ xs. are_bad bad c.loop-index.taken xs) (bindings_at h k command c.loop-index.index c.binding_in-binding.result c.loop-index-test.true here)
+      ∙ c.take.ensures k (g.M.WordMemory.words c.args.memory.now) command f keeps holds (of_dequeue h k command c.loop-index.index c.binding_in-binding.result here) rest
+      ∙ ap (λ b. not b || are_bad bad c.take.new.taken rest) c.if-not-take.false
+      ∙ ap (are_bad bad c.take.new.taken) (c.next_bound-index-in-loop-index.ensures.rest h k command bound),
+)
+
+pub returns-then-not-take : goal.returns-then-not-take
+returns-then-not-take g c = λ k f keeps fits holds.
+    let h = c.args.header.now in
+    let command = c.args.command.now in
+    let bad = is_misplaced h k command in
+    let contexts : HoldsContexts k c.args.t.now.devices (g.M.WordMemory.words c.args.memory.now) = record { followed = f.devices; words = f.words } in
+    let here = c.binding_in-binding.ensures k command f.words (c.bound_by-bound.ensures h k contexts fits) in
+    let rest = bindings_from h k command (c.loop-index.index + 1) in
+    sym (c.loop-index.invariant.1 k f keeps fits holds
+    ∙ ap (λ xs. are_bad bad c.loop-index.taken xs) (bindings_at h k command c.loop-index.index c.binding_in-binding.result c.loop-index-test.true here)
+    ∙ c.take.ensures k (g.M.WordMemory.words c.args.memory.now) command f keeps holds (of_dequeue h k command c.loop-index.index c.binding_in-binding.result here) rest
+    ∙ ap (λ b. not b || are_bad bad c.take.new.taken rest) c.if-not-take.true)
+
+pub returns : goal.returns
+unfolding has_repeats
+returns g c = λ k f keeps fits holds.
+    let h = c.args.header.now in
+    let command = c.args.command.now in
+    sym (c.loop-index.invariant.1 k f keeps fits holds
+    ∙ ap (λ xs. are_bad (is_misplaced h k command) c.loop-index.taken xs) (bindings_end h k command c.loop-index.index (omega (arith, c.loop-index-test.false))))

@@ -1,0 +1,20 @@
+use Rattle.std.proofs.Common.{◌≡◌, ◌-◌, ◌<◌, true}
+use Rattle.contexts.specs.Contexts.{has_flag}
+use Rattle.ring_knowledge.specs.Known.{Known}
+use Rattle.safety.specs.Keeps.{DriverKeeps}
+use Rattle.trace_record.specs.FollowsTrace.{FollowsTrace}
+use Rattle.trace_record.specs.Premises.{FitsMemory}
+use Rattle.driver_rows.specs.RingBindings.Bindings.{are_bad, bindings_from, is_misplaced}
+use Rattle.driver_rows.specs.RingBindings.Dropped.{HoldsDropped}
+use Rattle.driver_rows.proofs.bindings.binding.binds_badly.Given as goal
+
+-- those that are left decide
+abbrev pub invariant-loop-index : goal.invariant-loop-index
+invariant-loop-index g l =
+    (l.index < 32 → has_flag l.bound.flags l.index ≡ true) ×
+    ((k : Known) → FollowsTrace l.header k l.t (g.M.WordMemory.words l.memory) → DriverKeeps l.header k → FitsMemory l.header.context_size l.command → HoldsDropped k l.command l.dropped →
+    are_bad (is_misplaced l.header k l.command) l.t.bound (bindings_from l.header k l.command 1)
+    ≡ are_bad (is_misplaced l.header k l.command) l.taken (bindings_from l.header k l.command l.index))
+
+abbrev pub decreases-loop-index : goal.decreases-loop-index
+decreases-loop-index g l = 32 - l.index

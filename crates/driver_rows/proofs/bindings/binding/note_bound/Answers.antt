@@ -1,0 +1,37 @@
+use Rattle.std.proofs.Common.{◌+◌, ◌||◌, ◌∙◌, ap, sym, arith}
+use Rattle.std.specs.List.{list_any}
+use Rattle.driver_rows.specs.RingBindings.Bindings.{bindings_from, is_to}
+use Rattle.trace_record.specs.RingSets.{has}
+use Rattle.driver_rows.proofs.RingBindings.Lists.{or_none}
+use Rattle.driver_rows.proofs.RingBindings.BindingLists.{bindings_at, bindings_end, binds_ring_is, noted}
+use Rattle.driver_rows.proofs.bindings.binding.note_bound.Goals as goal
+
+pub loop-index-init : goal.loop-index-init
+loop-index-init g c = (
+  c.next_bound-index.ensures.set,
+  λ k f fits r.
+      ap (λ xs. has c.args.rings.now r || list_any (is_to r) xs)
+      (sym (c.next_bound-index.ensures.rest c.args.header.now k c.args.command.now (c.bound_by-bound.ensures c.args.header.now k f fits))),
+)
+
+pub loop-index-preserved : goal.loop-index-preserved
+loop-index-preserved g c = (
+  c.next_bound-index-in-loop-index.ensures.set,
+  λ k f fits r.
+      let h = c.args.header.now in
+      let command = c.args.command.now in
+      let bound = c.bound_by-bound.ensures h k f fits in
+      let rest = bindings_from h k command (c.loop-index.index + 1) in
+      ap (λ xs. has c.note_ring.new.rings r || list_any (is_to r) xs) (sym (c.next_bound-index-in-loop-index.ensures.rest h k command bound))
+      ∙ noted c.loop-index.rings c.note_ring.new.rings r c.binding_in-binding.result rest (c.note_ring.ensures r)
+      ∙ ap (λ xs. has c.loop-index.rings r || list_any (is_to r) xs)
+      (sym (bindings_at h k command c.loop-index.index c.binding_in-binding.result c.loop-index-test.true (c.binding_in-binding.ensures k command f.words bound)))
+      ∙ c.loop-index.invariant.1 k f fits r,
+)
+
+pub returns : goal.returns
+returns g c = λ k f fits r.
+    sym (or_none (has c.loop-index.rings r))
+    ∙ ap (λ xs. has c.loop-index.rings r || list_any (is_to r) xs)
+    (sym (bindings_end c.args.header.now k c.args.command.now c.loop-index.index (omega (arith, c.loop-index-test.false))))
+    ∙ c.loop-index.invariant.1 k f fits r ∙ ap (λ b. has c.args.rings.now r || b) (sym (binds_ring_is c.args.header.now k c.args.command.now r))

@@ -1,0 +1,21 @@
+use Rattle.std.proofs.Common.{◌+◌, ◌/◌, ◌*◌, ◌∙◌, true, false, refl, subst, sym}
+use Rattle.commands.specs.declared.command.Command.TheVariants.{ConfigureEndpoint}
+use Rattle.trace_record.specs.Premises.{FitsMemory}
+use Rattle.driver_rows.specs.RingBindings.Contexts.{HasBound}
+use Rattle.driver_rows.proofs.RingBindings.BoundFlags.{of_configure, of_nothing}
+use Rattle.driver_rows.proofs.bindings.context.bound_by_configure.Goals as goal
+
+pub returns-then-deconfigure : goal.returns-then-deconfigure
+returns-then-deconfigure g c = λ h k slot words fits.
+    subst (HasBound h k (ConfigureEndpoint slot c.args.deconfigure c.args.context)) (sym c.none_bound.ensures)
+    (subst (λ d. HasBound h k (ConfigureEndpoint slot d c.args.context) (record { flags = 0; context = 0 })) (sym c.if-deconfigure.true)
+    (of_nothing h k (ConfigureEndpoint slot true c.args.context) (λ i. refl)))
+
+pub returns : goal.returns
+returns g c = λ h k slot words fits.
+    let a = c.args.context in
+    let here : FitsMemory h.context_size (ConfigureEndpoint slot false a) =
+    subst (λ d. FitsMemory h.context_size (ConfigureEndpoint slot d a)) c.if-deconfigure.false fits in
+    let lies = here a refl in
+    subst (λ d. HasBound h k (ConfigureEndpoint slot d a) (record { flags = c.add_flags.result / 4 * 4; context = a })) (sym c.if-deconfigure.false)
+    (of_configure h k slot a c.add_flags.result (c.add_flags.ensures h.context_size lies.0 lies.1 ∙ sym (words (a + 4))) here)

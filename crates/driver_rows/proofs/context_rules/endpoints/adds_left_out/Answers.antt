@@ -1,0 +1,37 @@
+use Rattle.std.proofs.Common.{◌+◌, ap, sym, ◌∙◌, arith}
+use Rattle.std.proofs.lemmas.Bool.{and_from, and_left, and_right}
+use Rattle.contexts.specs.Contexts.{has_flag}
+use Rattle.driver_rows.specs.ContextRules.Contents.{adds_left_out}
+use Rattle.driver_rows.proofs.ContextRules.RestOfRange.{go_on, found, none_left, skip}
+use Rattle.driver_rows.proofs.ContextRules.AddedEndpoints.{any_added}
+use Rattle.driver_rows.proofs.context_rules.endpoints.adds_left_out.Goals as goal
+
+pub loop-index-init : goal.loop-index-init
+unfolding adds_left_out
+loop-index-init g c =
+    let flags = c.add_flags-flags.ensures c.args.size c.requires.aligned c.requires.inside in (
+      c.next_flag-index.ensures.set,
+      any_added _ _ _
+          ∙ skip _ 2 c.next_flag-index.result 32 c.next_flag-index.ensures.behind
+          (λ s low high below. and_left _ _ (ap (λ w. has_flag w s) (sym flags) ∙ c.next_flag-index.ensures.clear s low high below)),
+    )
+
+pub loop-index-preserved : goal.loop-index-preserved
+loop-index-preserved g c =
+    let flags = c.add_flags-flags.ensures c.args.size c.requires.aligned c.requires.inside in (
+      c.next_flag-index-in-loop-index.ensures.set,
+      c.loop-index.invariant.1
+          ∙ go_on _ _ 32 c.loop-index-test.true (and_right _ _ (sym c.is_left_out.ensures ∙ c.if-is_left_out.false))
+          ∙ skip _ (c.loop-index.index + 1) c.next_flag-index-in-loop-index.result 32 c.next_flag-index-in-loop-index.ensures.behind
+          (λ s low high below. and_left _ _ (ap (λ w. has_flag w s) (sym flags) ∙ c.next_flag-index-in-loop-index.ensures.clear s low high below)),
+    )
+
+pub returns-then-is_left_out : goal.returns-then-is_left_out
+returns-then-is_left_out g c =
+    let flags = c.add_flags-flags.ensures c.args.size c.requires.aligned c.requires.inside in
+    sym (c.loop-index.invariant.1
+    ∙ found _ _ 32 c.loop-index-test.true
+    (and_from _ _ (ap (λ w. has_flag w c.loop-index.index) (sym flags) ∙ c.loop-index.invariant.0 c.loop-index-test.true) (sym c.is_left_out.ensures ∙ c.if-is_left_out.true)))
+
+pub returns : goal.returns
+returns g c = sym (c.loop-index.invariant.1 ∙ none_left _ _ 32 (omega (arith, c.loop-index-test.false)))

@@ -1,0 +1,47 @@
+use Rattle.std.proofs.Common.{◌≡◌, ap, sym, ◌∙◌, refl, subst}
+use Rattle.std.specs.Prelude.{Bool, ◌&&◌, ◌||◌, not, is_some, true, false}
+use Rattle.std.proofs.lemmas.Bool.{and_parts, not-true}
+use Rattle.traces.specs.Versions.{is_three}
+use Rattle.traces.specs.Header.{event_ring, event_shape}
+use Rattle.trace_record.specs.FollowsTrace.{FollowsEvents}
+use Rattle.event_ring.specs.EventRing.{erdp_address, is_event_place}
+use Rattle.driver_rows.proofs.RegisterWrites.RegisterRows.{passed, passed_is, moved_follows, others_follow, fine_erdp, stays_follows}
+use Rattle.driver_rows.proofs.registers.note_dequeue.Goals as goal
+
+reached_passes : (r x : Bool) → r ≡ true → not (r || x) ≡ not true
+reached_passes true x e = refl
+reached_passes false x e = absurd (cc)
+
+rest_decides : (r x b : Bool) → r ≡ false → b ≡ x → not (r || x) ≡ not b
+rest_decides r x b one two = rw (one, two) refl
+
+pub returns-then-set_dequeue-clause-moved : goal.returns-then-set_dequeue-clause-moved
+returns-then-set_dequeue-clause-moved c = λ is k started f.
+    moved_follows c.args.header.now k c.args.register c.args.value c.set_dequeue.new.events c.in-Erdp.is (c.set_dequeue.ensures.moved c.if-set_dequeue.true c.args.header.now k f)
+
+pub returns-then-set_dequeue-clause-exact : goal.returns-then-set_dequeue-clause-exact
+returns-then-set_dequeue-clause-exact c = λ k started f s.
+    ap (λ r. passed c.args.header.now r c.args.value k) c.in-Erdp.is ∙ passed_is c.args.header.now k c.args.value s
+    ∙ reached_passes _ _ (sym (c.set_dequeue.ensures.exact c.args.header.now k f) ∙ c.if-set_dequeue.true) ∙ ap not (sym c.if-set_dequeue.true)
+
+pub returns-else-set_dequeue-clause-exact : goal.returns-else-set_dequeue-clause-exact
+returns-else-set_dequeue-clause-exact c = λ k started f s.
+    ap (λ r. passed c.args.header.now r c.args.value k) c.in-Erdp.is ∙ passed_is c.args.header.now k c.args.value s
+    ∙ rest_decides _ _ _ (sym (c.set_dequeue.ensures.exact c.args.header.now k f) ∙ c.if-set_dequeue.false)
+    (c.may_be_ignored.ensures k started (subst (FollowsEvents c.args.header.now k) (sym (c.set_dequeue.ensures.kept c.if-set_dequeue.false)) f))
+
+pub returns-else-set_dequeue-clause-moved : goal.returns-else-set_dequeue-clause-moved
+returns-else-set_dequeue-clause-moved c = λ is k started f.
+    let h = c.args.header.now in
+    let same = subst (FollowsEvents h k) (sym (c.set_dequeue.ensures.kept c.if-set_dequeue.false)) f in
+    let all = and_parts (is_three h.version) _ (sym (c.may_be_ignored.ensures k started same) ∙ is) in
+    let rest = and_parts (not k.started) (is_some (event_ring h) && not (is_event_place (event_shape h) (erdp_address c.args.value))) all.1 in
+    let none = and_parts (is_some (event_ring h)) (not (is_event_place (event_shape h) (erdp_address c.args.value))) rest.1 in
+    stays_follows h k c.args.register c.args.value c.set_dequeue.new.events c.in-Erdp.is (not-true (is_event_place (event_shape h) (erdp_address c.args.value)) none.1) same
+
+pub returns-in_default : goal.returns-in_default
+returns-in_default c = record {
+  moved = λ is k started f. others_follow c.args.header.now k c.args.register c.args.value c.args.events.now c.in_default.not-Erdp f;
+  exact = λ k started f s. fine_erdp c.args.header.now k c.args.register c.args.value c.in_default.not-Erdp;
+  reads = λ n within. within;
+}

@@ -1,0 +1,14 @@
+use Rattle.std.proofs.Common.{◌∙◌, rules, refl, sym}
+use Rattle.safety.specs.RingChanges.Changes.{IsComing}
+use Rattle.driver_rows.proofs.RingRows.Came.{came}
+use Rattle.driver_rows.proofs.rings.coming.check_coming.Goals as goal
+
+pub returns-then-is_bad_ring-clause-refused : goal.returns-then-is_bad_ring-clause-refused
+returns-then-is_bad_ring-clause-refused g c = (refl, λ k f. sym (c.is_bad_ring.ensures.rule k f) ∙ c.if-is_bad_ring.true)
+
+pub returns-clause-ok : goal.returns-clause-ok
+returns-clause-ok g c = λ k f keeps on.
+    let more = c.in_ok-add_ring.ensures.noted in
+    let coming : IsComing c.args.ring = record { low = search rules; kind = c.requires.transfers; shape = more.fresh.marks.allowed } in
+    let good = sym (c.is_bad_ring.ensures.rule k f) ∙ c.if-is_bad_ring.false in
+    record { kept = (on, good); followed = came c.args.header.now c.requires.headed c.args.ring coming k keeps good c.args.kept.now c.add_ring.new.kept _ f more }

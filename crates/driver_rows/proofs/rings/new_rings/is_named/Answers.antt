@@ -1,0 +1,10 @@
+use Rattle.std.proofs.Common.{◌∙◌, ◌==◌, [], ap, is_some}
+use Rattle.trb.specs.declared.ring_kind.RingKind.TheVariants.{Xfer}
+use Rattle.traces.specs.declared.ring.Ring.{Ring}
+use Rattle.driver_rows.proofs.RingRows.NamedRings.{is_found}
+use Rattle.driver_rows.proofs.rings.new_rings.is_named.Goals as goal
+
+pub returns : goal.returns
+returns c =
+    let none : Ring = record { id = 0; shape = record { kind = Xfer; segments = [] } } in
+    c.is_some.ensures ∙ ap (λ o. is_some o) (c.ring_named.ensures c.args.header.now.rings c.requires.found) ∙ is_found (λ q. q.id == c.args.id) c.args.header.now.rings none

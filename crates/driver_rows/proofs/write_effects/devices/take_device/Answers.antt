@@ -1,0 +1,30 @@
+use Rattle.std.proofs.Common.{subst, sym}
+use Rattle.std.proofs.lemmas.Result.{on_ok_weaker}
+use Rattle.ring_knowledge.specs.Writes.{with_device}
+use Rattle.trace_record.specs.DeviceSlots.Devices.{FollowsDevices}
+use Rattle.trace_record.specs.RangeWords.Holding.{HoldsSoiled}
+use Rattle.driver_rows.specs.WriteEffects.Starting.{IsWith, LiesOnWords, address_taken}
+use Rattle.driver_rows.proofs.WriteEffects.Taking.{soiled_with}
+use Rattle.driver_rows.proofs.write_effects.devices.take_device.Goals as goal
+
+pub returns-in-None-clause-devices : goal.returns-in-None-clause-devices
+unfolding with_device
+returns-in-None-clause-devices c = λ h k f. subst (λ o. FollowsDevices (with_device h k o) c.args.devices.now) (sym c.in-None.is) f
+
+pub returns-in-None-clause-soiled : goal.returns-in-None-clause-soiled
+unfolding with_device
+returns-in-None-clause-soiled c = λ h k same lies holds. subst (λ o. HoldsSoiled ((with_device h k o).soiled) c.args.soiled.now) (sym c.in-None.is) holds
+
+pub returns-in_ok-add_area-in-Some-clause-contexts : goal.returns-in_ok-add_area-in-Some-clause-contexts
+returns-in_ok-add_area-in-Some-clause-contexts c =
+    on_ok_weaker c.soil_context.result
+    (λ soils n old new with holds. c.in_ok-add_area-in-Some.ensures n old new (subst (λ o. IsWith (address_taken o) old new) c.in-Some.is with) holds)
+    c.soil_context.ensures
+
+pub returns-in_ok-add_area-in-Some-clause-soiled : goal.returns-in_ok-add_area-in-Some-clause-soiled
+returns-in_ok-add_area-in-Some-clause-soiled c =
+    on_ok_weaker c.soil_context.result
+    (λ soils h k same lies holds.
+    subst (λ o. HoldsSoiled ((with_device h k o).soiled) c.soil_context.new.soiled) (sym c.in-Some.is)
+    (soiled_with h k c.args.size c.in-Some.slot c.in-Some.address _ _ same (subst (λ o. LiesOnWords c.args.size o) c.in-Some.is lies) soils holds))
+    c.soil_context.ensures

@@ -1,0 +1,74 @@
+ghost use Rattle.std.specs.Prelude.{◌≡◌, ℕ, true, false, IfErr, OnOk};
+ghost use Rattle.trb.specs.declared.ring_kind.RingKind.TheVariants.{Xfer};
+ghost use Rattle.traces.specs.Header.{IsHeader};
+ghost use Rattle.ring_knowledge.specs.Known.{Known};
+ghost use Rattle.trace_record.specs.RingFinder.Finding.{IsFinder};
+ghost use Rattle.safety.specs.Keeps.{DriverKeeps};
+ghost use Rattle.trace_record.specs.FollowsTrace.{FollowsTrace};
+ghost use Rattle.trace_record.specs.Steps.{IfRefused};
+ghost use Rattle.safety.specs.RingChanges.Changes.{is_bad_ring, with_ring};
+ghost use Rattle.traces.specs.declared.trace_row.TraceRow.TheVariants.{Comes};
+ghost use Rattle.ownership_rules.specs.declared.refusal.Refusal.TheVariants.{BadRing};
+ghost use Rattle.driver_rows.specs.RingRows.RingSteps.{HasOneMore, IsClear, IsRingStep};
+
+use crate::rings::new_rings::is_bad_ring;
+use guest_memory::WordMemory;
+use ownership_rules::Refusal;
+use ring_knowledge::RingRecord;
+use std::alloc::{AllocError, Global};
+use trace_record::{Finder, StepFault, TraceRecord};
+use traces::{Header, Ring};
+
+/// Checks a transfer ring that comes, before the stop, and takes it up: rule 35 (xHCI 4.9). The driver has kept the rules so far.
+/// Once a growth of memory was refused, what is kept is of no use any more.
+pub fn check_coming<M: WordMemory>(
+    alloc: Global,
+    header: &mut Header,
+    finder: &mut Finder,
+    kept: &mut TraceRecord,
+    memory: &M,
+    ring: Ring,
+) -> Result<(), StepFault>
+    requires headed { IsHeader header.now }
+    requires found { IsFinder header.now.rings finder.now }
+    requires transfers { ring.shape.kind ≡ Xfer }
+    ensures comes { OnOk result (header.new ≡ with_ring header.old ring) }
+    ensures headed { OnOk result (IsHeader header.new) }
+    ensures found { OnOk result (IsFinder header.new.rings finder.new) }
+    ensures ok { OnOk result ((k : Known) → FollowsTrace header.old k kept.old (M.words memory.now) → DriverKeeps header.old k → k.stopped ≡ false →
+        IsRingStep header.old k (Comes ring) kept.new (M.words memory.now)) }
+    ensures refused { IfErr result (λ e. IfRefused e (λ c. (c ≡ BadRing) × ((k : Known) → FollowsTrace header.old k kept.old (M.words memory.now) →
+        is_bad_ring header.old k ring ≡ true))) }
+    ensures events { kept.new.events ≡ kept.old.events }
+{
+    if is_bad_ring(header, finder, kept, memory, &ring) {
+        return Err(StepFault::Refused(Refusal::BadRing));
+    }
+    add_ring(alloc, header, finder, kept, ring)?;
+    Ok(())
+}
+
+/// Takes up a transfer ring that may stand with those of the header.
+fn add_ring(
+    alloc: Global,
+    header: &mut Header,
+    finder: &mut Finder,
+    kept: &mut TraceRecord,
+    ring: Ring,
+) -> Result<(), AllocError>
+    requires headed { IsHeader header.now }
+    requires found { IsFinder header.now.rings finder.now }
+    requires transfers { ring.shape.kind ≡ Xfer }
+    requires clear { IsClear header.now ring }
+    ensures comes { OnOk result (header.new ≡ with_ring header.old ring) }
+    ensures headed { OnOk result (IsHeader header.new) }
+    ensures found { OnOk result (IsFinder header.new.rings finder.new) }
+    ensures noted { OnOk result (HasOneMore ring kept.old kept.new) }
+    ensures events { kept.new.events ≡ kept.old.events }
+{
+    let known = RingRecord::new(alloc, &ring.shape)?;
+    kept.rings.push(known)?;
+    finder.add(header, &ring)?;
+    header.rings.push(ring)?;
+    Ok(())
+}

@@ -1,0 +1,47 @@
+ghost use Rattle.std.specs.Prelude.{◌≡◌, ℕ, true, false, length, IfErr, OnOk};
+ghost use Rattle.traces.specs.Header.{IsHeader};
+ghost use Rattle.ring_knowledge.specs.Known.{Known};
+ghost use Rattle.trace_record.specs.RingFinder.Finding.{IsFinder};
+ghost use Rattle.safety.specs.Keeps.{DriverKeeps};
+ghost use Rattle.trace_record.specs.FollowsTrace.{FollowsTrace};
+ghost use Rattle.trace_record.specs.Steps.{IfRefused};
+ghost use Rattle.safety.specs.RingChanges.Changes.{is_bad_free, without_ring};
+ghost use Rattle.traces.specs.declared.trace_row.TraceRow.TheVariants.{Goes};
+ghost use Rattle.ownership_rules.specs.declared.refusal.Refusal.TheVariants.{BadFree};
+ghost use Rattle.driver_rows.specs.RingRows.RingSteps.{IsRingStep};
+
+use crate::rings::freeing::free_ring;
+use ownership_rules::Refusal;
+use std::alloc::Global;
+use trace_record::{Finder, StepFault, TraceRecord};
+use traces::Header;
+
+/// Checks a ring that goes, before the stop, and forgets it: rule 34 (xHCI 4.9). The driver has kept the rules so far. Once a growth
+/// of memory was refused, what is kept is of no use any more.
+pub fn check_going(
+    alloc: Global,
+    header: &mut Header,
+    finder: &mut Finder,
+    kept: &mut TraceRecord,
+    id: u8,
+) -> Result<(), StepFault>
+    requires headed { IsHeader header.now }
+    requires found { IsFinder header.now.rings finder.now }
+    requires as_many { length kept.now.rings.items ≡ length header.now.rings }
+    ensures goes { OnOk result (header.new ≡ without_ring header.old id) }
+    ensures headed { OnOk result (IsHeader header.new) }
+    ensures found { OnOk result (IsFinder header.new.rings finder.new) }
+    ensures ok { OnOk result ((k : Known) (memory : ℕ → ℕ) → FollowsTrace header.old k kept.old memory → DriverKeeps header.old k → k.stopped ≡ false →
+        IsRingStep header.old k (Goes id) kept.new memory) }
+    ensures refused { IfErr result (λ e. IfRefused e (λ c. (c ≡ BadFree) × ((k : Known) (memory : ℕ → ℕ) → FollowsTrace header.old k kept.old memory →
+        DriverKeeps header.old k → is_bad_free header.old k id ≡ true))) }
+    ensures events { kept.new.events ≡ kept.old.events }
+{
+    let Some(number) = free_ring(header, finder, kept, id) else {
+        return Err(StepFault::Refused(Refusal::BadFree));
+    };
+    kept.rings.remove(number);
+    header.rings.remove(number);
+    *finder = Finder::new(alloc, header)?;
+    Ok(())
+}

@@ -1,0 +1,14 @@
+//! The rules of a write of memory, and what it gives: xHCI 4.9.2, 4.11, 4.6.
+
+mod blocks;
+mod checks;
+mod crossings;
+mod given_commands;
+mod plain;
+mod positions;
+mod word_write;
+
+pub use checks::check_write;
+pub use given_commands::given_command;
+pub use plain::plain_refusal;
+pub use word_write::WordWrite;

@@ -1,0 +1,143 @@
+//! The command that a write gives, and its rules: xHCI 4.6.
+ghost use Rattle.std.specs.Prelude.{◌≡◌, ◌≤◌, ◌&&◌, ℕ, not, if◌then◌else◌, None, IfNone, IfSome};
+ghost use Rattle.segments.specs.ShapeValue.{Shape};
+ghost use Rattle.segments.specs.RingView.{RingView, floor_number};
+ghost use Rattle.traces.specs.Header.{IsHeader, is_command_kind};
+ghost use Rattle.commands.specs.Command.{command_of};
+ghost use Rattle.ring_knowledge.specs.Known.{Known};
+ghost use Rattle.ring_knowledge.specs.RingRecords.{FollowsRing, IsFromFloor, positions_of};
+ghost use Rattle.trace_record.specs.RingFinder.Finding.{IsFinder};
+ghost use Rattle.traces.specs.Versions.{is_three};
+ghost use Rattle.ownership_rules.specs.Moves.{binds_again};
+ghost use Rattle.ownership_rules.specs.Older.{has_busy_slot, places_badly};
+ghost use Rattle.ownership_rules.specs.Refusal.{first_broken};
+ghost use Rattle.safety.specs.Keeps.{DriverKeeps};
+ghost use Rattle.trace_record.specs.FollowsTrace.{FollowsTrace};
+ghost use Rattle.trace_record.specs.Premises.{ContextsFit, FitsMemory};
+ghost use Rattle.driver_rows.specs.ContextRules.Contents.{IsAligned};
+ghost use Rattle.driver_rows.specs.MemoryWrites.WriteTests.{GivesOnPosition, command_in, command_on, command_tests};
+
+use crate::bindings::{binds_again, is_bad_binding, is_bad_move};
+use crate::context_rules::{has_left_out_endpoint, is_bad_command};
+use commands::Command;
+use guest_memory::WordMemory;
+use ownership_rules::Refusal;
+use ring_knowledge::{RingGiving, RingRecord};
+use trace_record::{Finder, TraceRecord, is_command_ring};
+use traces::{Header, Ring};
+use trb::Block;
+
+/// The command that a write gives which gives this of a ring, from its floor on.
+pub fn given_command(ring: &Ring, known: &RingRecord, giving: Option<RingGiving>) -> Option<Command>
+    ensures value { (v : RingView) → FollowsRing ring.now.shape v known.now → IsFromFloor v giving →
+        result ≡ (if is_command_kind ring.now.shape.kind then command_on v (positions_of giving) else None) }
+    ensures aligned { IfSome result IsAligned }
+    ensures quiet { GivesOnPosition giving result }
+{
+    if !is_command_ring(ring) {
+        return None;
+    }
+    match giving {
+        Some(RingGiving::Position(position)) => declared_command(known, position),
+        Some(RingGiving::Crossing(_)) => None,
+        None => None,
+    }
+}
+
+/// The command that is declared at a position.
+fn declared_command(known: &RingRecord, position: u64) -> Option<Command>
+    ensures value { (shape : Shape) (v : RingView) → FollowsRing shape v known.now → floor_number v ≤ position → result ≡ command_in v.queue position }
+    ensures aligned { IfSome result IsAligned }
+{
+    match known.declared(position) {
+        Some(block) => command_said(&block),
+        None => None,
+    }
+}
+
+/// The command that a block says.
+fn command_said(block: &Block) -> Option<Command>
+    ensures value { result ≡ command_of block.now }
+    ensures aligned { IfSome result IsAligned }
+{
+    match Command::read(block) {
+        Ok(command) => Some(command),
+        Err(_) => None,
+    }
+}
+
+/// Which rule a command breaks first.
+pub fn command_refusal<M: WordMemory>(
+    header: &Header,
+    finder: &Finder,
+    t: &TraceRecord,
+    memory: &M,
+    command: &Command,
+) -> Option<Refusal>
+    requires headed { IsHeader header.now }
+    requires found { IsFinder header.now.rings finder.now }
+    requires aligned { IsAligned command.now }
+    ensures first { (k : Known) → FollowsTrace header.now k t.now (M.words memory.now) → DriverKeeps header.now k → ContextsFit header.now k →
+        result ≡ first_broken (command_tests header.now k command.now) }
+    ensures fits { IfNone result (FitsMemory header.now.context_size command.now) }
+{
+    if is_bad_command(header, finder, t, memory, command) {
+        return Some(Refusal::BadCommand);
+    }
+    if has_busy_slot(header, t, command) {
+        return Some(Refusal::Busy);
+    }
+    if has_left_out_endpoint(header, memory, command) {
+        return Some(Refusal::NotInProfile);
+    }
+    if places_badly(header, finder, t, memory, command) {
+        return Some(Refusal::BadMove);
+    }
+    None
+}
+
+/// Whether an unfinished command excludes the command, or merely has its slot where the trace's version refuses that.
+fn has_busy_slot(header: &Header, t: &TraceRecord, command: &Command) -> bool
+    ensures { (k : Known) (memory : ℕ → ℕ) → FollowsTrace header.now k t.now memory → result ≡ has_busy_slot header.now k command.now }
+{
+    if t.commands.is_busy(command) {
+        return true;
+    }
+    !header.version.is_three() && t.commands.shares_slot(command)
+}
+
+/// Whether the command binds or moves a ring to where it may not be, or binds one again where the trace's version refuses that.
+fn places_badly<M: WordMemory>(
+    header: &Header,
+    finder: &Finder,
+    t: &TraceRecord,
+    memory: &M,
+    command: &Command,
+) -> bool
+    requires headed { IsHeader header.now }
+    requires found { IsFinder header.now.rings finder.now }
+    ensures { (k : Known) → FollowsTrace header.now k t.now (M.words memory.now) → DriverKeeps header.now k → ContextsFit header.now k →
+        FitsMemory header.now.context_size command.now → result ≡ places_badly header.now k command.now }
+{
+    if is_bound_again(header, finder, t, memory, command) {
+        return true;
+    }
+    is_bad_binding(header, finder, t, memory, command)
+        || is_bad_move(header, finder, t, memory, command)
+}
+
+/// Whether the command binds a ring that was bound before, where the trace's version refuses that.
+fn is_bound_again<M: WordMemory>(
+    header: &Header,
+    finder: &Finder,
+    t: &TraceRecord,
+    memory: &M,
+    command: &Command,
+) -> bool
+    requires headed { IsHeader header.now }
+    requires found { IsFinder header.now.rings finder.now }
+    ensures { (k : Known) → FollowsTrace header.now k t.now (M.words memory.now) → FitsMemory header.now.context_size command.now →
+        result ≡ (binds_again header.now k command.now && not (is_three header.now.version)) }
+{
+    !header.version.is_three() && binds_again(header, finder, &t.devices, memory, command)
+}

@@ -1,5 +1,0 @@
-use Rattle.endpoint_checks.proofs.EventCounts.{follows_counted}
-use Rattle.endpoint_checks.proofs.events.count_read.Goals as goal
-
-pub returns-clause-followed : goal.returns-clause-followed
-returns-clause-followed c = λ h k m f cycled. follows_counted h k c.args.t.now m f c.count.new.events (c.count.ensures.counted h k f.events cycled)

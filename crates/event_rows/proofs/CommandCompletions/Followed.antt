@@ -1,0 +1,62 @@
+-- What the record of a trace holds behind a completion
+use Rattle.event_rows.proofs.CommandCompletions.Words.{◌≡◌, ◌∙◌, ℕ, Option, Some, None, ap, sym, subst, RingChange, device_context_bytes, input_context_bytes, Header, EventState, RegisterRecord, Known, on_ring, unfinished, FollowsRegisters, FollowsRings, FollowsDevices, FollowsUnfinished, follows_beside, HoldsAreas, HoldsSoiled, TraceRecord, FollowsEvents, FollowsTrace, device_contexts, inputs_of}
+use Rattle.trace_record.specs.FollowsTrace.{HoldsBound}
+use Rattle.event_rows.proofs.CommandCompletions.Rest.{IsRest}
+
+module _ (k l : Known) (f : ℕ → Option ℕ) (rest : IsRest k l f) where
+  registers_still : (r : RegisterRecord) → FollowsRegisters k r → FollowsRegisters l r
+  registers_still r g = record {
+    started = rest.started ∙ g.started;
+    stopped = rest.stopped ∙ g.stopped;
+    as_many = g.as_many;
+    values = λ q. ap (λ m. m q) rest.register ∙ g.values q;
+  }
+
+  events_still : (h : Header) (o : Option EventState) → FollowsEvents h k o → FollowsEvents h l o
+  events_still h None g = g
+  events_still h (Some e) g = record { here = g.here; shape = g.shape; reads = rest.reads ∙ g.reads; dequeue = rest.dequeue ∙ g.dequeue }
+
+module _ (h : Header) (k l : Known) (r : ℕ) (change : RingChange) (t new : TraceRecord) (memory : ℕ → ℕ) (follows : FollowsTrace h k t memory) where
+  abbrev pub behind : Known
+  behind = on_ring h l r change
+
+  on_devices : FollowsDevices l new.devices → FollowsDevices behind new.devices
+  unfolding on_ring
+  on_devices f = follows_beside l behind new.devices f
+
+  on_rest : (f : ℕ → Option ℕ) → IsRest k l f → IsRest k behind f
+  unfolding on_ring
+  on_rest f rest = record {
+    started = rest.started;
+    stopped = rest.stopped;
+    register = rest.register;
+    memory = rest.memory;
+    soiled = rest.soiled;
+    reads = rest.reads;
+    dequeue = rest.dequeue;
+    device = rest.device;
+  }
+
+  on_contexts : HoldsAreas (device_context_bytes h.context_size) (device_contexts l) new.contexts → HoldsAreas (device_context_bytes h.context_size) (device_contexts behind) new.contexts
+  unfolding on_ring
+  on_contexts holds = holds
+
+  -- from what the rest of the record holds
+  pub followed_behind : (f : ℕ → Option ℕ) → IsRest k l f → new.registers ≡ t.registers → new.events ≡ t.events → new.soiled ≡ t.soiled →
+      FollowsRings h behind new.rings.items → FollowsDevices l new.devices → FollowsUnfinished (unfinished h behind) new.commands → HoldsBound h behind new.bound →
+      HoldsAreas (input_context_bytes h.context_size) (inputs_of (unfinished h behind)) new.inputs →
+      HoldsAreas (device_context_bytes h.context_size) (device_contexts l) new.contexts → FollowsTrace h behind new memory
+  followed_behind f rest registers events soiled rings devices commands bound inputs contexts =
+      let on : IsRest k behind f = on_rest f rest in
+      record {
+        words = λ a. ap (λ m. m a) on.memory ∙ follows.words a;
+        rings = rings;
+        registers = subst (λ (x : RegisterRecord). FollowsRegisters behind x) (sym registers) (registers_still k behind f on t.registers follows.registers);
+        events = subst (λ (x : Option EventState). FollowsEvents h behind x) (sym events) (events_still k behind f on h t.events follows.events);
+        devices = on_devices devices;
+        commands = commands;
+        bound = bound;
+        inputs = inputs;
+        contexts = on_contexts contexts;
+        soiled = subst (λ s. HoldsSoiled behind.soiled s) (sym soiled) (subst (λ g. HoldsSoiled g t.soiled) (sym on.soiled) follows.soiled);
+      }

@@ -1,0 +1,2 @@
+pub mod TransferEvents
+pub mod CommandCompletions

@@ -1,0 +1,3 @@
+pub mod EventCounts
+pub mod Reports
+pub mod Noted

@@ -1,0 +1,8 @@
+use Rattle.std.proofs.Common.{subst}
+use Rattle.ring_knowledge.specs.Known.{Known}
+use Rattle.trace_record.specs.DeviceSlots.Devices.{FollowsDevices}
+use Rattle.event_rows.proofs.CommandCompletions.Finished.{stops_not}
+use Rattle.event_rows.proofs.completions.ending.end_stop.Goals as goal
+
+pub returns-in_default : goal.returns-in_default
+returns-in_default c = λ h k f. subst (λ (l : Known). FollowsDevices l c.args.devices.now) (stops_not h k c.args.command.now c.in_default.not-StopEndpoint) f

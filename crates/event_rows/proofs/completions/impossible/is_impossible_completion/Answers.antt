@@ -1,0 +1,21 @@
+use Rattle.std.proofs.Common.{◌∙◌, ap, get_or, refl, sym}
+use Rattle.traces.specs.Header.{is_command_kind}
+use Rattle.trace_record.proofs.RingFinder.RingsApart.{among_at}
+use Rattle.trace_record.proofs.RingFinder.FoundRings.{command_found, no_command_ring, ring_here}
+use Rattle.event_rows.proofs.CommandCompletions.CommandRings.{command_is, completion_is, driven, has_commands, read_at, set_up_commands}
+use Rattle.event_rows.proofs.completions.impossible.is_impossible_completion.Goals as goal
+
+pub returns-in_default : goal.returns-in_default
+returns-in_default c = λ k m f set_up on named.
+    has_commands c.args.header.now (set_up_commands c.args.header.now k set_up on) (no_command_ring c.args.header.now (sym c.requires.found.commands ∙ c.in_default.is))
+
+pub returns : goal.returns
+returns c = λ k m f set_up on named.
+    let h = c.args.header.now in
+    let n = c.in-Some.number in
+    let ring = c.index-rings-number.result in
+    let here = ring_here h (λ q. is_command_kind q.shape.kind) h.rings n ring (sym c.requires.found.commands ∙ c.in-Some.is) refl (c.index-rings-number.is ∙ ap (λ xs. get_or xs n ring) c.as_slice-rings.ensures) in
+    let there = command_found h c.requires.headed ring (among_at h.rings n ring here.0) here.1 in
+    let record_at = read_at c.deref.result.now c.args.t.now.rings.items n c.in-Some-get.known.now c.deref.ensures.value c.in-Some-get.ensures.lookup.3.0 c.in-Some-get.ensures.lookup.1 in
+    let known = f.rings.each n ring c.in-Some-get.known.now here.0 record_at (driven ring.shape.kind here.1) in
+    c.is_no_completion.ensures (k.ring ring.id) k known f.devices f.registers (named ∙ command_is h c.requires.headed k ring there) ∙ sym (completion_is h c.requires.headed k ring there c.args.block)

@@ -1,0 +1,17 @@
+use Rattle.std.proofs.Common.{ap, sym, ◌∙◌}
+use Rattle.std.specs.Prelude.{◌&&◌, not}
+use Rattle.trb.specs.Block.{code}
+use Rattle.trb.specs.CompletionCode.{is_transfer_code}
+use Rattle.ownership_rules.specs.Events.{is_in_profile}
+use Rattle.event_rows.proofs.transfers.profile.is_in_profile.Goals as goal
+
+pub returns-then-not-has_event_data : goal.returns-then-not-has_event_data
+unfolding is_in_profile
+returns-then-not-has_event_data c =
+    c.is_transfer_code.ensures ∙ ap is_transfer_code c.code.ensures
+    ∙ ap (λ b. not b && is_transfer_code (code c.args.event)) (sym (sym c.has_event_data.ensures ∙ c.if-not-has_event_data.true))
+
+pub returns-else-not-has_event_data : goal.returns-else-not-has_event_data
+unfolding is_in_profile
+returns-else-not-has_event_data c =
+    ap not c.if-not-has_event_data.false ∙ ap (λ b. not b && is_transfer_code (code c.args.event)) (sym (sym c.has_event_data.ensures ∙ c.if-not-has_event_data.false))

@@ -1,0 +1,42 @@
+use Rattle.std.proofs.Common.{Some, get_or, ap, sym, ◌∙◌}
+use Rattle.std.proofs.lemmas.Option.{slice_get-get_or}
+use Rattle.trb.specs.Block.{slot, endpoint}
+use Rattle.driver_rows.specs.DoorbellRows.Numbers.{number_of}
+use Rattle.driver_rows.proofs.DoorbellRows.Followed.{read_at}
+use Rattle.event_rows.proofs.TransferEvents.Reports.{no_endpoint_ring, none_named, named_by, its_ring}
+use Rattle.event_rows.proofs.transfers.spots.named_spot.Goals as goal
+
+pub returns-in_default-clause-named : goal.returns-in_default-clause-named
+returns-in_default-clause-named c = λ k m f keeps.
+    let h = c.args.header.now in
+    let b = c.args.event in
+    let has = c.in_default.ensures.value h.rings k c.requires.found f.devices ∙ ap (λ s. number_of h.rings (k.ring_of s c.endpoint.result)) c.slot.ensures ∙ ap (λ i. number_of h.rings (k.ring_of (slot b) i)) c.endpoint.ensures in
+    none_named h c.requires.headed k keeps b (no_endpoint_ring h c.requires.headed k keeps (slot b) (endpoint b) has)
+
+pub returns-in_default-named-clause-named : goal.returns-in_default-named-clause-named
+returns-in_default-named-clause-named c = λ k m f keeps.
+    let h = c.args.header.now in
+    let b = c.args.event in
+    let n = c.in-Some.number in
+    let has = c.in-Some.ensures.value h.rings k c.requires.found f.devices ∙ ap (λ s. number_of h.rings (k.ring_of s c.endpoint.result)) c.slot.ensures ∙ ap (λ i. number_of h.rings (k.ring_of (slot b) i)) c.endpoint.ensures in
+    let l = c.in-Some-get.ensures.lookup in
+    let d = c.index-rings-number.result in
+    let here = slice_get-get_or h.rings n d (c.in-Some.ensures.below h.rings c.requires.found) ∙ ap (λ xs. Some (get_or xs n d)) (sym c.as_slice-rings.ensures) in
+    named_by h c.requires.headed k keeps c.args.t.now m f b n has _ c.in-Some-get.known.now _ _ here (read_at c.deref.result.now c.args.t.now.rings.items n c.in-Some-get.known.now c.deref.ensures.value l.3.0 l.1) c.pointer.ensures c.in_default-named.ensures.value
+
+pub returns-clause-named : goal.returns-clause-named
+returns-clause-named c = λ k m f keeps.
+    let h = c.args.header.now in
+    let b = c.args.event in
+    let n = c.in-Some.number in
+    let has = c.in-Some.ensures.value h.rings k c.requires.found f.devices ∙ ap (λ s. number_of h.rings (k.ring_of s c.endpoint.result)) c.slot.ensures ∙ ap (λ i. number_of h.rings (k.ring_of (slot b) i)) c.endpoint.ensures in
+    let l = c.in-Some-get.ensures.lookup in
+    let d = c.index-rings-number.result in
+    let here = slice_get-get_or h.rings n d (c.in-Some.ensures.below h.rings c.requires.found) ∙ ap (λ xs. Some (get_or xs n d)) (sym c.as_slice-rings.ensures) in
+    let its = its_ring h c.requires.headed k keeps c.args.t.now m f b n has in
+    record {
+      ring = its.ring;
+      here = its.at;
+      transfer = its.transfer;
+      names = named_by h c.requires.headed k keeps c.args.t.now m f b n has _ c.in-Some-get.known.now _ _ here (read_at c.deref.result.now c.args.t.now.rings.items n c.in-Some-get.known.now c.deref.ensures.value l.3.0 l.1) c.pointer.ensures c.in-Some-named.ensures.value;
+    }

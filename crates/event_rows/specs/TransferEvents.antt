@@ -1,0 +1,2 @@
+pub mod NamedSpots
+pub mod Reported

@@ -1,0 +1,12 @@
+//! Command Completion Events: which of them are impossible, and what the others end (xHCI 4.5.3, 4.6, 4.8.3).
+
+mod ending;
+mod impossible;
+mod next;
+mod placing;
+mod possible;
+mod rings;
+mod success;
+
+pub use ending::read_completion;
+pub use next::next_command;

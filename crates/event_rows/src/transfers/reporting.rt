@@ -1,0 +1,211 @@
+//! A row of a Transfer Event: xHCI 4.8.3, 4.9.2, 4.10.2, 6.4.2.1.
+ghost use Rattle.std.specs.Prelude.{◌≡◌, ◌&&◌, ◌||◌, ◌<◌, ◌^◌, not, ℕ, nat_lt, Some, false, true, length, option_and_then, slice_get};
+ghost use Rattle.std.specs.Bool.{OnTrue};
+ghost use Rattle.trb.specs.Block.{code, endpoint, slot};
+ghost use Rattle.trb.specs.CompletionCode.{is_halting, is_success, is_trb_error};
+ghost use Rattle.segments.specs.ShapeValue.{Shape};
+ghost use Rattle.segments.specs.Spots.{number};
+ghost use Rattle.segments.specs.Ceiling.{ceiling, is_data_below, is_open, is_stop_spot};
+ghost use Rattle.segments.specs.RingView.{RingView, floor_number};
+ghost use Rattle.commands.specs.Command.{command_of, is_stop_of};
+ghost use Rattle.commands.specs.States.{is_off, is_running};
+ghost use Rattle.traces.specs.Header.{IsHeader, shape_of};
+ghost use Rattle.traces.specs.declared.header.Header.{Header as HeaderValue};
+ghost use Rattle.ring_knowledge.specs.Known.{Known};
+ghost use Rattle.ring_knowledge.specs.Transfers.{transfer_read};
+ghost use Rattle.ring_knowledge.specs.declared.ring_record.RingRecord.{RingRecord as RingValue};
+ghost use Rattle.ring_knowledge.specs.RingRecords.{FollowsRing};
+ghost use Rattle.ring_knowledge.specs.Rings.{event_at};
+ghost use Rattle.trace_record.specs.DeviceSlots.Devices.{FollowsDevices};
+ghost use Rattle.ownership_rules.specs.Events.{can_report, can_report_at, is_impossible_transfer, is_in_profile, is_stopping_now, is_working};
+ghost use Rattle.safety.specs.Keeps.{DriverKeeps};
+ghost use Rattle.trace_record.specs.RingFinder.Finding.{IsFinder};
+ghost use Rattle.trace_record.specs.FollowsTrace.{FollowsTrace};
+ghost use Rattle.event_rows.specs.TransferEvents.NamedSpots.{IsNamedAt};
+ghost use Rattle.event_rows.specs.TransferEvents.Reported.{IsWithRecord, MayReport, reported};
+
+use crate::transfers::profile::is_failure;
+use crate::transfers::spots::{NamedSpot, named_spot};
+use commands::{Command, EndpointState, is_off, is_stop_of};
+use ring_knowledge::{RingRecord, is_data_below};
+use segments::{RingShape, Spot};
+use trace_record::{DeviceRecord, Finder, TraceRecord};
+use traces::Header;
+use trb::{Block, is_success};
+
+/// Notes a Transfer Event of the profile that a controller can have posted, and tells whether one can: not where its endpoint is
+/// Disabled, or hasn't come to what the event says of the spot that it names. What is noted is how far the controller has come on
+/// the ring, and in which state the endpoint is (xHCI 4.8.3, 4.9.2, 4.10.2).
+#[inline(always)]
+pub fn read_transfer_event(
+    header: &Header,
+    finder: &Finder,
+    t: &mut TraceRecord,
+    event: Block,
+) -> bool
+    requires headed { IsHeader header.now }
+    requires found { IsFinder header.now.rings finder.now }
+    ensures possible { (k : Known) (m : ℕ → ℕ) → FollowsTrace header.now k t.old m → DriverKeeps header.now k → is_in_profile event ≡ true →
+        result ≡ not (is_impossible_transfer header.now k event) }
+    ensures followed { OnTrue result ((k : Known) (m : ℕ → ℕ) → FollowsTrace header.now k t.old m → DriverKeeps header.now k → is_in_profile event ≡ true →
+        FollowsTrace header.now (transfer_read header.now k event) t.new m) }
+    ensures events { t.new.events ≡ t.old.events }
+{
+    if is_off(t.devices.endpoint_state(event.slot(), event.endpoint())) {
+        return false;
+    }
+    let Some(at) = named_spot(header, finder, t, event) else {
+        return false;
+    };
+    if !can_report_at(header, finder, t, event, at) {
+        return false;
+    }
+    note_at(header, t, event, at);
+    true
+}
+
+/// Whether a controller can have posted the event for the spot that it names.
+#[inline(always)]
+fn can_report_at(
+    header: &Header,
+    finder: &Finder,
+    t: &TraceRecord,
+    event: Block,
+    at: NamedSpot,
+) -> bool
+    requires headed { IsHeader header.now }
+    requires found { IsFinder header.now.rings finder.now }
+    requires below { at.number < length header.now.rings }
+    ensures { (k : Known) (m : ℕ → ℕ) → FollowsTrace header.now k t.now m → DriverKeeps header.now k → IsNamedAt header.now k event at →
+        result ≡ can_report_at header.now k event (event_at header.now k event) }
+{
+    let rings = header.rings.as_slice();
+    let Some(known) = t.rings.get(at.number) else {
+        return false;
+    };
+    can_report(finder, t, &rings[at.number].shape, known, event, at.spot)
+}
+
+/// Whether a controller can have posted the event for a spot of a ring.
+#[inline(always)]
+fn can_report(
+    finder: &Finder,
+    t: &TraceRecord,
+    shape: &RingShape,
+    known: &RingRecord,
+    event: Block,
+    spot: Spot,
+) -> bool
+    ensures { (h : HeaderValue) (k : Known) (m : ℕ → ℕ) (r : ℕ) → IsHeader h → IsFinder h.rings finder.now → FollowsTrace h k t.now m → DriverKeeps h k →
+        shape_of h r ≡ shape.now → FollowsRing shape.now (k.ring r) known.now → result ≡ can_report h k (code event) (slot event) (endpoint event) r spot }
+{
+    if is_success(event.code()) {
+        return is_data_below(known.ceiling(), spot);
+    }
+    if !is_working(&t.devices, known, event.slot(), event.endpoint()) {
+        return false;
+    }
+    if is_failure(event.code()) {
+        return is_data_below(known.ceiling(), spot);
+    }
+    if !is_stopping_now(finder, t, event.slot(), event.endpoint()) {
+        return false;
+    }
+    known.is_stop_spot(shape, spot)
+}
+
+/// Whether an endpoint is Running and its ring open.
+#[tactic(auto, unfolding(ownership_rules::specs::Events::is_working))]
+fn is_working(devices: &DeviceRecord, known: &RingRecord, slot: u8, index: u8) -> bool
+    ensures { (k : Known) (shape : Shape) (r : ℕ) → FollowsDevices k devices.now → FollowsRing shape (k.ring r) known.now → result ≡ is_working k slot index r }
+{
+    is_running(devices.endpoint_state(slot, index)) && known.is_open()
+}
+
+fn is_running(state: EndpointState) -> bool
+    ensures { result ≡ is_running state }
+{
+    matches!(state, EndpointState::Running)
+}
+
+/// Whether the command that is finished next is a Stop Endpoint for an endpoint, and the controller may have come to it.
+fn is_stopping_now(finder: &Finder, t: &TraceRecord, slot: u8, index: u8) -> bool
+    ensures { (h : HeaderValue) (k : Known) (m : ℕ → ℕ) → IsHeader h → IsFinder h.rings finder.now → FollowsTrace h k t.now m → DriverKeeps h k →
+        result ≡ is_stopping_now h k slot index }
+{
+    let Some(number) = finder.commands else {
+        return false;
+    };
+    let Some(known) = t.rings.get(number) else {
+        return false;
+    };
+    is_stopping_next(known, slot, index)
+}
+
+/// The same of the record of the command ring.
+fn is_stopping_next(known: &RingRecord, slot: u8, index: u8) -> bool
+    ensures { (shape : Shape) (v : RingView) → FollowsRing shape v known.now →
+        result ≡ (nat_lt (floor_number v) (ceiling shape v) && is_stop_of slot index (option_and_then command_of (slice_get v.queue (floor_number v)))) }
+{
+    known.floor_number() < known.ceiling() && is_stop_of(next_command(known), slot, index)
+}
+
+/// The command that is declared at a ring's floor.
+fn next_command(known: &RingRecord) -> Option<Command>
+    ensures { (shape : Shape) (v : RingView) → FollowsRing shape v known.now → result ≡ option_and_then command_of (slice_get v.queue (floor_number v)) }
+{
+    match known.declared(known.floor_number()) {
+        Some(block) => Command::read(&block).ok(),
+        None => None,
+    }
+}
+
+/// Notes a Transfer Event that can have been posted, and names this spot. A Short Packet finishes the block that it names, and no
+/// more of its descriptor.
+#[inline(always)]
+fn note_at(header: &Header, t: &mut TraceRecord, event: Block, at: NamedSpot)
+    requires headed { IsHeader header.now }
+    requires below { at.number < length header.now.rings }
+    requires few { number at.spot < 2 ^ 63 }
+    ensures followed { (k : Known) (m : ℕ → ℕ) → FollowsTrace header.now k t.old m → DriverKeeps header.now k → is_in_profile event ≡ true →
+        is_impossible_transfer header.now k event ≡ false → IsNamedAt header.now k event at → FollowsTrace header.now (transfer_read header.now k event) t.new m }
+    ensures events { t.new.events ≡ t.old.events }
+{
+    let rings = header.rings.as_slice();
+    note_report(
+        &mut t.rings,
+        at.number,
+        &rings[at.number].shape,
+        event.code(),
+        at.spot,
+    );
+    t.devices
+        .read_transfer(event.code(), event.slot(), event.endpoint());
+}
+
+/// Notes what an event with this code says of a spot of a ring, by its number.
+#[inline(always)]
+fn note_report(records: &mut Vec<RingRecord>, ring: usize, shape: &RingShape, code: u8, spot: Spot)
+    requires { number spot < 2 ^ 63 }
+    ensures { (known : RingValue) (v : RingView) → slice_get records.old.items ring ≡ Some known → FollowsRing shape.now v known → MayReport shape.now v code spot →
+        IsWithRecord records.old.items records.new.items ring shape.now (reported shape.now v code spot) }
+{
+    if let Some(known) = records.get_mut(ring) {
+        note_on_ring(known, shape, code, spot);
+    }
+}
+
+/// The same of the record of the ring.
+#[inline(always)]
+fn note_on_ring(known: &mut RingRecord, shape: &RingShape, code: u8, spot: Spot)
+    requires { number spot < 2 ^ 63 }
+    ensures { (v : RingView) → FollowsRing shape.now v known.old → MayReport shape.now v code spot → FollowsRing shape.now (reported shape.now v code spot) known.new }
+{
+    if is_success(code) {
+        known.pass(shape, spot);
+    } else if is_failure(code) {
+        known.break_off(shape, spot);
+    } else {
+        known.stop_at(shape, spot);
+    }
+}

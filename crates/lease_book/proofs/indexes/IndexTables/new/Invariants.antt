@@ -1,6 +1,0 @@
-use Rattle.lease_book.proofs.Words.{◌≡◌, ℕ, vec_len, index_of}
-use Rattle.std.specs.Prelude.{slice_get}
-use Rattle.lease_book.proofs.indexes.IndexTables.new.Given as goal
-
-abbrev pub invariant-loop : goal.invariant-loop
-invariant-loop l = record { many : vec_len l.rings ≡ l.counter; none : (r m : ℕ) → index_of (slice_get l.rings.items r) m ≡ 0 }

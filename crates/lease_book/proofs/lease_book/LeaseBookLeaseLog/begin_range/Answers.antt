@@ -1,9 +1,0 @@
-use Rattle.ownership_rules.specs.OpenLeases.{Range}
-use Rattle.lease_book.proofs.Places.{list_begun, range_found}
-use Rattle.lease_book.proofs.lease_book.LeaseBookLeaseLog.begin_range.Goals as goal
-
-pub returns : goal.returns
-returns c = λ list h ts purpose known. record {
-  list = list_begun ts c.args.row (Range c.args.bytes c.args.address purpose) c.args.self.now.leases.items c.push.new.self.items known.list (c.range_lease.ensures purpose) c.in_ok-push.ensures.items;
-  found = range_found h c.args.self.now.blocks c.args.self.now.links ts c.args.row c.args.bytes c.args.address purpose known.found;
-}

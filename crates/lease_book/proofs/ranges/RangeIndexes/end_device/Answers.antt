@@ -1,8 +1,0 @@
-use Rattle.lease_book.proofs.Words.{sym, ap, ◌∙◌, DeviceContext, index_in}
-use Rattle.lease_book.proofs.RangePlaces.{stands}
-use Rattle.lease_book.proofs.ranges.RangeIndexes.end_device.Goals as goal
-
-pub returns : goal.returns
-returns g c = λ list h ts held found lent.
-    c.end_range.ensures list h ts (DeviceContext c.args.slot) held
-    (stands h c.args.self.now ts c.args.bytes c.args.address c.get-index.result (DeviceContext c.args.slot) (λ i at. sym at ∙ ap (index_in c.args.self.now.devices) (sym c.from.ensures) ∙ sym c.get-index.ensures) found) lent

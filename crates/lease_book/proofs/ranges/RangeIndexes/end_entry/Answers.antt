@@ -1,8 +1,0 @@
-use Rattle.lease_book.proofs.Words.{sym, ap, ◌∙◌, SlotEntry, index_in}
-use Rattle.lease_book.proofs.RangePlaces.{stands}
-use Rattle.lease_book.proofs.ranges.RangeIndexes.end_entry.Goals as goal
-
-pub returns : goal.returns
-returns g c = λ list h ts held found lent.
-    c.end_range.ensures list h ts (SlotEntry c.args.slot) held
-    (stands h c.args.self.now ts c.args.bytes c.args.address c.get-index.result (SlotEntry c.args.slot) (λ i at. sym at ∙ ap (index_in c.args.self.now.entries) (sym c.from.ensures) ∙ sym c.get-index.ensures) found) lent

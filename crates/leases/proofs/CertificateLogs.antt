@@ -1,0 +1,13 @@
+pub mod Agreement
+pub mod Whole
+pub mod OpenPlaces
+pub mod Ending
+pub mod Tables
+pub mod Words
+pub mod Following
+pub mod Standing
+pub mod EndingOne
+pub mod PassingOn
+pub mod Beginning
+pub mod Listed
+pub mod CitedWords

@@ -1,0 +1,56 @@
+-- How agreement goes on when a lease begins, and when some end
+use Rattle.leases.proofs.CertificateLogs.CitedWords.{◌≡◌, ◌==◌, ◌&&◌, ◌||◌, ◌∷◌, ◌∙◌, ℕ, Bool, true, false, List, [], length, map, slice_get, sym, ap, refl, cond, eq-eqb, and_parts, and_from, Lease, Leased, as_lease, without_end, Lent, begun_at, ended_where, is_unended, lease_of, with_begun, later_end, agree, agrees, begins_as, has_words_of, test_of}
+
+and_true : (b : Bool) → (b && true) ≡ b
+and_true true = refl
+and_true false = refl
+
+regroup : (a b c : Bool) → (a && (b && c)) ≡ ((a && b) && c)
+regroup true b c = refl
+regroup false b c = refl
+
+pub begun_is_unended : (n : ℕ) (l : Leased) → is_unended (begun_at n l) ≡ true
+unfolding is_unended begun_at
+begun_is_unended n l = eq-eqb without_end without_end refl
+
+starts : (row : ℕ) (l : Leased) (m : Lease) → agrees (begun_at row l) m ≡ begins_as m (as_lease row without_end l)
+unfolding agrees lease_of begun_at
+starts row l m = rw (begun_is_unended row l) (and_true (begins_as m (as_lease row without_end l)))
+
+-- one more begins: the list agrees if the next of its leases does
+pub agree_begun : (row : ℕ) (l : Leased) (ts : List Lent) (ls : List Lease) →
+    agree (with_begun row ts (l ∷ [])) ls ≡ (agree ts ls && test_of (λ m. begins_as m (as_lease row without_end l)) (slice_get ls (length ts)))
+unfolding with_begun agree
+agree_begun row l [] [] = refl
+agree_begun row l [] (m ∷ ls) = and_true (agrees (begun_at row l) m) ∙ starts row l m
+agree_begun row l (t ∷ ts) [] = refl
+agree_begun row l (t ∷ ts) (m ∷ ls) =
+    ap (λ b. agrees t m && b) (agree_begun row l ts ls) ∙ regroup (agrees t m) (agree ts ls) (test_of (λ x. begins_as x (as_lease row without_end l)) (slice_get ls (length ts)))
+
+module _ (over : Leased → Bool) (row : ℕ) where
+  pub same_beginning : (t : Lent) (l : Lease) → begins_as l (lease_of (ended_where over row t)) ≡ begins_as l (lease_of t)
+  unfolding ended_where begins_as has_words_of
+  same_beginning t l = by (is_unended t && over t.leased)
+    where
+      by : (b : Bool) → begins_as l (lease_of (cond b (record t { to = row }) t)) ≡ begins_as l (lease_of t)
+      by true = ap (begins_as l) (later_end t row)
+      by false = refl
+
+  -- and what agrees with an end agrees before it
+  agrees_unended : (t : Lent) (l : Lease) → agrees (ended_where over row t) l ≡ true → agrees t l ≡ true
+  unfolding agrees ended_where
+  agrees_unended t l e =
+      let parts = and_parts (begins_as l (lease_of (ended_where over row t))) (is_unended (ended_where over row t) || l.to == (ended_where over row t).to) e in
+      and_from (begins_as l (lease_of t)) (is_unended t || l.to == t.to) (sym (same_beginning t l) ∙ parts.0) (by (is_unended t) refl parts.1)
+    where
+      by : (b : Bool) → is_unended t ≡ b → (is_unended (ended_where over row t) || l.to == (ended_where over row t).to) ≡ true → (b || l.to == t.to) ≡ true
+      by true u e = refl
+      by false u e = rw (u, u) at e
+
+  pub agree_unended : (ts : List Lent) (ls : List Lease) → agree (map (ended_where over row) ts) ls ≡ true → agree ts ls ≡ true
+  unfolding agree
+  agree_unended [] ls e = refl
+  agree_unended (t ∷ ts) [] e = e
+  agree_unended (t ∷ ts) (l ∷ ls) e =
+      let parts = and_parts (agrees (ended_where over row t) l) (agree (map (ended_where over row) ts) ls) e in
+      and_from (agrees t l) (agree ts ls) (agrees_unended t l parts.0) (agree_unended ts ls parts.1)

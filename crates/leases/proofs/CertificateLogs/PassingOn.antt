@@ -1,0 +1,47 @@
+-- The walk along a ring passes a position at which no Link is crossed
+use Rattle.leases.proofs.CertificateLogs.CitedWords.{◌≡◌, ◌+◌, ◌≤◌, ◌||◌, ◌∙◌, ℕ, Bool, false, not, List, map, sym, ap, refl, inl, inr, subst, cases_Bool, false≢true, length-map, is_crossing, Header, shape_of, Lease, Leased, Block, Link, Range, same_leased, IndexTables, IsFound, Lent, ended_where, is_passed, ended_alike, passed_block, FollowedList, agree, IsCrossed, FollowsList}
+use Rattle.leases.proofs.CertificateLogs.Agreement.{agree_unended}
+use Rattle.leases.proofs.CertificateLogs.Tables.{number_of}
+
+-- where the tables have its number, they find what is crossed
+crossed_found : (h : Header) (blocks links : IndexTables) (l : Leased) → IsCrossed h l → IsFound h blocks links (number_of h blocks links l) l
+crossed_found h blocks links (Block r p) crossed = refl
+crossed_found h blocks links (Link r q) crossed = (crossed, refl)
+crossed_found h blocks links (Range n a e) crossed = tt
+
+module _ (leases : List Lease) (h : Header) (ts : List Lent) (list : FollowedList) (blocks links : IndexTables) (follows : FollowsList leases h ts list blocks links) (p q : Leased → Bool) (row : ℕ)
+    (alike : (l : Leased) → IsCrossed h l → p l ≡ q l) where
+  abbrev by_one : List Lent
+  by_one = map (ended_where p row) ts
+
+  abbrev by_other : List Lent
+  by_other = map (ended_where q row) ts
+
+  differs : (over : Leased → Bool) → agree ts leases ≡ false → agree (map (ended_where over row) ts) leases ≡ false
+  differs over e = elim (cases_Bool (agree (map (ended_where over row) ts) leases)) [
+    | inl agreed ↦ absurd (false≢true (sym e ∙ agree_unended over row ts leases agreed))
+    | inr other ↦ other
+  ]
+
+  -- tests that agree on what can be crossed end alike, while the list agrees; another list stays another one
+  pub ended_so : (new : FollowedList) (new_blocks new_links : IndexTables) → FollowsList leases h by_one new new_blocks new_links → FollowsList leases h by_other new new_blocks new_links
+  ended_so new new_blocks new_links ended = elim (cases_Bool (agree ts leases)) [
+    | inl agreed ↦
+        let same : by_one ≡ by_other = ended_alike (λ i l. IsCrossed h l) p q row 0 ts (λ i l crossed. alike l crossed) (follows.known agreed).crossed in
+        subst (λ (us : List Lent). FollowsList leases h us new new_blocks new_links) same ended
+    | inr other ↦ record {
+      same = ended.same;
+      begun = ended.begun ∙ length-map ts (ended_where p row) ∙ sym (length-map ts (ended_where q row));
+      differs = ended.differs ∙ ap not (differs p other) ∙ sym (ap not (differs q other));
+      known = λ agreed. absurd (false≢true (sym (differs q other) ∙ agreed));
+    }
+  ]
+
+-- a block was passed
+pub passed_on : (leases : List Lease) (h : Header) (ts : List Lent) (list : FollowedList) (blocks links : IndexTables) → FollowsList leases h ts list blocks links → (r from n row : ℕ) → from ≤ n →
+    is_crossing (shape_of h r) n ≡ false → (new : FollowedList) (new_blocks new_links : IndexTables) →
+    FollowsList leases h (map (ended_where (λ l. is_passed r from n l || same_leased (Block r n) l) row) ts) new new_blocks new_links →
+    FollowsList leases h (map (ended_where (is_passed r from (n + 1)) row) ts) new new_blocks new_links
+passed_on leases h ts list blocks links follows r from n row least none =
+    ended_so leases h ts list blocks links follows (λ l. is_passed r from n l || same_leased (Block r n) l) (is_passed r from (n + 1)) row
+    (λ l crossed. passed_block h blocks links r from n (number_of h blocks links l) l least none (crossed_found h blocks links l crossed))

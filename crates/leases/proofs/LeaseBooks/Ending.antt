@@ -1,0 +1,116 @@
+-- To end one lease of the list is to end what it leases
+use Rattle.leases.proofs.LeaseBooks.Words.{◌≡◌, ◌+◌, ◌-◌, ◌<◌, ◌==◌, ◌&&◌, ◌∷◌, ◌∙◌, ℕ, Bool, true, false, List, [], map, slice_get, slice_set, Some, None, zero, suc, arith, sym, ap, refl, inl, inr, cond, subst, cases_Bool, and_parts, nat_tests, Lease, Leased, Block, Link, Range, same_leased, as_lease, without_end, leased_is, Lent, lease_of, is_unended, ended_where, AllUnended, is_open_as, ended_at}
+
+-- where the list has such an element at the index, or none
+pub at_some : (l : Lease) (n i : ℕ) (xs : List Lease) (m : Lease) → slice_get xs i ≡ Some m → ended_at l n i xs ≡ cond (is_open_as l m) (slice_set xs i (record m { to = n })) xs
+unfolding ended_at
+at_some l n i [] m e = cc
+at_some l n zero (x ∷ xs) m e = let same : x ≡ m = cc in rw same (by (is_open_as l m))
+  where
+    by : (b : Bool) → cond b (record m { to = n }) m ∷ xs ≡ cond b (record m { to = n } ∷ xs) (m ∷ xs)
+    by true = refl
+    by false = refl
+at_some l n (suc i) (x ∷ xs) m e = ap (λ ys. x ∷ ys) (at_some l n i xs m e) ∙ by (is_open_as l m)
+  where
+    by : (b : Bool) → x ∷ cond b (slice_set xs i (record m { to = n })) xs ≡ cond b (x ∷ slice_set xs i (record m { to = n })) (x ∷ xs)
+    by true = refl
+    by false = refl
+
+pub at_none : (l : Lease) (n i : ℕ) (xs : List Lease) → slice_get xs i ≡ None → ended_at l n i xs ≡ xs
+unfolding ended_at
+at_none l n i [] e = refl
+at_none l n zero (x ∷ xs) e = cc
+at_none l n (suc i) (x ∷ xs) e = ap (λ ys. x ∷ ys) (at_none l n i xs e)
+
+pub later_end : (t : Lent) (n : ℕ) → lease_of (record t { to = n }) ≡ record (lease_of t) { to = n }
+unfolding lease_of as_lease
+later_end t n = by t.leased
+  where
+    by : (l : Leased) → as_lease t.from n l ≡ record (as_lease t.from t.to l) { to = n }
+    by (Block r p) = refl
+    by (Link r q) = refl
+    by (Range m a e) = refl
+
+module _ (F : ℕ → Leased → Type 0) (l : Leased) (row : ℕ) where
+  -- none of these is the one that ends
+  pub none_ends : (n : ℕ) (ts : List Lent) → ((j : ℕ) → F j l → j < n) → AllUnended F n ts → map (ended_where (same_leased l) row) ts ≡ ts
+  unfolding ended_where
+  none_ends n [] before all = refl
+  none_ends n (t ∷ ts) before all =
+      elim (cases_Bool (is_unended t && same_leased l t.leased)) [
+        | inl this ↦
+            let parts = and_parts (is_unended t) (same_leased l t.leased) this in
+            let found : F n l = subst (F n) (sym (leased_is l t.leased parts.1)) (all.0 parts.0) in
+            let low : n < n = before n found in
+            absurd (omega arith)
+        | inr other ↦ rw (other, none_ends (n + 1) ts (λ j f. let low : j < n = before j f in omega arith) all.1) refl
+      ]
+
+  module _ (x : Lease) (P : Leased → Type 0) (told : (j : ℕ) (m : Leased) → F j m → P m)
+      (alike : (t : Lent) → (is_unended t ≡ true → P t.leased) → is_open_as x (lease_of t) ≡ (is_unended t && same_leased l t.leased)) where
+    pub one_ends : (n i : ℕ) (ts : List Lent) → ((j : ℕ) → F j l → j ≡ n + i) → AllUnended F n ts →
+        ended_at x row i (map lease_of ts) ≡ map lease_of (map (ended_where (same_leased l) row) ts)
+    unfolding ended_at ended_where
+    one_ends n i [] only all = refl
+    one_ends n zero (t ∷ ts) only all =
+        let rest : map (ended_where (same_leased l) row) ts ≡ ts = none_ends (n + 1) ts (λ j f. let e : j ≡ n + 0 = only j f in omega arith) all.1 in
+        rw (alike t (λ u. told n t.leased (all.0 u)), rest) (ap (λ y. y ∷ map lease_of ts) (by (is_unended t && same_leased l t.leased)))
+      where
+        by : (b : Bool) → cond b (record (lease_of t) { to = row }) (lease_of t) ≡ lease_of (cond b (record t { to = row }) t)
+        by true = sym (later_end t row)
+        by false = refl
+    one_ends n (suc i) (t ∷ ts) only all =
+        let rest = one_ends (n + 1) i ts (λ j f. let e : j ≡ n + suc i = only j f in omega arith) all.1 in
+        elim (cases_Bool (is_unended t && same_leased l t.leased)) [
+          | inl this ↦
+              let parts = and_parts (is_unended t) (same_leased l t.leased) this in
+              let found : F n l = subst (F n) (sym (leased_is l t.leased parts.1)) (all.0 parts.0) in
+              let at : n ≡ n + suc i = only n found in
+              absurd (omega arith)
+          | inr other ↦ rw other (ap (λ ys. lease_of t ∷ ys) rest)
+        ]
+
+-- a block's lease, told of the list and told of what is lent
+pub block_alike : (r p n e : ℕ) (t : Lent) → is_open_as (as_lease n e (Block r p)) (lease_of t) ≡ (is_unended t && same_leased (Block r p) t.leased)
+unfolding is_open_as lease_of as_lease is_unended
+block_alike r p n e t = by t.leased
+  where
+    same : (a b c : Bool) → (a && true && b && c) ≡ (a && (b && c))
+    same true b c = refl
+    same false b c = refl
+
+    other : (a b c : Bool) → (a && false && b && c) ≡ (a && false)
+    other true b c = refl
+    other false b c = refl
+
+    by : (l : Leased) → ((as_lease t.from t.to l).to == without_end && 0 == (as_lease t.from t.to l).kind && r == (as_lease t.from t.to l).ring && p == (as_lease t.from t.to l).pos) ≡ (t.to == without_end && same_leased (Block r p) l)
+    by (Block s q) = same (t.to == without_end) (r == s) (p == q)
+    by (Link s q) = other (t.to == without_end) (r == s) (p == q - 1)
+    by (Range m a u) = other (t.to == without_end) (r == m) (p == a)
+
+abbrev pub IsPositive : Leased → Type 0
+IsPositive (Block r p) = Unit {0}
+IsPositive (Link r q) = 0 < q
+IsPositive (Range n a e) = Unit {0}
+
+-- and a Link's
+pub link_alike : (r p n e : ℕ) (t : Lent) → 0 < p → (is_unended t ≡ true → IsPositive t.leased) → is_open_as (as_lease n e (Link r p)) (lease_of t) ≡ (is_unended t && same_leased (Link r p) t.leased)
+unfolding is_open_as lease_of as_lease is_unended
+link_alike r p n e t above positive = by t.leased positive
+  where
+    other : (a b c : Bool) → (a && false && b && c) ≡ (a && false)
+    other true b c = refl
+    other false b c = refl
+
+    same : (a b c d : Bool) → (a ≡ true → c ≡ d) → (a && true && b && c) ≡ (a && (b && d))
+    same true b c d f = ap (λ z. b && z) (f refl)
+    same false b c d f = refl
+
+    crossing : (q : ℕ) → 0 < q → (p - 1 == q - 1) ≡ (p == q)
+    crossing q over = grind (arith, nat_tests, above, over)
+
+    by : (l : Leased) → (t.to == without_end ≡ true → IsPositive l) →
+        ((as_lease t.from t.to l).to == without_end && 1 == (as_lease t.from t.to l).kind && r == (as_lease t.from t.to l).ring && p - 1 == (as_lease t.from t.to l).pos) ≡ (t.to == without_end && same_leased (Link r p) l)
+    by (Block s q) over = other (t.to == without_end) (r == s) (p - 1 == q)
+    by (Link s q) over = same (t.to == without_end) (r == s) (p - 1 == q - 1) (p == q) (λ u. crossing q (over u))
+    by (Range m a u) over = other (t.to == without_end) (r == m) (p - 1 == a)

@@ -1,0 +1,31 @@
+-- Before the first row no range that ends is under lease
+use Rattle.leases.proofs.LeaseBooks.Words.{◌*◌, ℕ, [], map, sym, subst, Segment, Header, event_shape, nothing, Leased, Block, Link, Range, EventSegment, SegmentTable, InputContext, SlotEntry, DeviceContext, open_leases, segment_ranges, IsIn, RangeIndexes, begun_at, in_turn, lents, with_begun, FindsRanges, IsRangeFound}
+use Rattle.leases.proofs.LeaseBooks.FirstBook.{open_at_first}
+use Rattle.leases.proofs.LeaseBooks.Rows.{all_new, from_turn}
+use Rattle.leases.proofs.LeaseBooks.Members.{from_map}
+use Rattle.leases.proofs.LeaseBooks.Unended.{all_anew}
+
+abbrev pub IsSegment : Leased → Type 0
+IsSegment (Range n a EventSegment) = Unit {0}
+IsSegment _ = ⊥
+
+segments_are : (h : Header) (l : Leased) → IsIn l (segment_ranges h) → IsSegment l
+unfolding segment_ranges
+segments_are h l at =
+    let found = from_map (λ (s : Segment). Range (16 * s.count) s.base EventSegment) (event_shape h).segments l at in
+    subst IsSegment (sym found.2) tt
+
+pub first_ranges : (h : Header) (first : ℕ) (x : RangeIndexes) → FindsRanges h (lents h first []) x
+unfolding lents with_begun
+first_ranges h first x =
+    all_anew (λ i l. IsSegment l) (IsRangeFound h x) 0 (map (begun_at 0) (in_turn (open_leases h nothing))) found
+    (all_new IsSegment 0 0 (in_turn (open_leases h nothing)) (λ l at. segments_are h l (subst (IsIn l) (open_at_first h) (from_turn (open_leases h nothing) l at))))
+  where
+    found : (i : ℕ) (l : Leased) → IsSegment l → IsRangeFound h x i l
+    found i (Block r p) is = absurd is
+    found i (Link r q) is = absurd is
+    found i (Range n a EventSegment) is = tt
+    found i (Range n a SegmentTable) is = tt
+    found i (Range n a (InputContext p)) is = absurd is
+    found i (Range n a (SlotEntry s)) is = absurd is
+    found i (Range n a (DeviceContext s)) is = absurd is

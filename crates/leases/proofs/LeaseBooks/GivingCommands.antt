@@ -1,0 +1,409 @@
+-- What is lent after any write: what it gives begins, with the input context of the command that it gives, and the entry and the device
+-- context of a slot that takes one; nothing ends
+use Rattle.leases.proofs.LeaseBooks.Words.{◌≡◌, ◌≢◌, ◌+◌, ◌<◌, ◌≤◌, ◌==◌, ◌&&◌, ◌||◌, if◌then◌else◌, ◌∷◌, ◌++◌, ◌∙◌, ℕ, Bool, true, false, not, List, [], filter, map, Option, Some, None, option_and_then, slice_get, zero, suc, arith, sym, ap, refl, inl, inr, subst, eqb-true, eq-eqb, append-nil, flat_map, range_with_len, cases_Bool, false≢true, or_left, filter-append, place_count, RingView, due_positions, floor_number, gives, leased_crossings, leased_positions, positions_given, command_of, device_context_bytes, Header, Ring, Write, Erstba, command_id, driver_rings, shape_of, Known, learned, command_given, entry_of, taken_device, with_device, with_word, written, Leased, Block, Link, Range, Use, InputContext, SlotEntry, DeviceContext, context_ranges, device_ranges, entry_ranges, is_among, open_leases, open_on, open_ranges, range_of_command, range_of_device, range_of_entry, segment_ranges, slots, table_range, begun, IsIn, among_is, from_filter, in_among, in_filter, in_turn, with_begun, Lent, grown}
+use Rattle.ring_knowledge.specs.Rings as rings
+use Rattle.leases.proofs.LeaseBooks.FreeRanges.{of_open}
+use Rattle.leases.proofs.LeaseBooks.LettingGo.{HasUse, use_of_command}
+use Rattle.leases.proofs.LeaseBooks.Members.{from_flat_map, from_range, in_either, in_flat_map, in_left, in_right}
+use Rattle.leases.proofs.LeaseBooks.Rows.{none_new, only_begun}
+use Rattle.leases.proofs.LeaseBooks.SameLeases.{flat_alike}
+use Rattle.leases.specs.LeaseBooks.InStep.{FreeWasGiven}
+use Rattle.leases.proofs.LeaseBooks.Writing.{AreShaped, filter_flat_map, kept_on_rings, lease_given, new_on_rings}
+use Rattle.leases.specs.LeaseBooks.InStep.{AreOpen}
+
+-- ---- lists
+
+-- of a list, those that newly pass a test bring something, and the others nothing
+new_ones : {X : Type 0} (f g : ℕ → List X) (old t : ℕ → Bool) (xs : List ℕ) → ((p : ℕ) → IsIn p xs → old p ≡ true → g p ≡ []) → ((p : ℕ) → IsIn p xs → old p ≡ false → t p ≡ true → g p ≡ f p) →
+    flat_map g (filter (λ p. old p || t p) xs) ≡ flat_map f (filter (λ p. not (old p) && t p) xs)
+new_ones f g old t [] none same = refl
+new_ones f g old t (x ∷ xs) none same =
+    let rest = new_ones f g old t xs (λ p at. none p (inr at)) (λ p at. same p (inr at)) in
+    elim (cases_Bool (old x)) [
+      | inl was ↦ rw was (rw (none x (inl refl) was) rest)
+      | inr new ↦ elim (cases_Bool (t x)) [
+        | inl passes ↦ rw (new, passes) (rw (same x (inl refl) new passes) (ap (λ ys. f x ++ ys) rest))
+        | inr fails ↦ rw (new, fails) rest
+      ]
+    ]
+
+none_at : {X : Type 0} (f : ℕ → List X) (xs : List ℕ) → ((p : ℕ) → IsIn p xs → f p ≡ []) → flat_map f xs ≡ []
+none_at f [] none = refl
+none_at f (x ∷ xs) none = rw (none x (inl refl)) (none_at f xs (λ p at. none p (inr at)))
+
+-- of a range of numbers one brings something
+one_at : {X : Type 0} (f : ℕ → List X) (s from n : ℕ) → from ≤ s → s < from + n → ((t : ℕ) → IsIn t (range_with_len from n) → t ≢ s → f t ≡ []) → flat_map f (range_with_len from n) ≡ f s
+one_at f s from zero low high none = absurd (omega arith)
+one_at f s from (suc n) low high none = elim (cases_Bool (from == s)) [
+  | inl here ↦
+      let same : from ≡ s = eqb-true from s here in
+      ap (λ ys. f from ++ ys) (none_at f (range_with_len (from + 1) n) (λ p at. let range = from_range (from + 1) n p at in none p (inr at) (λ e. omega (arith, e, same, range.0))))
+      ∙ append-nil (f from) ∙ ap f same
+  | inr differ ↦
+      let other : from ≢ s = λ e. false≢true (sym differ ∙ eq-eqb from s e) in
+      ap (λ ys. ys ++ flat_map f (range_with_len (from + 1) n)) (none from (inl refl) other)
+      ∙ one_at f s (from + 1) n (omega (arith, other, low)) (omega (arith, high)) (λ t at apart. none t (inr at) apart)
+]
+
+all_pass : {X : Type 0} (p : X → Bool) (xs : List X) → ((x : X) → IsIn x xs → p x ≡ true) → filter p xs ≡ xs
+all_pass p [] each = refl
+all_pass p (x ∷ xs) each = rw (each x (inl refl)) (ap (λ ys. x ∷ ys) (all_pass p xs (λ y at. each y (inr at))))
+
+unequal : (t s : ℕ) → t ≢ s → (t == s) ≡ false
+unequal t s other = elim (cases_Bool (t == s)) [
+  | inl same ↦ absurd (other (eqb-true t s same))
+  | inr differ ↦ differ
+]
+
+-- ---- what begins
+
+-- the input contexts of the commands that a write gives
+abbrev pub contexts_given : Header → Known → ℕ → ℕ → List Leased
+contexts_given h k a w = flat_map (λ p. range_of_command h p (rings.command_at h k p)) (positions_given (shape_of h (command_id h)) (k.ring (command_id h)) a w)
+
+-- the ranges of a slot that takes a device context
+abbrev pub entry_taken : Known → Option (ℕ × ℕ) → List Leased
+entry_taken k None = []
+entry_taken k (Some e) = Range 8 (entry_of k e.0) (SlotEntry e.0) ∷ []
+
+abbrev pub device_taken : Header → Option (ℕ × ℕ) → List Leased
+device_taken h None = []
+device_taken h (Some e) = Range (device_context_bytes h.context_size) e.1 (DeviceContext e.0) ∷ []
+
+-- the slot had none, and is one of a controller
+abbrev pub MayTake : Known → Option (ℕ × ℕ) → Type 0
+MayTake k None = Unit {0}
+MayTake k (Some e) = (k.device e.0 ≡ None) × (0 < e.0) × (e.0 < 256)
+
+module _ (h : Header) (shaped : AreShaped h) (k : Known) (freed : FreeWasGiven h k) (a w : ℕ) (taken : Option (ℕ × ℕ)) (may : MayTake k taken) where
+  abbrev after : Known
+  after = with_device h (with_word h k a w) taken
+
+  abbrev IsNew : Leased → Bool
+  IsNew l = not (is_among (open_leases h k) l)
+
+  abbrev commands : RingView
+  commands = k.ring (command_id h)
+
+  abbrev due : List ℕ
+  due = range_with_len (floor_number commands) (place_count (shape_of h (command_id h)))
+
+  ring_after : after.ring ≡ (with_word h k a w).ring
+  unfolding with_device
+  ring_after = by taken
+    where
+      by : (o : Option (ℕ × ℕ)) → (with_device h (with_word h k a w) o).ring ≡ (with_word h k a w).ring
+      by None = refl
+      by (Some e) = refl
+
+  register_after : after.register ≡ k.register
+  unfolding with_device with_word
+  register_after = by taken
+    where
+      by : (o : Option (ℕ × ℕ)) → (with_device h (with_word h k a w) o).register ≡ k.register
+      by None = refl
+      by (Some e) = refl
+
+  -- ---- what was open
+
+  abbrev IsOpen : Leased → Type 0
+  IsOpen l = IsIn l (open_leases h k)
+
+  on_rings : (l : Leased) → IsIn l (flat_map (open_on h k) (driver_rings h)) → IsOpen l
+  unfolding open_leases
+  on_rings l at = in_left l (flat_map (open_on h k) (driver_rings h)) (open_ranges h k) at
+
+  in_ranges : (l : Leased) → IsIn l (open_ranges h k) → IsOpen l
+  unfolding open_leases
+  in_ranges l at = in_right l (flat_map (open_on h k) (driver_rings h)) (open_ranges h k) at
+
+  abbrev part_s : List Leased
+  part_s = segment_ranges h
+
+  abbrev part_t : List Leased
+  part_t = table_range h (k.register Erstba)
+
+  abbrev part_c : List Leased
+  part_c = context_ranges h k
+
+  abbrev part_e : List Leased
+  part_e = entry_ranges k
+
+  abbrev part_d : List Leased
+  part_d = device_ranges h k
+
+  in_first : (l : Leased) → IsIn l (part_s ++ part_t) → IsOpen l
+  unfolding open_ranges
+  in_first l at = in_ranges l (in_left l (part_s ++ part_t ++ part_c ++ part_e) part_d (in_left l (part_s ++ part_t ++ part_c) part_e (in_left l (part_s ++ part_t) part_c at)))
+
+  in_contexts : (l : Leased) → IsIn l (context_ranges h k) → IsOpen l
+  unfolding open_ranges
+  in_contexts l at = in_ranges l (in_left l (part_s ++ part_t ++ part_c ++ part_e) part_d (in_left l (part_s ++ part_t ++ part_c) part_e (in_right l (part_s ++ part_t) part_c at)))
+
+  in_entries : (l : Leased) → IsIn l (entry_ranges k) → IsOpen l
+  unfolding open_ranges
+  in_entries l at = in_ranges l (in_left l (part_s ++ part_t ++ part_c ++ part_e) part_d (in_right l (part_s ++ part_t ++ part_c) part_e at))
+
+  in_devices : (l : Leased) → IsIn l (device_ranges h k) → IsOpen l
+  unfolding open_ranges
+  in_devices l at = in_ranges l (in_right l (part_s ++ part_t ++ part_c ++ part_e) part_d at)
+
+  old_fail : (ls : List Leased) → ((l : Leased) → IsIn l ls → IsOpen l) → filter IsNew ls ≡ []
+  old_fail ls there = none_new (open_leases h k) ls (λ l at. in_among (open_leases h k) l (there l at))
+
+  new_pass : (ls : List Leased) → ((l : Leased) → IsIn l ls → IsOpen l → ⊥) → filter IsNew ls ≡ ls
+  new_pass ls absent = all_pass IsNew ls (λ l at. elim (cases_Bool (is_among (open_leases h k) l)) [
+    | inl among ↦ absurd (absent l at (among_is (open_leases h k) l among))
+    | inr new ↦ ap not new
+  ])
+
+  -- ---- the rings
+
+  on_after : (q : Ring) → open_on h after q ≡ open_on h (with_word h k a w) q
+  unfolding open_on
+  on_after q = ap (λ f. map (Block q.id) (leased_positions q.shape (f q.id)) ++ map (Link q.id) (leased_crossings q.shape (f q.id))) ring_after
+
+  rings_after : flat_map (open_on h after) (driver_rings h) ≡ flat_map (open_on h (with_word h k a w)) (driver_rings h)
+  rings_after = flat_alike (open_on h after) (open_on h (with_word h k a w)) (driver_rings h) (λ q at. on_after q)
+
+  new_rings : filter IsNew (flat_map (open_on h after) (driver_rings h)) ≡ map lease_given (rings.given_by h k a w)
+  new_rings = ap (filter IsNew) rings_after ∙ new_on_rings h shaped k freed a w
+
+  -- ---- the input contexts
+
+  abbrev context_at : ℕ → List Leased
+  context_at p = range_of_command h p (rings.command_at h k p)
+
+  abbrev is_given : ℕ → Bool
+  is_given p = gives (shape_of h (command_id h)) commands.floor p a w
+
+  contexts_after : context_ranges h after ≡ flat_map context_at (filter (λ p. commands.given p || is_given p) due)
+  unfolding context_ranges rings.unfinished_positions rings.command_at due_positions with_word
+  contexts_after =
+      ap (λ v. flat_map (λ p. range_of_command h p (option_and_then command_of (slice_get v.queue p))) (filter v.given (range_with_len (floor_number v) (place_count (shape_of h (command_id h))))))
+      (ap (λ f. f (command_id h)) ring_after)
+
+  contexts_before : context_ranges h k ≡ flat_map context_at (filter commands.given due)
+  unfolding context_ranges rings.unfinished_positions due_positions
+  contexts_before = refl
+
+  context_was : (p : ℕ) → IsIn p due → commands.given p ≡ true → (l : Leased) → IsIn l (context_at p) → IsOpen l
+  context_was p at given l there = in_contexts l (subst (IsIn l) (sym contexts_before) (in_flat_map context_at (filter commands.given due) p l (in_filter commands.given due p at given) there))
+
+  context_open : (p : ℕ) → commands.given p ≡ false → (l : Leased) → HasUse (InputContext p) l → IsOpen l → ⊥
+  unfolding rings.unfinished_positions
+  context_open p absent l has there =
+      of_open h k (λ m. HasUse (InputContext p) m → ⊥) (record {
+        blocks = λ r q x. x;
+        links = λ r q x. x;
+        segments = λ n x e. cc;
+        table = λ n x e. cc;
+        contexts = λ n x q at e.
+            let same : q ≡ p = cc in
+            let given = (from_filter commands.given (due_positions (shape_of h (command_id h)) commands) q at).1 in
+            false≢true (sym absent ∙ ap commands.given (sym same) ∙ given);
+        entries = λ n x t d some e. cc;
+        devices = λ n x t d some e. cc;
+      }) l (in_among (open_leases h k) l there) has
+
+  new_contexts : filter IsNew (context_ranges h after) ≡ contexts_given h k a w
+  unfolding positions_given due_positions
+  new_contexts =
+      ap (filter IsNew) contexts_after
+      ∙ filter_flat_map IsNew context_at (filter (λ p. commands.given p || is_given p) due)
+      ∙ new_ones context_at (λ p. filter IsNew (context_at p)) commands.given is_given due
+      (λ p at given. old_fail (context_at p) (context_was p at given))
+      (λ p at absent new. new_pass (context_at p) (λ l there. context_open p absent l (use_of_command h p (rings.command_at h k p) l there)))
+
+  contexts_stay : (l : Leased) → IsIn l (context_ranges h k) → IsIn l (context_ranges h after)
+  contexts_stay l at =
+      let found = from_flat_map context_at (filter commands.given due) l (subst (IsIn l) contexts_before at) in
+      let passed = from_filter commands.given due found.0 found.1 in
+      subst (IsIn l) (sym contexts_after)
+      (in_flat_map context_at (filter (λ p. commands.given p || is_given p) due) found.0 l
+      (in_filter (λ p. commands.given p || is_given p) due found.0 passed.0 (or_left (commands.given found.0) (is_given found.0) passed.1)) found.2)
+
+  -- ---- the slots
+
+  entry_same : (s : ℕ) (d : Option ℕ) → range_of_entry after s d ≡ range_of_entry k s d
+  unfolding range_of_entry entry_of
+  entry_same s None = refl
+  entry_same s (Some d) = rw register_after refl
+
+  entry_was : (s : ℕ) → IsIn s slots → (l : Leased) → IsIn l (range_of_entry k s (k.device s)) → IsOpen l
+  unfolding entry_ranges
+  entry_was s at l there = in_entries l (in_flat_map (λ t. range_of_entry k t (k.device t)) slots s l at there)
+
+  device_was : (s : ℕ) → IsIn s slots → (l : Leased) → IsIn l (range_of_device h s (k.device s)) → IsOpen l
+  unfolding device_ranges
+  device_was s at l there = in_devices l (in_flat_map (λ t. range_of_device h t (k.device t)) slots s l at there)
+
+  none_known : (s t d : ℕ) → k.device s ≡ None → k.device t ≡ Some d → t ≡ s → ⊥
+  none_known s t d none some same = let clash : None ≡ Some d = sym none ∙ ap k.device (sym same) ∙ some in cc
+
+  entry_open : (s : ℕ) → k.device s ≡ None → (l : Leased) → HasUse (SlotEntry s) l → IsOpen l → ⊥
+  entry_open s none l has there =
+      of_open h k (λ m. HasUse (SlotEntry s) m → ⊥) (record {
+        blocks = λ r q x. x;
+        links = λ r q x. x;
+        segments = λ n x e. cc;
+        table = λ n x e. cc;
+        contexts = λ n x q at e. cc;
+        entries = λ n x t d some e. none_known s t d none some (cc);
+        devices = λ n x t d some e. cc;
+      }) l (in_among (open_leases h k) l there) has
+
+  device_open : (s : ℕ) → k.device s ≡ None → (l : Leased) → HasUse (DeviceContext s) l → IsOpen l → ⊥
+  device_open s none l has there =
+      of_open h k (λ m. HasUse (DeviceContext s) m → ⊥) (record {
+        blocks = λ r q x. x;
+        links = λ r q x. x;
+        segments = λ n x e. cc;
+        table = λ n x e. cc;
+        contexts = λ n x q at e. cc;
+        entries = λ n x t d some e. cc;
+        devices = λ n x t d some e. none_known s t d none some (cc);
+      }) l (in_among (open_leases h k) l there) has
+
+  only : (l m : Leased) (u : Use) → HasUse u m → IsIn l (m ∷ []) → HasUse u l
+  only l m u has at = elim at [ inl here ↦ subst (HasUse u) (sym here) has | inr nowhere ↦ absurd nowhere ]
+
+  -- where each slot has ranges by its device, those that are new are those of the slot that takes one
+  module _ (ranges : ℕ → Option ℕ → List Leased) (nothing : (s : ℕ) → ranges s None ≡ []) (was : (s : ℕ) → IsIn s slots → (l : Leased) → IsIn l (ranges s (k.device s)) → IsOpen l) where
+    abbrev taken_by : Option (ℕ × ℕ) → List Leased
+    taken_by None = []
+    taken_by (Some e) = ranges e.0 (Some e.1)
+
+    new_slots : ((s d : ℕ) → k.device s ≡ None → (l : Leased) → IsIn l (ranges s (Some d)) → IsOpen l → ⊥) →
+        filter IsNew (flat_map (λ s. ranges s (after.device s)) slots) ≡ taken_by taken
+    unfolding with_device with_word slots
+    new_slots absent = by taken may
+      where
+        by : (o : Option (ℕ × ℕ)) → MayTake k o → filter IsNew (flat_map (λ s. ranges s ((with_device h (with_word h k a w) o).device s)) slots) ≡ taken_by o
+        by None free = old_fail (flat_map (λ s. ranges s (k.device s)) slots) (λ l at. let found = from_flat_map (λ s. ranges s (k.device s)) slots l at in was found.0 found.1 l found.2)
+        by (Some e) free =
+            let f : ℕ → List Leased = λ s. ranges s (if s == e.0 then Some e.1 else k.device s) in
+            let here : f e.0 ≡ ranges e.0 (Some e.1) = ap (λ b. ranges e.0 (if b then Some e.1 else k.device e.0)) (eq-eqb e.0 e.0 refl) in
+            filter_flat_map IsNew f slots
+            ∙ one_at (λ s. filter IsNew (f s)) e.0 1 255 (omega (arith, free.1)) (omega (arith, free.2))
+            (λ t at other.
+            let there : f t ≡ ranges t (k.device t) = ap (λ b. ranges t (if b then Some e.1 else k.device t)) (unequal t e.0 other) in
+            ap (filter IsNew) there ∙ old_fail (ranges t (k.device t)) (was t at))
+            ∙ ap (filter IsNew) here
+            ∙ new_pass (ranges e.0 (Some e.1)) (absent e.0 e.1 free.0)
+
+    slots_stay : (l : Leased) → IsIn l (flat_map (λ s. ranges s (k.device s)) slots) → IsIn l (flat_map (λ s. ranges s (after.device s)) slots)
+    unfolding with_device with_word
+    slots_stay l at = by taken may
+      where
+        by : (o : Option (ℕ × ℕ)) → MayTake k o → IsIn l (flat_map (λ s. ranges s ((with_device h (with_word h k a w) o).device s)) slots)
+        by None free = at
+        by (Some e) free =
+            let found = from_flat_map (λ s. ranges s (k.device s)) slots l at in
+            let t : ℕ = found.0 in
+            in_flat_map (λ s. ranges s (if s == e.0 then Some e.1 else k.device s)) slots t l found.1
+            (elim (cases_Bool (t == e.0)) [
+              | inl same ↦
+                  let empty : ranges t (k.device t) ≡ [] = ap (ranges t) (ap k.device (eqb-true t e.0 same) ∙ free.0) ∙ nothing t in
+                  absurd (subst (IsIn l) empty found.2)
+              | inr differ ↦ subst (λ b. IsIn l (ranges t (if b then Some e.1 else k.device t))) (sym differ) found.2
+            ])
+
+  nothing_device : (s : ℕ) → range_of_device h s None ≡ []
+  unfolding range_of_device
+  nothing_device s = refl
+
+  nothing_entry : (s : ℕ) → range_of_entry k s None ≡ []
+  unfolding range_of_entry
+  nothing_entry s = refl
+
+  entries_in : (l : Leased) → IsIn l (entry_ranges k) → IsIn l (flat_map (λ s. range_of_entry k s (after.device s)) slots)
+  unfolding entry_ranges
+  entries_in l here = slots_stay (range_of_entry k) nothing_entry entry_was l here
+
+  entries_after : entry_ranges after ≡ flat_map (λ s. range_of_entry k s (after.device s)) slots
+  unfolding entry_ranges
+  entries_after = flat_alike (λ s. range_of_entry after s (after.device s)) (λ s. range_of_entry k s (after.device s)) slots (λ s at. entry_same s (after.device s))
+
+  new_entries : filter IsNew (entry_ranges after) ≡ entry_taken k taken
+  unfolding range_of_entry
+  new_entries =
+      ap (filter IsNew) entries_after
+      ∙ new_slots (range_of_entry k) nothing_entry entry_was (λ s d none l at. entry_open s none l (only l (Range 8 (entry_of k s) (SlotEntry s)) (SlotEntry s) refl at))
+      ∙ by taken
+    where
+      by : (o : Option (ℕ × ℕ)) → taken_by (range_of_entry k) nothing_entry entry_was o ≡ entry_taken k o
+      by None = refl
+      by (Some e) = refl
+
+  new_devices : filter IsNew (device_ranges h after) ≡ device_taken h taken
+  unfolding range_of_device device_ranges
+  new_devices =
+      new_slots (range_of_device h) nothing_device device_was (λ s d none l at. device_open s none l (only l (Range (device_context_bytes h.context_size) d (DeviceContext s)) (DeviceContext s) refl at))
+      ∙ by taken
+    where
+      by : (o : Option (ℕ × ℕ)) → taken_by (range_of_device h) nothing_device device_was o ≡ device_taken h o
+      by None = refl
+      by (Some e) = refl
+
+  -- ---- all of them
+
+  table_after : table_range h (after.register Erstba) ≡ table_range h (k.register Erstba)
+  table_after = ap (λ f. table_range h (f Erstba)) register_after
+
+  pub new_leases : filter IsNew (open_leases h after) ≡ map lease_given (rings.given_by h k a w) ++ (contexts_given h k a w ++ entry_taken k taken ++ device_taken h taken)
+  unfolding open_leases open_ranges
+  new_leases =
+      let t' : List Leased = table_range h (after.register Erstba) in
+      let c' : List Leased = context_ranges h after in
+      let e' : List Leased = entry_ranges after in
+      let d' : List Leased = device_ranges h after in
+      let table : filter IsNew t' ≡ [] = ap (filter IsNew) table_after ∙ old_fail part_t (λ l at. in_first l (in_right l part_s part_t at)) in
+      let segments : filter IsNew part_s ≡ [] = old_fail part_s (λ l at. in_first l (in_left l part_s part_t at)) in
+      filter-append IsNew (flat_map (open_on h after) (driver_rings h)) (part_s ++ t' ++ c' ++ e' ++ d')
+      ∙ ap (λ xs. xs ++ filter IsNew (part_s ++ t' ++ c' ++ e' ++ d')) new_rings
+      ∙ ap (λ xs. map lease_given (rings.given_by h k a w) ++ xs)
+      (filter-append IsNew (part_s ++ t' ++ c' ++ e') d'
+      ∙ ap (λ xs. xs ++ filter IsNew d') (filter-append IsNew (part_s ++ t' ++ c') e')
+      ∙ ap (λ xs. xs ++ filter IsNew e' ++ filter IsNew d') (filter-append IsNew (part_s ++ t') c')
+      ∙ ap (λ xs. xs ++ filter IsNew c' ++ filter IsNew e' ++ filter IsNew d') (filter-append IsNew part_s t')
+      ∙ ap (λ xs. xs ++ filter IsNew t' ++ filter IsNew c' ++ filter IsNew e' ++ filter IsNew d') segments
+      ∙ ap (λ xs. [] ++ xs ++ filter IsNew c' ++ filter IsNew e' ++ filter IsNew d') table
+      ∙ ap (λ xs. xs ++ filter IsNew e' ++ filter IsNew d') new_contexts
+      ∙ ap (λ xs. contexts_given h k a w ++ xs ++ filter IsNew d') new_entries
+      ∙ ap (λ xs. contexts_given h k a w ++ entry_taken k taken ++ xs) new_devices)
+
+  both_stay : (l : Leased) (xs ys us vs : List Leased) → (IsIn l xs → IsIn l us) → (IsIn l ys → IsIn l vs) → IsIn l (xs ++ ys) → IsIn l (us ++ vs)
+  both_stay l xs ys us vs x y at = elim (in_either l xs ys at) [ inl here ↦ in_left l us vs (x here) | inr there ↦ in_right l us vs (y there) ]
+
+  pub all_kept : (l : Leased) → is_among (open_leases h k) l ≡ true → is_among (open_leases h after) l ≡ true
+  unfolding open_leases open_ranges device_ranges
+  all_kept l e =
+      let t' : List Leased = table_range h (after.register Erstba) in
+      let c' : List Leased = context_ranges h after in
+      let e' : List Leased = entry_ranges after in
+      let d' : List Leased = device_ranges h after in
+      in_among (open_leases h after) l
+      (both_stay l (flat_map (open_on h k) (driver_rings h)) (open_ranges h k) (flat_map (open_on h after) (driver_rings h)) (open_ranges h after)
+      (λ here. subst (IsIn l) (sym rings_after) (kept_on_rings h shaped k freed a w l here))
+      (both_stay l (part_s ++ part_t ++ part_c ++ part_e) part_d (part_s ++ t' ++ c' ++ e') d'
+      (both_stay l (part_s ++ part_t ++ part_c) part_e (part_s ++ t' ++ c') e'
+      (both_stay l (part_s ++ part_t) part_c (part_s ++ t') c'
+      (both_stay l part_s part_t part_s t' (λ here. here) (λ here. subst (IsIn l) (sym table_after) here))
+      (contexts_stay l))
+      (λ here. subst (IsIn l) (sym entries_after) (entries_in l here)))
+      (λ here. slots_stay (range_of_device h) nothing_device device_was l here))
+      (among_is (open_leases h k) l e))
+
+-- ---- the law
+
+pub lent_commands : (h : Header) → AreShaped h → (k : Known) (ts : List Lent) → AreOpen h k ts → FreeWasGiven h k → (a w n : ℕ) → (taken : Option (ℕ × ℕ)) →
+    option_and_then (taken_device k) (command_given h k a w) ≡ taken → MayTake k taken →
+    grown h k (Write a w) n ts ≡ with_begun n ts
+    (in_turn (map lease_given (rings.given_by h k a w) ++ (contexts_given h k a w ++ entry_taken k taken ++ device_taken h taken)))
+unfolding begun learned written
+lent_commands h shaped k ts still freed a w n taken is may =
+    let after_is : learned h k (Write a w) ≡ with_device h (with_word h k a w) taken = ap (with_device h (with_word h k a w)) is in
+    only_begun h k ts still (Write a w) n (in_turn (map lease_given (rings.given_by h k a w) ++ (contexts_given h k a w ++ entry_taken k taken ++ device_taken h taken)))
+    (λ l is_open. ap (λ x. is_among (open_leases h x) l) after_is ∙ all_kept h shaped k freed a w taken may l is_open)
+    (ap in_turn (ap (λ x. filter (λ l. not (is_among (open_leases h k) l)) (open_leases h x)) after_is ∙ new_leases h shaped k freed a w taken may))

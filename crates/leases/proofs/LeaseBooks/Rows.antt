@@ -1,0 +1,153 @@
+-- What is lent after one more row, by which leases are open after it
+use Rattle.leases.proofs.LeaseBooks.Words.{◌≡◌, ◌+◌, ◌<◌, ◌≤◌, ◌==◌, ◌&&◌, ◌∷◌, ◌++◌, ◌∙◌, ℕ, Bool, true, false, not, List, [], length, map, filter, arith, sym, ap, refl, inl, inr, cond, append-nil, false≢true, and_parts, nat_tests, Header, Row, Known, nothing, learned, known, Leased, is_among, open_leases, begun, without_end, IsIn, from_filter, in_among, Lent, is_unended, begun_at, precedes, with_leased, in_turn, ended_where, with_begun, grown, lents, newly_open, passed_on, AllUnended}
+use Rattle.leases.proofs.LeaseBooks.Passing.{ended_alike, none_over}
+use Rattle.leases.specs.LeaseBooks.InStep.{AreOpen}
+
+-- what stands in order stood there before
+from_with : (l : Leased) (ls : List Leased) (m : Leased) → IsIn m (with_leased l ls) → IsIn m (l ∷ ls)
+unfolding with_leased
+from_with l [] m at = at
+from_with l (x ∷ rest) m at = by (precedes l x) at (from_with l rest m)
+  where
+    by : (b : Bool) → IsIn m (cond b (l ∷ x ∷ rest) (x ∷ with_leased l rest)) → (IsIn m (with_leased l rest) → IsIn m (l ∷ rest)) → IsIn m (l ∷ x ∷ rest)
+    by true here f = here
+    by false here f = elim here [
+      | inl first ↦ inr (inl first)
+      | inr later ↦ elim (f later) [ inl this ↦ inl this | inr after ↦ inr (inr after) ]
+    ]
+
+pub from_turn : (ls : List Leased) (m : Leased) → IsIn m (in_turn ls) → IsIn m ls
+unfolding in_turn
+from_turn [] m at = at
+from_turn (l ∷ rest) m at = elim (from_with l (in_turn rest) m at) [ inl here ↦ inl here | inr later ↦ inr (from_turn rest m later) ]
+
+module _ (P : Leased → Type 0) where
+  abbrev F : ℕ → Leased → Type 0
+  F i l = P l
+
+  pub all_new : (n i : ℕ) (ls : List Leased) → ((l : Leased) → IsIn l ls → P l) → AllUnended F i (map (begun_at n) ls)
+  unfolding begun_at
+  all_new n i [] f = tt
+  all_new n i (l ∷ ls) f = (λ u. f l (inl refl), all_new n (i + 1) ls (λ m at. f m (inr at)))
+
+  all_joined : (i : ℕ) (xs ys : List Lent) → AllUnended F i xs → ((j : ℕ) → AllUnended F j ys) → AllUnended F i (xs ++ ys)
+  all_joined i [] ys f g = g i
+  all_joined i (x ∷ xs) ys f g = (f.0, all_joined (i + 1) xs ys f.1 g)
+
+-- what isn't over behind a row is what the row ends not
+all_left : (over : Leased → Bool) (n i : ℕ) (ts : List Lent) → n < without_end → AllUnended (λ j l. over l ≡ false) i (map (ended_where over n) ts)
+unfolding ended_where is_unended
+all_left over n i [] early = tt
+all_left over n i (t ∷ ts) early = (one (is_unended t) (over t.leased) refl refl, all_left over n (i + 1) ts early)
+  where
+    late : (n == without_end) ≡ false
+    late = grind (arith, nat_tests, early)
+
+    one : (a b : Bool) → is_unended t ≡ a → over t.leased ≡ b → is_unended (cond (a && b) (record t { to = n }) t) ≡ true → over (cond (a && b) (record t { to = n }) t).leased ≡ false
+    one true true e f u = absurd (false≢true (sym late ∙ u))
+    one true false e f u = f
+    one false b e f u = absurd (false≢true (sym e ∙ u))
+
+-- what was there before isn't new
+pub none_new : (xs ys : List Leased) → ((l : Leased) → IsIn l ys → is_among xs l ≡ true) → filter (λ l. not (is_among xs l)) ys ≡ []
+none_new xs [] there = refl
+none_new xs (y ∷ ys) there = rw (there y (inl refl)) (none_new xs ys (λ l at. there l (inr at)))
+
+-- it is among these, which are open
+abbrev pub IsOpen : List Leased → Leased → Type 0
+IsOpen open_now l = is_among open_now l ≡ true
+
+not_over : (b : Bool) → not b ≡ false → b ≡ true
+not_over true e = refl
+not_over false e = absurd (false≢true (sym e))
+
+weaker : (G H : Leased → Type 0) (i : ℕ) (ts : List Lent) → ((l : Leased) → G l → H l) → AllUnended (λ j l. G l) i ts → AllUnended (λ j l. H l) i ts
+weaker G H i [] f all = tt
+weaker G H i (t ∷ ts) f all = (λ u. f t.leased (all.0 u), weaker G H (i + 1) ts f all.1)
+
+-- what is open at first begins
+pub first_open : (now : List Leased) (n : ℕ) → AllUnended (λ i l. IsOpen now l) 0 (with_begun n [] (in_turn now))
+unfolding with_begun
+first_open now n = all_new (IsOpen now) n 0 (in_turn now) (λ l at. in_among now l (from_turn now l at))
+
+module _ (before after : List Leased) (n : ℕ) (ts : List Lent) where
+  -- what is lent and not over behind a row is open
+  pub passed_open : n < without_end → AllUnended (λ i l. IsOpen after l) 0 (passed_on before after n ts)
+  unfolding passed_on with_begun
+  passed_open early =
+      let gone : Leased → Bool = λ l. not (is_among after l) in
+      all_joined (IsOpen after) 0 (map (ended_where gone n) ts) (map (begun_at n) (in_turn (newly_open before after)))
+      (weaker (λ l. gone l ≡ false) (IsOpen after) 0 (map (ended_where gone n) ts) (λ l e. not_over (is_among after l) e) (all_left gone n 0 ts early))
+      (λ j. all_new (IsOpen after) n j (in_turn (newly_open before after)) (λ l at. in_among after l
+      (from_filter (λ m. not (is_among before m)) after l (from_turn (newly_open before after) l at)).0))
+
+  module _ (opened : AllUnended (λ i l. IsOpen before l) 0 ts) where
+    -- the row ends the leases of which the test holds, and begins these
+    pub passed_by : (over : Leased → Bool) (new : List Leased) → ((l : Leased) → IsOpen before l → is_among after l ≡ not (over l)) → in_turn (newly_open before after) ≡ new →
+        passed_on before after n ts ≡ with_begun n (map (ended_where over n) ts) new
+    unfolding passed_on
+    passed_by over new left e =
+        ap (λ us. with_begun n us (in_turn (newly_open before after)))
+        (ended_alike (λ j l. IsOpen before l) (λ l. not (is_among after l)) over n 0 ts (λ j l is_open. ap not (left l is_open) ∙ twice (over l)) opened)
+        ∙ ap (with_begun n (map (ended_where over n) ts)) e
+      where
+        twice : (b : Bool) → not (not b) ≡ b
+        twice true = refl
+        twice false = refl
+
+    -- nothing begins
+    pub only_passed : (over : Leased → Bool) → ((l : Leased) → is_among after l ≡ (is_among before l && not (over l))) → passed_on before after n ts ≡ map (ended_where over n) ts
+    unfolding in_turn with_begun
+    only_passed over narrows =
+        passed_by over [] (λ l is_open. narrows l ∙ ap (λ b. b && not (over l)) is_open) (ap in_turn (none_new before after there))
+        ∙ append-nil _
+      where
+        there : (l : Leased) → IsIn l after → IsOpen before l
+        there l at = (and_parts (is_among before l) (not (over l)) (sym (narrows l) ∙ in_among after l at)).0
+
+    -- nothing begins or ends
+    pub nothing_passed : ((l : Leased) → is_among after l ≡ is_among before l) → passed_on before after n ts ≡ ts
+    nothing_passed same = only_passed (λ l. false) (λ l. same l ∙ sym (and_true (is_among before l))) ∙ none_over (λ l. false) n ts (λ l. refl)
+      where
+        and_true : (b : Bool) → (b && true) ≡ b
+        and_true true = refl
+        and_true false = refl
+
+module _ (h : Header) where
+  -- what is open when this is known
+  abbrev open_at : Known → List Leased
+  open_at k = open_leases h k
+
+  -- what is lent and not over is open
+  pub unended_open : (first : ℕ) (past : List Row) → first + length past ≤ without_end → AllUnended (λ i l. IsOpen (open_at (known h past)) l) 0 (lents h first past)
+  unfolding lents known grown
+  unended_open first [] room = first_open (open_at nothing) 0
+  unended_open first (row ∷ past) room = passed_open (open_at (known h past)) (open_at (learned h (known h past) row)) (first + length past) (lents h first past) (omega arith)
+
+  module _ (k : Known) (ts : List Lent) (still : AreOpen h k ts) (row : Row) (n : ℕ) where
+    abbrev was : List Leased
+    was = open_at k
+
+    abbrev is : List Leased
+    is = open_at (learned h k row)
+
+    pub grown_by : (over : Leased → Bool) (new : List Leased) → ((l : Leased) → IsOpen was l → is_among is l ≡ not (over l)) → in_turn (begun h k row) ≡ new →
+        grown h k row n ts ≡ with_begun n (map (ended_where over n) ts) new
+    unfolding grown begun
+    grown_by over new left e = passed_by was is n ts still over new left e
+
+    pub only_ended : (over : Leased → Bool) → ((l : Leased) → is_among is l ≡ (is_among was l && not (over l))) →
+        grown h k row n ts ≡ map (ended_where over n) ts
+    unfolding grown
+    only_ended over narrows = only_passed was is n ts still over narrows
+
+    pub nothing_new : ((l : Leased) → is_among is l ≡ is_among was l) → grown h k row n ts ≡ ts
+    unfolding grown
+    nothing_new same = nothing_passed was is n ts still same
+
+    -- nothing ends
+    pub only_begun : (new : List Leased) → ((l : Leased) → IsOpen was l → IsOpen is l) → in_turn (begun h k row) ≡ new →
+        grown h k row n ts ≡ with_begun n ts new
+    only_begun new kept e =
+        grown_by (λ l. false) new kept e
+        ∙ ap (λ us. with_begun n us new) (none_over (λ l. false) n ts (λ l. refl))

@@ -1,0 +1,224 @@
+-- Rows that neither begin nor end a lease: doorbells, declarations, most registers
+use Rattle.leases.proofs.LeaseBooks.Words.{◌≡◌, ◌≢◌, ◌<◌, ◌==◌, ◌&&◌, ◌||◌, ◌∷◌, ◌++◌, ◌∙◌, ◌⊎◌, ℕ, Bool, true, false, not, List, [], length, Option, Some, None, slice_get, option_and_then, zero, suc, arith, sym, ap, refl, inl, inr, cond, eqb-true, flat_map, cases_Bool, RingView, is_handed_over, RingChange, Declares, Opens, Holds, changed, due_crossings, due_positions, leased_crossings, leased_positions, Trb, command_of, Header, Ring, Register, Usbcmd, Usbsts, Dnctrl, Crcr, Dcbaap, Config, Iman, Imod, Erstsz, Erstba, Erdp, Sub, Reg, Bell, command_id, driver_rings, shape_of, reset_bit, run_bit, with_register, Known, learned, entry_of, context_ranges, device_ranges, entry_ranges, open_leases, open_on, open_ranges, range_of_command, range_of_entry, slots, IsIn}
+use Rattle.ring_knowledge.specs.Rings as rings
+use Rattle.ring_knowledge.specs.Registers as registers
+
+pub flat_alike : {X Y : Type 0} (f g : X → List Y) (xs : List X) → ((x : X) → IsIn x xs → f x ≡ g x) → flat_map f xs ≡ flat_map g xs
+flat_alike f g [] same = refl
+flat_alike f g (x ∷ xs) same = rw (same x (inl refl), flat_alike f g xs (λ y at. same y (inr at))) refl
+
+pub flat_none : {X Y : Type 0} (f : X → List Y) (xs : List X) → ((x : X) → f x ≡ []) → flat_map f xs ≡ []
+flat_none f [] none = refl
+flat_none f (x ∷ xs) none = rw (none x) (flat_none f xs none)
+
+-- the ring has the same positions and crossings under lease
+pub record LeasesSame (v w : RingView) : Type 0 where
+  pub given : w.given ≡ v.given
+  pub free : w.free ≡ v.free
+  pub crossed : w.crossed ≡ v.crossed
+  pub floor : w.floor ≡ v.floor
+
+pub lent_same : (v w : RingView) → w.given ≡ v.given → w.free ≡ v.free → (p : ℕ) → is_handed_over w p ≡ is_handed_over v p
+lent_same v w given free p = rw (given, free) refl
+
+module _ (h : Header) where
+  -- of what the leases rest on nothing has changed
+  pub record RestsSame (k k' : Known) : Type 0 where
+    pub each : (r : ℕ) → LeasesSame (k.ring r) (k'.ring r)
+    pub commands : (p : ℕ) → IsIn p (rings.unfinished_positions h k) → rings.command_at h k' p ≡ rings.command_at h k p
+    pub table : k'.register Erstba ≡ k.register Erstba
+    pub devices : k'.device ≡ k.device
+    pub entries : entry_ranges k' ≡ entry_ranges k
+
+  on_same : (k k' : Known) → RestsSame k k' → (r : Ring) → open_on h k' r ≡ open_on h k r
+  unfolding open_on leased_positions leased_crossings due_positions due_crossings
+  on_same k k' same r = rw ((same.each r.id).given, (same.each r.id).free, (same.each r.id).crossed, (same.each r.id).floor) refl
+
+  unfinished_same : (k k' : Known) → RestsSame k k' → rings.unfinished_positions h k' ≡ rings.unfinished_positions h k
+  unfolding rings.unfinished_positions due_positions
+  unfinished_same k k' same = rw ((same.each (command_id h)).given, (same.each (command_id h)).floor) refl
+
+  contexts_same : (k k' : Known) → RestsSame k k' → context_ranges h k' ≡ context_ranges h k
+  unfolding context_ranges
+  contexts_same k k' same =
+      ap (flat_map (λ p. range_of_command h p (rings.command_at h k' p))) (unfinished_same k k' same)
+      ∙ flat_alike (λ p. range_of_command h p (rings.command_at h k' p)) (λ p. range_of_command h p (rings.command_at h k p)) (rings.unfinished_positions h k)
+      (λ p at. ap (range_of_command h p) (same.commands p at))
+
+  pub open_same : (k k' : Known) → RestsSame k k' → open_leases h k' ≡ open_leases h k
+  unfolding open_leases open_ranges device_ranges
+  open_same k k' same =
+      ap (λ ls. ls ++ open_ranges h k') (flat_alike (open_on h k') (open_on h k) (driver_rings h) (λ r at. on_same k k' same r))
+      ∙ rw (same.table, contexts_same k k' same, same.entries, same.devices) refl
+
+  -- a change of a ring that leaves what is given, and the floor
+  pub data IsIdle : RingChange → Type 0 where
+    declares : (blocks : List Trb) → IsIdle (Declares blocks)
+    opens : IsIdle Opens
+    holds : (n : ℕ) → IsIdle (Holds n)
+
+  idle_same : (k : Known) (r : ℕ) (change : RingChange) → IsIdle change → (q : ℕ) → LeasesSame (k.ring q) ((rings.on_ring h k r change).ring q)
+  unfolding rings.on_ring
+  idle_same k r change idle q = elim (cases_Bool (q == r)) [
+    | inl same ↦ rw same (rw (eqb-true q r same) (at change idle))
+    | inr other ↦ rw other (record { given = refl; free = refl; crossed = refl; floor = refl })
+  ]
+    where
+      at : (change : RingChange) → IsIdle change → LeasesSame (k.ring r) (changed (shape_of h r) (k.ring r) change)
+      at _ (declares blocks) = record { given = refl; free = refl; crossed = refl; floor = refl }
+      at _ opens = record { given = refl; free = refl; crossed = refl; floor = refl }
+      at _ (holds n) = record { given = refl; free = refl; crossed = refl; floor = refl }
+
+  -- the entries of the DCBAA stay where DCBAAP stays, or where no device context is under lease
+  pub entries_kept : (k k' : Known) → k'.device ≡ k.device → (k'.register Dcbaap ≡ k.register Dcbaap) ⊎ ((s : ℕ) → k.device s ≡ None) → entry_ranges k' ≡ entry_ranges k
+  unfolding entry_ranges entry_of range_of_entry
+  entries_kept k k' devices (inl array) = flat_alike (λ s. range_of_entry k' s (k'.device s)) (λ s. range_of_entry k s (k.device s)) slots (λ s at. by s (k'.device s) (k.device s) (ap (λ d. d s) devices))
+    where
+      by : (s : ℕ) (d e : Option ℕ) → d ≡ e → range_of_entry k' s d ≡ range_of_entry k s e
+      by s None None e = refl
+      by s (Some x) (Some y) e = rw array refl
+      by s None (Some y) e = cc
+      by s (Some x) None e = cc
+  entries_kept k k' devices (inr none) =
+      flat_none (λ s. range_of_entry k' s (k'.device s)) slots (λ s. rw (ap (λ d. d s) devices ∙ none s) refl)
+      ∙ sym (flat_none (λ s. range_of_entry k s (k.device s)) slots (λ s. rw (none s) refl))
+
+  -- the queue of every ring stays
+  queues_same : (k : Known) (r : ℕ) (change : RingChange) → (changed (shape_of h r) (k.ring r) change).queue ≡ (k.ring r).queue → (q : ℕ) → ((rings.on_ring h k r change).ring q).queue ≡ (k.ring q).queue
+  unfolding rings.on_ring
+  queues_same k r change stays q = elim (cases_Bool (q == r)) [
+    | inl same ↦ rw same (rw (eqb-true q r same) stays)
+    | inr other ↦ rw other refl
+  ]
+
+  -- only rings and the states of endpoints change
+  idle_rests : (k k' : Known) (r : ℕ) (change : RingChange) → IsIdle change → k'.ring ≡ (rings.on_ring h k r change).ring → k'.register ≡ k.register → k'.device ≡ k.device →
+      ((p : ℕ) → IsIn p (rings.unfinished_positions h k) → rings.command_at h k' p ≡ rings.command_at h k p) → RestsSame k k'
+  idle_rests k k' r change idle rings_are registers devices commands = record {
+    each = λ q. rw rings_are (idle_same k r change idle q);
+    commands = commands;
+    table = ap (λ f. f Erstba) registers;
+    devices = devices;
+    entries = entries_kept k k' devices (inl (ap (λ f. f Dcbaap) registers));
+  }
+
+  pub command_same : (k k' : Known) → (k'.ring (command_id h)).queue ≡ (k.ring (command_id h)).queue → (p : ℕ) → rings.command_at h k' p ≡ rings.command_at h k p
+  unfolding rings.command_at
+  command_same k k' queue p = rw queue refl
+
+  -- a doorbell
+  pub bell_same : (k : Known) (s t : ℕ) → open_leases h (learned h k (Bell s t)) ≡ open_leases h k
+  unfolding learned registers.rung registers.endpoint_rung rings.on_ring
+  bell_same k s t = by (s == 0)
+    where
+      opened : (k' : Known) (r : ℕ) → k'.ring ≡ (rings.on_ring h k r Opens).ring → k'.register ≡ k.register → k'.device ≡ k.device → open_leases h k' ≡ open_leases h k
+      opened k' r rings_are registers devices =
+          open_same k k' (idle_rests k k' r Opens opens rings_are registers devices
+          (λ p at. command_same k k' (ap (λ f. (f (command_id h)).queue) rings_are ∙ queues_same k r Opens refl (command_id h)) p))
+
+      rung : (r : Option ℕ) → open_leases h (registers.endpoint_rung h k s t r) ≡ open_leases h k
+      rung None = refl
+      rung (Some r) = opened (registers.endpoint_rung h k s t (Some r)) r refl refl refl
+
+      by : (b : Bool) → open_leases h (cond b (rings.on_ring h k (command_id h) Opens) (registers.endpoint_rung h k s t (k.ring_of s t))) ≡ open_leases h k
+      by true = opened (rings.on_ring h k (command_id h) Opens) (command_id h) refl refl refl
+      by false = rung (k.ring_of s t)
+
+  more_queued : (k : Known) (r : ℕ) (blocks : List Trb) (q p : ℕ) → p < length (k.ring q).queue → slice_get ((rings.on_ring h k r (Declares blocks)).ring q).queue p ≡ slice_get (k.ring q).queue p
+  unfolding rings.on_ring
+  more_queued k r blocks q p below = elim (cases_Bool (q == r)) [
+    | inl same ↦ rw same (let here : r ≡ q = sym (eqb-true q r same) in rw here (got (k.ring q).queue blocks p below))
+    | inr other ↦ rw other refl
+  ]
+    where
+      got : {X : Type 0} (xs ys : List X) (p : ℕ) → p < length xs → slice_get (xs ++ ys) p ≡ slice_get xs p
+      got [] ys p low = absurd (omega arith)
+      got (x ∷ xs) ys zero low = refl
+      got (x ∷ xs) ys (suc p) low = got xs ys p (omega arith)
+
+  -- a declaration, where every command that was given is declared
+  pub sub_same : (k : Known) (r : ℕ) (blocks : List Trb) → ((p : ℕ) → IsIn p (rings.unfinished_positions h k) → p < length (k.ring (command_id h)).queue) →
+      open_leases h (learned h k (Sub r blocks)) ≡ open_leases h k
+  unfolding learned rings.on_ring rings.command_at
+  sub_same k r blocks known =
+      open_same k (rings.on_ring h k r (Declares blocks))
+      (idle_rests k (rings.on_ring h k r (Declares blocks)) r (Declares blocks) (declares blocks) refl refl refl
+      (λ p at. ap (option_and_then command_of) (more_queued k r blocks (command_id h) p (known p at))))
+
+  -- a register write changes the register, and neither rings nor device contexts
+  pub record WritesRegister (k k' : Known) (r : Register) (v : ℕ) : Type 0 where
+    pub ring : k'.ring ≡ k.ring
+    pub device : k'.device ≡ k.device
+    pub register : k'.register ≡ with_register k.register r v
+
+  started_or_stopped : (k : Known) (v : ℕ) → WritesRegister k (registers.run_or_stop (registers.valued k Usbcmd v) v) Usbcmd v
+  unfolding registers.run_or_stop registers.valued
+  started_or_stopped k v = by k.started (run_bit v) (reset_bit v)
+    where
+      by : (s r t : Bool) →
+          WritesRegister k (cond (not s) (cond (r && not t) (record (registers.valued k Usbcmd v) { started = true }) (registers.valued k Usbcmd v))
+          (cond (not r || t) (record (registers.valued k Usbcmd v) { stopped = true }) (registers.valued k Usbcmd v))) Usbcmd v
+      by true true true = record { ring = refl; device = refl; register = refl }
+      by true true false = record { ring = refl; device = refl; register = refl }
+      by true false true = record { ring = refl; device = refl; register = refl }
+      by true false false = record { ring = refl; device = refl; register = refl }
+      by false true true = record { ring = refl; device = refl; register = refl }
+      by false true false = record { ring = refl; device = refl; register = refl }
+      by false false true = record { ring = refl; device = refl; register = refl }
+      by false false false = record { ring = refl; device = refl; register = refl }
+
+  pub writes_register : (k : Known) (r : Register) (v : ℕ) → WritesRegister k (learned h k (Reg r v)) r v
+  unfolding learned registers.register_written registers.valued
+  writes_register k Usbcmd v = started_or_stopped k v
+  writes_register k Usbsts v = record { ring = refl; device = refl; register = refl }
+  writes_register k Dnctrl v = record { ring = refl; device = refl; register = refl }
+  writes_register k Crcr v = record { ring = refl; device = refl; register = refl }
+  writes_register k Dcbaap v = record { ring = refl; device = refl; register = refl }
+  writes_register k Config v = record { ring = refl; device = refl; register = refl }
+  writes_register k Iman v = record { ring = refl; device = refl; register = refl }
+  writes_register k Imod v = record { ring = refl; device = refl; register = refl }
+  writes_register k Erstsz v = record { ring = refl; device = refl; register = refl }
+  writes_register k Erstba v = record { ring = refl; device = refl; register = refl }
+  writes_register k Erdp v = record { ring = refl; device = refl; register = refl }
+
+  table_kept : (values : Register → Option ℕ) (r : Register) (v : ℕ) → r ≢ Erstba → with_register values r v Erstba ≡ values Erstba
+  table_kept values Usbcmd v other = refl
+  table_kept values Usbsts v other = refl
+  table_kept values Dnctrl v other = refl
+  table_kept values Crcr v other = refl
+  table_kept values Dcbaap v other = refl
+  table_kept values Config v other = refl
+  table_kept values Iman v other = refl
+  table_kept values Imod v other = refl
+  table_kept values Erstsz v other = refl
+  table_kept values Erstba v other = absurd (other refl)
+  table_kept values Erdp v other = refl
+
+  array_kept : (values : Register → Option ℕ) (r : Register) (v : ℕ) → r ≢ Dcbaap → with_register values r v Dcbaap ≡ values Dcbaap
+  array_kept values Usbcmd v other = refl
+  array_kept values Usbsts v other = refl
+  array_kept values Dnctrl v other = refl
+  array_kept values Crcr v other = refl
+  array_kept values Dcbaap v other = absurd (other refl)
+  array_kept values Config v other = refl
+  array_kept values Iman v other = refl
+  array_kept values Imod v other = refl
+  array_kept values Erstsz v other = refl
+  array_kept values Erstba v other = refl
+  array_kept values Erdp v other = refl
+
+  -- a register but ERSTBA, and DCBAAP where no device context is under lease
+  pub reg_same : (k : Known) (r : Register) (v : ℕ) → r ≢ Erstba → (r ≢ Dcbaap) ⊎ ((s : ℕ) → k.device s ≡ None) → open_leases h (learned h k (Reg r v)) ≡ open_leases h k
+  reg_same k r v other array =
+      let k' : Known = learned h k (Reg r v) in
+      let writes = writes_register k r v in
+      open_same k k' (record {
+        each = λ q. rw writes.ring (record { given = refl; free = refl; crossed = refl; floor = refl });
+        commands = λ p at. command_same k k' (ap (λ f. (f (command_id h)).queue) writes.ring) p;
+        table = ap (λ f. f Erstba) writes.register ∙ table_kept k.register r v other;
+        devices = writes.device;
+        entries = entries_kept k k' writes.device (elim array [
+          | inl stays ↦ inl (ap (λ f. f Dcbaap) writes.register ∙ array_kept k.register r v stays)
+          | inr none ↦ inr none
+        ]);
+      })

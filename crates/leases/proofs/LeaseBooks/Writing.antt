@@ -1,0 +1,209 @@
+-- The leases that a write begins: those of what it gives
+use Rattle.leases.proofs.LeaseBooks.Words.{◌≡◌, ◌+◌, ◌<◌, ◌≤◌, ◌&&◌, ◌||◌, ◌∷◌, ◌++◌, ◌∙◌, ℕ, Bool, true, false, not, List, [], filter, map, zero, suc, arith, sym, ap, refl, inl, inr, cond, subst, append-nil, flat_map, range_with_len, cases_Bool, and_parts, and_from, or_left, false≢true, filter-append, Shape, is_crossing, place_count, RingView, Writes, changed, crossings_given, due_crossings, due_positions, floor_number, gives, gives_crossing, is_crossing_due, leased_crossings, leased_positions, is_handed_over, positions_given, Header, Ring, driver_rings, shape_of, Known, Given, Position, Crossing, with_word, Leased, Block, Link, is_among, open_leases, open_on, open_ranges, IsIn, among_is, both_ways, in_among}
+use Rattle.ring_knowledge.specs.Rings as rings
+use Rattle.leases.proofs.LeaseBooks.Growing.{map_append, map_map}
+use Rattle.leases.proofs.LeaseBooks.Rows.{none_new}
+use Rattle.leases.proofs.LeaseBooks.SameLeases.{flat_alike}
+use Rattle.leases.proofs.LeaseBooks.Members.{InOn, block, link, from_flat_map, in_either, in_flat_map, in_left, in_on, in_right, on_in}
+use Rattle.leases.proofs.LeaseBooks.RangesAlone.{open_are_ranges}
+use Rattle.leases.specs.LeaseBooks.InStep.{FreeWasGiven}
+
+-- the lease of what is given
+abbrev pub lease_given : Given → Leased
+lease_given (Position r p) = Block r p
+lease_given (Crossing r q) = Link r q
+
+filter_map_is : {X Y : Type 0} (p : Y → Bool) (f : X → Y) (xs : List X) → filter p (map f xs) ≡ map f (filter (λ x. p (f x)) xs)
+filter_map_is p f [] = refl
+filter_map_is {X} {Y} p f (x ∷ xs) = by (p (f x)) (filter_map_is p f xs)
+  where
+    by : (b : Bool) → filter p (map f xs) ≡ map f (filter (λ x. p (f x)) xs) → cond b (f x ∷ filter p (map f xs)) (filter p (map f xs)) ≡ map f (cond b (x ∷ filter (λ x. p (f x)) xs) (filter (λ x. p (f x)) xs))
+    by true e = ap (λ ys. f x ∷ ys) e
+    by false e = e
+
+pub filter_flat_map : {X Y : Type 0} (p : Y → Bool) (f : X → List Y) (xs : List X) → filter p (flat_map f xs) ≡ flat_map (λ x. filter p (f x)) xs
+filter_flat_map p f [] = refl
+filter_flat_map p f (x ∷ xs) = filter-append p (f x) (flat_map f xs) ∙ ap (λ ys. filter p (f x) ++ ys) (filter_flat_map p f xs)
+
+map_flat_map : {X Y Z : Type 0} (f : Y → Z) (g : X → List Y) (xs : List X) → map f (flat_map g xs) ≡ flat_map (λ x. map f (g x)) xs
+map_flat_map f g [] = refl
+map_flat_map f g (x ∷ xs) = map_append f (g x) (flat_map g xs) ∙ ap (λ ys. map f (g x) ++ ys) (map_flat_map f g xs)
+
+-- of a range of numbers, those that pass two tests one after the other
+filter_range : (p q t : ℕ → Bool) (from n : ℕ) → ((x : ℕ) → from ≤ x → x < from + n → (q x && p x) ≡ t x) → filter p (filter q (range_with_len from n)) ≡ filter t (range_with_len from n)
+filter_range p q t from zero same = refl
+filter_range p q t from (suc n) same =
+    let rest = filter_range p q t (from + 1) n (λ x l u. same x (omega arith) (omega arith)) in
+    let first : (q from && p from) ≡ t from = same from (omega arith) (omega arith) in
+    elim (cases_Bool (q from)) [
+      | inl kept ↦
+          let alike : p from ≡ t from = sym (ap (λ b. b && p from) kept) ∙ first in
+          rw kept
+          (ap (λ ys. cond (p from) (from ∷ ys) ys) rest ∙ ap (λ b. cond b (from ∷ filter t (range_with_len (from + 1) n)) (filter t (range_with_len (from + 1) n))) alike)
+      | inr not_so ↦
+          let none : t from ≡ false = sym first ∙ ap (λ b. b && p from) not_so in
+          rw (not_so, none) rest
+    ]
+
+newly_given : (g s f : Bool) → (f ≡ true → g ≡ true) → (((g || s) && not f) && not (g && not f)) ≡ (not g && s)
+newly_given true s true only = refl
+newly_given true s false only = refl
+newly_given false s true only = absurd (false≢true (only refl))
+newly_given false true false only = refl
+newly_given false false false only = refl
+
+newly_crossed : (c g s : Bool) → (s ≡ true → c ≡ true) → ((c && (g || s)) && not (c && g)) ≡ (not g && s)
+newly_crossed true true s only = refl
+newly_crossed true false true only = refl
+newly_crossed true false false only = refl
+newly_crossed false true s only = refl
+newly_crossed false false true only = only refl
+newly_crossed false false false only = refl
+
+-- only a crossing is given as one
+gives_crossings : (shape : Shape) (v : RingView) (q a w : ℕ) → gives_crossing shape v.floor q a w ≡ true → is_crossing shape q ≡ true
+gives_crossings shape v q a w e = (and_parts _ _ (and_parts _ _ (and_parts _ _ (and_parts (is_crossing_due shape v.floor q && _) _ e).0).0).0).0
+
+-- each command or transfer ring has the shape that its ID names
+abbrev pub AreShaped : Header → Type 0
+AreShaped h = (q : Ring) → IsIn q (driver_rings h) → shape_of h q.id ≡ q.shape
+
+module _ (h : Header) (shaped : AreShaped h) (k : Known) (freed : FreeWasGiven h k) (a w : ℕ) where
+  abbrev IsNew : Leased → Bool
+  IsNew l = not (is_among (open_leases h k) l)
+
+  abbrev after : Known
+  after = with_word h k a w
+
+  module _ (q : Ring) (among : IsIn q (driver_rings h)) where
+    view_after : after.ring q.id ≡ changed q.shape (k.ring q.id) (Writes a w)
+    unfolding with_word
+    view_after = ap (λ s. changed s (k.ring q.id) (Writes a w)) (shaped q among)
+
+    -- a due position is under lease where it was handed over
+    block_was : (p : ℕ) → floor_number (k.ring q.id) ≤ p → p < floor_number (k.ring q.id) + place_count q.shape → is_among (open_leases h k) (Block q.id p) ≡ is_handed_over (k.ring q.id) p
+    unfolding open_leases
+    block_was p low high = both_ways _ _ there back
+      where
+        given_on : (s : Ring) (l : Leased) → InOn s (k.ring s.id) l → l ≡ Block q.id p → is_handed_over (k.ring q.id) p ≡ true
+        given_on s _ (block m least most given) e = let ids : s.id ≡ q.id = cc in let same : m ≡ p = cc in subst (λ (i : ℕ). is_handed_over (k.ring i) p ≡ true) ids (subst (λ (i : ℕ). is_handed_over (k.ring s.id) i ≡ true) same given)
+        given_on s _ (link m least most crossed) e = cc
+
+        there : is_among (flat_map (open_on h k) (driver_rings h) ++ open_ranges h k) (Block q.id p) ≡ true → is_handed_over (k.ring q.id) p ≡ true
+        there e = elim (in_either (Block q.id p) (flat_map (open_on h k) (driver_rings h)) (open_ranges h k) (among_is _ (Block q.id p) e)) [
+          | inl on ↦ let found = from_flat_map (open_on h k) (driver_rings h) (Block q.id p) on in given_on found.0 (Block q.id p) (in_on h k found.0 (Block q.id p) found.2) refl
+          | inr range ↦ absurd (open_are_ranges h k (Block q.id p) range)
+        ]
+
+        back : is_handed_over (k.ring q.id) p ≡ true → is_among (flat_map (open_on h k) (driver_rings h) ++ open_ranges h k) (Block q.id p) ≡ true
+        back e =
+            in_among _ (Block q.id p) (in_left (Block q.id p) (flat_map (open_on h k) (driver_rings h)) (open_ranges h k)
+            (in_flat_map (open_on h k) (driver_rings h) q (Block q.id p) among (on_in h k q (Block q.id p) (block p low high e))))
+
+    -- and a due crossing
+    link_was : (c : ℕ) → floor_number (k.ring q.id) ≤ c → c < floor_number (k.ring q.id) + (place_count q.shape + 1) →
+        is_among (open_leases h k) (Link q.id c) ≡ (is_crossing q.shape c && (k.ring q.id).crossed c)
+    unfolding open_leases
+    link_was c low high = both_ways _ _ there back
+      where
+        crossed_on : (s : Ring) → IsIn s (driver_rings h) → (l : Leased) → InOn s (k.ring s.id) l → l ≡ Link q.id c → (is_crossing q.shape c && (k.ring q.id).crossed c) ≡ true
+        crossed_on s at _ (block m least most given) e = cc
+        crossed_on s at _ (link m least most crossed) e =
+            let ids : s.id ≡ q.id = cc in
+            let same : m ≡ c = cc in
+            let shapes : s.shape ≡ q.shape = sym (shaped s at) ∙ ap (shape_of h) ids ∙ shaped q among in
+            subst (λ (x : Shape). (is_crossing x c && (k.ring q.id).crossed c) ≡ true) shapes
+            (subst (λ (i : ℕ). (is_crossing s.shape c && (k.ring i).crossed c) ≡ true) ids (subst (λ (i : ℕ). (is_crossing s.shape i && (k.ring s.id).crossed i) ≡ true) same crossed))
+
+        there : is_among (flat_map (open_on h k) (driver_rings h) ++ open_ranges h k) (Link q.id c) ≡ true → (is_crossing q.shape c && (k.ring q.id).crossed c) ≡ true
+        there e = elim (in_either (Link q.id c) (flat_map (open_on h k) (driver_rings h)) (open_ranges h k) (among_is _ (Link q.id c) e)) [
+          | inl on ↦
+              let found = from_flat_map (open_on h k) (driver_rings h) (Link q.id c) on in
+              crossed_on found.0 found.1 (Link q.id c) (in_on h k found.0 (Link q.id c) found.2) refl
+          | inr range ↦ absurd (open_are_ranges h k (Link q.id c) range)
+        ]
+
+        back : (is_crossing q.shape c && (k.ring q.id).crossed c) ≡ true → is_among (flat_map (open_on h k) (driver_rings h) ++ open_ranges h k) (Link q.id c) ≡ true
+        back e =
+            in_among _ (Link q.id c) (in_left (Link q.id c) (flat_map (open_on h k) (driver_rings h)) (open_ranges h k)
+            (in_flat_map (open_on h k) (driver_rings h) q (Link q.id c) among (on_in h k q (Link q.id c) (link c low high e))))
+
+    new_blocks : filter (λ p. IsNew (Block q.id p)) (leased_positions q.shape (changed q.shape (k.ring q.id) (Writes a w))) ≡ positions_given q.shape (k.ring q.id) a w
+    unfolding leased_positions due_positions positions_given
+    new_blocks =
+        filter_range (λ p. IsNew (Block q.id p)) (is_handed_over (changed q.shape (k.ring q.id) (Writes a w))) (λ p. not ((k.ring q.id).given p) && gives q.shape (k.ring q.id).floor p a w)
+        (floor_number (k.ring q.id)) (place_count q.shape) (λ p low high.
+        ap (λ b. (((k.ring q.id).given p || gives q.shape (k.ring q.id).floor p a w) && not ((k.ring q.id).free p)) && not b) (block_was p low high)
+        ∙ newly_given ((k.ring q.id).given p) (gives q.shape (k.ring q.id).floor p a w) ((k.ring q.id).free p) (freed q among p))
+
+    new_links : filter (λ c. IsNew (Link q.id c)) (leased_crossings q.shape (changed q.shape (k.ring q.id) (Writes a w))) ≡ crossings_given q.shape (k.ring q.id) a w
+    unfolding leased_crossings due_crossings crossings_given
+    new_links =
+        filter_range (λ c. IsNew (Link q.id c)) (λ c. is_crossing q.shape c && (changed q.shape (k.ring q.id) (Writes a w)).crossed c)
+        (λ c. not ((k.ring q.id).crossed c) && gives_crossing q.shape (k.ring q.id).floor c a w)
+        (floor_number (k.ring q.id)) (place_count q.shape + 1) (λ c low high.
+        ap (λ b. (is_crossing q.shape c && ((k.ring q.id).crossed c || gives_crossing q.shape (k.ring q.id).floor c a w)) && not b) (link_was c low high)
+        ∙ newly_crossed (is_crossing q.shape c) ((k.ring q.id).crossed c) (gives_crossing q.shape (k.ring q.id).floor c a w) (gives_crossings q.shape (k.ring q.id) c a w))
+
+    new_on : filter IsNew (open_on h after q) ≡ map lease_given (rings.given_of h k a w q.id)
+    unfolding open_on rings.given_of
+    new_on =
+        ap (λ v. filter IsNew (map (Block q.id) (leased_positions q.shape v) ++ map (Link q.id) (leased_crossings q.shape v))) view_after
+        ∙ filter-append IsNew (map (Block q.id) (leased_positions q.shape (changed q.shape (k.ring q.id) (Writes a w)))) (map (Link q.id) (leased_crossings q.shape (changed q.shape (k.ring q.id) (Writes a w))))
+        ∙ rw (
+          filter_map_is IsNew (Block q.id) (leased_positions q.shape (changed q.shape (k.ring q.id) (Writes a w))),
+          filter_map_is IsNew (Link q.id) (leased_crossings q.shape (changed q.shape (k.ring q.id) (Writes a w))),
+          new_blocks,
+          new_links,
+        ) (sym (
+        ap (λ s. map lease_given (map (Position q.id) (positions_given s (k.ring q.id) a w) ++ map (Crossing q.id) (crossings_given s (k.ring q.id) a w))) (shaped q among)
+        ∙ map_append lease_given (map (Position q.id) (positions_given q.shape (k.ring q.id) a w)) (map (Crossing q.id) (crossings_given q.shape (k.ring q.id) a w))
+        ∙ rw (map_map lease_given (Position q.id) (positions_given q.shape (k.ring q.id) a w), map_map lease_given (Crossing q.id) (crossings_given q.shape (k.ring q.id) a w)) refl
+        ))
+
+    -- what was open on the ring still is
+    kept_on : (l : Leased) → InOn q (k.ring q.id) l → InOn q (after.ring q.id) l
+    kept_on _ (block p low high lent) =
+        let parts = and_parts ((k.ring q.id).given p) (not ((k.ring q.id).free p)) lent in
+        subst (λ (v : RingView). InOn q v (Block q.id p)) (sym view_after)
+        (block p low high (and_from _ (not ((k.ring q.id).free p)) (or_left ((k.ring q.id).given p) (gives q.shape (k.ring q.id).floor p a w) parts.0) parts.1))
+    kept_on _ (link c low high crossed) =
+        let parts = and_parts (is_crossing q.shape c) ((k.ring q.id).crossed c) crossed in
+        subst (λ (v : RingView). InOn q v (Link q.id c)) (sym view_after)
+        (link c low high (and_from (is_crossing q.shape c) _ parts.0 (or_left ((k.ring q.id).crossed c) (gives_crossing q.shape (k.ring q.id).floor c a w) parts.1)))
+
+  -- on all rings
+  pub new_on_rings : filter IsNew (flat_map (open_on h after) (driver_rings h)) ≡ map lease_given (rings.given_by h k a w)
+  unfolding rings.given_by
+  new_on_rings =
+      filter_flat_map IsNew (open_on h after) (driver_rings h)
+      ∙ flat_alike (λ q. filter IsNew (open_on h after q)) (λ q. map lease_given (rings.given_of h k a w q.id)) (driver_rings h) new_on
+      ∙ sym (map_flat_map lease_given (λ q. rings.given_of h k a w q.id) (driver_rings h))
+
+  pub kept_on_rings : (l : Leased) → IsIn l (flat_map (open_on h k) (driver_rings h)) → IsIn l (flat_map (open_on h after) (driver_rings h))
+  kept_on_rings l on =
+      let found = from_flat_map (open_on h k) (driver_rings h) l on in
+      in_flat_map (open_on h after) (driver_rings h) found.0 l found.1 (on_in h after found.0 l (kept_on found.0 found.1 l (in_on h k found.0 l found.2)))
+
+  module _ (ranges : open_ranges h after ≡ open_ranges h k) where
+    no_new_range : filter IsNew (open_ranges h after) ≡ []
+    unfolding open_leases
+    no_new_range =
+        ap (filter IsNew) ranges ∙ none_new (open_leases h k) (open_ranges h k) (λ l at. in_among _ l (in_right l (flat_map (open_on h k) (driver_rings h)) (open_ranges h k) at))
+
+    pub new_leases : filter IsNew (open_leases h after) ≡ map lease_given (rings.given_by h k a w)
+    unfolding open_leases
+    new_leases =
+        filter-append IsNew (flat_map (open_on h after) (driver_rings h)) (open_ranges h after)
+        ∙ ap (λ ys. filter IsNew (flat_map (open_on h after) (driver_rings h)) ++ ys) no_new_range
+        ∙ append-nil _
+        ∙ new_on_rings
+
+    pub all_kept : (l : Leased) → is_among (open_leases h k) l ≡ true → is_among (open_leases h after) l ≡ true
+    unfolding open_leases
+    all_kept l e =
+        in_among _ l
+        (elim (in_either l (flat_map (open_on h k) (driver_rings h)) (open_ranges h k) (among_is _ l e)) [
+          | inl on ↦ in_left l (flat_map (open_on h after) (driver_rings h)) (open_ranges h after) (kept_on_rings l on)
+          | inr range ↦ in_right l (flat_map (open_on h after) (driver_rings h)) (open_ranges h after) (subst (IsIn l) (sym ranges) range)
+        ])

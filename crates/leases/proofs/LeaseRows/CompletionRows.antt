@@ -1,0 +1,241 @@
+-- What is lent after the completion of a command
+use Rattle.std.proofs.Common.{◌≡◌, ◌≢◌, ◌+◌, ◌++◌, ◌∙◌, ◌&&◌, ◌||◌, ◌==◌, ℕ, List, Bool, true, false, None, Some, Option, refl, ap, sym, arith, inl, inr, subst, filter, map, nat_le, nat_lt, eqb-true, eq-eqb}
+use Rattle.leases.proofs.LeaseRows.Words.{position, cases_Bool, false≢true, nat_tests, CommandCompletion, code, kind, is_command_completion, Command, Shape, place_count, RingView, due_positions, floor_number, due_is, number-after, Ring, Header, Read, Erstba, IsHeader, command_id, driver_rings, is_command_kind, shape_of, Known, completed, event_read, learned, Leased, Block, Link, Range, Use, context_ranges, device_ranges, entry_ranges, is_among, open_leases, open_on, open_ranges, range_of_command, range_of_device, range_of_entry, segment_ranges, slots, table_range, flat_map, range_with_len, IsIn, in_among, in_filter, DriverKeeps, EventFacts, event_facts, floors_grow, CompletionFacts, completion_facts, next_at_floor, command_is_ring, SameDriver, event_same, Lent, ended_where, is_passed, let_go, slot_left, slot_ranges, is_lent, RangeIndexes, completed_device, finish_lent, Finishes, gone_are_ranges, in_either, in_flat_map, in_left, in_range, in_right, floors, is_left, IsWithinLap, Moves, all_twice, none_over, over_alike, command_found, no_command_ring, shape_there, any_append, false_unless, or_false, IsAmong, same_number, TraceRecord, EndpointRings, HoldsAll, AreLent, FloorsMove, MovesOn, IsMovedTo, IsOtherRing, is_behind, is_moved_past, moved_when, IsNextRow, grown}
+use Rattle.trb.specs.declared.block.Block as blocks
+use Rattle.ring_knowledge.specs.Rings as rings
+use Rattle.leases.proofs.LeaseRows.GivenHere.{command_id_is, no_ring}
+use Rattle.leases.proofs.LeaseRows.TransferRows.{lap_now}
+
+-- ---- numbers that are passed on two rings
+
+abbrev moved_number : (ℕ → ℕ) → Option (ℕ × ℕ) → ℕ → ℕ → Bool
+moved_number from None q p = false
+moved_number from (Some e) q p = e.0 == q && nat_le (from e.0) p && nat_lt p e.1
+
+none_between : (a b p : ℕ) → a ≡ b → (nat_le b p && nat_lt p a) ≡ false
+none_between a b p e = grind (arith, nat_tests, e)
+
+abbrev Arrives : ℕ → (ℕ → ℕ) → Option (ℕ × ℕ) → Type 0
+Arrives c to None = Unit {0}
+Arrives c to (Some e) = (e.0 ≢ c) × (to e.0 ≡ e.1)
+
+module _ (from to : ℕ → ℕ) (c : ℕ) (one : to c ≡ from c + 1) where
+  passes : (m : Option (ℕ × ℕ)) → Arrives c to m → ((q : ℕ) → q ≢ c → IsOtherRing q m → to q ≡ from q) → (q p : ℕ) →
+      (nat_le (from q) p && nat_lt p (to q)) ≡ (moved_number from m q p || (c == q && nat_le (from c) p && nat_lt p (from c + 1)))
+  passes None there others q p = elim (cases_Bool (c == q)) [
+    | inl same ↦ rw same (subst (λ (x : ℕ). (nat_le (from x) p && nat_lt p (to x)) ≡ (nat_le (from c) p && nat_lt p (from c + 1))) (eqb-true c q same) (ap (λ (n : ℕ). nat_le (from c) p && nat_lt p n) one))
+    | inr differ ↦ rw differ (none_between (to q) (from q) p (others q (λ e. false≢true (sym differ ∙ eq-eqb c q (sym e))) tt))
+  ]
+  passes (Some e) there others q p = elim (cases_Bool (c == q)) [
+    | inl same ↦
+        let is : c ≡ q = eqb-true c q same in
+        let other : (e.0 == q) ≡ false = false_unless (e.0 == q) (λ f. there.0 (eqb-true e.0 q f ∙ sym is)) in
+        rw (same, other) (subst (λ (x : ℕ). (nat_le (from x) p && nat_lt p (to x)) ≡ (nat_le (from c) p && nat_lt p (from c + 1))) is (ap (λ (n : ℕ). nat_le (from c) p && nat_lt p n) one))
+    | inr differ ↦ elim (cases_Bool (e.0 == q)) [
+      | inl moved ↦
+          rw (differ, moved)
+          (subst (λ (x : ℕ). (nat_le (from x) p && nat_lt p (to x)) ≡ ((nat_le (from e.0) p && nat_lt p e.1) || false)) (eqb-true e.0 q moved)
+          (ap (λ (n : ℕ). nat_le (from e.0) p && nat_lt p n) there.1 ∙ sym (or_false _)))
+      | inr none ↦
+          rw (differ, none) (none_between (to q) (from q) p (others q (λ f. false≢true (sym differ ∙ eq-eqb c q (sym f))) (λ f. false≢true (sym none ∙ eq-eqb e.0 q (sym f)))))
+    ]
+  ]
+
+module _ (h : Header) (headed : IsHeader h) (k : Known) (ts : List Lent) (b : blocks.Block) (number_ : ℕ) (t : TraceRecord) (m : ℕ → ℕ) (next : IsNextRow h k ts (Read b) t m) (completes : kind b ≡ CommandCompletion) where
+  abbrev k' : Known
+  k' = learned h k (Read b)
+
+  keeps : DriverKeeps h k
+  keeps = next.keeps
+
+  facts : EventFacts h k b
+  facts = event_facts h k b next.clean
+
+  -- the header has a command ring
+  pub some_commands : position (λ (r : Ring). is_command_kind r.shape.kind) h.rings ≡ None → ⊥
+  some_commands none =
+      let ring = command_is_ring h k keeps facts.started in
+      let clash : None ≡ Some ring.ring = sym (no_ring h headed (no_command_ring h none)) ∙ ring.found in
+      cc
+
+  pub endpoint_rings : EndpointRings h k
+  endpoint_rings s i r at = let ring = keeps.states.transfer s i r at in (ring.ring, ring.found, ring.kind)
+
+  abbrev n : ℕ
+  n = rings.next_command h k
+
+  abbrev o : Option Command
+  o = rings.command_at h k n
+
+  abbrev success : Bool
+  success = code b == 1
+
+  same : SameDriver k (event_read h k (kind b) b)
+  same = event_same h k (kind b) b
+
+  read_is : event_read h k (kind b) b ≡ completed h k b
+  unfolding event_read
+  read_is = ap (λ x. event_read h k x b) completes
+
+  after_is : (k'.ring ≡ (event_read h k (kind b) b).ring) × (k'.register ≡ (event_read h k (kind b) b).register) × (k'.device ≡ (event_read h k (kind b) b).device)
+  unfolding learned
+  after_is = (refl, refl, refl)
+
+  completed_floor : floor_number ((completed h k b).ring (command_id h)) ≡ n + 1
+  unfolding completed rings.on_ring
+  completed_floor = rw (same_number (command_id h)) (number-after (shape_of h (command_id h)) n)
+
+  next_is : n ≡ floor_number (k.ring (command_id h))
+  unfolding rings.next_command
+  next_is = refl
+
+  floor_after : floor_number (k'.ring (command_id h)) ≡ floor_number (k.ring (command_id h)) + 1
+  floor_after =
+      ap (λ (f : ℕ → RingView). floor_number (f (command_id h))) (after_is.0 ∙ ap (λ (x : Known). x.ring) read_is) ∙ completed_floor ∙ ap (λ (x : ℕ). x + 1) next_is
+
+  module _ (moves : FloorsMove h k b) (q : Ring) (among : IsAmong q h.rings) (command : is_command_kind q.shape.kind ≡ true) (drives : IsIn q (driver_rings h)) where
+    pub id : command_id h ≡ q.id
+    id = command_id_is h q (command_found h headed q among command)
+
+    pub shape_is : shape_of h (command_id h) ≡ q.shape
+    shape_is = ap (shape_of h) id ∙ shape_there h headed q among
+
+    pub next_here : n ≡ floor_number (k.ring q.id)
+    next_here = next_is ∙ ap (λ (i : ℕ). floor_number (k.ring i)) id
+
+    finishes : Finishes h k k' (slot_left success o)
+    finishes = record {
+      given = ap (λ (f : ℕ → RingView). (f (command_id h)).given) after_is.0 ∙ (same.rings (command_id h)).given;
+      queue = ap (λ (f : ℕ → RingView). (f (command_id h)).queue) after_is.0 ∙ (same.rings (command_id h)).queue;
+      floor = floor_after;
+      register = after_is.1 ∙ same.register;
+      device = λ s. ap (λ (f : ℕ → Option ℕ). f s) (after_is.2 ∙ ap (λ (x : Known). x.device) read_is) ∙ completed_device h k b s;
+      lap = subst (λ (s : Shape). IsWithinLap s (k.ring (command_id h))) (sym shape_is) (subst (λ (i : ℕ). IsWithinLap q.shape (k.ring i)) (sym id) (lap_now h headed k keeps q drives));
+    }
+
+    each : (r : Ring) → IsIn r (driver_rings h) → Moves r.shape (k.ring r.id) (k'.ring r.id) (floors k' r.id)
+    each r at = record {
+      given = ap (λ (f : ℕ → RingView). (f r.id).given) after_is.0 ∙ (same.rings r.id).given;
+      free = ap (λ (f : ℕ → RingView). (f r.id).free) after_is.0 ∙ (same.rings r.id).free;
+      crossed = ap (λ (f : ℕ → RingView). (f r.id).crossed) after_is.0 ∙ (same.rings r.id).crossed;
+      floor = refl;
+      rises = floors_grow h headed k keeps b next.clean r.id;
+      within = lap_now h headed k keeps r at;
+    }
+
+    abbrev moved : Option (ℕ × ℕ)
+    moved = moved_when h k success o
+
+    arrives : (x : Option (ℕ × ℕ)) → IsMovedTo h k' x → Arrives (command_id h) (floors k') x
+    arrives None there = tt
+    arrives (Some e) there = there
+
+    past_block : (x : Option (ℕ × ℕ)) (r p : ℕ) → is_moved_past k x (Block r p) ≡ moved_number (floors k) x r p
+    past_block None r p = refl
+    past_block (Some e) r p = refl
+
+    past_link : (x : Option (ℕ × ℕ)) (r p : ℕ) → is_moved_past k x (Link r p) ≡ moved_number (floors k) x r p
+    past_link None r p = refl
+    past_link (Some e) r p = refl
+
+    past_range : (x : Option (ℕ × ℕ)) (a c : ℕ) (u : Use) → is_moved_past k x (Range a c u) ≡ false
+    past_range None a c u = refl
+    past_range (Some e) a c u = refl
+
+    gone_is : (l : Leased) → (is_among (range_of_command h n o) l || is_among (slot_ranges h k (slot_left success o)) l) ≡ is_among (let_go h k (slot_left success o)) l
+    unfolding is_among
+    gone_is l = sym (any_append _ (range_of_command h n o) (slot_ranges h k (slot_left success o)))
+
+    abbrev passed_one : Leased → Bool
+    passed_one l = is_passed (command_id h) (floors k (command_id h)) (floors k (command_id h) + 1) l
+
+    numbers : (r p : ℕ) → (nat_le (floors k r) p && nat_lt p (floors k' r)) ≡ (moved_number (floors k) moved r p || (command_id h == r && nat_le (floors k (command_id h)) p && nat_lt p (floors k (command_id h) + 1)))
+    numbers r p = passes (floors k) (floors k') (command_id h) floor_after moved (arrives moved moves.there) moves.others r p
+
+    left_is : (l : Leased) → (is_behind h k n success o l || passed_one l) ≡ is_left (floors k) (floors k') (let_go h k (slot_left success o)) l
+    left_is (Range a c u) = or_false _ ∙ ap (λ x. (is_among (range_of_command h n o) (Range a c u) || is_among (slot_ranges h k (slot_left success o)) (Range a c u)) || x) (past_range moved a c u) ∙ or_false _ ∙ gone_is (Range a c u)
+    left_is (Block r p) =
+        ap (λ x. (x || is_moved_past k moved (Block r p)) || passed_one (Block r p)) (gone_is (Block r p) ∙ false_unless _ (gone_are_ranges h k (slot_left success o) (Block r p)))
+        ∙ ap (λ x. x || passed_one (Block r p)) (past_block moved r p) ∙ sym (numbers r p)
+    left_is (Link r p) =
+        ap (λ x. (x || is_moved_past k moved (Link r p)) || passed_one (Link r p)) (gone_is (Link r p) ∙ false_unless _ (gone_are_ranges h k (slot_left success o) (Link r p)))
+        ∙ ap (λ x. x || passed_one (Link r p)) (past_link moved r p) ∙ sym (numbers r p)
+
+    completed_lent : grown h k (Read b) number_ ts ≡ map (ended_where (λ l. is_behind h k n success o l || passed_one l) number_) ts
+    completed_lent =
+        finish_lent h k ts next.step.opened (Read b) number_ (slot_left success o) finishes each
+        ∙ sym (over_alike (λ l. is_behind h k n success o l || passed_one l) (is_left (floors k) (floors k') (let_go h k (slot_left success o))) number_ ts left_is)
+
+    module _ {B : Type 0} {Holds : Header → List Lent → B → Type 0} where
+      pub completion_ends : (book : B) (x : RangeIndexes) (p r : ℕ) (s : Bool) (c : Option Command) → p ≡ n → r ≡ command_id h → s ≡ success → c ≡ o →
+          HoldsAll Holds h (map (ended_where (is_passed r p (p + 1)) number_) (map (ended_where (is_behind h k p s c) number_) ts)) book x → HoldsAll Holds h (grown h k (Read b) number_ ts) book x
+      completion_ends book x p r s c at there tells says all =
+          subst (λ us. HoldsAll Holds h us book x)
+          (ap (λ (y : ℕ). map (ended_where (is_passed r y (y + 1)) number_) (map (ended_where (is_behind h k y s c) number_) ts)) at
+          ∙ ap (λ (y : ℕ). map (ended_where (is_passed y n (n + 1)) number_) (map (ended_where (is_behind h k n s c) number_) ts)) there
+          ∙ ap (λ y. map (ended_where (is_passed (command_id h) n (n + 1)) number_) (map (ended_where (is_behind h k n y c) number_) ts)) tells
+          ∙ ap (λ y. map (ended_where (is_passed (command_id h) n (n + 1)) number_) (map (ended_where (is_behind h k n success y) number_) ts)) says
+          ∙ ap (λ (y : ℕ). map (ended_where (is_passed (command_id h) y (y + 1)) number_) (map (ended_where (is_behind h k n success o) number_) ts)) next_is
+          ∙ all_twice passed_one (is_behind h k n success o) number_ ts
+          ∙ sym completed_lent) all
+
+  -- ---- what is let go is lent
+
+  in_ranges : (l : Leased) → IsIn l (open_ranges h k) → is_lent ts l ≡ true
+  unfolding open_leases
+  in_ranges l at = next.step.lent l (in_among (open_leases h k) l (in_right l (flat_map (open_on h k) (driver_rings h)) (open_ranges h k) at))
+
+  abbrev s_t : List Leased
+  s_t = segment_ranges h ++ table_range h (k.register Erstba)
+
+  pub context_lent : AreLent ts (range_of_command h n o)
+  unfolding open_ranges context_ranges rings.unfinished_positions due_positions rings.next_command
+  context_lent l at =
+      let finish : CompletionFacts h k b = completion_facts h k b (ap is_command_completion completes) facts.possible in
+      let floor = next_at_floor h headed k keeps facts.started finish.below in
+      let v = k.ring (command_id h) in
+      let count : ℕ = place_count (shape_of h (command_id h)) in
+      let due = due_is (shape_of h (command_id h)) v.floor (floor_number v) floor.due in
+      let c = context_ranges h k in
+      in_ranges l (in_left l (s_t ++ c ++ entry_ranges k) (device_ranges h k) (in_left l (s_t ++ c) (entry_ranges k) (in_right l s_t c
+      (in_flat_map (λ p. range_of_command h p (rings.command_at h k p)) (filter v.given (range_with_len (floor_number v) count)) (floor_number v) l
+      (in_filter v.given (range_with_len (floor_number v) count) (floor_number v) (in_range (floor_number v) count (floor_number v) due.0 due.1) floor.given) at))))
+
+  slot_in : (s d : ℕ) → k.device s ≡ Some d → IsIn s slots
+  unfolding slots
+  slot_in s d at = let slot = (keeps.devices s d at).slot in in_range 1 255 s (omega (arith, slot.0)) (omega (arith, slot.1))
+
+  entry_lent : (s : ℕ) (x : Option ℕ) (l : Leased) → k.device s ≡ x → IsIn l (range_of_entry k s x) → is_lent ts l ≡ true
+  unfolding open_ranges entry_ranges range_of_entry
+  entry_lent s None l is at = absurd at
+  entry_lent s (Some d) l is at =
+      in_ranges l (in_left l (s_t ++ context_ranges h k ++ entry_ranges k) (device_ranges h k) (in_right l (s_t ++ context_ranges h k) (entry_ranges k)
+      (in_flat_map (λ z. range_of_entry k z (k.device z)) slots s l (slot_in s d is) (subst (λ y. IsIn l (range_of_entry k s y)) (sym is) at))))
+
+  device_lent : (s : ℕ) (x : Option ℕ) (l : Leased) → k.device s ≡ x → IsIn l (range_of_device h s x) → is_lent ts l ≡ true
+  unfolding open_ranges device_ranges range_of_device
+  device_lent s None l is at = absurd at
+  device_lent s (Some d) l is at =
+      in_ranges l (in_right l (s_t ++ context_ranges h k ++ entry_ranges k) (device_ranges h k)
+      (in_flat_map (λ z. range_of_device h z (k.device z)) slots s l (slot_in s d is) (subst (λ y. IsIn l (range_of_device h s y)) (sym is) at)))
+
+  pub slot_lent : (left : Option ℕ) → AreLent ts (slot_ranges h k left)
+  slot_lent None l at = absurd at
+  slot_lent (Some s) l at = elim (in_either l (range_of_entry k s (k.device s)) (range_of_device h s (k.device s)) at) [
+    | inl entry ↦ entry_lent s (k.device s) l refl entry
+    | inr device ↦ device_lent s (k.device s) l refl device
+  ]
+
+  -- so the command's may end
+  pub command_behind : FloorsMove h k b → (p : ℕ) (s : Bool) (c : Option Command) → p ≡ n → s ≡ success → c ≡ o →
+      MovesOn k (moved_when h k s c) × AreLent ts (range_of_command h p c) × AreLent ts (slot_ranges h k (slot_left s c))
+  command_behind moves p s c at tells says = (
+    subst (λ (x : Option (ℕ × ℕ)). MovesOn k x) (sym (ap (λ x. moved_when h k x c) tells ∙ ap (moved_when h k success) says)) moves.on,
+    subst (λ (ls : List Leased). AreLent ts ls) (sym (ap (λ (x : ℕ). range_of_command h x c) at ∙ ap (range_of_command h n) says)) context_lent,
+    slot_lent (slot_left s c),
+  )
+
+  -- where no command is declared nothing is left behind
+  pub none_behind : (p : ℕ) (s : Bool) (us : List Lent) → map (ended_where (is_behind h k p s None) number_) us ≡ us
+  unfolding range_of_command is_among
+  none_behind p s us = none_over (is_behind h k p s None) number_ us (λ l. refl)

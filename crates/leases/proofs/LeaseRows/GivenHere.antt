@@ -1,0 +1,102 @@
+-- What a write gives, by the ring that has the word
+use Rattle.std.proofs.Common.{◌≡◌, ◌%◌, ◌++◌, ◌∙◌, ◌==◌, ℕ, [], true, false, Option, Some, None, refl, ap, sym, arith, inl, inr, map, append-nil}
+use Rattle.leases.proofs.LeaseRows.Words.{false≢true, RingKind, Cmd, Evt, Xfer, is_inside, touches, positions_given, crossings_given, due_positions, touches-word, Ring, Header, IsHeader, command_id, command_ring, driver_rings, id_or_none, is_command_kind, is_driver_kind, is_event_kind, ring_with, shape_of, shape_or, Known, given_of, given_by, false_unless, IsAmong, Apart, other_number, same_or_apart, all_from_one, find_some, id_below, not_found, nothing_from, shape_allowed, shape_there, together, command_found}
+use Rattle.ring_knowledge.specs.Rings.{Position, Crossing}
+use Rattle.leases.proofs.LeaseRows.WordsApart.{gives_no_position, gives_no_crossing}
+
+no_driver_event : (kind : RingKind) → is_driver_kind kind ≡ true → is_event_kind kind ≡ true → ⊥
+no_driver_event Cmd d e = absurd (cc)
+no_driver_event Evt d e = absurd (cc)
+no_driver_event Xfer d e = absurd (cc)
+
+-- the command ring is the driver's
+pub driven : (kind : RingKind) → is_command_kind kind ≡ true → is_driver_kind kind ≡ true
+driven Cmd e = refl
+driven Evt e = absurd (cc)
+driven Xfer e = refl
+
+pub commands_among : (h : Header) (c : Ring) → command_ring h ≡ Some c → IsAmong c h.rings × (is_command_kind c.shape.kind ≡ true)
+unfolding command_ring
+commands_among h c there = find_some (λ r. is_command_kind r.shape.kind) h.rings c there
+
+-- the ID of the command ring
+pub command_id_is : (h : Header) (ring : Ring) → command_ring h ≡ Some ring → command_id h ≡ ring.id
+unfolding command_id
+command_id_is h ring there = ap id_or_none there
+
+module _ (h : Header) (headed : IsHeader h) where
+  -- without a command ring no ring has its ID
+  pub no_ring : command_ring h ≡ None → ring_with h (command_id h) ≡ None
+  unfolding command_id
+  no_ring none =
+      ap (λ o. ring_with h (id_or_none o)) none ∙ not_found (λ r. r.id == 256) h.rings (λ q among. other_number q.id 256 (λ e. omega (arith, e, id_below h headed q among)))
+
+  module _ (k : Known) (a : ℕ) (aligned : a % 4 ≡ 0) (w : ℕ) where
+    inside_is : (q : Ring) → IsAmong q h.rings → touches q.shape a 4 ≡ is_inside q.shape a
+    inside_is q among = touches-word q.shape (shape_allowed h headed q among) a aligned
+
+    given_here : (q : Ring) → IsAmong q h.rings → given_of h k a w q.id ≡ map (Position q.id) (positions_given q.shape (k.ring q.id) a w) ++ map (Crossing q.id) (crossings_given q.shape (k.ring q.id) a w)
+    unfolding given_of
+    given_here q among =
+        ap (λ s. map (Position q.id) (positions_given s (k.ring q.id) a w) ++ map (Crossing q.id) (crossings_given s (k.ring q.id) a w)) (shape_there h headed q among)
+
+    none_given : (q : Ring) → IsAmong q h.rings → is_inside q.shape a ≡ false → given_of h k a w q.id ≡ []
+    none_given q among outside =
+        given_here q among
+        ∙ rw (gives_no_position q.shape (shape_allowed h headed q among) a aligned outside (k.ring q.id) w, gives_no_crossing q.shape (shape_allowed h headed q among) a aligned outside (k.ring q.id) w) refl
+
+    -- no position of the command ring where that hasn't the word
+    no_commands : ((c : Ring) → command_ring h ≡ Some c → is_inside c.shape a ≡ false) → positions_given (shape_of h (command_id h)) (k.ring (command_id h)) a w ≡ []
+    unfolding shape_of positions_given due_positions
+    no_commands outside = by (command_ring h) refl
+      where
+        by : (o : Option Ring) → command_ring h ≡ o → positions_given (shape_of h (command_id h)) (k.ring (command_id h)) a w ≡ []
+        by None none = ap (λ o. positions_given (shape_or Xfer o) (k.ring (command_id h)) a w) (no_ring none)
+        by (Some c) there =
+            let among = (commands_among h c there).0 in
+            ap (λ i. positions_given (shape_of h i) (k.ring i) a w) (command_id_is h c there)
+            ∙ ap (λ s. positions_given s (k.ring c.id) a w) (shape_there h headed c among)
+            ∙ gives_no_position c.shape (shape_allowed h headed c among) a aligned (outside c there) (k.ring c.id) w
+
+    -- no driver's ring has the word
+    module _ (outside : (q : Ring) → IsAmong q h.rings → is_driver_kind q.shape.kind ≡ true → is_inside q.shape a ≡ false) where
+      pub given_nowhere : given_by h k a w ≡ []
+      unfolding given_by driver_rings
+      given_nowhere = nothing_from (λ q. given_of h k a w q.id) h.rings (λ q among driver. none_given q among (outside q among driver))
+
+      pub commanded_nowhere : positions_given (shape_of h (command_id h)) (k.ring (command_id h)) a w ≡ []
+      commanded_nowhere = no_commands (λ c there. let found = commands_among h c there in outside c found.0 (driven c.shape.kind found.1))
+
+    pub not_touched : ((q : Ring) → IsAmong q h.rings → touches q.shape a 4 ≡ false) → (q : Ring) → IsAmong q h.rings → is_driver_kind q.shape.kind ≡ true → is_inside q.shape a ≡ false
+    not_touched none q among driver = sym (inside_is q among) ∙ none q among
+
+    -- the event ring has it
+    pub in_events : (e : Ring) → IsAmong e h.rings → is_event_kind e.shape.kind ≡ true → touches e.shape a 4 ≡ true → (q : Ring) → IsAmong q h.rings → is_driver_kind q.shape.kind ≡ true → is_inside q.shape a ≡ false
+    in_events e among event has q there driver = elim (same_or_apart h.rings (together h headed) e q among there) [
+      | inl same ↦ absurd (no_driver_event q.shape.kind driver (ap (λ (y : Ring). is_event_kind y.shape.kind) same ∙ event))
+      | inr apart ↦ false_unless (is_inside q.shape a) (λ inside. apart.memory a (sym (inside_is e among) ∙ has) inside)
+    ]
+
+    -- a command or transfer ring has it
+    module _ (r : Ring) (among : IsAmong r h.rings) (driver : is_driver_kind r.shape.kind ≡ true) (has : touches r.shape a 4 ≡ true) where
+      others : (q : Ring) → IsAmong q h.rings → Apart r q → is_inside q.shape a ≡ false
+      others q there apart = false_unless (is_inside q.shape a) (λ e. apart.memory a (sym (inside_is r among) ∙ has) e)
+
+      pub given_by_one : given_by h k a w ≡ map (Position r.id) (positions_given r.shape (k.ring r.id) a w) ++ map (Crossing r.id) (crossings_given r.shape (k.ring r.id) a w)
+      unfolding given_by driver_rings
+      given_by_one =
+          all_from_one (λ q. given_of h k a w q.id) h.rings (together h headed) r among driver (λ q there apart. none_given q there (others q there apart))
+          ∙ append-nil (given_of h k a w r.id) ∙ given_here r among
+
+      pub commanded_here : is_command_kind r.shape.kind ≡ true → positions_given (shape_of h (command_id h)) (k.ring (command_id h)) a w ≡ positions_given r.shape (k.ring r.id) a w
+      commanded_here command =
+          ap (λ i. positions_given (shape_of h i) (k.ring i) a w) (command_id_is h r (command_found h headed r among command))
+          ∙ ap (λ s. positions_given s (k.ring r.id) a w) (shape_there h headed r among)
+
+      pub commanded_elsewhere : is_command_kind r.shape.kind ≡ false → positions_given (shape_of h (command_id h)) (k.ring (command_id h)) a w ≡ []
+      commanded_elsewhere other = no_commands (λ c there.
+          let found = commands_among h c there in
+          elim (same_or_apart h.rings (together h headed) r c among found.0) [
+            | inl same ↦ absurd (false≢true (sym other ∙ ap (λ (y : Ring). is_command_kind y.shape.kind) (sym same) ∙ found.1))
+            | inr apart ↦ others c found.0 apart
+          ])

@@ -1,0 +1,12 @@
+-- What the leases of a completion rest on, behind a clean history
+use Rattle.std.proofs.Common.{◌≡◌, ℕ, List}
+use Rattle.leases.proofs.LeaseRows.Words.{kind, CommandCompletion, Read, Header, IsHeader, TraceRecord, EntriesFit, FloorsMove, Known, Lent, IsNextRow}
+use Rattle.trb.specs.declared.block.Block.{Block}
+use Rattle.leases.proofs.LeaseRows.FloorsMove.{floors_move}
+
+module _ (h : Header) (headed : IsHeader h) (k : Known) (ts : List Lent) (b : Block) (t : TraceRecord) (m : ℕ → ℕ) (clean : IsNextRow h k ts (Read b) t m) where
+  pub entries : EntriesFit k
+  entries = clean.entries
+
+  pub floors : kind b ≡ CommandCompletion → FloorsMove h k b
+  floors is = floors_move h headed k clean.keeps b clean.clean is

@@ -1,0 +1,124 @@
+-- What is lent after a clean declaration, doorbell or register write
+use Rattle.std.proofs.Common.{◌≡◌, ◌+◌, ◌<◌, ◌∷◌, ◌≢◌, ◌⊎◌, ◌||◌, ℕ, List, [], Bool, true, false, None, Some, Option, Result, Ok, Err, refl, ap, sym, inl, inr, subst, length, OnOk, is_some, nat_le, nat_lt, le-leb, lt-ltb}
+use Rattle.leases.proofs.LeaseRows.Words.{and_from, Trb, table_bytes, place_count, due_positions, floor_number, Ring, Header, Row, Sub, Write, Reg, Bell, Read, Register, Usbcmd, Usbsts, Dnctrl, Crcr, Dcbaap, Config, Iman, Imod, Erstsz, Erstba, Erdp, IsHeader, command_id, driver_rings, event_shape, is_driver_kind, shape_of, base_address, Known, learned, is_bad_register, is_written, Range, SegmentTable, is_among, open_leases, IsIn, from_filter, in_filter, DriverKeeps, register_facts, due_has_ring, Lent, with_begun, FindsRanges, RangeIndexes, from_range, others_begin, nothing_new, bell_same, reg_same, sub_same, lent_table, AreShaped, shape_there, IsAmong, TraceRecord, HoldsAll, IsOtherRow, IsNextRow, AreOpen, grown}
+use Rattle.ring_knowledge.specs.Rings as rings
+
+-- from what an answer promises to what follows
+pub on_more : {X E P Q : Type 0} (answer : Result X E) → (P → Q) → OnOk answer P → OnOk answer Q
+on_more (Ok x) f p = f p
+on_more (Err e) f p = p
+
+pub on_both : {X E P Q R : Type 0} (answer : Result X E) → (P → Q → R) → OnOk answer P → OnOk answer Q → OnOk answer R
+on_both (Ok x) f p q = f p q
+on_both (Err e) f p q = p
+
+pub in_rings : (q : Ring) (rs : List Ring) → IsIn q rs → IsAmong q rs
+in_rings q [] at = absurd at
+in_rings q (x ∷ rest) at = elim at [ inl here ↦ inl (sym here) | inr later ↦ inr (in_rings q rest later) ]
+
+from_rings : (q : Ring) (rs : List Ring) → IsAmong q rs → IsIn q rs
+from_rings q [] at = absurd at
+from_rings q (x ∷ rest) at = elim at [ inl here ↦ inl (sym here) | inr later ↦ inr (from_rings q rest later) ]
+
+pub among_drivers : (h : Header) (q : Ring) → IsAmong q h.rings → is_driver_kind q.shape.kind ≡ true → IsIn q (driver_rings h)
+unfolding driver_rings
+among_drivers h q among driver = in_filter (λ r. is_driver_kind r.shape.kind) h.rings q (from_rings q h.rings among) driver
+
+pub from_drivers : (h : Header) (q : Ring) → IsIn q (driver_rings h) → IsAmong q h.rings × (is_driver_kind q.shape.kind ≡ true)
+unfolding driver_rings
+from_drivers h q at = let found = from_filter (λ r. is_driver_kind r.shape.kind) h.rings q at in (in_rings q h.rings found.0, found.1)
+
+pub are_shaped : (h : Header) → IsHeader h → AreShaped h
+are_shaped h headed = λ q at. shape_there h headed q (from_drivers h q at).0
+
+unwritten_before : (h : Header) (k : Known) (v : ℕ) → is_bad_register h k Erstba v ≡ false → k.register Erstba ≡ None
+unfolding is_bad_register is_written
+unwritten_before h k v fine = by k.started (k.register Erstba) _ _ _ fine
+  where
+    by : (s : Bool) (o : Option ℕ) (a b c : Bool) → (s || is_some o || a || b || c) ≡ false → o ≡ None
+    by true o a b c e = absurd (cc)
+    by false None a b c e = refl
+    by false (Some x) a b c e = absurd (cc)
+
+-- DCBAAP isn't written once a slot may have a device context
+no_device : (h : Header) (k : Known) (v : ℕ) → DriverKeeps h k → is_bad_register h k Dcbaap v ≡ false → (s : ℕ) → k.device s ≡ None
+unfolding is_bad_register
+no_device h k v d fine s = d.states.no_device s ((d.unstarted fine).slots s)
+
+array_rests : (h : Header) (k : Known) (r : Register) (v : ℕ) → DriverKeeps h k → is_bad_register h k r v ≡ false → (r ≢ Dcbaap) ⊎ ((s : ℕ) → k.device s ≡ None)
+array_rests h k Dcbaap v d fine = inr (no_device h k v d fine)
+array_rests h k Usbcmd v d fine = inl (λ e. cc)
+array_rests h k Usbsts v d fine = inl (λ e. cc)
+array_rests h k Dnctrl v d fine = inl (λ e. cc)
+array_rests h k Crcr v d fine = inl (λ e. cc)
+array_rests h k Config v d fine = inl (λ e. cc)
+array_rests h k Iman v d fine = inl (λ e. cc)
+array_rests h k Imod v d fine = inl (λ e. cc)
+array_rests h k Erstsz v d fine = inl (λ e. cc)
+array_rests h k Erstba v d fine = inl (λ e. cc)
+array_rests h k Erdp v d fine = inl (λ e. cc)
+
+-- a command that was given is declared
+declared_given : (h : Header) → IsHeader h → (k : Known) → DriverKeeps h k → (p : ℕ) → IsIn p (rings.unfinished_positions h k) → p < length (k.ring (command_id h)).queue
+unfolding rings.unfinished_positions due_positions
+declared_given h headed k d p at =
+    let v = k.ring (command_id h) in
+    let count : ℕ = place_count (shape_of h (command_id h)) in
+    let found = from_filter v.given (due_positions (shape_of h (command_id h)) v) p at in
+    let range = from_range (floor_number v) count p found.0 in
+    let ring = due_has_ring h headed v.floor p (and_from (nat_le (floor_number v) p) (nat_lt p (floor_number v + count)) (le-leb (floor_number v) p range.0) (lt-ltb p (floor_number v + count) range.1)) in
+    (d.rings (command_id h) ring).given_declared p found.1
+
+module _ (h : Header) (headed : IsHeader h) (k : Known) (ts : List Lent) where
+  -- the book still holds what is lent
+  module _ {B : Type 0} {Holds : Header → List Lent → B → Type 0} where
+    pub held_still : (book : B) (x : RangeIndexes) (row : Row) (number : ℕ) → grown h k row number ts ≡ ts → HoldsAll Holds h ts book x → HoldsAll Holds h (grown h k row number ts) book x
+    held_still book x row number same held = subst (λ (ts : List Lent). HoldsAll Holds h ts book x) (sym same) held
+
+  unchanged : (row : Row) (number : ℕ) → AreOpen h k ts → open_leases h (learned h k row) ≡ open_leases h k → grown h k row number ts ≡ ts
+  unchanged row number still same = nothing_new h k ts still row number (λ l. ap (λ ls. is_among ls l) same)
+
+  module _ (number : ℕ) (t : TraceRecord) (m : ℕ → ℕ) where
+    pub lent_sub : (r : ℕ) (blocks : List Trb) → IsNextRow h k ts (Sub r blocks) t m → grown h k (Sub r blocks) number ts ≡ ts
+    lent_sub r blocks next = unchanged (Sub r blocks) number next.step.opened (sub_same h k r blocks (declared_given h headed k next.keeps))
+
+    pub lent_bell : (s i : ℕ) → IsNextRow h k ts (Bell s i) t m → grown h k (Bell s i) number ts ≡ ts
+    lent_bell s i next = unchanged (Bell s i) number next.step.opened (bell_same h k s i)
+
+    pub lent_register : (r : Register) (v : ℕ) → (r ≢ Erstba) → IsNextRow h k ts (Reg r v) t m → grown h k (Reg r v) number ts ≡ ts
+    lent_register r v other next =
+        unchanged (Reg r v) number next.step.opened
+        (reg_same h k r v other (array_rests h k r v next.keeps (register_facts h k r v next.clean).good))
+
+    -- the segment table comes under lease
+    table_lent : (v : ℕ) → IsNextRow h k ts (Reg Erstba v) t m →
+        grown h k (Reg Erstba v) number ts ≡ with_begun number ts (Range (table_bytes (event_shape h)) (base_address v) SegmentTable ∷ [])
+    table_lent v next =
+        lent_table h k ts next.step.opened v number (unwritten_before h k v (register_facts h k Erstba v next.clean).good)
+
+    pub table_begins : {B : Type 0} (Holds : Header → List Lent → B → Type 0) (r : Register) (v bytes : ℕ) (book : B) (x : RangeIndexes) → r ≡ Erstba → bytes ≡ table_bytes (event_shape h) → IsNextRow h k ts (Reg r v) t m →
+        Holds h (with_begun number ts (Range bytes (base_address v) SegmentTable ∷ [])) book → FindsRanges h ts x → HoldsAll Holds h (grown h k (Reg r v) number ts) book x
+    table_begins Holds r v bytes book x is same next held found =
+        let table : IsNextRow h k ts (Reg Erstba v) t m = subst (λ (q : Register). IsNextRow h k ts (Reg q v) t m) is next in
+        let there : Holds h (with_begun number ts (Range (table_bytes (event_shape h)) (base_address v) SegmentTable ∷ [])) book =
+        subst (λ (n : ℕ). Holds h (with_begun number ts (Range n (base_address v) SegmentTable ∷ [])) book) same held in
+        let after : HoldsAll Holds h (with_begun number ts (Range (table_bytes (event_shape h)) (base_address v) SegmentTable ∷ [])) book x =
+        record { held = there; found = others_begin h x number (Range (table_bytes (event_shape h)) (base_address v) SegmentTable) ts (λ g y i. tt) found } in
+        subst (λ (q : Register). HoldsAll Holds h (grown h k (Reg q v) number ts) book x) (sym is) (subst (λ (ts : List Lent). HoldsAll Holds h ts book x) (sym (table_lent v table)) after)
+
+    -- rows but those of registers
+    pub other_held : {B : Type 0} {Holds : Header → List Lent → B → Type 0} (book : B) (x : RangeIndexes) (row : Row) → IsOtherRow row → ((r : Register) (v : ℕ) → row ≡ Reg r v → ⊥) → IsNextRow h k ts row t m →
+        HoldsAll Holds h ts book x → HoldsAll Holds h (grown h k row number ts) book x
+    other_held book x (Sub r blocks) other none next held = held_still book x (Sub r blocks) number (lent_sub r blocks next) held
+    other_held book x (Write a w) other none next held = absurd other
+    other_held book x (Reg r v) other none next held = absurd (none r v refl)
+    other_held book x (Bell s i) other none next held = held_still book x (Bell s i) number (lent_bell s i next) held
+    other_held book x (Read b) other none next held = absurd other
+
+-- a row that is neither a write nor an event
+pub other_row : (row : Row) → ((a w : ℕ) → row ≡ Write a w → ⊥) → ((b : Trb) → row ≡ Read b → ⊥) → IsOtherRow row
+other_row (Sub r blocks) no_write no_event = tt
+other_row (Write a w) no_write no_event = absurd (no_write a w refl)
+other_row (Reg r v) no_write no_event = tt
+other_row (Bell s t) no_write no_event = tt
+other_row (Read b) no_write no_event = absurd (no_event b refl)

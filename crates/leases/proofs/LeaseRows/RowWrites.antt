@@ -1,0 +1,265 @@
+-- What is lent after a clean write: what it gives comes under lease, at a free place, and the ranges that its command takes
+use Rattle.std.proofs.Common.{◌≡◌, ◌+◌, ◌<◌, ◌≤◌, ◌%◌, ◌^◌, ◌∷◌, ◌++◌, ◌∙◌, ◌==◌, ◌&&◌, ◌||◌, ℕ, List, [], Bool, true, false, None, Some, Option, refl, ap, sym, arith, inl, inr, subst, nat_le, nat_lt, length, not, map, max, option_and_then, slice_get, eqb-true, ltb-true, leb-true, get_or}
+use Rattle.leases.proofs.LeaseRows.Words.{flat_map, and_parts, or_cases, nat_tests, slice_get_read, put, ContextSize, Bytes32, Bytes64, device_context_bytes, input_context_bytes, Command, command_of, named_context, is_crossing, is_inside, place_count, touches, crossings_given, due_crossings, due_positions, floor_number, gives, gives_crossing, is_crossing_due, positions_given, link_of, Ring, Header, Write, IsHeader, command_id, is_command_kind, is_driver_kind, is_event_kind, shape_of, RingGiving, Position, Crossing, RingRecord, FollowsRing, crossings_of, least_crossing, positions_of, Known, command_given, entry_of, taken_device, noted_past, Leased, Block, Link, Range, InputContext, SlotEntry, DeviceContext, range_of_command, range_of_context, as_lease, comes_before, IsIn, from_filter, DriverKeeps, area_parts, written_devices, taking, rules_of, written_device, Lent, in_turn, is_place_free, precedes, with_begun, with_leased, is_use_free, NoneAhead, link_free, block_free, context_free, device_free, entry_free, MayTake, device_taken, entry_taken, lent_commands, from_range, lease_given, command_found, ring_here, shape_allowed, shape_there, and_false, IsAmong, among_at, same_number, TraceRecord, WordPlace, FollowsTrace, IsGivenBy, IsPlacedSo, EntryFits, SlotIsFree, command_taken, slot_taken, IsNextRow, grown}
+use Rattle.ring_knowledge.specs.Rings as rings
+use Rattle.leases.proofs.LeaseRows.OtherRows.{among_drivers, are_shaped}
+use Rattle.leases.proofs.LeaseRows.TransferRows.{driver_there}
+use Rattle.leases.proofs.LeaseRows.GivenHere.{command_id_is, commanded_elsewhere, commanded_here, commanded_nowhere, given_by_one, given_nowhere}
+use Rattle.leases.proofs.LeaseRows.TakenRanges.{begun_none, still_free}
+
+absent_if : (b : Bool) → not b ≡ true → b ≡ false
+absent_if true e = absurd (cc)
+absent_if false e = refl
+
+-- a lap ahead of the least crossing none is given
+pub none_ahead : (q : Ring) (k : Known) (r : RingRecord) → FollowsRing q.shape (k.ring q.id) r → NoneAhead q.shape (k.ring q.id)
+none_ahead q k r f m far =
+    let v = k.ring q.id in
+    let here : Bool = is_crossing q.shape m in
+    let past = noted_past (least_crossing v) (place_count q.shape) r.crossed.items (link_of q.shape m) m far in
+    ap (λ b. here && b) (f.marks.crossed m ∙ ap (λ b. here && b) past ∙ and_false here) ∙ and_false here
+
+-- ---- the order of leases that begin at one row: a block, and then ranges by their bytes
+
+four_in_turn : (size : ContextSize) (r p a e d s : ℕ) →
+    in_turn (Block r p ∷ Range (input_context_bytes size) a (InputContext p) ∷ Range 8 e (SlotEntry s) ∷ Range (device_context_bytes size) d (DeviceContext s) ∷ [])
+    ≡ Block r p ∷ Range 8 e (SlotEntry s) ∷ Range (device_context_bytes size) d (DeviceContext s) ∷ Range (input_context_bytes size) a (InputContext p) ∷ []
+unfolding in_turn with_leased precedes comes_before as_lease
+four_in_turn Bytes32 r p a e d s = refl
+four_in_turn Bytes64 r p a e d s = refl
+
+three_in_turn : (size : ContextSize) (r p e d s : ℕ) →
+    in_turn (Block r p ∷ Range 8 e (SlotEntry s) ∷ Range (device_context_bytes size) d (DeviceContext s) ∷ []) ≡ Block r p ∷ Range 8 e (SlotEntry s) ∷ Range (device_context_bytes size) d (DeviceContext s) ∷ []
+unfolding in_turn with_leased precedes comes_before as_lease
+three_in_turn Bytes32 r p e d s = refl
+three_in_turn Bytes64 r p e d s = refl
+
+two_in_turn : (r p n a : ℕ) → in_turn (Block r p ∷ Range n a (InputContext p) ∷ []) ≡ Block r p ∷ Range n a (InputContext p) ∷ []
+unfolding in_turn with_leased precedes comes_before as_lease
+two_in_turn r p n a = refl
+
+one_in_turn : (r p : ℕ) → in_turn (Block r p ∷ []) ≡ Block r p ∷ []
+unfolding in_turn with_leased
+one_in_turn r p = refl
+
+command_in_turn : (h : Header) (k : Known) (r p : ℕ) (c : Option ℕ) (o : Option (ℕ × ℕ)) →
+    in_turn (Block r p ∷ ((range_of_context h p c ++ []) ++ entry_taken k o ++ device_taken h o)) ≡ Block r p ∷ (slot_taken h k o ++ range_of_context h p c)
+unfolding range_of_context
+command_in_turn h k r p (Some a) (Some e) = four_in_turn h.context_size r p a (entry_of k e.0) e.1 e.0
+command_in_turn h k r p None (Some e) = three_in_turn h.context_size r p (entry_of k e.0) e.1 e.0
+command_in_turn h k r p (Some a) None = two_in_turn r p (input_context_bytes h.context_size) a
+command_in_turn h k r p None None = one_in_turn r p
+
+put_there : (f : ℕ → Option ℕ) (s : ℕ) (o : Option ℕ) → put f s o s ≡ o
+put_there f s o = rw (same_number s) refl
+
+low_end : (a n : ℕ) → nat_lt a n ≡ false → n ≤ a
+low_end a n e = grind (arith, nat_tests, e)
+
+module _ (h : Header) (headed : IsHeader h) (k : Known) (ts : List Lent) (a w number : ℕ) (t : TraceRecord) (memory : ℕ → ℕ) (next : IsNextRow h k ts (Write a w) t memory) where
+  keeps : DriverKeeps h k
+  keeps = next.keeps
+
+  abbrev taken : Option (ℕ × ℕ)
+  taken = option_and_then (taken_device k) (command_given h k a w)
+
+  may_take : (o : Option (ℕ × ℕ)) → taken ≡ o → MayTake k o
+  may_take None is = tt
+  may_take (Some e) is =
+      let fresh = (taking h k a w e next.clean is).takes.fresh in
+      let after = ap (λ f. f e.0) (written_device h k a w e is) ∙ put_there k.device e.0 (Some e.1) in
+      let slot = (written_devices h headed k keeps a w next.clean e.0 e.1 after).slot in
+      (fresh, slot.0, slot.1)
+
+  fits : (o : Option (ℕ × ℕ)) → taken ≡ o → EntryFits k o
+  fits None is = tt
+  fits (Some e) is = low_end (2 ^ 64) (entry_of k e.0 + 8) (area_parts h k (entry_of k e.0) 8 (rules_of h headed k keeps a w next.clean e is).entry_area).ends
+
+  taken_at : List ℕ → Option (ℕ × ℕ)
+  taken_at ps = option_and_then (taken_device k) (option_and_then (rings.command_at h k) (slice_get ps 0))
+
+  begun_of : List rings.Given → List ℕ → List Leased
+  begun_of gs ps = in_turn (map lease_given gs ++ (flat_map (λ p. range_of_command h p (rings.command_at h k p)) ps ++ entry_taken k (taken_at ps) ++ device_taken h (taken_at ps)))
+
+  lent_of : (gs : List rings.Given) (ps : List ℕ) → rings.given_by h k a w ≡ gs → positions_given (shape_of h (command_id h)) (k.ring (command_id h)) a w ≡ ps →
+      grown h k (Write a w) number ts ≡ with_begun number ts (begun_of gs ps)
+  unfolding command_given begun_of taken_at
+  lent_of gs ps given positions =
+      lent_commands h (are_shaped h headed) k ts next.step.opened (λ q at p free. (keeps.rings q.id (driver_there h headed q at)).free_given p free) a w number taken refl (may_take taken refl)
+      ∙ ap (λ xs. with_begun number ts (begun_of xs (positions_given (shape_of h (command_id h)) (k.ring (command_id h)) a w))) given
+      ∙ ap (λ xs. with_begun number ts (begun_of gs xs)) positions
+
+  nothing_begun : rings.given_by h k a w ≡ [] → positions_given (shape_of h (command_id h)) (k.ring (command_id h)) a w ≡ [] → grown h k (Write a w) number ts ≡ ts
+  unfolding in_turn begun_of taken_at
+  nothing_begun given positions = lent_of [] [] given positions ∙ begun_none number ts
+
+  alone_begun : (g : rings.Given) → rings.given_by h k a w ≡ g ∷ [] → positions_given (shape_of h (command_id h)) (k.ring (command_id h)) a w ≡ [] → grown h k (Write a w) number ts ≡ with_begun number ts (lease_given g ∷ [])
+  unfolding in_turn with_leased begun_of taken_at
+  alone_begun g given positions = lent_of (g ∷ []) [] given positions
+
+  -- no command or transfer ring has the word
+  module _ (aligned : a % 4 ≡ 0) where
+    pub lent_nowhere : ((q : Ring) → IsAmong q h.rings → is_driver_kind q.shape.kind ≡ true → is_inside q.shape a ≡ false) → grown h k (Write a w) number ts ≡ ts
+    lent_nowhere outside = nothing_begun (given_nowhere h headed k a aligned w outside) (commanded_nowhere h headed k a aligned w outside)
+
+    -- one has it
+    module _ (q : Ring) (among : IsAmong q h.rings) (driver : is_driver_kind q.shape.kind ≡ true) (has : touches q.shape a 4 ≡ true) (giving : Option RingGiving)
+        (positions : positions_given q.shape (k.ring q.id) a w ≡ positions_of giving) (crossings : crossings_given q.shape (k.ring q.id) a w ≡ crossings_of giving) where
+      given_is : (g : Option RingGiving) → giving ≡ g → rings.given_by h k a w ≡ map (rings.Position q.id) (positions_of g) ++ map (rings.Crossing q.id) (crossings_of g)
+      given_is g is =
+          given_by_one h headed k a aligned w q among driver has
+          ∙ ap (λ ps. map (rings.Position q.id) ps ++ map (rings.Crossing q.id) (crossings_given q.shape (k.ring q.id) a w)) positions
+          ∙ ap (λ qs. map (rings.Position q.id) (positions_of giving) ++ map (rings.Crossing q.id) qs) crossings
+          ∙ ap (λ x. map (rings.Position q.id) (positions_of x) ++ map (rings.Crossing q.id) (crossings_of x)) is
+
+      -- of the command ring nothing is given where that is another, or where no position is given
+      commanded_none : positions_of giving ≡ [] → positions_given (shape_of h (command_id h)) (k.ring (command_id h)) a w ≡ []
+      commanded_none none = by (is_command_kind q.shape.kind) refl
+        where
+          by : (b : Bool) → is_command_kind q.shape.kind ≡ b → positions_given (shape_of h (command_id h)) (k.ring (command_id h)) a w ≡ []
+          by true is = commanded_here h headed k a aligned w q among driver has is ∙ positions ∙ none
+          by false is = commanded_elsewhere h headed k a aligned w q among driver has is
+
+      pub lent_none : giving ≡ None → grown h k (Write a w) number ts ≡ ts
+      lent_none is = nothing_begun (given_is None is) (commanded_none (ap positions_of is))
+
+      pub lent_link : (c : ℕ) → giving ≡ Some (Crossing c) → grown h k (Write a w) number ts ≡ with_begun number ts (Link q.id c ∷ [])
+      lent_link c is = alone_begun (rings.Crossing q.id c) (given_is (Some (Crossing c)) is) (commanded_none (ap positions_of is))
+
+      module _ (p : ℕ) (is : giving ≡ Some (Position p)) where
+        pub lent_block : is_command_kind q.shape.kind ≡ false → grown h k (Write a w) number ts ≡ with_begun number ts (Block q.id p ∷ [])
+        lent_block other = alone_begun (rings.Position q.id p) (given_is (Some (Position p)) is) (commanded_elsewhere h headed k a aligned w q among driver has other)
+
+        module _ (command : is_command_kind q.shape.kind ≡ true) where
+          pub is_there : command_id h ≡ q.id
+          is_there = command_id_is h q (command_found h headed q among command)
+
+          pub shape_is : shape_of h (command_id h) ≡ q.shape
+          shape_is = ap (shape_of h) is_there ∙ shape_there h headed q among
+
+          commanded : positions_given (shape_of h (command_id h)) (k.ring (command_id h)) a w ≡ p ∷ []
+          commanded = commanded_here h headed k a aligned w q among driver has command ∙ positions ∙ ap positions_of is
+
+          command_is : (o : Option Command) → rings.command_at h k p ≡ o → command_given h k a w ≡ o
+          unfolding command_given
+          command_is o at = ap (λ ps. option_and_then (rings.command_at h k) (slice_get ps 0)) commanded ∙ at
+
+          taken_is : (c : Command) → rings.command_at h k p ≡ Some c → taken ≡ taken_device k c
+          taken_is c at = ap (option_and_then (taken_device k)) (command_is (Some c) at)
+
+          pub lent_undeclared : rings.command_at h k p ≡ None → grown h k (Write a w) number ts ≡ with_begun number ts (Block q.id p ∷ [])
+          unfolding begun_of taken_at range_of_command range_of_context with_begun
+          lent_undeclared none =
+              lent_of (rings.Position q.id p ∷ []) (p ∷ []) (given_is (Some (Position p)) is) commanded
+              ∙ ap (λ o. with_begun number ts (in_turn (Block q.id p ∷ ((range_of_command h p o ++ []) ++ entry_taken k (option_and_then (taken_device k) o) ++ device_taken h (option_and_then (taken_device k) o))))) none
+              ∙ ap (λ ls. with_begun number ts ls) (command_in_turn h k q.id p None None)
+
+          pub lent_command : (c : Command) → rings.command_at h k p ≡ Some c → grown h k (Write a w) number ts ≡ with_begun number ts ((Block q.id p ∷ []) ++ command_taken h k p c)
+          unfolding begun_of taken_at range_of_command range_of_context with_begun
+          lent_command c at =
+              lent_of (rings.Position q.id p ∷ []) (p ∷ []) (given_is (Some (Position p)) is) commanded
+              ∙ ap (λ o. with_begun number ts (in_turn (Block q.id p ∷ ((range_of_command h p o ++ []) ++ entry_taken k (option_and_then (taken_device k) o) ++ device_taken h (option_and_then (taken_device k) o))))) at
+              ∙ ap (λ ls. with_begun number ts ls) (command_in_turn h k q.id p (named_context c) (taken_device k c))
+
+          pub command_fits : (c : Command) → rings.command_at h k p ≡ Some c → EntryFits k (taken_device k c)
+          command_fits c at = fits (taken_device k c) (taken_is c at)
+
+          slot_free : (o : Option (ℕ × ℕ)) → MayTake k o → SlotIsFree h (with_begun number ts (Block q.id p ∷ [])) o
+          slot_free None may = tt
+          slot_free (Some e) may = (
+            still_free h number ts (SlotEntry e.0) (Block q.id p) refl (entry_free h k ts next.step.opened e.0 may.0),
+            still_free h number ts (DeviceContext e.0) (Block q.id p) refl (device_free h k ts next.step.opened e.0 may.0),
+          )
+
+          pub command_slot_free : (c : Command) → rings.command_at h k p ≡ Some c → SlotIsFree h (with_begun number ts (Block q.id p ∷ [])) (taken_device k c)
+          command_slot_free c at = slot_free (taken_device k c) (may_take (taken_device k c) (taken_is c at))
+
+        -- a position that is given is due, and wasn't given before
+        due_now : (floor_number (k.ring q.id) ≤ p) × (p < floor_number (k.ring q.id) + place_count q.shape) × ((k.ring q.id).given p ≡ false)
+        unfolding positions_given due_positions
+        due_now =
+            let v = k.ring q.id in
+            let at : IsIn p (positions_given q.shape v a w) = subst (λ ps. IsIn p ps) (sym (positions ∙ ap positions_of is)) (inl refl) in
+            let found = from_filter (λ m. not (v.given m) && gives q.shape v.floor m a w) (due_positions q.shape v) p at in
+            let within = from_range (floor_number v) (place_count q.shape) p found.0 in
+            (within.0, within.1, absent_if (v.given p) (and_parts (not (v.given p)) _ found.1).0)
+
+        pub place_free : is_place_free h ts (Block q.id p) ≡ true
+        place_free =
+            block_free h (are_shaped h headed) k ts next.step.opened q (among_drivers h q among driver) p (omega (arith, due_now.0, due_now.1)) due_now.0 due_now.1 due_now.2
+
+        pub command_context_free : is_command_kind q.shape.kind ≡ true → is_use_free h (with_begun number ts (Block q.id p ∷ [])) (InputContext p) ≡ true
+        command_context_free command =
+            let id = is_there command in
+            let shape = shape_is command in
+            let count : place_count (shape_of h (command_id h)) ≡ place_count q.shape = ap (λ s. place_count s) shape in
+            let floor : floor_number (k.ring (command_id h)) ≡ floor_number (k.ring q.id) = ap (λ (i : ℕ). floor_number (k.ring i)) id in
+            still_free h number ts (InputContext p) (Block q.id p) refl
+            (context_free h k ts next.step.opened p (omega (arith, due_now.0, due_now.1, count)) (omega (arith, due_now.0, floor)) (omega (arith, due_now.1, floor, count))
+            (ap (λ (i : ℕ). (k.ring i).given p) id ∙ due_now.2))
+
+      module _ (r : RingRecord) (f : FollowsRing q.shape (k.ring q.id) r) (c : ℕ) (is : giving ≡ Some (Crossing c)) where
+        given_there : (not ((k.ring q.id).crossed c) ≡ true) × (gives_crossing q.shape (k.ring q.id).floor c a w ≡ true)
+        unfolding crossings_given due_crossings
+        given_there =
+            let v = k.ring q.id in
+            let at : IsIn c (crossings_given q.shape v a w) = subst (λ qs. IsIn c qs) (sym (crossings ∙ ap crossings_of is)) (inl refl) in
+            and_parts (not (v.crossed c)) (gives_crossing q.shape v.floor c a w)
+            (from_filter (λ m. not (v.crossed m) && gives_crossing q.shape v.floor m a w) (due_crossings q.shape v) c at).1
+
+        due : is_crossing_due q.shape (k.ring q.id).floor c ≡ true
+        due = (and_parts _ _ (and_parts (is_crossing_due q.shape (k.ring q.id).floor c && _) _ given_there.1).0).0
+
+        parts : (is_crossing q.shape c ≡ true) × (floor_number (k.ring q.id) ≤ c) × (c < max (floor_number (k.ring q.id)) 1 + place_count q.shape)
+        parts =
+            let n : ℕ = floor_number (k.ring q.id) in
+            let count : ℕ = place_count q.shape in
+            let outer = and_parts (is_crossing q.shape c && nat_le n c) (nat_lt c (n + count) || (c == count && n == 0)) due in
+            let inner = and_parts (is_crossing q.shape c) (nat_le n c) outer.0 in (
+              inner.0,
+              leb-true n c inner.1,
+              elim (or_cases (nat_lt c (n + count)) (c == count && n == 0) outer.1) [
+                | inl below ↦ let low : c < n + count = ltb-true c (n + count) below in omega (arith, low)
+                | inr last ↦ let same : c ≡ count = eqb-true c count (and_parts (c == count) (n == 0) last).0 in omega (arith, same)
+              ],
+            )
+
+        pub crosses : is_crossing q.shape c ≡ true
+        crosses = parts.0
+
+        pub link_is_free : is_place_free h ts (Link q.id c) ≡ true
+        link_is_free =
+            link_free h (are_shaped h headed) k ts next.step.opened q (among_drivers h q among driver) (shape_allowed h headed q among) (none_ahead q k r f) c parts.0 parts.1 parts.2
+            (absent_if ((k.ring q.id).crossed c) given_there.0)
+
+-- the ring that a row's word lies in, its record, and what the write gives of it
+pub record AtRing (h : Header) (k : Known) (a w : ℕ) (q : Ring) (r : RingRecord) (giving : Option RingGiving) : Type 0 where
+  pub among : IsAmong q h.rings
+  pub driver : is_driver_kind q.shape.kind ≡ true
+  pub has : touches q.shape a 4 ≡ true
+  pub follows : FollowsRing q.shape (k.ring q.id) r
+  pub positions : positions_given q.shape (k.ring q.id) a w ≡ positions_of giving
+  pub crossings : crossings_given q.shape (k.ring q.id) a w ≡ crossings_of giving
+
+pub at_ring : (h : Header) (k : Known) (t : TraceRecord) (memory : ℕ → ℕ) → FollowsTrace h k t memory → (a w n : ℕ) (p : WordPlace) (q : Ring) (r : RingRecord) → IsPlacedSo h k a w p → p.ring ≡ Some n →
+    q ≡ get_or h.rings n q → is_event_kind q.shape.kind ≡ false → slice_get t.rings.items n ≡ Some r → AtRing h k a w q r p.giving
+at_ring h k t memory follows a w n p q r placed is item other there =
+    let here = ring_here h (λ x. touches x.shape a 4) h.rings n q (sym placed.ring ∙ is) refl item in
+    let given = subst (λ (o : Option ℕ). IsGivenBy h k a w o p.giving) is placed.given q here.0 in
+    record {
+      among = among_at h.rings n q here.0;
+      driver = ap not other;
+      has = here.1;
+      follows = follows.rings.each n q r here.0 there (ap not other);
+      positions = given.positions (ap not other);
+      crossings = given.crossings (ap not other);
+    }
+
+-- the command that is declared at a position of the command ring
+pub command_at_is : (h : Header) (k : Known) (q : Ring) (p : ℕ) (o : Option Command) → command_id h ≡ q.id → o ≡ option_and_then command_of (slice_get (k.ring q.id).queue p) → rings.command_at h k p ≡ o
+unfolding rings.command_at
+command_at_is h k q p o id is = ap (λ (i : ℕ). option_and_then command_of (slice_get (k.ring i).queue p)) id ∙ sym is
+
+-- what a look-up has found
+pub record_there : (xs ys : List RingRecord) (n : ℕ) (r : RingRecord) → xs ≡ ys → true ≡ nat_lt n (length xs) → r ≡ get_or xs n r → slice_get ys n ≡ Some r
+record_there xs ys n r same below item = ap (λ zs. slice_get zs n) (sym same) ∙ slice_get_read xs (length xs) n r refl (ltb-true n (length xs) (sym below)) item

@@ -1,0 +1,135 @@
+-- What is lent after an event but a completion: a Transfer Event ends the leases of what its ring passes
+use Rattle.std.proofs.Common.{◌≡◌, ◌≢◌, ◌+◌, ◌≤◌, ◌∙◌, ◌&&◌, ◌||◌, ◌==◌, if◌then◌else◌, ℕ, List, true, false, None, Some, Option, refl, ap, sym, arith, inl, inr, subst, map}
+use Rattle.leases.proofs.LeaseRows.Words.{position, option_map, cond_both, and_parts, BlockKind, TransferEvent, CommandCompletion, code, endpoint, kind, pointer, slot, is_transfer_event, is_halting, is_stopping, is_success, is_trb_error, Spot, Shape, is_crossing, number, named, RingKeeps, floor_number, named_ahead, Ring, Header, Read, IsHeader, driver_rings, is_driver_kind, ring_with, shape_of, Known, event_read, learned, RingSpot, event_at, spot_on, transfer_read, transferred_at, is_among, open_leases, IsIn, DriverKeeps, IsDriverRing, IsTransferRing, transfer_driver, transfer_not_command, come_to, Lent, ended_where, is_passed, RangeIndexes, IsWithinLap, nothing_new, command_same, entries_kept, open_same, transfer_lent, none_here, not_found, ring_found, shape_there, false_unless, IsAmong, TraceRecord, HoldsAll, IsNextRow, grown}
+use Rattle.trb.specs.declared.block.Block as blocks
+use Rattle.leases.proofs.LeaseRows.OtherRows.{from_drivers}
+
+-- one event more was read
+counted_same : (h : Header) (k : Known) → open_leases h (record k { reads = k.reads + 1 }) ≡ open_leases h k
+counted_same h k =
+    let k' : Known = record k { reads = k.reads + 1 } in
+    open_same h k k' (record {
+      each = λ r. record { given = refl; free = refl; crossed = refl; floor = refl };
+      commands = λ p at. command_same h k k' refl p;
+      table = refl;
+      devices = refl;
+      entries = entries_kept h k k' refl (inl refl);
+    })
+
+-- the ring of the driver with its ID
+pub driver_there : (h : Header) → IsHeader h → (q : Ring) → IsIn q (driver_rings h) → IsDriverRing h q.id
+driver_there h headed q at = let found = from_drivers h q at in record { ring = q; found = ring_found h headed q found.0; kind = found.1 }
+
+-- a lap ahead nothing is given
+pub lap_now : (h : Header) → IsHeader h → (k : Known) → DriverKeeps h k → (q : Ring) → IsIn q (driver_rings h) → IsWithinLap q.shape (k.ring q.id)
+lap_now h headed k d q at =
+    let keeps : RingKeeps q.shape k.memory (k.ring q.id) = subst (λ (s : Shape). RingKeeps s k.memory (k.ring q.id)) (shape_there h headed q (from_drivers h q at).0) (d.rings q.id (driver_there h headed q at)) in
+    record {
+      given = λ p far. false_unless ((k.ring q.id).given p) (λ e. let near = keeps.given_within p e in omega arith);
+      crossed = λ c far. false_unless (is_crossing q.shape c && (k.ring q.id).crossed c) (λ e.
+          elim (keeps.crossed_within c (and_parts (is_crossing q.shape c) ((k.ring q.id).crossed c) e).1) [
+            | inl near ↦ omega (arith, far, near)
+            | inr last ↦ omega (arith, far, last.0, last.1)
+          ]);
+    }
+
+-- to come on is to come not back
+pub comes_on : (c : ℕ) (t : Spot) (floor : ℕ) → floor ≤ number t → floor ≤ come_to c t floor
+unfolding come_to
+comes_on c t floor ahead =
+    cond_both (is_success c || is_halting c || is_trb_error c) (number t + 1) (if is_stopping c then number t else floor) (λ n. floor ≤ n) (λ e. omega (arith, ahead))
+    (λ e. cond_both (is_stopping c) (number t) floor (λ n. floor ≤ n) (λ f. ahead) (λ f. omega arith))
+
+is_transfer : (n : BlockKind) → is_transfer_event n ≡ true → n ≡ TransferEvent
+is_transfer TransferEvent e = refl
+is_transfer _ e = absurd (cc)
+
+spot_found : (h : Header) (k : Known) (p : ℕ) (o : Option ℕ) (r : ℕ) (t : Spot) → o ≡ Some r → named (shape_of h r) (k.ring r) p ≡ Some t → spot_on h k p o ≡ Some (record { ring = r; spot = t })
+unfolding spot_on
+spot_found h k p o r t some is = ap (spot_on h k p) some ∙ ap (option_map (λ (u : Spot). let x : RingSpot = record { ring = r; spot = u } in x)) is
+
+spot_none : (h : Header) (k : Known) (p : ℕ) (o : Option ℕ) (r : ℕ) → o ≡ Some r → named (shape_of h r) (k.ring r) p ≡ None → spot_on h k p o ≡ None
+unfolding spot_on
+spot_none h k p o r some is = ap (spot_on h k p) some ∙ ap (option_map (λ (u : Spot). let x : RingSpot = record { ring = r; spot = u } in x)) is
+
+no_ring_spot : (h : Header) (k : Known) (p : ℕ) (o : Option ℕ) → o ≡ None → spot_on h k p o ≡ None
+unfolding spot_on
+no_ring_spot h k p o none = ap (spot_on h k p) none
+
+-- the ring of an endpoint is one of the header
+pub ring_of_header : (h : Header) (k : Known) → DriverKeeps h k → (s i r : ℕ) → k.ring_of s i ≡ Some r → position (λ (q : Ring). q.id == r) h.rings ≡ None → ⊥
+ring_of_header h k d s i r at none =
+    let transfer = d.states.transfer s i r at in
+    let nowhere : ring_with h r ≡ None = not_found (λ q. q.id == r) h.rings (none_here h (λ q. q.id == r) h.rings none refl) in
+    let clash : None ≡ Some transfer.ring = sym nowhere ∙ transfer.found in
+    cc
+
+module _ (h : Header) (headed : IsHeader h) (k : Known) (ts : List Lent) (b : blocks.Block) (number_ : ℕ) (t : TraceRecord) (m : ℕ → ℕ) (next : IsNextRow h k ts (Read b) t m) where
+  pub keeps : DriverKeeps h k
+  keeps = next.keeps
+
+  -- an event that says nothing of a ring
+  pub quiet : event_read h k (kind b) b ≡ k → grown h k (Read b) number_ ts ≡ ts
+  unfolding learned
+  quiet is = nothing_new h k ts next.step.opened (Read b) number_ (λ l. ap (λ (x : Known). is_among (open_leases h (record x { reads = k.reads + 1 })) l) is ∙ ap (λ ls. is_among ls l) (counted_same h k))
+
+  others : (n : BlockKind) → is_transfer_event n ≡ false → n ≢ CommandCompletion → event_read h k n b ≡ k
+  unfolding event_read
+  others TransferEvent e f = absurd (cc)
+  others CommandCompletion e f = absurd (f refl)
+  others _ e f = refl
+
+  pub other_lent : is_transfer_event (kind b) ≡ false → kind b ≢ CommandCompletion → grown h k (Read b) number_ ts ≡ ts
+  other_lent e f = quiet (others (kind b) e f)
+
+  unnamed : is_transfer_event (kind b) ≡ true → event_at h k b ≡ None → event_read h k (kind b) b ≡ k
+  unfolding event_read transfer_read transferred_at
+  unnamed transfers none = ap (λ n. event_read h k n b) (is_transfer (kind b) transfers) ∙ ap (transferred_at h k b) none
+
+  pub unbound_lent : is_transfer_event (kind b) ≡ true → k.ring_of (slot b) (endpoint b) ≡ None → grown h k (Read b) number_ ts ≡ ts
+  unfolding event_at
+  unbound_lent transfers none = quiet (unnamed transfers (no_ring_spot h k (pointer b) (k.ring_of (slot b) (endpoint b)) none))
+
+  module _ (transfers : is_transfer_event (kind b) ≡ true) (r : ℕ) (of : k.ring_of (slot b) (endpoint b) ≡ Some r) (q : Ring) (among : IsAmong q h.rings) (id : q.id ≡ r) where
+    here : k.ring_of (slot b) (endpoint b) ≡ Some q.id
+    here = of ∙ ap (λ (x : ℕ). Some x) (sym id)
+
+    transfer : IsTransferRing h q.id
+    transfer = keeps.states.transfer (slot b) (endpoint b) q.id here
+
+    pub ring_keeps : RingKeeps q.shape k.memory (k.ring q.id)
+    ring_keeps = subst (λ (s : Shape). RingKeeps s k.memory (k.ring q.id)) (shape_there h headed q among) (keeps.rings q.id (transfer_driver h q.id transfer))
+
+    pub driver_kind : is_driver_kind q.shape.kind ≡ true
+    driver_kind =
+        let found = transfer_driver h q.id transfer in
+        let same : Some found.ring ≡ Some q = sym found.found ∙ ring_found h headed q among in
+        ap (λ (x : Ring). is_driver_kind x.shape.kind) (sym (let e : found.ring ≡ q = cc in e)) ∙ found.kind
+
+    named_here : (o : Option Spot) → named q.shape (k.ring q.id) (pointer b) ≡ o → named (shape_of h q.id) (k.ring q.id) (pointer b) ≡ o
+    named_here o is = ap (λ s. named s (k.ring q.id) (pointer b)) (shape_there h headed q among) ∙ is
+
+    pub unnamed_lent : named q.shape (k.ring q.id) (pointer b) ≡ None → grown h k (Read b) number_ ts ≡ ts
+    unfolding event_at
+    unnamed_lent none = quiet (unnamed transfers (spot_none h k (pointer b) (k.ring_of (slot b) (endpoint b)) q.id here (named_here None none)))
+
+    module _ (spot : Spot) (is : named q.shape (k.ring q.id) (pointer b) ≡ Some spot) where
+      pub comes : floor_number (k.ring q.id) ≤ come_to (code b) spot (floor_number (k.ring q.id))
+      comes = comes_on (code b) spot (floor_number (k.ring q.id)) (named_ahead q.shape k.memory (k.ring q.id) ring_keeps (pointer b) spot is).from
+
+      found : event_at h k b ≡ Some (record { ring = q.id; spot = spot })
+      unfolding event_at
+      found = spot_found h k (pointer b) (k.ring_of (slot b) (endpoint b)) q.id spot here (named_here (Some spot) is)
+
+      passed_lent : grown h k (Read b) number_ ts ≡ map (ended_where (is_passed q.id (floor_number (k.ring q.id)) (come_to (code b) spot (floor_number (k.ring q.id)))) number_) ts
+      passed_lent =
+          transfer_lent h k ts next.step.opened b number_ (record { ring = q.id; spot = spot }) (is_transfer (kind b) transfers) found (transfer_not_command h headed q.id transfer) comes (lap_now h headed k keeps)
+
+      module _ {B : Type 0} {Holds : Header → List Lent → B → Type 0} where
+        pub transfer_ends : (book : B) (x : RangeIndexes) (from to : ℕ) → from ≡ floor_number (k.ring q.id) → to ≡ come_to (code b) spot (floor_number (k.ring q.id)) →
+            HoldsAll Holds h (map (ended_where (is_passed q.id from to) number_) ts) book x → HoldsAll Holds h (grown h k (Read b) number_ ts) book x
+        transfer_ends book x from to same reached all =
+            subst (λ (us : List Lent). HoldsAll Holds h us book x)
+            (ap (λ (n : ℕ). map (ended_where (is_passed q.id n to) number_) ts) same
+            ∙ ap (λ (n : ℕ). map (ended_where (is_passed q.id (floor_number (k.ring q.id)) n) number_) ts) reached
+            ∙ sym passed_lent) all

@@ -1,0 +1,4 @@
+pub mod LeaseBooks
+pub mod CertificateLogs
+pub mod LeaseRows
+pub mod RingLeases

@@ -1,0 +1,69 @@
+-- The indexes of ranges find the same where leases of blocks end and begin
+use Rattle.std.proofs.Common.{◌≡◌, ◌+◌, ◌<◌, ◌≤◌, ◌∷◌, ◌∙◌, ℕ, true, List, [], Some, map, nat_lt, arith, refl, sym, subst, inl, inr}
+use Rattle.std.proofs.lemmas.Bool.{cases_Bool}
+use Rattle.std.proofs.lemmas.Bool.Decides.{nat_tests}
+use Rattle.safety.proofs.Words.{Header, IsHeader, Ring, Known, Write, command_id, is_transfer_kind, learned, on_ring, open_leases, ring_with}
+use Rattle.segments.specs.Descriptors.{length_from}
+use Rattle.segments.specs.RingView.{Restores, Withdraws}
+use Rattle.ownership_rules.specs.Leases.{without_end}
+use Rattle.ownership_rules.specs.OpenLeases.{Block}
+use Rattle.leases.specs.LeaseBooks.InStep.{AreOpen}
+use Rattle.leases.specs.LeaseBooks.Lents.{Lent, passed_on, with_begun}
+use Rattle.leases.specs.LeaseBooks.Ranges.{FindsRanges}
+use Rattle.leases.specs.declared.book.ranges.RangeIndexes.{RangeIndexes}
+use Rattle.leases.proofs.LeaseBooks.RangePlaces.{others_begin, some_end}
+use Rattle.safety.specs.RingChanges.Withdrawals.{restored}
+use Rattle.leases.proofs.RingLeases.LentFree.{Restoring, is_between, none_begun, restored_lent, withdrawn_lent}
+use Rattle.leases.specs.RingLeases.Moving.{MovesRing}
+use Rattle.leases.proofs.RingLeases.MovingRings.{alone, at_end, first_restored, freed_given, freed_later, last_restored, opened_own, other, own_first, own_step, same_left}
+use Rattle.leases.proofs.RingLeases.TwoSteps.{begun_both}
+
+pub blocks_begin : (h : Header) (x : RangeIndexes) (row r : ℕ) (ps : List ℕ) (ts : List Lent) → FindsRanges h ts x → FindsRanges h (with_begun row ts (map (Block r) ps)) x
+blocks_begin h x row r [] ts found = subst (λ (us : List Lent). FindsRanges h us x) (sym (none_begun row ts)) found
+blocks_begin h x row r (p ∷ ps) ts found =
+    subst (λ (us : List Lent). FindsRanges h us x) (begun_both row ts (Block r p ∷ []) (map (Block r) ps))
+    (blocks_begin h x row r ps (with_begun row ts (Block r p ∷ [])) (others_begin h x row (Block r p) ts (λ g y i. tt) found))
+
+-- behind a descriptor that is withdrawn
+pub found_withdrawn : (h : Header) → IsHeader h → (k : Known) (q : Ring) → ring_with h q.id ≡ Some q → is_transfer_kind q.shape.kind ≡ true → (ts : List Lent) → AreOpen h k ts → (row p : ℕ) (x : RangeIndexes) →
+    FindsRanges h ts x → FindsRanges h (passed_on (open_leases h k) (open_leases h (on_ring h k q.id (Withdraws p))) row ts) x
+found_withdrawn h headed k q found transfer ts opened row p x finds =
+    let n : ℕ = length_from (k.ring q.id).lengths 0 p in
+    subst (λ (us : List Lent). FindsRanges h us x) (sym (withdrawn_lent h headed k q found transfer ts opened row p n refl)) (some_end h x (is_between q.id p (p + n)) row ts finds)
+
+-- behind a ring that is restored
+pub found_restored : (h : Header) (k : Known) (ts : List Lent) (q : Ring) (ps : List ℕ) → Restoring h k ts q ps → (row : ℕ) (x : RangeIndexes) →
+    FindsRanges h ts x → FindsRanges h (passed_on (open_leases h k) (open_leases h (on_ring h k q.id Restores)) row ts) x
+found_restored h k ts q ps here row x finds = subst (λ (us : List Lent). FindsRanges h us x) (sym (restored_lent h k ts q ps here row)) (blocks_begin h x row q.id ps ts finds)
+
+-- behind the giving of a Set TR Dequeue that moves a ring
+pub found_moved : (h : Header) (k : Known) (ts : List Lent) (command : Ring) (p : ℕ) (q : Ring) (ps : List ℕ) (a w : ℕ) → MovesRing h k ts command p q ps a w → (row : ℕ) → row < without_end → (x : RangeIndexes) →
+    FindsRanges h ts x → FindsRanges h (passed_on (open_leases h k) (open_leases h (learned h (restored h k (Write a w)) (Write a w))) row ts) x
+found_moved h k ts command p q ps a w m row early x finds =
+    let c : ℕ = command_id h in
+    let alone_now : Known = alone h k ts command p q ps a w m in
+    let step_now : Known = own_step h k ts command p q ps a w m in
+    let us : List Lent = passed_on (open_leases h k) (open_leases h alone_now) row ts in
+    let vs : List Lent = passed_on (open_leases h k) (open_leases h step_now) row ts in
+    let differs = other h k ts command p q ps a w m in
+    elim (cases_Bool (nat_lt q.id c)) [
+      | inl low ↦
+          let less : q.id < c = grind (arith, nat_tests, low) in
+          let restoring : Restoring h k ts q ps = record { headed = m.headed; found = m.found; transfer = m.transfer; freed_given = freed_given h k ts command p q ps a w m; positions = m.positions; opened = m.opened } in
+          subst (λ (ws : List Lent). FindsRanges h ws x) (first_restored h k ts command p q ps a w m row early less ∙ at_end h k ts command p q ps a w m row early)
+          (others_begin h x row (Block c p) us (λ g y i. tt) (found_restored h k ts q ps restoring row x finds))
+      | inr high ↦
+          let most : c ≤ q.id = grind (arith, nat_tests, high) in
+          let less : c < q.id = omega (arith, most, differs) in
+          let restoring : Restoring h step_now vs q ps = record {
+            headed = m.headed;
+            found = m.found;
+            transfer = m.transfer;
+            freed_given = freed_later h k ts command p q ps a w m;
+            positions = m.positions ∙ sym (same_left h k ts command p q ps a w m);
+            opened = opened_own h k ts command p q ps a w m row early;
+          } in
+          subst (λ (ws : List Lent). FindsRanges h ws x) (last_restored h k ts command p q ps a w m row early less ∙ at_end h k ts command p q ps a w m row early)
+          (found_restored h step_now vs q ps restoring row x
+          (subst (λ (ws : List Lent). FindsRanges h ws x) (own_first h k ts command p q ps a w m row early) (others_begin h x row (Block c p) ts (λ g y i. tt) finds)))
+    ]

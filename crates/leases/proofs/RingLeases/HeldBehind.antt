@@ -1,0 +1,123 @@
+-- A log of leases goes on with the rings that are there behind a ring that goes, and behind one that comes: what isn't over is of other rings
+use Rattle.std.proofs.Common.{◌≡◌, ◌≢◌, ◌%◌, ◌==◌, ◌∙◌, ℕ, false, not, List, refl, sym, ap, subst, inl, inr}
+use Rattle.std.proofs.lemmas.Bool.{and_parts, eqb-false, not-true}
+use Rattle.safety.proofs.Words.{Header, IsHeader, Ring, Known, DriverKeeps, IsIn, driver_rings, flat_map, from_filter, open_leases, open_on, open_ranges, place_count, command_id, shape_of, is_driver_kind}
+use Rattle.ownership_rules.proofs.Among.{among_is}
+use Rattle.ownership_rules.specs.OpenLeases.{Leased, Block, Link, Range, is_among}
+use Rattle.leases.specs.LeaseBooks.IndexTables.{index_in}
+use Rattle.leases.specs.LeaseBooks.InStep.{AreOpen}
+use Rattle.leases.specs.LeaseBooks.OtherShapes.{AreShapedAlike, IsShapedAlike}
+use Rattle.leases.specs.LeaseBooks.Ranges.{FindsRanges, IsRangeFound, IsUseFound}
+use Rattle.leases.specs.declared.book.ranges.RangeIndexes.{RangeIndexes}
+use Rattle.ownership_rules.specs.OpenLeases.{DeviceContext, EventSegment, InputContext, SegmentTable, SlotEntry, Use}
+use Rattle.segments.specs.ShapeValue.{Shape}
+use Rattle.leases.specs.LeaseBooks.Lents.{Lent}
+use Rattle.leases.proofs.LeaseBooks.Members.{InOn, block, link, from_flat_map, in_either, in_on}
+use Rattle.leases.proofs.LeaseBooks.RangesAlone.{IsRange, open_are_ranges}
+use Rattle.leases.proofs.LeaseBooks.Rows.{IsOpen}
+use Rattle.leases.proofs.LeaseBooks.Unended.{all_anew}
+use Rattle.safety.specs.RingChanges.Changes.{IsComing, forgotten, is_bad_free, is_bad_ring, with_ring, without_ring}
+use Rattle.safety.proofs.RingChanges.ListedRings.{none_found}
+use Rattle.safety.proofs.RingChanges.RingRuns.{bad_same, f_keeps, fresh, no_ring}
+use Rattle.safety.proofs.RingChanges.GoneRings as gone
+use Rattle.safety.proofs.RingChanges.NewRings as new
+use Rattle.leases.specs.RingLeases.RingLents.{is_of_ring}
+use Rattle.leases.proofs.RingLeases.OpenBehind.{among_filtered, goes_open}
+
+module _ (h : Header) (is : IsHeader h) (k : Known) (d : DriverKeeps h k) (id : ℕ) (good : is_bad_free h k id ≡ false) where
+  same_shape : (s : ℕ) → (s == id) ≡ false → shape_of (without_ring h id) s ≡ shape_of h s
+  unfolding without_ring
+  same_shape s apart = gone.shape_same h is k d id good s (eqb-false s id apart)
+
+  alike : (l : Leased) → is_of_ring id l ≡ false → IsShapedAlike h (without_ring h id) l
+  alike (Block r p) other = same_shape r other
+  alike (Link r q) other = same_shape r other
+  alike (Range n a e) other = tt
+
+  pub open_alike : (l : Leased) → IsOpen (open_leases (without_ring h id) (forgotten k id)) l → IsShapedAlike h (without_ring h id) l
+  open_alike l is_open =
+      let both = sym (ap (λ ms. is_among ms l) (goes_open h is k d id good) ∙ among_filtered (λ m. not (is_of_ring id m)) (open_leases h k) l) ∙ is_open in
+      alike l (not-true (is_of_ring id l) (and_parts (is_among (open_leases h k) l) (not (is_of_ring id l)) both).1)
+
+  -- with the ring left out the log goes on, where what isn't over is open behind it
+  pub goes_alike : (ts : List Lent) → AreOpen (without_ring h id) (forgotten k id) ts → AreShapedAlike h (without_ring h id) ts
+  goes_alike ts opened =
+      all_anew (λ i l. IsOpen (open_leases (without_ring h id) (forgotten k id)) l) (λ i l. IsShapedAlike h (without_ring h id) l) 0 ts (λ i l is_open. open_alike l is_open) opened
+
+  -- the command ring has the same shape
+  pub goes_commands : shape_of (without_ring h id) (command_id (without_ring h id)) ≡ shape_of h (command_id h)
+  unfolding without_ring
+  goes_commands = (gone.others h is k d id good).command_shape
+
+-- ---- a ring that comes
+
+-- the ring of a lease is one of the header's
+abbrev IsThere : Header → Leased → Type 0
+IsThere h (Block r p) = (q : Ring) × IsIn q h.rings × (q.id ≡ r)
+IsThere h (Link r c) = (q : Ring) × IsIn q h.rings × (q.id ≡ r)
+IsThere h (Range n a e) = Unit {0}
+
+range_there : (h : Header) (l : Leased) → IsRange l → IsThere h l
+range_there h (Block r p) is = absurd is
+range_there h (Link r c) is = absurd is
+range_there h (Range n a e) is = tt
+
+on_there : (h : Header) (k : Known) (q : Ring) (l : Leased) → IsIn q h.rings → InOn q (k.ring q.id) l → IsThere h l
+on_there h k q _ at (block p low high lent) = (q, at, refl)
+on_there h k q _ at (link c low high crossed) = (q, at, refl)
+
+open_there : (h : Header) (k : Known) (l : Leased) → IsOpen (open_leases h k) l → IsThere h l
+unfolding open_leases driver_rings
+open_there h k l is_open =
+    elim (in_either l (flat_map (open_on h k) (driver_rings h)) (open_ranges h k) (among_is _ l is_open)) [
+      | inl on ↦
+          let found = from_flat_map (open_on h k) (driver_rings h) l on in
+          on_there h k found.0 l (from_filter (λ r. is_driver_kind r.shape.kind) h.rings found.0 found.1).0 (in_on h k found.0 l found.2)
+      | inr range ↦ range_there h l (open_are_ranges h k l range)
+    ]
+
+module _ (h : Header) (is : IsHeader h) (k : Known) (d : DriverKeeps h k) (r : Ring) (coming : IsComing r) (good : is_bad_ring h k r ≡ false) where
+  -- other rings keep their shapes
+  kept_shape : (s : ℕ) (q : Ring) → IsIn q h.rings → q.id ≡ s → shape_of (with_ring h r) s ≡ shape_of h s
+  unfolding with_ring forgotten
+  kept_shape s q at same =
+      let absent = no_ring h is r coming k good in
+      let apart : q.id ≢ r.id = eqb-false q.id r.id (none_found (λ x. x.id == r.id) h.rings absent q at) in
+      new.shape_same h is (forgotten k r.id) (f_keeps h is r coming k d absent) r coming (fresh h is r coming k d absent) (bad_same h is r coming k d absent ∙ good) s (λ e. apart (same ∙ e))
+
+  alike_there : (l : Leased) → IsThere h l → IsShapedAlike h (with_ring h r) l
+  alike_there (Block s p) there = kept_shape s there.0 there.1 there.2
+  alike_there (Link s c) there = kept_shape s there.0 there.1 there.2
+  alike_there (Range n a e) there = tt
+
+  pub still_alike : (l : Leased) → IsOpen (open_leases h k) l → IsShapedAlike h (with_ring h r) l
+  still_alike l is_open = alike_there l (open_there h k l is_open)
+
+  -- with the ring the log goes on, where what isn't over is open before it
+  pub comes_alike : (ts : List Lent) → AreOpen h k ts → AreShapedAlike h (with_ring h r) ts
+  comes_alike ts opened = all_anew (λ i l. IsOpen (open_leases h k) l) (λ i l. IsShapedAlike h (with_ring h r) l) 0 ts (λ i l is_open. still_alike l is_open) opened
+
+  pub comes_commands : shape_of (with_ring h r) (command_id (with_ring h r)) ≡ shape_of h (command_id h)
+  unfolding with_ring forgotten
+  comes_commands =
+      let absent = no_ring h is r coming k good in
+      (new.others h is (forgotten k r.id) (f_keeps h is r coming k d absent) r coming (fresh h is r coming k d absent) (bad_same h is r coming k d absent ∙ good)).command_shape
+
+-- ---- the indexes of ranges
+
+module _ (h g : Header) (x : RangeIndexes) (commands : shape_of g (command_id g) ≡ shape_of h (command_id h)) where
+  use_alike : (i : ℕ) (e : Use) → IsUseFound h x i e → IsUseFound g x i e
+  use_alike i EventSegment found = found
+  use_alike i SegmentTable found = found
+  use_alike i (InputContext p) found = subst (λ (s : Shape). index_in x.contexts (p % place_count s) ≡ i) (sym commands) found
+  use_alike i (SlotEntry s) found = found
+  use_alike i (DeviceContext s) found = found
+
+  range_alike : (i : ℕ) (l : Leased) → IsRangeFound h x i l → IsRangeFound g x i l
+  range_alike i (Block r p) found = found
+  range_alike i (Link r q) found = found
+  range_alike i (Range n a e) found = use_alike i e found
+
+  -- with a command ring of the same shape they find the same
+  pub ranges_found : (ts : List Lent) → FindsRanges h ts x → FindsRanges g ts x
+  ranges_found ts found = all_anew (IsRangeFound h x) (IsRangeFound g x) 0 ts range_alike found

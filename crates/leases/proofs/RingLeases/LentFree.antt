@@ -1,0 +1,285 @@
+-- What is lent where a descriptor is withdrawn, and where a ring is restored
+use Rattle.std.proofs.Common.{if◌then◌else◌, ◌≡◌, ◌≢◌, ◌+◌, ◌%◌, ◌<◌, ◌≤◌, ◌==◌, ◌&&◌, ◌||◌, ◌++◌, ◌∷◌, ◌∙◌, ℕ, zero, suc, Bool, true, false, not, nat_le, nat_lt, List, [], Some, filter, length, map, take, get_or, arith, refl, sym, ap, subst, inl, inr, append-nil, eqb-true}
+use Rattle.std.specs.List.{list_any, range_with_len}
+use Rattle.std.proofs.lemmas.Bool.{and_parts, false≢true, not-true}
+use Rattle.std.proofs.lemmas.Bool.Decides.{nat_tests}
+use Rattle.std.proofs.lemmas.List.{take_more}
+use Rattle.std.proofs.lemmas.List.Folds.{list_any-append}
+use Rattle.trb.specs.declared.ring_kind.RingKind.{RingKind}
+use Rattle.trb.specs.declared.ring_kind.RingKind.TheVariants.{Cmd, Evt, Xfer}
+use Rattle.safety.proofs.Words.{cases_Bool, IsIn, Header, IsHeader, Ring, Known, is_driver_kind, is_transfer_kind, ring_with, shape_of, command_id, driver_rings, on_ring, open_leases, place_count, floor_number, due_positions, from_filter, in_filter}
+use Rattle.safety.proofs.Headers.{transfer_not_command}
+use Rattle.segments.specs.Descriptors.{length_from}
+use Rattle.segments.specs.Givings.{unrestored}
+use Rattle.segments.specs.RingView.{Restores, Withdraws}
+use Rattle.ring_knowledge.proofs.DueNumbers.{same_due}
+use Rattle.ownership_rules.proofs.Among.{in_among}
+use Rattle.ownership_rules.specs.Leases.{as_lease, comes_before}
+use Rattle.ownership_rules.specs.OpenLeases.{Leased, Block, Link, Range, is_among, same_leased}
+use Rattle.leases.specs.LeaseBooks.InStep.{AreOpen}
+use Rattle.leases.specs.LeaseBooks.Lents.{Lent, begun_at, ended_where, in_turn, is_place_free, is_unended, passed_on, precedes, share_a_place, with_begun, with_leased}
+use Rattle.leases.proofs.LeaseBooks.FreePlaces.{unlent_free}
+use Rattle.leases.proofs.LeaseBooks.Growing.{map_append}
+use Rattle.leases.proofs.LeaseBooks.Members.{from_range}
+use Rattle.leases.proofs.LeaseBooks.Passing.{all_twice, none_over, over_alike}
+use Rattle.leases.proofs.LeaseBooks.Rows.{only_passed}
+use Rattle.trace_record.proofs.RingFinder.HeaderRings.{find_some, shape_there}
+use Rattle.trace_record.proofs.RingFinder.RingsApart.{IsAmong}
+use Rattle.leases.specs.RingLeases.RingLents.{is_freed, is_withdrawn}
+use Rattle.leases.proofs.RingLeases.Filtered.{filter_alike}
+use Rattle.leases.proofs.RingLeases.OpenBehind.{among_filtered}
+use Rattle.leases.proofs.RingLeases.OpenFree.{freed_are, restored_open, withdrawn_open}
+use Rattle.leases.proofs.RingLeases.TwoSteps.{begun_both, only_begins, with_first}
+use Rattle.leases.proofs.RingLeases.WithinALap.{are_shaped}
+
+-- ---- a transfer ring of the header
+
+drives : (kind : RingKind) → is_transfer_kind kind ≡ true → is_driver_kind kind ≡ true
+drives Xfer e = refl
+drives Cmd e = refl
+drives Evt e = absurd (false≢true e)
+
+to_in : (q : Ring) (rs : List Ring) → IsAmong q rs → IsIn q rs
+to_in q [] at = absurd at
+to_in q (x ∷ rs) at = elim at [ inl here ↦ inl (sym here) | inr later ↦ inr (to_in q rs later) ]
+
+pub driver_in : (h : Header) (q : Ring) → ring_with h q.id ≡ Some q → is_driver_kind q.shape.kind ≡ true → IsIn q (driver_rings h)
+unfolding driver_rings
+driver_in h q found driver = in_filter (λ r. is_driver_kind r.shape.kind) h.rings q (to_in q h.rings (find_some (λ r. r.id == q.id) h.rings q found).0) driver
+
+module _ (h : Header) (q : Ring) (found : ring_with h q.id ≡ Some q) (transfer : is_transfer_kind q.shape.kind ≡ true) where
+  pub among : IsAmong q h.rings
+  among = (find_some (λ r. r.id == q.id) h.rings q found).0
+
+  pub driver : is_driver_kind q.shape.kind ≡ true
+  driver = drives q.shape.kind transfer
+
+  pub in_drivers : IsIn q (driver_rings h)
+  in_drivers = driver_in h q found driver
+
+  pub not_command : IsHeader h → q.id ≢ command_id h
+  not_command headed = transfer_not_command h headed q.id (record { ring = q; found = found; kind = transfer })
+
+-- ---- a descriptor is withdrawn
+
+-- the block of ring r from one number to another
+abbrev pub is_between : ℕ → ℕ → ℕ → Leased → Bool
+is_between r from to (Block s q) = s == r && (nat_le from q && nat_lt q to)
+is_between r from to (Link s q) = false
+is_between r from to (Range n a e) = false
+
+none_between : (r from : ℕ) (l : Leased) → is_between r from from l ≡ false
+none_between r from (Block s q) = grind (arith, nat_tests)
+none_between r from (Link s q) = refl
+none_between r from (Range n a e) = refl
+
+one_between : (r from n : ℕ) (l : Leased) → from ≤ n → (is_between r from n l || same_leased (Block r n) l) ≡ is_between r from (n + 1) l
+one_between r from n (Block s q) least = grind (arith, nat_tests, least)
+one_between r from n (Link s q) least = refl
+one_between r from n (Range m a e) least = refl
+
+pub ends_none : (r from row : ℕ) (ts : List Lent) → map (ended_where (is_between r from from) row) ts ≡ ts
+ends_none r from row ts = none_over (is_between r from from) row ts (none_between r from)
+
+pub ends_one : (r from n row : ℕ) (ts : List Lent) → from ≤ n →
+    map (ended_where (same_leased (Block r n)) row) (map (ended_where (is_between r from n) row) ts) ≡ map (ended_where (is_between r from (n + 1)) row) ts
+ends_one r from n row ts least =
+    all_twice (same_leased (Block r n)) (is_between r from n) row ts
+    ∙ over_alike (λ l. is_between r from n l || same_leased (Block r n) l) (is_between r from (n + 1)) row ts (λ l. one_between r from n l least)
+
+module _ (h : Header) (headed : IsHeader h) (k : Known) (q : Ring) (found : ring_with h q.id ≡ Some q) (transfer : is_transfer_kind q.shape.kind ≡ true)
+    (ts : List Lent) (opened : AreOpen h k ts) (row : ℕ) where
+  abbrev r : ℕ
+  r = q.id
+
+  other : r ≢ command_id h
+  other = not_command h q found transfer headed
+
+  -- the leases of its blocks end, and nothing begins
+  pub withdrawn_lent : (p n : ℕ) → n ≡ length_from (k.ring r).lengths 0 p →
+      passed_on (open_leases h k) (open_leases h (on_ring h k r (Withdraws p))) row ts ≡ map (ended_where (is_between r p (p + n)) row) ts
+  withdrawn_lent p n many =
+      only_passed (open_leases h k) (open_leases h (on_ring h k r (Withdraws p))) row ts opened (is_between r p (p + n))
+      (λ l.
+      ap (λ ms. is_among ms l) (withdrawn_open h k r p other)
+      ∙ among_filtered (λ m. not (is_withdrawn r p (length_from (k.ring r).lengths 0 p) m)) (open_leases h k) l
+      ∙ (λ j. is_among (open_leases h k) l && not (is_withdrawn r p (sym many j) l))
+      ∙ ap (λ b. is_among (open_leases h k) l && not b) (same l))
+    where
+      same : (l : Leased) → is_withdrawn r p n l ≡ is_between r p (p + n) l
+      same (Block s x) = refl
+      same (Link s x) = refl
+      same (Range m a e) = refl
+
+-- ---- a ring is restored
+
+-- blocks of one ring that rise stand in turn
+rising : (r : ℕ) (f : ℕ → Bool) (a n : ℕ) → in_turn (map (Block r) (filter f (range_with_len a n))) ≡ map (Block r) (filter f (range_with_len a n))
+unfolding in_turn with_leased precedes comes_before as_lease
+rising r f a zero = refl
+rising r f a (suc n) =
+    let rest : List Leased = map (Block r) (filter f (range_with_len (a + 1) n)) in
+    elim (cases_Bool (f a)) [
+      | inl passes ↦
+          rw passes
+          (ap (with_leased (Block r a)) (rising r f (a + 1) n)
+          ∙ with_first (Block r a) [] rest (λ m at. later (filter f (range_with_len (a + 1) n)) (λ p there. from_range (a + 1) n p (from_filter f (range_with_len (a + 1) n) p there).0) m at)
+          ∙ alone rest)
+      | inr fails ↦ rw fails (rising r f (a + 1) n)
+    ]
+  where
+    alone : (xs : List Leased) → with_leased (Block r a) [] ++ xs ≡ Block r a ∷ xs
+    alone xs = refl
+
+    above : (p : ℕ) → a + 1 ≤ p → precedes (Block r a) (Block r p) ≡ true
+    above p low = grind (arith, nat_tests, low)
+
+    later : (ps : List ℕ) → ((p : ℕ) → IsIn p ps → (a + 1 ≤ p) × (p < a + 1 + n)) → (m : Leased) → IsIn m (map (Block r) ps) → precedes (Block r a) m ≡ true
+    later [] bounds m at = absurd at
+    later (p ∷ ps) bounds m at = elim at [
+      | inl here ↦ ap (precedes (Block r a)) here ∙ above p (bounds p (inl refl)).0
+      | inr there ↦ later ps (λ x there. bounds x (inr there)) m there
+    ]
+
+-- those before an index are less
+in_get : (xs : List ℕ) (i : ℕ) → i < length xs → IsIn (get_or xs i 0) xs
+in_get [] i low = absurd (omega arith)
+in_get (x ∷ xs) zero low = inl refl
+in_get (x ∷ xs) (suc i) low = inr (in_get xs i (omega arith))
+
+less_before : (f : ℕ → Bool) (a n i : ℕ) → i < length (filter f (range_with_len a n)) → (u : ℕ) → IsIn u (take i (filter f (range_with_len a n))) → u < get_or (filter f (range_with_len a n)) i 0
+less_before f a zero i low u at = absurd (omega (arith, low))
+less_before f a (suc n) i low u at = by (f a) i low at (less_before f (a + 1) n) (λ p there. (from_range (a + 1) n p (from_filter f (range_with_len (a + 1) n) p there).0).0)
+  where
+    by : (b : Bool) (i : ℕ) → i < length (if b then a ∷ filter f (range_with_len (a + 1) n) else filter f (range_with_len (a + 1) n)) →
+        IsIn u (take i (if b then a ∷ filter f (range_with_len (a + 1) n) else filter f (range_with_len (a + 1) n))) →
+        ((i : ℕ) → i < length (filter f (range_with_len (a + 1) n)) → (u : ℕ) → IsIn u (take i (filter f (range_with_len (a + 1) n))) → u < get_or (filter f (range_with_len (a + 1) n)) i 0) →
+        ((p : ℕ) → IsIn p (filter f (range_with_len (a + 1) n)) → a + 1 ≤ p) → u < get_or (if b then a ∷ filter f (range_with_len (a + 1) n) else filter f (range_with_len (a + 1) n)) i 0
+    by false i low at rest from = rest i low u at
+    by true zero low at rest from = absurd at
+    by true (suc i) low at rest from = elim at [
+      | inl here ↦ let most : a + 1 ≤ get_or (filter f (range_with_len (a + 1) n)) i 0 = from _ (in_get (filter f (range_with_len (a + 1) n)) i (omega (arith, low))) in omega (arith, here, most)
+      | inr there ↦ rest i (omega (arith, low)) u there
+    ]
+
+-- a place is still free where what began shares none with it
+free_still : (h : Header) (row : ℕ) (ts : List Lent) (l : Leased) (us : List Leased) → is_place_free h ts l ≡ true → ((u : Leased) → IsIn u us → share_a_place h l u ≡ false) →
+    is_place_free h (with_begun row ts us) l ≡ true
+unfolding is_place_free with_begun begun_at
+free_still h row ts l us free apart =
+    let test : Lent → Bool = λ t. is_unended t && share_a_place h l t.leased in
+    ap not (list_any-append test ts (map (begun_at row) us) ∙ (λ j. not-true (list_any test ts) free j || none us apart j))
+  where
+    none : (us : List Leased) → ((u : Leased) → IsIn u us → share_a_place h l u ≡ false) → list_any (λ t. is_unended t && share_a_place h l t.leased) (map (begun_at row) us) ≡ false
+    none [] apart = refl
+    none (u ∷ us) apart = (λ j. last (is_unended (begun_at row u)) (share_a_place h l u) (apart u (inl refl)) j || none us (λ x at. apart x (inr at)) j)
+      where
+        last : (a b : Bool) → b ≡ false → (a && b) ≡ false
+        last true b e = e
+        last false b e = refl
+
+-- what a log is told with, that notes what is restored
+pub record Restoring (h : Header) (k : Known) (ts : List Lent) (q : Ring) (ps : List ℕ) : Type 0 where
+  pub headed : IsHeader h
+  pub found : ring_with h q.id ≡ Some q
+  pub transfer : is_transfer_kind q.shape.kind ≡ true
+  pub freed_given : (p : ℕ) → (k.ring q.id).free p ≡ true → (k.ring q.id).given p ≡ true
+  pub positions : ps ≡ unrestored q.shape (k.ring q.id)
+  pub opened : AreOpen h k ts
+
+module _ (h : Header) (k : Known) (ts : List Lent) (q : Ring) (ps : List ℕ) (x : Restoring h k ts q ps) (row : ℕ) where
+  abbrev id : ℕ
+  id = q.id
+
+  -- second leases begin, and nothing ends
+  pub restored_lent : passed_on (open_leases h k) (open_leases h (on_ring h k id Restores)) row ts ≡ with_begun row ts (map (Block id) ps)
+  unfolding unrestored due_positions
+  restored_lent =
+      let before : List Leased = open_leases h k in
+      let after : List Leased = open_leases h (on_ring h k id Restores) in
+      let freed : Leased → Bool = is_freed (k.ring id).free id in
+      let kept : (l : Leased) → is_among before l ≡ (is_among after l && not (freed l)) =
+      λ l. ap (λ ms. is_among ms l) (restored_open h k id (not_command h q x.found x.transfer x.headed)) ∙ among_filtered (λ m. not (freed m)) after l in
+      only_begins before after row ts x.opened (λ l at. (and_parts (is_among after l) (not (freed l)) (sym (kept l) ∙ at)).0)
+      ∙ ap (λ ls. with_begun row ts (in_turn ls))
+      (filter_alike (λ l. not (is_among before l)) freed after (λ l at. new (is_among before l) (is_among after l) (freed l) (kept l) (in_among after l at))
+      ∙ freed_are h x.headed k q (among h q x.found x.transfer) (driver h q x.found x.transfer) x.freed_given)
+      ∙ ap (with_begun row ts) (rising id (k.ring id).free (floor_number (k.ring id)) (place_count q.shape) ∙ ap (map (Block id)) (sym x.positions))
+    where
+      new : (a b c : Bool) → a ≡ (b && not c) → b ≡ true → not a ≡ c
+      new true true true e f = absurd (false≢true (sym e))
+      new true true false e f = refl
+      new false true true e f = refl
+      new false true false e f = absurd (false≢true e)
+      new a false c e f = absurd (false≢true f)
+
+  -- one after the other: its place is free
+  module _ (i : ℕ) (low : i < length ps) where
+    abbrev p : ℕ
+    p = get_or ps i 0
+
+    standing : IsIn p (filter (k.ring id).free (due_positions q.shape (k.ring id)))
+    unfolding unrestored
+    standing = subst (IsIn p) x.positions (in_get ps i low)
+
+    within : (u : ℕ) → IsIn u ps → (floor_number (k.ring id) ≤ u) × (u < floor_number (k.ring id) + place_count q.shape) × ((k.ring id).free u ≡ true)
+    unfolding unrestored due_positions
+    within u at =
+        let passed = from_filter (k.ring id).free (due_positions q.shape (k.ring id)) u (subst (IsIn u) x.positions at) in
+        let bounds = from_range (floor_number (k.ring id)) (place_count q.shape) u passed.0 in
+        (bounds.0, bounds.1, passed.1)
+
+    from_take : (xs : List ℕ) (n : ℕ) (u : ℕ) → IsIn u (take n xs) → IsIn u xs
+    from_take [] zero u at = at
+    from_take [] (suc n) u at = at
+    from_take (y ∷ xs) zero u at = absurd at
+    from_take (y ∷ xs) (suc n) u at = elim at [ inl here ↦ inl here | inr later ↦ inr (from_take xs n u later) ]
+
+    less : (u : ℕ) → IsIn u (take i ps) → u < p
+    unfolding unrestored due_positions
+    less u at =
+        let low' : i < length (unrestored q.shape (k.ring id)) = subst (λ (xs : List ℕ). i < length xs) x.positions low in
+        subst (λ (xs : List ℕ). u < get_or xs i 0) (sym x.positions)
+        (less_before (k.ring id).free (floor_number (k.ring id)) (place_count q.shape) i low' u (subst (λ (xs : List ℕ). IsIn u (take i xs)) x.positions at))
+
+    no_share : (u : ℕ) → IsIn u (take i ps) → share_a_place h (Block id p) (Block id u) ≡ false
+    no_share u at = elim (cases_Bool (id == id && p % place_count (shape_of h id) == u % place_count (shape_of h id))) [
+      | inl shares ↦
+          let shaped = shape_there h x.headed q (among h q x.found x.transfer) in
+          let here = within p (in_get ps i low) in
+          let there = within u (from_take ps i u at) in
+          let rests : p % place_count q.shape ≡ u % place_count q.shape =
+          subst (λ s. p % place_count s ≡ u % place_count s) shaped (eqb-true _ _ (and_parts (id == id) (p % place_count (shape_of h id) == u % place_count (shape_of h id)) shares).1) in
+          let same : p ≡ u = same_due (floor_number (k.ring id)) (place_count q.shape) p u (omega (arith, here.0, here.1)) here.0 here.1 there.0 there.1 rests in
+          let less_than : u < p = less u at in
+          absurd (omega (arith, same, less_than))
+      | inr differ ↦ differ
+    ]
+
+    none_shares : (us : List ℕ) → ((u : ℕ) → IsIn u us → share_a_place h (Block id p) (Block id u) ≡ false) → (m : Leased) → IsIn m (map (Block id) us) → share_a_place h (Block id p) m ≡ false
+    none_shares [] all m at = absurd at
+    none_shares (u ∷ us) all m at = elim at [
+      | inl here ↦ ap (share_a_place h (Block id p)) here ∙ all u (inl refl)
+      | inr later ↦ none_shares us (λ y there. all y (inr there)) m later
+    ]
+
+    pub next_free : is_place_free h (with_begun row ts (map (Block id) (take i ps))) (Block id p) ≡ true
+    next_free =
+        let here = within p (in_get ps i low) in
+        free_still h row ts (Block id p) (map (Block id) (take i ps))
+        (unlent_free h (are_shaped h x.headed) k ts x.opened q (in_drivers h q x.found x.transfer) p (omega (arith, here.0, here.1)) here.0 here.1 (freed ((k.ring id).given p) ((k.ring id).free p) here.2))
+        (none_shares (take i ps) no_share)
+      where
+        freed : (g f : Bool) → f ≡ true → (g && not f) ≡ false
+        freed true true e = refl
+        freed false f e = refl
+        freed true false e = absurd (false≢true e)
+
+    pub next_begun : with_begun row (with_begun row ts (map (Block id) (take i ps))) (Block id p ∷ []) ≡ with_begun row ts (map (Block id) (take (i + 1) ps))
+    next_begun =
+        begun_both row ts (map (Block id) (take i ps)) (Block id p ∷ [])
+        ∙ ap (with_begun row ts) (sym (map_append (Block id) (take i ps) (p ∷ [])) ∙ ap (map (Block id)) (sym (take_more ps i 0 low)))
+
+pub none_begun : (row : ℕ) (ts : List Lent) → with_begun row ts [] ≡ ts
+unfolding with_begun
+none_begun row ts = append-nil ts

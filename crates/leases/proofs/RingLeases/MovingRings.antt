@@ -1,0 +1,424 @@
+-- A write that gives a Set TR Dequeue restores the ring that it moves, and begins the lease of its own block. The log is told of both in the order
+-- of their rings' IDs, as of what begins at one row
+use Rattle.std.proofs.Common.{◌≡◌, ◌≢◌, ◌+◌, ◌<◌, ◌≤◌, ◌==◌, ◌&&◌, ◌++◌, ◌∷◌, ◌∙◌, ℕ, Bool, true, false, not, List, [], Option, Some, None, filter, map, option_and_then, slice_get, arith, refl, sym, ap, subst, inl, inr, append-nil, eqb-true}
+use Rattle.std.proofs.lemmas.Bool.{and_parts, false≢true, not-true, or_left}
+use Rattle.std.proofs.lemmas.Bool.Decides.{nat_tests}
+use Rattle.std.specs.List.{range_with_len}
+use Rattle.safety.proofs.Words.{cases_eq, none-some, IsIn, flat_map, Header, IsHeader, Ring, Known, RingView, Writes, changed, on_ring, learned, Write, driver_rings, is_driver_kind, open_leases, shape_of, command_id, positions_given, crossings_given, due_positions, place_count, floor_number, is_inside, address_of, link_address, gives_is, gives_crossing_is, address_inside, link_address_inside, position_given_is, gives, gives_crossing, is_crossing, Command, SetTrDequeue, command_given, command_at, command_of, with_device, with_word, written, taken_device, given_of, given_by, range_of_command, range_of_context, from_filter, DriverKeeps, IsDriverRing}
+use Rattle.safety.proofs.CommandRing.{due_has_ring}
+use Rattle.safety.proofs.DevicesWritten.{contains_first, and_then_parts}
+use Rattle.safety.proofs.DriverRows.{ring_elsewhere, ring_here}
+use Rattle.safety.proofs.Headers.{ring_shape}
+use Rattle.safety.proofs.OtherRingsWritten.{not_in_both}
+use Rattle.segments.specs.Givings.{unrestored}
+use Rattle.segments.specs.RingView.{Restores, due_crossings}
+use Rattle.segments.specs.ShapeValue.{Shape}
+use Rattle.segments.specs.Shape.{IsShape}
+use Rattle.segments.proofs.Giving.{Gives, GivesCrossing}
+use Rattle.segments.proofs.OneGiving.{gives_one}
+use Rattle.segments.proofs.SpotOrder.{data_not_link}
+use Rattle.ring_knowledge.specs.Rings.{Given, Position, Crossing}
+use Rattle.ownership_rules.specs.Leases.{as_lease, comes_before, without_end}
+use Rattle.ownership_rules.specs.OpenLeases.{Leased, Block, Link, Range}
+use Rattle.leases.specs.LeaseBooks.InStep.{AreOpen}
+use Rattle.leases.specs.LeaseBooks.Lents.{Lent, in_turn, is_place_free, newly_open, passed_on, precedes, with_begun, with_leased}
+use Rattle.leases.proofs.LeaseBooks.GivingCommands.{all_kept, contexts_given, new_leases}
+use Rattle.leases.proofs.LeaseBooks.Members.{from_flat_map, from_map, from_range, in_either}
+use Rattle.leases.proofs.LeaseBooks.Rows.{IsOpen, passed_open}
+use Rattle.leases.proofs.LeaseBooks.Writing.{lease_given}
+use Rattle.leases.specs.LeaseBooks.InStep.{FreeWasGiven}
+use Rattle.leases.proofs.LeaseBooks.FreePlaces.{block_free}
+use Rattle.trace_record.proofs.RingFinder.HeaderRings.{all_from_one, find_some, ring_found, shape_allowed, shape_there, together}
+use Rattle.trace_record.proofs.RingFinder.RingsApart.{Apart, IsAmong}
+use Rattle.safety.specs.RingChanges.Withdrawals.{restored, restored_on, ring_moved, ring_restored}
+use Rattle.leases.specs.RingLeases.RingLents.{is_freed}
+use Rattle.leases.proofs.RingLeases.OpenFree.{freed_are, restored_open}
+use Rattle.leases.proofs.RingLeases.TwoSteps.{IsBefore, L_in_U as there_both, newly_own, only_begins, restored_first, restored_last}
+use Rattle.leases.proofs.RingLeases.WithinALap.{among as from_in, are_shaped}
+use Rattle.leases.proofs.RingLeases.LentFree.{among, driver, driver_in, in_drivers, not_command}
+use Rattle.leases.specs.RingLeases.Moving.{MovesRing}
+
+-- ---- rings of the driver
+
+driven : (h : Header) → IsHeader h → (q : Ring) → IsIn q (driver_rings h) → IsDriverRing h q.id
+unfolding driver_rings
+driven h headed q at =
+    let parts = from_filter (λ r. is_driver_kind r.shape.kind) h.rings q at in
+    record { ring = q; found = ring_found h headed q (from_in q h.rings parts.0); kind = parts.1 }
+
+-- what is free of them was given
+pub was_given : (h : Header) → IsHeader h → (k : Known) → DriverKeeps h k → FreeWasGiven h k
+was_given h headed k d q at p free = (d.rings q.id (driven h headed q at)).free_given p free
+
+-- ---- the word is written, and the ring restored, in either order
+
+module _ (h : Header) (k : Known) (r a w : ℕ) where
+  view_commutes : (s : ℕ) → (with_word h (on_ring h k r Restores) a w).ring s ≡ (on_ring h (with_word h k a w) r Restores).ring s
+  unfolding with_word
+  view_commutes s =
+      elim (cases_eq s r) [
+        | inl same ↦
+            subst (λ n. (with_word h (on_ring h k r Restores) a w).ring n ≡ (on_ring h (with_word h k a w) r Restores).ring n) (sym same)
+            (ap (λ v. changed (shape_of h r) v (Writes a w)) (ring_here h k r Restores) ∙ sym (ring_here h (with_word h k a w) r Restores))
+        | inr away ↦ ap (λ v. changed (shape_of h s) v (Writes a w)) (ring_elsewhere h k r s Restores away) ∙ sym (ring_elsewhere h (with_word h k a w) r s Restores away)
+      ]
+
+  pub word_commutes : with_word h (on_ring h k r Restores) a w ≡ on_ring h (with_word h k a w) r Restores
+  unfolding with_word on_ring
+  word_commutes = λ j. record (with_word h k a w) { ring = λ s. view_commutes s j }
+
+-- ---- the row
+
+pub record Moves (h : Header) (k : Known) (r a w : ℕ) : Type 0 where
+  pub slot : ℕ
+  pub index : ℕ
+  pub pointer : ℕ
+  pub cycle : Bool
+  pub given : command_given h k a w ≡ Some (SetTrDequeue slot index pointer cycle)
+
+moves_by : (h : Header) (k : Known) (r a w : ℕ) (o : Option Command) → command_given h k a w ≡ o → ring_moved k o ≡ Some r → Moves h k r a w
+unfolding ring_moved
+moves_by h k r a w (Some (SetTrDequeue s i p cycle)) given at = record { slot = s; index = i; pointer = p; cycle = cycle; given = given }
+moves_by h k r a w None given at = absurd (none-some r at)
+moves_by h k r a w (Some _) given at = absurd (none-some r at)
+
+moves_is : (h : Header) (k : Known) (r a w : ℕ) → ring_restored h k (Write a w) ≡ Some r → Moves h k r a w
+unfolding ring_restored
+moves_is h k r a w at = moves_by h k r a w (command_given h k a w) refl at
+
+-- such a write takes no device context
+only_word : (h : Header) (k : Known) (r a w : ℕ) → Moves h k r a w → learned h k (Write a w) ≡ with_word h k a w
+unfolding learned written taken_device with_device
+only_word h k r a w m = ap (λ o. with_device h (with_word h k a w) (option_and_then (taken_device k) o)) m.given
+
+module _ (h : Header) (headed : IsHeader h) (k : Known) (freed : FreeWasGiven h k) (r a w : ℕ) (m : Moves h k r a w) where
+  abbrev c : ℕ
+  c = command_id h
+
+  abbrev step : Known
+  step = with_word h k a w
+
+  -- the position that it gives
+  pub record GivesHere : Type 0 where
+    pub position : ℕ
+    pub contained : slice_get (positions_given (shape_of h c) (k.ring c) a w) 0 ≡ Some position
+    pub gives : gives (shape_of h c) (k.ring c).floor position a w ≡ true
+    pub command : command_at h k position ≡ Some (SetTrDequeue m.slot m.index m.pointer m.cycle)
+    pub ring : IsDriverRing h c
+    pub at : a ≡ address_of (shape_of h c) position + 12
+
+  gives_here : GivesHere
+  unfolding command_given
+  gives_here =
+      let first = and_then_parts (command_at h k) (slice_get (positions_given (shape_of h c) (k.ring c) a w) 0) (SetTrDequeue m.slot m.index m.pointer m.cycle) m.given in
+      let fresh = position_given_is (shape_of h c) (k.ring c) a w first.0 (contains_first (positions_given (shape_of h c) (k.ring c) a w) first.0 first.1) in
+      let writes = gives_is (shape_of h c) (k.ring c).floor first.0 a w fresh.1 in
+      record { position = first.0; contained = first.1; gives = fresh.1; command = first.2; ring = due_has_ring h headed (k.ring c).floor first.0 writes.due; at = writes.at }
+
+  shape_is : (q : ℕ) → IsDriverRing h q → IsShape (shape_of h q)
+  shape_is q d = (ring_shape h headed q d).is
+
+  inside : is_inside (shape_of h c) a ≡ true
+  inside = ap (λ x. is_inside (shape_of h c) x) gives_here.at ∙ address_inside (shape_of h c) (shape_is c gives_here.ring) gives_here.position 12 (omega arith)
+
+  -- no other ring has the word
+  at_command : (q : ℕ) → IsDriverRing h q → is_inside (shape_of h q) a ≡ true → q ≡ c
+  at_command q d here = elim (cases_eq q c) [
+    | inl same ↦ same
+    | inr away ↦ absurd (not_in_both h headed q c d gives_here.ring away a here inside)
+  ]
+
+  -- so the write gives a block of the command ring, and no Link
+  record GivenAt (q : ℕ) (g : Given) : Type 0 where
+    pub there : q ≡ c
+    pub position : ℕ
+    pub is : g ≡ Position q position
+
+  no_link : (q x : ℕ) → IsDriverRing h q → q ≡ c → is_crossing (shape_of h q) x ≡ true → a ≡ link_address (shape_of h q) x + 12 → ⊥
+  no_link q x d same crossing at =
+      let here : a ≡ address_of (shape_of h q) gives_here.position + 12 = gives_here.at ∙ ap (λ n. address_of (shape_of h n) gives_here.position + 12) (sym same) in
+      data_not_link (shape_of h q) (shape_is q d) gives_here.position x crossing (omega (arith, here, at))
+
+  abbrev gives_new : ℕ → ℕ → Bool
+  gives_new q p = not ((k.ring q).given p) && gives (shape_of h q) (k.ring q).floor p a w
+
+  abbrev crosses_new : ℕ → ℕ → Bool
+  crosses_new q x = not ((k.ring q).crossed x) && gives_crossing (shape_of h q) (k.ring q).floor x a w
+
+  new_position : (q p : ℕ) → gives_new q p ≡ true → Gives (shape_of h q) (k.ring q).floor p a w
+  new_position q p new = gives_is (shape_of h q) (k.ring q).floor p a w (and_parts (not ((k.ring q).given p)) (gives (shape_of h q) (k.ring q).floor p a w) new).1
+
+  new_crossing : (q x : ℕ) → crosses_new q x ≡ true → GivesCrossing (shape_of h q) (k.ring q).floor x a w
+  new_crossing q x new = gives_crossing_is (shape_of h q) (k.ring q).floor x a w (and_parts (not ((k.ring q).crossed x)) (gives_crossing (shape_of h q) (k.ring q).floor x a w) new).1
+
+  -- the word is one of the ring
+  data OfRing (q : ℕ) : Given → Type 0 where
+    at_position : (p : ℕ) → a ≡ address_of (shape_of h q) p + 12 → OfRing q (Position q p)
+    at_crossing : (x : ℕ) → is_crossing (shape_of h q) x ≡ true → a ≡ link_address (shape_of h q) x + 12 → OfRing q (Crossing q x)
+
+  given_of_ring : (q : ℕ) (g : Given) → IsIn g (given_of h k a w q) → OfRing q g
+  unfolding given_of positions_given crossings_given
+  given_of_ring q g at =
+      let v : RingView = k.ring q in
+      let s : Shape = shape_of h q in
+      elim (in_either g (map (Position q) (filter (gives_new q) (due_positions s v))) (map (Crossing q) (filter (crosses_new q) (due_crossings s v))) at) [
+        | inl left ↦
+            let found = from_map (Position q) (filter (gives_new q) (due_positions s v)) g left in
+            subst (OfRing q) (sym found.2) (at_position found.0 (new_position q found.0 (from_filter (gives_new q) (due_positions s v) found.0 found.1).1).at)
+        | inr right ↦
+            let found = from_map (Crossing q) (filter (crosses_new q) (due_crossings s v)) g right in
+            let writes = new_crossing q found.0 (from_filter (crosses_new q) (due_crossings s v) found.0 found.1).1 in
+            subst (OfRing q) (sym found.2) (at_crossing found.0 writes.due.crossing writes.at)
+      ]
+
+  given_inside : (q : ℕ) → IsShape (shape_of h q) → (g : Given) → OfRing q g → is_inside (shape_of h q) a ≡ true
+  given_inside q is _ (at_position p at) = ap (λ x. is_inside (shape_of h q) x) at ∙ address_inside (shape_of h q) is p 12 (omega arith)
+  given_inside q is _ (at_crossing x crossing at) = ap (λ y. is_inside (shape_of h q) y) at ∙ link_address_inside (shape_of h q) is x 12 crossing (omega arith)
+
+  given_at : (q : ℕ) → IsDriverRing h q → (g : Given) → OfRing q g → GivenAt q g
+  given_at q d _ (at_position p at) = record { there = at_command q d (given_inside q (shape_is q d) (Position q p) (at_position p at)); position = p; is = refl }
+  given_at q d _ (at_crossing x crossing at) = absurd (no_link q x d (at_command q d (given_inside q (shape_is q d) (Crossing q x) (at_crossing x crossing at))) crossing at)
+
+  -- its command names no input context
+  contexts_none : contexts_given h k a w ≡ []
+  unfolding positions_given range_of_command range_of_context
+  contexts_none = nothing (filter (gives_new c) (due_positions (shape_of h c) (k.ring c))) (λ p at. no_context p (from_filter (gives_new c) (due_positions (shape_of h c) (k.ring c)) p at).1)
+    where
+      of_move : (p : ℕ) → range_of_command h p (Some (SetTrDequeue m.slot m.index m.pointer m.cycle)) ≡ []
+      of_move p = refl
+
+      no_context : (p : ℕ) → gives_new c p ≡ true → range_of_command h p (command_at h k p) ≡ []
+      no_context p new =
+          let here = gives_here in
+          let same : p ≡ here.position =
+          gives_one (shape_of h c) (shape_is c here.ring) (k.ring c).floor a w p here.position (and_parts (not ((k.ring c).given p)) (gives (shape_of h c) (k.ring c).floor p a w) new).1 here.gives in
+          ap (λ x. range_of_command h x (command_at h k x)) same ∙ ap (range_of_command h here.position) here.command ∙ of_move here.position
+
+      nothing : (ps : List ℕ) → ((p : ℕ) → IsIn p ps → range_of_command h p (command_at h k p) ≡ []) → flat_map (λ p. range_of_command h p (command_at h k p)) ps ≡ []
+      nothing [] none = refl
+      nothing (p ∷ ps) none = rw (none p (inl refl)) (nothing ps (λ x at. none x (inr at)))
+
+  own_are : newly_open (open_leases h k) (open_leases h step) ≡ map lease_given (given_by h k a w)
+  unfolding with_device
+  own_are =
+      new_leases h (are_shaped h headed) k freed a w None tt
+      ∙ ap (λ xs. map lease_given (given_by h k a w) ++ (xs ++ [] ++ [])) contexts_none
+      ∙ append-nil (map lease_given (given_by h k a w))
+
+  -- what the row's own step begins
+  own : (l : Leased) → IsIn l (newly_open (open_leases h k) (open_leases h step)) → (p : ℕ) × (l ≡ Block c p)
+  unfolding given_by
+  own l at =
+      let found = from_map lease_given (given_by h k a w) l (subst (IsIn l) own_are at) in
+      let on = from_flat_map (λ q. given_of h k a w q.id) (driver_rings h) found.0 found.1 in
+      let given = given_at on.0.id (driven h headed on.0 on.1) found.0 (given_of_ring on.0.id found.0 on.2) in
+      (given.position, found.2 ∙ ap lease_given given.is ∙ ap (λ i. Block i given.position) given.there)
+
+  own_stays : (l : Leased) → IsOpen (open_leases h k) l → IsOpen (open_leases h step) l
+  unfolding with_device
+  own_stays l at = all_kept h (are_shaped h headed) k freed a w None tt l at
+
+  -- where it gives one position, it begins the lease of this alone
+  empty_if : {X : Type 0} (xs : List X) → ((x : X) → IsIn x xs → ⊥) → xs ≡ []
+  empty_if [] none = refl
+  empty_if (x ∷ xs) none = absurd (none x (inl refl))
+
+  module _ (command : Ring) (among : IsAmong command h.rings) (driver : is_driver_kind command.shape.kind ≡ true) (is : command.id ≡ c)
+      (p : ℕ) (gives_p : positions_given (shape_of h c) (k.ring c) a w ≡ p ∷ []) where
+    shape_here : shape_of h c ≡ command.shape
+    shape_here = ap (shape_of h) (sym is) ∙ shape_there h headed command among
+
+    elsewhere_none : (q : Ring) → IsAmong q h.rings → Apart command q → given_of h k a w q.id ≡ []
+    elsewhere_none q at apart =
+        let shaped = shape_there h headed q at in
+        empty_if (given_of h k a w q.id) (λ g there.
+        apart.memory a (ap (λ s. is_inside s a) (sym shape_here) ∙ inside)
+        (ap (λ s. is_inside s a) (sym shaped) ∙ given_inside q.id (subst IsShape (sym shaped) (shape_allowed h headed q at)) g (given_of_ring q.id g there)))
+
+    crossings_none : crossings_given (shape_of h c) (k.ring c) a w ≡ []
+    unfolding crossings_given
+    crossings_none = empty_if (filter (crosses_new c) (due_crossings (shape_of h c) (k.ring c))) (λ x there.
+        let writes = new_crossing c x (from_filter (crosses_new c) (due_crossings (shape_of h c) (k.ring c)) x there).1 in
+        no_link c x gives_here.ring refl writes.due.crossing writes.at)
+
+    commanded : given_of h k a w command.id ≡ Position c p ∷ []
+    unfolding given_of
+    commanded = ap (λ i. map (Position i) (positions_given (shape_of h i) (k.ring i) a w) ++ map (Crossing i) (crossings_given (shape_of h i) (k.ring i) a w)) is ∙ rw (gives_p, crossings_none) refl
+
+    pub own_one : newly_open (open_leases h k) (open_leases h step) ≡ Block c p ∷ []
+    unfolding given_by driver_rings
+    own_one =
+        own_are
+        ∙ ap (map lease_given)
+        (all_from_one (λ q. given_of h k a w q.id) h.rings (together h headed) command among driver (λ q at apart. elsewhere_none q at apart)
+        ∙ append-nil (given_of h k a w command.id) ∙ commanded)
+
+-- ---- the order of what begins
+
+before_own : (f : ℕ → Bool) (r c p : ℕ) → r < c → (l m : Leased) → is_freed f r l ≡ true → m ≡ Block c p → IsBefore l m
+unfolding precedes comes_before as_lease
+before_own f r c p less (Block s x) m here at = subst (IsBefore (Block s x)) (sym at) (stands s (eqb-true s r (and_parts (s == r) (f x) here).0))
+  where
+    stands : (s : ℕ) → s ≡ r → IsBefore (Block s x) (Block c p)
+    stands s same = (grind (arith, nat_tests, less, same), grind (arith, nat_tests, less, same))
+before_own f r c p less (Link s x) m here at = absurd (false≢true here)
+before_own f r c p less (Range n y e) m here at = absurd (false≢true here)
+
+after_own : (f : ℕ → Bool) (r c p : ℕ) → c < r → (l m : Leased) → is_freed f r l ≡ true → m ≡ Block c p → IsBefore m l
+unfolding precedes comes_before as_lease
+after_own f r c p less (Block s x) m here at = subst (λ y. IsBefore y (Block s x)) (sym at) (stands s (eqb-true s r (and_parts (s == r) (f x) here).0))
+  where
+    stands : (s : ℕ) → s ≡ r → IsBefore (Block c p) (Block s x)
+    stands s same = (grind (arith, nat_tests, less, same), grind (arith, nat_tests, less, same))
+after_own f r c p less (Link s x) m here at = absurd (false≢true here)
+after_own f r c p less (Range n y e) m here at = absurd (false≢true here)
+
+-- ---- the two steps
+
+module _ (h : Header) (k : Known) (ts : List Lent) (command : Ring) (p : ℕ) (q : Ring) (ps : List ℕ) (a w : ℕ) (x : MovesRing h k ts command p q ps a w) where
+  abbrev r : ℕ
+  r = q.id
+
+  moves : Moves h k r a w
+  moves = moves_is h k r a w x.moves
+
+  pub other : r ≢ command_id h
+  other = not_command h q x.found x.transfer x.headed
+
+  -- where the ring alone is restored, and where the row's own step alone is made
+  abbrev pub alone : Known
+  alone = on_ring h k r Restores
+
+  abbrev pub own_step : Known
+  own_step = with_word h k a w
+
+  abbrev pub both : Known
+  both = on_ring h own_step r Restores
+
+  pub freed_given : (y : ℕ) → (k.ring r).free y ≡ true → (k.ring r).given y ≡ true
+  freed_given y free = x.freed q (in_drivers h q x.found x.transfer) y free
+
+  pub freed_later : (y : ℕ) → (own_step.ring r).free y ≡ true → (own_step.ring r).given y ≡ true
+  unfolding with_word
+  freed_later y free = or_left ((k.ring r).given y) (gives (shape_of h r) (k.ring r).floor y a w) (freed_given y free)
+
+  same_free : is_freed (own_step.ring r).free r ≡ is_freed (k.ring r).free r
+  unfolding with_word
+  same_free = refl
+
+  pub same_left : unrestored q.shape (own_step.ring r) ≡ unrestored q.shape (k.ring r)
+  unfolding with_word unrestored due_positions
+  same_left = refl
+
+  given_alone : command_given h alone a w ≡ command_given h k a w
+  unfolding command_given command_at
+  given_alone =
+      ap (λ (v : RingView). option_and_then (λ y. option_and_then command_of (slice_get v.queue y)) (slice_get (positions_given (shape_of h (command_id h)) v a w) 0))
+      (ring_elsewhere h k r (command_id h) Restores (λ same. other (sym same)))
+
+  -- what is known behind the row
+  pub both_is : learned h (restored h k (Write a w)) (Write a w) ≡ both
+  unfolding restored_on
+  both_is =
+      let m = moves in
+      ap (λ o. learned h (restored_on h k o) (Write a w)) x.moves
+      ∙ only_word h alone r a w (record { slot = m.slot; index = m.index; pointer = m.pointer; cycle = m.cycle; given = given_alone ∙ m.given })
+      ∙ word_commutes h k r a w
+
+  pub in_rings : IsAmong command h.rings
+  in_rings = (find_some (λ s. s.id == command.id) h.rings command x.commands).0
+
+  own_begins : newly_open (open_leases h k) (open_leases h own_step) ≡ Block (command_id h) p ∷ []
+  own_begins = own_one h x.headed k x.freed r a w moves command in_rings x.drives x.is_command p x.gives
+
+  module _ (row : ℕ) (early : row < without_end) where
+    abbrev K : List Leased
+    K = open_leases h k
+
+    abbrev L : List Leased
+    L = open_leases h alone
+
+    abbrev S : List Leased
+    S = open_leases h own_step
+
+    abbrev U : List Leased
+    U = open_leases h both
+
+    abbrev R : Leased → Bool
+    R = is_freed (k.ring r).free r
+
+    left_L : K ≡ filter (λ l. not (R l)) L
+    left_L = restored_open h k r other
+
+    left_U : S ≡ filter (λ l. not (R l)) U
+    left_U = restored_open h own_step r other ∙ (λ j. filter (λ l. not (same_free j l)) U)
+
+    same_freed : filter R L ≡ filter R U
+    same_freed =
+        freed_are h x.headed k q (among h q x.found x.transfer) (driver h q x.found x.transfer) freed_given
+        ∙ ap (map (Block r)) (sym same_left)
+        ∙ sym (freed_are h x.headed own_step q (among h q x.found x.transfer) (driver h q x.found x.transfer) freed_later)
+        ∙ (λ j. filter (same_free j) U)
+
+    stays : (l : Leased) → IsOpen K l → IsOpen S l
+    stays = own_stays h x.headed k x.freed r a w moves
+
+    own_block : (m : Leased) → IsIn m (newly_open K S) → m ≡ Block (command_id h) p
+    own_block m at = elim (subst (IsIn m) own_begins at) [ inl here ↦ here | inr nowhere ↦ absurd nowhere ]
+
+    one_turn : in_turn (Block (command_id h) p ∷ []) ≡ Block (command_id h) p ∷ []
+    unfolding in_turn with_leased
+    one_turn = refl
+
+    L_in_U : (l : Leased) → IsOpen L l → IsOpen U l
+    L_in_U = there_both R K L S U left_L left_U same_freed stays
+
+    -- the ring is restored first where its ID is less
+    pub first_restored : r < command_id h → with_begun row (passed_on K L row ts) (Block (command_id h) p ∷ []) ≡ passed_on K U row ts
+    first_restored less =
+        ap (with_begun row (passed_on K L row ts)) (sym (ap in_turn (newly_own R K L S U left_L left_U same_freed stays ∙ own_begins) ∙ one_turn))
+        ∙ sym (only_begins L U row (passed_on K L row ts) (passed_open K L row ts early) L_in_U)
+        ∙ restored_first R K L S U left_L left_U same_freed stays row early ts x.opened (λ l m here at. before_own (k.ring r).free r (command_id h) p less l m here (own_block m at))
+
+    -- else the command's block comes under lease first
+    pub own_first : with_begun row ts (Block (command_id h) p ∷ []) ≡ passed_on K S row ts
+    own_first = ap (with_begun row ts) (sym (ap in_turn own_begins ∙ one_turn)) ∙ sym (only_begins K S row ts x.opened stays)
+
+    pub last_restored : command_id h < r → passed_on S U row (passed_on K S row ts) ≡ passed_on K U row ts
+    last_restored less =
+        restored_last R K L S U left_L left_U same_freed stays row early ts x.opened (λ l m here at. after_own (k.ring r).free r (command_id h) p less l m here (own_block m at))
+
+    -- the place of the command's block is free
+    bounds : (floor_number (k.ring (command_id h)) ≤ p) × (p < floor_number (k.ring (command_id h)) + place_count (shape_of h (command_id h))) × ((k.ring (command_id h)).given p ≡ false)
+    unfolding positions_given due_positions
+    bounds =
+        let v : RingView = k.ring (command_id h) in
+        let s : Shape = shape_of h (command_id h) in
+        let new : ℕ → Bool = λ y. not (v.given y) && gives s v.floor y a w in
+        let found = from_filter new (range_with_len (floor_number v) (place_count s)) p (subst (IsIn p) (sym x.gives) (inl refl)) in
+        let within = from_range (floor_number v) (place_count s) p found.0 in
+        (within.0, within.1, not-true (v.given p) (and_parts (not (v.given p)) (gives s v.floor p a w) found.1).0)
+
+    pub command_free : (m : Known) (us : List Lent) → AreOpen h m us → m.ring (command_id h) ≡ k.ring (command_id h) → is_place_free h us (Block command.id p) ≡ true
+    command_free m us opened same =
+        let view : k.ring (command_id h) ≡ m.ring command.id = sym same ∙ ap (λ i. m.ring i) (sym x.is_command) in
+        let shape : shape_of h (command_id h) ≡ command.shape = ap (shape_of h) (sym x.is_command) ∙ shape_there h x.headed command in_rings in
+        let low : floor_number (m.ring command.id) ≤ p = subst (λ v. floor_number v ≤ p) view bounds.0 in
+        let high : p < floor_number (m.ring command.id) + place_count command.shape =
+        subst (λ s. p < floor_number (m.ring command.id) + place_count s) shape (subst (λ v. p < floor_number v + place_count (shape_of h (command_id h))) view bounds.1) in
+        block_free h (are_shaped h x.headed) m us opened command (driver_in h command x.commands x.drives) p (omega (arith, low, high)) low high (subst (λ (v : RingView). v.given p ≡ false) view bounds.2)
+
+    pub alone_command : alone.ring (command_id h) ≡ k.ring (command_id h)
+    alone_command = ring_elsewhere h k r (command_id h) Restores (λ same. other (sym same))
+
+    pub command_block : Block command.id p ≡ Block (command_id h) p
+    command_block = ap (λ i. Block i p) x.is_command
+
+    pub opened_alone : AreOpen h alone (passed_on K L row ts)
+    opened_alone = passed_open K L row ts early
+
+    pub opened_own : AreOpen h own_step (passed_on K S row ts)
+    opened_own = passed_open K S row ts early
+
+    pub at_end : passed_on K U row ts ≡ passed_on K (open_leases h (learned h (restored h k (Write a w)) (Write a w))) row ts
+    at_end = ap (λ z. passed_on K (open_leases h z) row ts) (sym both_is)

@@ -1,0 +1,32 @@
+-- Where nothing is free a row restores nothing
+use Rattle.std.proofs.Common.{◌≡◌, ◌∙◌, ℕ, Option, None, Some, inl, inr, refl, sym, subst}
+use Rattle.safety.proofs.Words.{cases_eq, Header, Known, RingView, changed, on_ring, shape_of}
+use Rattle.safety.proofs.DriverRows.{ring_elsewhere, ring_here}
+use Rattle.segments.specs.RingKeeps.{IsRestored}
+use Rattle.segments.specs.RingView.{Restores}
+use Rattle.segments.specs.ShapeValue.{Shape}
+use Rattle.traces.specs.declared.row.Row.{Row}
+use Rattle.safety.specs.RingChanges.Withdrawals.{restored, restored_on, ring_restored}
+
+view_same : (shape : Shape) (v : RingView) → IsRestored v → changed shape v Restores ≡ v
+view_same shape v none = λ j. record v { free = λ p. sym (none p) j }
+
+module _ (h : Header) (k : Known) (none : (r : ℕ) → IsRestored (k.ring r)) where
+  ring_same : (r q : ℕ) → (on_ring h k r Restores).ring q ≡ k.ring q
+  ring_same r q =
+      elim (cases_eq q r) [
+        | inl same ↦ subst (λ n. (on_ring h k r Restores).ring n ≡ k.ring n) (sym same) (ring_here h k r Restores ∙ view_same (shape_of h r) (k.ring r) (none r))
+        | inr other ↦ ring_elsewhere h k r q Restores other
+      ]
+
+  on_ring_same : (r : ℕ) → on_ring h k r Restores ≡ k
+  unfolding on_ring
+  on_ring_same r = λ j. record k { ring = λ q. ring_same r q j }
+
+  same_on : (o : Option ℕ) → restored_on h k o ≡ k
+  unfolding restored_on
+  same_on None = refl
+  same_on (Some r) = on_ring_same r
+
+pub restored_same : (h : Header) (k : Known) (row : Row) → ((r : ℕ) → IsRestored (k.ring r)) → restored h k row ≡ k
+restored_same h k row none = same_on h k none (ring_restored h k row)

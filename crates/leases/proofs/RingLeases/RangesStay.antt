@@ -1,0 +1,63 @@
+-- With other rings the same ranges are under lease, so long as the event ring and the command ring are the same
+use Rattle.std.proofs.Common.{◌≡◌, ◌*◌, ◌++◌, ◌∷◌, ◌∙◌, ℕ, List, [], map, filter, Option, Some, None, option_and_then, slice_get, refl, ap}
+use Rattle.safety.proofs.Words.{fun_ext, flat_map, slots, segment_ranges, table_range, entry_ranges, device_ranges, context_ranges, range_of_command, range_of_context, range_of_device, range_of_entry, entry_of, open_ranges, unfinished_positions, command_at, due_positions, command_of, named_context, Command, Header, Ring, RingView, Known, Erstba, shape_of, command_id}
+use Rattle.event_ring.specs.EventRing.{table_bytes}
+use Rattle.segments.specs.ShapeValue.{Shape}
+use Rattle.traces.specs.Register.{base_address}
+use Rattle.ownership_rules.specs.OpenLeases.{EventSegment, Range, SegmentTable}
+use Rattle.safety.proofs.RingChanges.OtherRings.{OtherRings}
+
+module _ (h : Header) (rings : List Ring) (k : Known) (views : ℕ → RingView) (o : OtherRings h rings k views) where
+  abbrev g : Header
+  g = record h { rings = rings }
+
+  abbrev l : Known
+  l = record k { ring = views }
+
+  segments_same : segment_ranges g ≡ segment_ranges h
+  unfolding segment_ranges
+  segments_same = ap (λ (shape : Shape). map (λ s. Range (16 * s.count) s.base EventSegment) shape.segments) o.events
+
+  table_same : (v : Option ℕ) → table_range g v ≡ table_range h v
+  unfolding table_range
+  table_same None = refl
+  table_same (Some v) = ap (λ (shape : Shape). Range (table_bytes shape) (base_address v) SegmentTable ∷ []) o.events
+
+  named_same : (p : ℕ) (c : Option ℕ) → range_of_context g p c ≡ range_of_context h p c
+  unfolding range_of_context
+  named_same p None = refl
+  named_same p (Some c) = refl
+
+  command_same : (p : ℕ) (c : Option Command) → range_of_command g p c ≡ range_of_command h p c
+  unfolding range_of_command
+  command_same p None = refl
+  command_same p (Some c) = named_same p (named_context c)
+
+  contexts_same : context_ranges g l ≡ context_ranges h k
+  unfolding context_ranges unfinished_positions command_at
+  contexts_same =
+      ap (λ f. flat_map f (filter (views (command_id g)).given (due_positions (shape_of g (command_id g)) (views (command_id g)))))
+      (fun_ext (λ p. command_same p (option_and_then command_of (slice_get (views (command_id g)).queue p))))
+      ∙ (λ j. flat_map (λ p. range_of_command h p (option_and_then command_of (slice_get (o.command_view j).queue p))) (filter (o.command_view j).given (due_positions (o.command_shape j) (o.command_view j))))
+
+  entry_same : (s : ℕ) (d : Option ℕ) → range_of_entry l s d ≡ range_of_entry k s d
+  unfolding range_of_entry entry_of
+  entry_same s None = refl
+  entry_same s (Some d) = refl
+
+  entries_same : entry_ranges l ≡ entry_ranges k
+  unfolding entry_ranges
+  entries_same = ap (λ f. flat_map f slots) (fun_ext (λ s. entry_same s (k.device s)))
+
+  device_same : (s : ℕ) (d : Option ℕ) → range_of_device g s d ≡ range_of_device h s d
+  unfolding range_of_device
+  device_same s None = refl
+  device_same s (Some d) = refl
+
+  devices_same : device_ranges g l ≡ device_ranges h k
+  unfolding device_ranges
+  devices_same = ap (λ f. flat_map f slots) (fun_ext (λ s. device_same s (k.device s)))
+
+  pub ranges_stay : open_ranges g l ≡ open_ranges h k
+  unfolding open_ranges
+  ranges_stay = λ j. segments_same j ++ table_same (k.register Erstba) j ++ contexts_same j ++ entries_same j ++ devices_same j

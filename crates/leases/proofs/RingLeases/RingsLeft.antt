@@ -1,0 +1,111 @@
+-- The leases of blocks and Links with a ring more, and with one left out
+use Rattle.std.proofs.Common.{◌≡◌, ◌==◌, ◌&&◌, ◌++◌, ◌∷◌, ◌∙◌, ℕ, not, Bool, true, false, List, [], map, filter, refl, sym, ap, inl, inr}
+use Rattle.std.proofs.lemmas.List.Elements.{filter-append}
+use Rattle.safety.proofs.Words.{cases_Bool, flat_map, IsIn, Header, Ring, Known, is_driver_kind, open_on}
+use Rattle.segments.specs.RingView.{due_crossings, due_positions, leased_crossings, leased_positions, new_ring}
+use Rattle.segments.specs.Places.{is_crossing}
+use Rattle.ownership_rules.specs.OpenLeases.{Leased, Block, Link}
+use Rattle.leases.specs.RingLeases.RingLents.{is_of_ring}
+
+pub filter_none : {X : Type 0} (p : X → Bool) (xs : List X) → ((x : X) → p x ≡ false) → filter p xs ≡ []
+filter_none p [] none = refl
+filter_none p (x ∷ xs) none = rw (none x) (filter_none p xs none)
+
+pub filter_all : {X : Type 0} (p : X → Bool) (xs : List X) → ((x : X) → IsIn x xs → p x ≡ true) → filter p xs ≡ xs
+filter_all p [] all = refl
+filter_all p (x ∷ xs) all = rw (all x (inl refl)) (ap (λ l. x ∷ l) (filter_all p xs (λ y at. all y (inr at))))
+
+abbrev driver : Ring → Bool
+driver q = is_driver_kind q.shape.kind
+
+-- of a new ring nothing is under lease
+and_none : (b : Bool) → (b && false) ≡ false
+and_none true = refl
+and_none false = refl
+
+pub none_on : (h : Header) (k : Known) (r : Ring) → k.ring r.id ≡ new_ring → open_on h k r ≡ []
+unfolding open_on leased_positions leased_crossings
+none_on h k r new = rw new (
+    λ j. map (Block r.id) (filter_none (λ p. false && not false) (due_positions r.shape new_ring) (λ p. refl) j)
+    ++ map (Link r.id) (filter_none (λ q. is_crossing r.shape q && false) (due_crossings r.shape new_ring) (λ q. and_none (is_crossing r.shape q)) j))
+
+module _ (h g : Header) (k l : Known) where
+  on_same : (q : Ring) → l.ring q.id ≡ k.ring q.id → open_on g l q ≡ open_on h k q
+  unfolding open_on
+  on_same q same = ap (λ v. map (Block q.id) (leased_positions q.shape v) ++ map (Link q.id) (leased_crossings q.shape v)) same
+
+  -- of rings of which the same is known the same is under lease
+  pub all_same : (rs : List Ring) → ((q : Ring) → IsIn q rs → l.ring q.id ≡ k.ring q.id) → flat_map (open_on g l) (filter driver rs) ≡ flat_map (open_on h k) (filter driver rs)
+  all_same [] same = refl
+  all_same (q ∷ rs) same =
+      let rest = all_same rs (λ x at. same x (inr at)) in
+      elim (cases_Bool (driver q)) [
+        | inl kept ↦ rw kept (λ j. on_same q (same q (inl refl)) j ++ rest j)
+        | inr other ↦ rw other rest
+      ]
+
+  -- of a ring more nothing is
+  pub one_more : (rs : List Ring) (r : Ring) → ((q : Ring) → IsIn q rs → l.ring q.id ≡ k.ring q.id) → l.ring r.id ≡ new_ring → driver r ≡ true →
+      flat_map (open_on g l) (filter driver (rs ++ r ∷ [])) ≡ flat_map (open_on h k) (filter driver rs)
+  one_more [] r same new is = rw (is, none_on g l r new) refl
+  one_more (q ∷ rs) r same new is =
+      let rest = one_more rs r (λ x at. same x (inr at)) new is in
+      elim (cases_Bool (driver q)) [
+        | inl kept ↦ rw kept (λ j. on_same q (same q (inl refl)) j ++ rest j)
+        | inr other ↦ rw other rest
+      ]
+
+module _ (id : ℕ) where
+  abbrev pub others : Leased → Bool
+  others m = not (is_of_ring id m)
+
+  blocks_kept : (s : ℕ) (ps : List ℕ) → (s == id) ≡ false → filter others (map (Block s) ps) ≡ map (Block s) ps
+  blocks_kept s [] apart = refl
+  blocks_kept s (p ∷ ps) apart = rw apart (ap (λ ms. Block s p ∷ ms) (blocks_kept s ps apart))
+
+  links_kept : (s : ℕ) (qs : List ℕ) → (s == id) ≡ false → filter others (map (Link s) qs) ≡ map (Link s) qs
+  links_kept s [] apart = refl
+  links_kept s (q ∷ qs) apart = rw apart (ap (λ ms. Link s q ∷ ms) (links_kept s qs apart))
+
+  blocks_gone : (s : ℕ) (ps : List ℕ) → (s == id) ≡ true → filter others (map (Block s) ps) ≡ []
+  blocks_gone s [] same = refl
+  blocks_gone s (p ∷ ps) same = rw same (blocks_gone s ps same)
+
+  links_gone : (s : ℕ) (qs : List ℕ) → (s == id) ≡ true → filter others (map (Link s) qs) ≡ []
+  links_gone s [] same = refl
+  links_gone s (q ∷ qs) same = rw same (links_gone s qs same)
+
+  module _ (h : Header) (k : Known) (q : Ring) where
+    on_kept : (q.id == id) ≡ false → filter others (open_on h k q) ≡ open_on h k q
+    unfolding open_on
+    on_kept apart =
+        filter-append others (map (Block q.id) (leased_positions q.shape (k.ring q.id))) (map (Link q.id) (leased_crossings q.shape (k.ring q.id)))
+        ∙ (λ j. blocks_kept q.id (leased_positions q.shape (k.ring q.id)) apart j ++ links_kept q.id (leased_crossings q.shape (k.ring q.id)) apart j)
+
+    on_gone : (q.id == id) ≡ true → filter others (open_on h k q) ≡ []
+    unfolding open_on
+    on_gone same =
+        filter-append others (map (Block q.id) (leased_positions q.shape (k.ring q.id))) (map (Link q.id) (leased_crossings q.shape (k.ring q.id)))
+        ∙ (λ j. blocks_gone q.id (leased_positions q.shape (k.ring q.id)) same j ++ links_gone q.id (leased_crossings q.shape (k.ring q.id)) same j)
+
+  abbrev pub keep : Ring → Bool
+  keep q = not (q.id == id)
+
+  -- with a ring left out the leases of its blocks and Links are left out
+  pub one_less : (h g : Header) (k l : Known) (rs : List Ring) → ((s : ℕ) → (s == id) ≡ false → l.ring s ≡ k.ring s) →
+      flat_map (open_on g l) (filter driver (filter keep rs)) ≡ filter others (flat_map (open_on h k) (filter driver rs))
+  one_less h g k l [] same = refl
+  one_less h g k l (q ∷ rs) same =
+      let rest = one_less h g k l rs same in
+      elim (cases_Bool (q.id == id)) [
+        | inl gone ↦ elim (cases_Bool (driver q)) [
+          | inl is ↦ rw (gone, is) (rest ∙ sym (filter-append others (open_on h k q) (flat_map (open_on h k) (filter driver rs)) ∙ ap (λ ms. ms ++ filter others (flat_map (open_on h k) (filter driver rs))) (on_gone h k q gone)))
+          | inr other ↦ rw (gone, other) rest
+        ]
+        | inr stays ↦ elim (cases_Bool (driver q)) [
+          | inl is ↦
+              rw (stays, is) ((λ j. (on_same h g k l q (same q.id stays) ∙ sym (on_kept h k q stays)) j ++ rest j)
+              ∙ sym (filter-append others (open_on h k q) (flat_map (open_on h k) (filter driver rs))))
+          | inr other ↦ rw (stays, other) rest
+        ]
+      ]

@@ -1,0 +1,214 @@
+-- What begins at a row that restores a ring and begins leases of its own, told in two steps: what is open before it (K), behind it (L), where the
+-- ring alone is restored (R), and where the row's own step alone is made (S)
+use Rattle.std.proofs.Common.{◌≡◌, ◌<◌, ◌&&◌, ◌++◌, ◌∷◌, ◌∙◌, ℕ, Bool, true, false, not, List, [], filter, map, refl, sym, ap, subst, inl, inr, cond}
+use Rattle.std.proofs.lemmas.Bool.{cases_Bool, and_parts, and_from, false≢true}
+use Rattle.ownership_rules.proofs.Among.{IsIn, from_filter, in_among, in_filter}
+use Rattle.ownership_rules.specs.OpenLeases.{Leased, is_among}
+use Rattle.ownership_rules.specs.Leases.{without_end}
+use Rattle.leases.specs.LeaseBooks.Books.{AllUnended}
+use Rattle.leases.specs.LeaseBooks.Lents.{Lent, begun_at, in_turn, newly_open, passed_on, precedes, with_begun, with_leased}
+use Rattle.leases.proofs.LeaseBooks.Growing.{map_append}
+use Rattle.leases.proofs.LeaseBooks.Passing.{none_over}
+use Rattle.leases.proofs.LeaseBooks.Rows.{IsOpen, from_turn, passed_by, passed_open}
+use Rattle.leases.proofs.RingLeases.Filtered.{filter_alike, filter_twice}
+use Rattle.leases.proofs.RingLeases.OpenBehind.{among_filtered}
+
+-- ---- lists in turn
+
+-- one that precedes all of the second list stands among the first
+pub with_first : (l : Leased) (xs ys : List Leased) → ((m : Leased) → IsIn m ys → precedes l m ≡ true) → with_leased l (xs ++ ys) ≡ with_leased l xs ++ ys
+unfolding with_leased
+with_first l [] [] all = refl
+with_first l [] (y ∷ ys) all = rw (all y (inl refl)) refl
+with_first l (x ∷ xs) ys all = by (precedes l x) (with_first l xs ys all)
+  where
+    by : (b : Bool) → with_leased l (xs ++ ys) ≡ with_leased l xs ++ ys → cond b (l ∷ x ∷ xs ++ ys) (x ∷ with_leased l (xs ++ ys)) ≡ cond b (l ∷ x ∷ xs) (x ∷ with_leased l xs) ++ ys
+    by true e = refl
+    by false e = ap (λ zs. x ∷ zs) e
+
+-- one that precedes none of the first list stands among the second
+with_later : (l : Leased) (xs ys : List Leased) → ((m : Leased) → IsIn m xs → precedes l m ≡ false) → with_leased l (xs ++ ys) ≡ xs ++ with_leased l ys
+unfolding with_leased
+with_later l [] ys none = refl
+with_later l (x ∷ xs) ys none = rw (none x (inl refl)) (ap (λ zs. x ∷ zs) (with_later l xs ys (λ m at. none m (inr at))))
+
+-- the one stands before the other, whichever comes first
+abbrev pub IsBefore : Leased → Leased → Type 0
+IsBefore l m = (precedes l m ≡ true) × (precedes m l ≡ false)
+
+-- where those that pass a test stand before those that don't
+pub turn_parted : (P : Leased → Bool) (ls : List Leased) → ((l m : Leased) → IsIn l ls → P l ≡ true → IsIn m ls → P m ≡ false → IsBefore l m) →
+    in_turn ls ≡ in_turn (filter P ls) ++ in_turn (filter (λ l. not (P l)) ls)
+unfolding in_turn
+turn_parted P [] before = refl
+turn_parted P (l ∷ ls) before =
+    let rest : in_turn ls ≡ in_turn (filter P ls) ++ in_turn (filter (λ l. not (P l)) ls) = turn_parted P ls (λ a b at p bt q. before a b (inr at) p (inr bt) q) in
+    elim (cases_Bool (P l)) [
+      | inl holds ↦
+          rw holds
+          (ap (with_leased l) rest
+          ∙ with_first l (in_turn (filter P ls)) (in_turn (filter (λ l. not (P l)) ls)) (λ m at.
+          let found = from_filter (λ l. not (P l)) ls m (from_turn (filter (λ l. not (P l)) ls) m at) in
+          (before l m (inl refl) holds (inr found.0) (not_true (P m) found.1)).0))
+      | inr fails ↦
+          rw fails
+          (ap (with_leased l) rest
+          ∙ with_later l (in_turn (filter P ls)) (in_turn (filter (λ l. not (P l)) ls)) (λ m at.
+          let found = from_filter P ls m (from_turn (filter P ls) m at) in
+          (before m l (inr found.0) found.1 (inl refl) fails).1))
+    ]
+  where
+    not_true : (b : Bool) → not b ≡ true → b ≡ false
+    not_true true e = absurd (false≢true e)
+    not_true false e = refl
+
+-- what begins at one row in two steps
+pub begun_both : (n : ℕ) (ts : List Lent) (xs ys : List Leased) → with_begun n (with_begun n ts xs) ys ≡ with_begun n ts (xs ++ ys)
+unfolding with_begun
+begun_both n ts xs ys = sym (joined ts (map (begun_at n) xs) (map (begun_at n) ys)) ∙ ap (λ us. ts ++ us) (sym (map_append (begun_at n) xs ys))
+  where
+    joined : (us vs ws : List Lent) → us ++ (vs ++ ws) ≡ (us ++ vs) ++ ws
+    joined [] vs ws = refl
+    joined (u ∷ us) vs ws = ap (λ xs. u ∷ xs) (joined us vs ws)
+
+-- where nothing ends
+pub only_begins : (before after : List Leased) (n : ℕ) (ts : List Lent) → AllUnended (λ i l. IsOpen before l) 0 ts → ((l : Leased) → IsOpen before l → IsOpen after l) →
+    passed_on before after n ts ≡ with_begun n ts (in_turn (newly_open before after))
+only_begins before after n ts opened stays =
+    passed_by before after n ts opened (λ l. false) (in_turn (newly_open before after)) stays refl
+    ∙ ap (λ us. with_begun n us (in_turn (newly_open before after))) (none_over (λ l. false) n ts (λ l. refl))
+
+either_way : (a b c : Bool) → a ≡ (b && not c) → b ≡ true → not a ≡ c
+either_way true true true e f = absurd (false≢true (sym e))
+either_way true true false e f = refl
+either_way false true true e f = refl
+either_way false true false e f = absurd (false≢true e)
+either_way a false c e f = absurd (false≢true f)
+
+-- R tells what is restored
+module _ (R : Leased → Bool) (K L S U : List Leased)
+    (alone : K ≡ filter (λ l. not (R l)) L) (with_step : S ≡ filter (λ l. not (R l)) U) (same : filter R L ≡ filter R U)
+    (stays : (l : Leased) → IsOpen K l → IsOpen S l) where
+  abbrev other : Leased → Bool
+  other l = not (R l)
+
+  in_K : (l : Leased) → is_among K l ≡ (is_among L l && not (R l))
+  in_K l = ap (λ xs. is_among xs l) alone ∙ among_filtered other L l
+
+  in_S : (l : Leased) → is_among S l ≡ (is_among U l && not (R l))
+  in_S l = ap (λ xs. is_among xs l) with_step ∙ among_filtered other U l
+
+  -- what is restored is there either way
+  restored_there : (l : Leased) → R l ≡ true → is_among L l ≡ is_among U l
+  restored_there l holds =
+      sym (drop (is_among L l) (R l) holds) ∙ sym (among_filtered R L l) ∙ ap (λ xs. is_among xs l) same ∙ among_filtered R U l ∙ drop (is_among U l) (R l) holds
+    where
+      drop : (a b : Bool) → b ≡ true → (a && b) ≡ a
+      drop true b e = e
+      drop false b e = refl
+
+  K_in_L : (l : Leased) → IsOpen K l → IsOpen L l
+  K_in_L l at = (and_parts (is_among L l) (not (R l)) (sym (in_K l) ∙ at)).0
+
+  S_in_U : (l : Leased) → IsOpen S l → IsOpen U l
+  S_in_U l at = (and_parts (is_among U l) (not (R l)) (sym (in_S l) ∙ at)).0
+
+  pub L_in_U : (l : Leased) → IsOpen L l → IsOpen U l
+  L_in_U l at = elim (cases_Bool (R l)) [
+    | inl holds ↦ sym (restored_there l holds) ∙ at
+    | inr fails ↦ S_in_U l (stays l (in_K l ∙ and_from (is_among L l) (not (R l)) at (ap not fails)))
+  ]
+
+  abbrev N : List Leased
+  N = newly_open K U
+
+  newly_restored : newly_open K L ≡ newly_open S U
+  newly_restored =
+      filter_alike (λ l. not (is_among K l)) R L (λ l at. either_way (is_among K l) (is_among L l) (R l) (in_K l) (in_among L l at))
+      ∙ same
+      ∙ sym (filter_alike (λ l. not (is_among S l)) R U (λ l at. either_way (is_among S l) (is_among U l) (R l) (in_S l) (in_among U l at)))
+
+  restored_part : filter R N ≡ newly_open S U
+  restored_part =
+      filter_twice R (λ l. not (is_among K l)) U
+      ∙ filter_alike (λ l. not (is_among K l) && R l) (λ l. not (is_among S l)) U (λ l at.
+      by (is_among K l) (is_among L l) (R l) (in_K l) ∙ sym (either_way (is_among S l) (is_among U l) (R l) (in_S l) (in_among U l at)))
+    where
+      by : (a b c : Bool) → a ≡ (b && not c) → (not a && c) ≡ c
+      by true true true e = absurd (false≢true (sym e))
+      by true false c e = absurd (false≢true (sym e))
+      by true b false e = refl
+      by false b c e = refl
+
+  own_part : filter other N ≡ newly_open K S
+  own_part =
+      filter_twice other (λ l. not (is_among K l)) U
+      ∙ filter_alike (λ l. not (is_among K l) && other l) (λ l. other l && not (is_among K l)) U (λ l at. swap (not (is_among K l)) (other l))
+      ∙ sym (filter_twice (λ l. not (is_among K l)) other U)
+      ∙ ap (filter (λ l. not (is_among K l))) (sym with_step)
+    where
+      swap : (a b : Bool) → (a && b) ≡ (b && a)
+      swap true true = refl
+      swap true false = refl
+      swap false true = refl
+      swap false false = refl
+
+  -- what the row's own step begins is the same behind the restoring
+  pub newly_own : newly_open L U ≡ newly_open K S
+  newly_own =
+      filter_alike (λ l. not (is_among L l)) (λ l. not (is_among K l) && other l) U (λ l at. elim (cases_Bool (R l)) [
+        | inl holds ↦ ap not (restored_there l holds ∙ in_among U l at) ∙ sym (last (not (is_among K l)) (R l) holds)
+        | inr fails ↦ sym (ap (λ b. not b && other l) (in_K l) ∙ mid (is_among L l) (R l) fails)
+      ])
+      ∙ sym (filter_twice other (λ l. not (is_among K l)) U)
+      ∙ own_part
+    where
+      last : (a b : Bool) → b ≡ true → (a && not b) ≡ false
+      last true true e = refl
+      last false b e = refl
+      last true false e = absurd (false≢true e)
+
+      mid : (a b : Bool) → b ≡ false → (not (a && not b) && not b) ≡ not a
+      mid true false e = refl
+      mid false false e = refl
+      mid a true e = absurd (false≢true (sym e))
+
+  module _ (n : ℕ) (early : n < without_end) (ts : List Lent) (opened : AllUnended (λ i l. IsOpen K l) 0 ts) where
+    K_in_U : (l : Leased) → IsOpen K l → IsOpen U l
+    K_in_U l at = S_in_U l (stays l at)
+
+    -- the ring is restored first, where what is restored stands before what the row's own step begins
+    pub restored_first : ((l m : Leased) → R l ≡ true → IsIn m (newly_open K S) → IsBefore l m) → passed_on L U n (passed_on K L n ts) ≡ passed_on K U n ts
+    restored_first before =
+        only_begins L U n (passed_on K L n ts) (passed_open K L n ts early) L_in_U
+        ∙ ap (λ us. with_begun n us (in_turn (newly_open L U))) (only_begins K L n ts opened K_in_L)
+        ∙ begun_both n ts (in_turn (newly_open K L)) (in_turn (newly_open L U))
+        ∙ ap (with_begun n ts) (sym turned)
+        ∙ sym (only_begins K U n ts opened K_in_U)
+      where
+        turned : in_turn N ≡ in_turn (newly_open K L) ++ in_turn (newly_open L U)
+        turned =
+            turn_parted R N (λ l m at holds bt fails. before l m holds (subst (IsIn m) own_part (in_filter other N m bt (ap not fails))))
+            ∙ (λ j. in_turn ((restored_part ∙ sym newly_restored) j) ++ in_turn ((own_part ∙ sym newly_own) j))
+
+    -- the row's own step is made first, where what it begins stands before what is restored
+    pub restored_last : ((l m : Leased) → R l ≡ true → IsIn m (newly_open K S) → IsBefore m l) → passed_on S U n (passed_on K S n ts) ≡ passed_on K U n ts
+    restored_last after =
+        only_begins S U n (passed_on K S n ts) (passed_open K S n ts early) S_in_U
+        ∙ ap (λ us. with_begun n us (in_turn (newly_open S U))) (only_begins K S n ts opened stays)
+        ∙ begun_both n ts (in_turn (newly_open K S)) (in_turn (newly_open S U))
+        ∙ ap (with_begun n ts) (sym turned)
+        ∙ sym (only_begins K U n ts opened K_in_U)
+      where
+        turned : in_turn N ≡ in_turn (newly_open K S) ++ in_turn (newly_open S U)
+        turned =
+            turn_parted other N (λ m l at fails bt holds. after l m (twice (R l) holds) (subst (IsIn m) own_part (in_filter other N m at fails)))
+            ∙ (λ j. in_turn (own_part j) ++ in_turn ((filter_alike (λ l. not (other l)) R N (λ l at. still (R l)) ∙ restored_part) j))
+          where
+            twice : (b : Bool) → not b ≡ false → b ≡ true
+            twice true e = refl
+            twice false e = absurd (false≢true (sym e))
+
+            still : (b : Bool) → not (not b) ≡ b
+            still true = refl
+            still false = refl

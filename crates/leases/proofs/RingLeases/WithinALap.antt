@@ -1,0 +1,65 @@
+-- The open leases of a ring lie within a lap, and a number more, from its floor on: to pass all of these ends them, and no others. A Link may
+-- be given long before blocks are declared up to it, so what is declared is no bound
+use Rattle.std.proofs.Common.{◌≡◌, ◌≢◌, ◌+◌, ◌<◌, ◌≤◌, ◌==◌, ◌&&◌, ◌∷◌, ◌∙◌, ℕ, List, [], true, nat_le, nat_lt, arith, refl, sym, ap, inl, inr}
+use Rattle.std.proofs.lemmas.Bool.Decides.{nat_tests}
+use Rattle.safety.proofs.Words.{cases_eq, Header, IsHeader, Ring, from_filter, is_driver_kind, Known, IsIn, driver_rings, flat_map, open_leases, open_on, open_ranges, shape_of, place_count, floor_number}
+use Rattle.ownership_rules.proofs.Among.{among_is}
+use Rattle.ownership_rules.specs.OpenLeases.{Leased, Block, Link, Range, is_among}
+use Rattle.leases.specs.LeaseBooks.Lents.{is_passed}
+use Rattle.leases.proofs.LeaseBooks.Members.{InOn, block, link, from_flat_map, in_either, in_on}
+use Rattle.leases.proofs.LeaseBooks.RangesAlone.{IsRange, open_are_ranges}
+use Rattle.leases.proofs.LeaseBooks.Writing.{AreShaped}
+use Rattle.trace_record.proofs.RingFinder.RingsApart.{IsAmong}
+use Rattle.trace_record.proofs.RingFinder.HeaderRings.{shape_there}
+use Rattle.leases.specs.RingLeases.RingLents.{is_of_ring}
+
+inside : (a id from p to : ℕ) → a ≡ id → from ≤ p → p < to → (id == a && nat_le from p && nat_lt p to) ≡ (a == id)
+inside a id from p to same low high = grind (arith, nat_tests, same, low, high)
+
+outside : (a id from p to : ℕ) → a ≢ id → (id == a && nat_le from p && nat_lt p to) ≡ (a == id)
+outside a id from p to other = grind (arith, nat_tests, other)
+
+module _ (h : Header) (k : Known) (id : ℕ) where
+  abbrev floor : ℕ
+  floor = floor_number (k.ring id)
+
+  -- behind all numbers that may be due
+  abbrev pub end : ℕ
+  end = floor + (place_count (shape_of h id) + 1)
+
+  here : (q : Ring) → q.id ≡ id → shape_of h q.id ≡ q.shape → (floor_number (k.ring q.id) ≡ floor) × (place_count q.shape ≡ place_count (shape_of h id))
+  here q same shaped = (ap (λ s. floor_number (k.ring s)) same, ap place_count (sym shaped ∙ ap (shape_of h) same))
+
+  on_ring : (q : Ring) (l : Leased) → shape_of h q.id ≡ q.shape → InOn q (k.ring q.id) l → is_passed id floor end l ≡ is_of_ring id l
+  on_ring q _ shaped (block p low high lent) = elim (cases_eq q.id id) [
+    | inl same ↦ let at = here q same shaped in inside q.id id floor p end same (omega (arith, low, at.0)) (omega (arith, high, at.0, at.1))
+    | inr other ↦ outside q.id id floor p end other
+  ]
+  on_ring q _ shaped (link c low high crossed) = elim (cases_eq q.id id) [
+    | inl same ↦ let at = here q same shaped in inside q.id id floor c end same (omega (arith, low, at.0)) (omega (arith, high, at.0, at.1))
+    | inr other ↦ outside q.id id floor c end other
+  ]
+
+  of_range : (l : Leased) → IsRange l → is_passed id floor end l ≡ is_of_ring id l
+  of_range (Block r p) is = absurd is
+  of_range (Link r q) is = absurd is
+  of_range (Range n a e) is = refl
+
+  pub all_passed : AreShaped h → (l : Leased) → is_among (open_leases h k) l ≡ true → is_passed id floor end l ≡ is_of_ring id l
+  unfolding open_leases
+  all_passed shaped l is_open =
+      elim (in_either l (flat_map (open_on h k) (driver_rings h)) (open_ranges h k) (among_is _ l is_open)) [
+        | inl on ↦
+            let found = from_flat_map (open_on h k) (driver_rings h) l on in
+            on_ring found.0 l (shaped found.0 found.1) (in_on h k found.0 l found.2)
+        | inr range ↦ of_range l (open_are_ranges h k l range)
+      ]
+
+-- each ring has the shape of its ID
+pub among : (q : Ring) (rs : List Ring) → IsIn q rs → IsAmong q rs
+among q [] at = absurd at
+among q (x ∷ rest) at = elim at [ inl here ↦ inl (sym here) | inr later ↦ inr (among q rest later) ]
+
+pub are_shaped : (h : Header) → IsHeader h → AreShaped h
+unfolding driver_rings
+are_shaped h headed q at = shape_there h headed q (among q h.rings (from_filter (λ r. is_driver_kind r.shape.kind) h.rings q at).0)

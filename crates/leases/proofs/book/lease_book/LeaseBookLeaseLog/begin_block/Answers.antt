@@ -1,0 +1,15 @@
+use Rattle.leases.proofs.LeaseBooks.Words.{◌≡◌, ◌%◌, ◌∙◌, ap, sym, Block, place_count, shape_of}
+use Rattle.leases.proofs.LeaseBooks.Places.{block_found, list_begun, length_held, put_at}
+use Rattle.leases.proofs.book.lease_book.LeaseBookLeaseLog.begin_block.Goals as goal
+
+pub returns : goal.returns
+returns c = λ list h ts shape known free.
+    let place : c.args.position % c.from.result ≡ c.args.position % place_count (shape_of h c.args.ring.now.id) = ap (λ n. c.args.position % n) (c.from.ensures ∙ c.places.ensures.count ∙ ap place_count (sym shape)) in
+    let index : c.len-index.result ≡ c.args.self.now.leases.len = c.len-index.ensures in
+    record {
+      list = list_begun ts c.args.row (Block c.args.ring.now.id c.args.position) c.args.self.now.leases.items c.push.new.self.items known.list c.block_lease.ensures c.in_ok-push.ensures.items;
+      found =
+          block_found h c.args.self.now.blocks c.put.new.self c.args.self.now.links c.args.ring.now.id c.args.position c.args.row ts known.found
+          (put_at c.args.self.now.blocks c.put.new.self c.args.ring.now.id _ _ _ _ place (index ∙ c.args.self.now.leases.ok.0 ∙ length_held h ts c.args.self.now known)
+          (record { same = c.in_ok-put.ensures.same; ring = c.in_ok-put.ensures.ring; others = λ s m. c.in_ok-put.ensures.others s m })) free;
+    }

@@ -1,0 +1,14 @@
+use Rattle.std.proofs.Common.{List, map, take}
+use Rattle.traces.specs.declared.header.Header.{Header}
+use Rattle.ring_knowledge.specs.declared.lease.Lease.{Lease}
+use Rattle.ring_knowledge.specs.Known.{Known}
+use Rattle.ownership_rules.specs.OpenLeases.{Block}
+use Rattle.leases.specs.LeaseBooks.Lents.{Lent, with_begun}
+use Rattle.leases.proofs.RingLeases.LentFree.{Restoring}
+use Rattle.leases.proofs.rings.freeing.note_restoring.Given as goal
+
+-- the leases of the positions before the index have begun
+abbrev pub invariant-loop-position : goal.invariant-loop-position
+invariant-loop-position g l =
+    (list : List Lease) (h : Header) (k : Known) (ts : List Lent) → Restoring h k ts l.ring l.positions → g.B.LeaseLog.holds list h ts l.fn.book →
+    g.B.LeaseLog.holds list h (with_begun l.row ts (map (Block l.ring.id) (take l.position-index l.positions))) l.book

@@ -1,0 +1,8 @@
+use Rattle.std.proofs.Common.{◌≡◌, ◌<◌, ℕ, false, get_or}
+use Rattle.traces.specs.declared.ring.Ring.{Ring}
+use Rattle.traces.specs.Header.{is_event_kind}
+use Rattle.leases.proofs.rows.other_rows.event_segments.Given as goal
+
+-- no ring so far is an event ring
+abbrev pub invariant-loop-ring : goal.invariant-loop-ring
+invariant-loop-ring l = (i : ℕ) (d : Ring) → i < l.ring-index → is_event_kind (get_or l.header.rings i d).shape.kind ≡ false

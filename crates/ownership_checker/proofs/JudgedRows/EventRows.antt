@@ -1,0 +1,204 @@
+-- Which rule an event breaks, and what is known behind one that breaks none
+use Rattle.std.proofs.Common.{◌≡◌, ℕ, List, [], ◌∷◌, true, false, inl, inr, Some, None, refl, ap, sym, ◌∙◌, ◌+◌, subst}
+use Rattle.std.specs.Prelude.{◌||◌, ◌&&◌, ◌==◌, not, if◌then◌else◌, Bool}
+use Rattle.std.specs.Bool.{OnTrue}
+use Rattle.std.proofs.lemmas.Bool.{and_parts, cases_Bool, false≢true, or_parts, not-false}
+use Rattle.trb.specs.declared.block.Block.{Block}
+use Rattle.trb.specs.Block.{cycle, kind}
+use Rattle.trb.specs.declared.kind.BlockKind.{BlockKind}
+use Rattle.trb.specs.declared.kind.BlockKind.TheVariants.{TransferEvent, CommandCompletion}
+use Rattle.segments.specs.Places.{cycle_of}
+use Rattle.traces.specs.Header.{IsHeader, event_shape}
+use Rattle.trb.specs.Kind.{is_event, is_transfer_event}
+use Rattle.traces.specs.declared.header.Header.{Header}
+use Rattle.traces.specs.declared.row.Row.TheVariants.{Read}
+use Rattle.ring_knowledge.specs.Known.{Known}
+use Rattle.ring_knowledge.specs.Learned.{learned, event_read}
+use Rattle.ring_knowledge.specs.Transfers.{transfer_read}
+use Rattle.ring_knowledge.specs.Completions.{completed}
+use Rattle.ownership_rules.specs.declared.refusal.Refusal.TheVariants.{AfterStop, ImpossibleEvent, NotInProfile}
+use Rattle.ownership_rules.specs.Refusal.{first_of, first_broken, broken_of}
+use Rattle.ownership_rules.specs.Older.{older, stricter}
+use Rattle.ownership_rules.specs.Rules.{broken, lenient_tests, tests}
+use Rattle.ownership_rules.specs.Events.{event_tests, is_impossible, is_impossible_by_kind, is_impossible_completion, is_impossible_transfer, is_in_profile, is_past_room}
+use Rattle.safety.specs.Keeps.{DriverKeeps}
+use Rattle.safety.proofs.Lenient.{lenient_row}
+use Rattle.safety.proofs.TestsPassed.{AllFail, tests_fail}
+use Rattle.safety.proofs.SameDriver.{event_same}
+use Rattle.trace_record.specs.declared.trace_record.TraceRecord.{TraceRecord}
+use Rattle.trace_record.specs.FollowsTrace.{FollowsTrace}
+use Rattle.trace_record.specs.Steps.{IsLeast, IsRowStep}
+use Rattle.trace_record.specs.Premises.{IsSetUp}
+use Rattle.event_rows.proofs.TransferEvents.Reports.{left_out as left_out_transfer}
+use Rattle.ownership_checker.proofs.JudgedRows.Keeping.{set_up}
+use Rattle.trace_record.proofs.FirstBroken.{first_broken-is, nothing_broken}
+
+not_true : (b : Bool) → not b ≡ true → b ≡ false
+not_true true e = absurd (false≢true e)
+not_true false e = refl
+
+pub not_negated : (b c : Bool) → not b ≡ c → b ≡ not c
+not_negated true c e = ap not e
+not_negated false c e = ap not e
+
+-- what is so where a test is passed
+pub on_true : (b : Bool) (P Q : Type 0) → (P → Q) → OnTrue b P → OnTrue b Q
+on_true true P Q leads p = leads p
+on_true false P Q leads p = p
+
+pub when_true : (b : Bool) (P : Type 0) → b ≡ true → OnTrue b P → P
+when_true true P is p = p
+when_true false P is p = absurd (false≢true is)
+
+module _ (h : Header) (k : Known) (on : k.stopped ≡ false) (b : Block) where
+  tested : first_of (broken h k (Read b)) ≡ first_broken (event_tests h k b)
+  unfolding broken tests lenient_tests older stricter event_tests
+  tested = ap (λ x. first_of (if x then AfterStop ∷ [] else broken_of (event_tests h k b))) on ∙ first_broken-is (event_tests h k b)
+
+  pub impossible : is_impossible h k b ≡ true → IsLeast h k (Read b) ImpossibleEvent
+  unfolding event_tests
+  impossible is = tested ∙ rw is refl
+
+  module _ (possible : is_impossible h k b ≡ false) where
+    pub left_out : (is_transfer_event (kind b) && not (is_in_profile b)) ≡ true → IsLeast h k (Read b) NotInProfile
+    unfolding event_tests
+    left_out is = tested ∙ rw (possible, is) refl
+
+    pub clean_event : (is_transfer_event (kind b) && not (is_in_profile b)) ≡ false → broken h k (Read b) ≡ []
+    unfolding event_tests
+    clean_event is = nothing_broken (broken h k (Read b)) (tested ∙ rw (possible, is) refl)
+
+-- it is counted
+pub counted : (h : Header) (k : Known) (b : Block) (after : TraceRecord) (m : ℕ → ℕ) → FollowsTrace h (record (event_read h k (kind b) b) { reads = (event_read h k (kind b) b).reads + 1 }) after m →
+    FollowsTrace h (learned h k (Read b)) after m
+unfolding learned
+counted h k b after m f = subst (λ n. FollowsTrace h (record (event_read h k (kind b) b) { reads = n + 1 }) after m) (event_same h k (kind b) b).reads f
+
+-- what is an event in its place: there is room for it, its Cycle bit is that of its place, and its type is an event's
+abbrev pub is_no_event : Header → Known → Block → Bool
+is_no_event h k b = not k.started || is_past_room h k || not (cycle b == cycle_of (event_shape h) k.reads) || not (is_event (kind b))
+
+module _ (h : Header) (k : Known) (b : Block) where
+  pub by_place : is_no_event h k b ≡ true → true ≡ is_impossible h k b
+  unfolding is_impossible
+  by_place is = rw is refl
+
+  module _ (placed : is_no_event h k b ≡ false) where
+    pub is_started : k.started ≡ true
+    is_started =
+        let first = or_parts (not k.started || is_past_room h k || not (cycle b == cycle_of (event_shape h) k.reads)) (not (is_event (kind b))) placed in
+        let second = or_parts (not k.started || is_past_room h k) (not (cycle b == cycle_of (event_shape h) k.reads)) first.0 in
+        not-false k.started (or_parts (not k.started) (is_past_room h k) second.0).0
+
+    pub by_kind : is_impossible h k b ≡ is_impossible_by_kind h k (kind b) b
+    unfolding is_impossible
+    by_kind = rw placed refl
+
+  pub of_transfer : kind b ≡ TransferEvent → is_impossible_transfer h k b ≡ is_impossible_by_kind h k (kind b) b
+  unfolding is_impossible_by_kind
+  of_transfer is = ap (λ n. is_impossible_by_kind h k n b) (sym is)
+
+  pub of_completion : kind b ≡ CommandCompletion → is_impossible_completion h k b ≡ is_impossible_by_kind h k (kind b) b
+  unfolding is_impossible_by_kind
+  of_completion is = ap (λ n. is_impossible_by_kind h k n b) (sym is)
+
+  pub other_possible : (kind b ≡ TransferEvent → ⊥) → (kind b ≡ CommandCompletion → ⊥) → is_impossible_by_kind h k (kind b) b ≡ false
+  unfolding is_impossible_by_kind
+  other_possible no_transfer no_completion = neither (kind b) no_transfer no_completion
+    where
+      neither : (n : BlockKind) → (n ≡ TransferEvent → ⊥) → (n ≡ CommandCompletion → ⊥) → is_impossible_by_kind h k n b ≡ false
+      neither TransferEvent no_transfer no_completion = absurd (no_transfer refl)
+      neither CommandCompletion no_transfer no_completion = absurd (no_completion refl)
+      neither _ no_transfer no_completion = refl
+
+  -- an event that the profile leaves out is possible by its type
+  pub left_out_possible : IsHeader h → DriverKeeps h k → (is_transfer_event (kind b) && not (is_in_profile b)) ≡ true → is_impossible_by_kind h k (kind b) b ≡ false
+  unfolding is_impossible_by_kind
+  left_out_possible headed keeps left =
+      let parts = and_parts (is_transfer_event (kind b)) (not (is_in_profile b)) left in
+      transfer (kind b) parts.0 (left_out_transfer h headed k keeps b (not_true (is_in_profile b) parts.1))
+    where
+      transfer : (n : BlockKind) → is_transfer_event n ≡ true → is_impossible_transfer h k b ≡ false → is_impossible_by_kind h k n b ≡ false
+      transfer TransferEvent is may = may
+      transfer _ is may = absurd (false≢true is)
+
+  pub within_profile : kind b ≡ TransferEvent → (is_transfer_event (kind b) && not (is_in_profile b)) ≡ false → is_in_profile b ≡ true
+  within_profile is within = not-false (is_in_profile b) (ap (λ n. is_transfer_event n && not (is_in_profile b)) (sym is) ∙ within)
+
+  -- of an event that is possible
+  module _ (possible : is_impossible h k b ≡ false) where
+    parts : (is_no_event h k b ≡ false) × (is_impossible_by_kind h k (kind b) b ≡ false)
+    unfolding is_impossible
+    parts = or_parts (is_no_event h k b) (is_impossible_by_kind h k (kind b) b) possible
+
+    pub in_turn : (cycle b == cycle_of (event_shape h) (event_read h k (kind b) b).reads) ≡ true
+    in_turn =
+        let first = or_parts (not k.started || is_past_room h k || not (cycle b == cycle_of (event_shape h) k.reads)) (not (is_event (kind b))) parts.0 in
+        let second = or_parts (not k.started || is_past_room h k) (not (cycle b == cycle_of (event_shape h) k.reads)) first.0 in
+        ap (λ n. cycle b == cycle_of (event_shape h) n) (event_same h k (kind b) b).reads ∙ not-false (cycle b == cycle_of (event_shape h) k.reads) second.1
+
+    pub transfer_possible : kind b ≡ TransferEvent → is_impossible_transfer h k b ≡ false
+    unfolding is_impossible_by_kind
+    transfer_possible is = ap (λ n. is_impossible_by_kind h k n b) (sym is) ∙ parts.1
+
+    pub completion_possible : kind b ≡ CommandCompletion → is_impossible_completion h k b ≡ false
+    unfolding is_impossible_by_kind
+    completion_possible is = ap (λ n. is_impossible_by_kind h k n b) (sym is) ∙ parts.1
+
+-- what is known behind an event, but for its count, by its kind
+module _ (h : Header) (k : Known) (b : Block) where
+  pub read_transfer : kind b ≡ TransferEvent → transfer_read h k b ≡ event_read h k (kind b) b
+  unfolding event_read
+  read_transfer is = ap (λ n. event_read h k n b) (sym is)
+
+  pub read_completion : kind b ≡ CommandCompletion → completed h k b ≡ event_read h k (kind b) b
+  unfolding event_read
+  read_completion is = ap (λ n. event_read h k n b) (sym is)
+
+  pub read_other : (kind b ≡ TransferEvent → ⊥) → (kind b ≡ CommandCompletion → ⊥) → k ≡ event_read h k (kind b) b
+  unfolding event_read
+  read_other no_transfer no_completion = sym (neither (kind b) no_transfer no_completion)
+    where
+      neither : (n : BlockKind) → (n ≡ TransferEvent → ⊥) → (n ≡ CommandCompletion → ⊥) → event_read h k n b ≡ k
+      neither TransferEvent no_transfer no_completion = absurd (no_transfer refl)
+      neither CommandCompletion no_transfer no_completion = absurd (no_completion refl)
+      neither _ no_transfer no_completion = refl
+
+-- an event that breaks no rule is possible and, where it is a Transfer Event, in the profile
+module _ (h : Header) (k : Known) (b : Block) (clean : broken h k (Read b) ≡ []) where
+  fails : (is_impossible h k b ≡ false) × ((is_transfer_event (kind b) && not (is_in_profile b)) ≡ false)
+  unfolding lenient_tests event_tests
+  fails = let all : AllFail (event_tests h k b) = tests_fail h k (Read b) (lenient_row h k (Read b) clean) in (all.0, all.1.0)
+
+  pub possible : is_impossible h k b ≡ false
+  possible = fails.0
+
+  pub in_profile : kind b ≡ TransferEvent → is_in_profile b ≡ true
+  in_profile is = within_profile h k b is fails.1
+
+-- what is noted of an event, by its kind
+module _ (h : Header) (headed : IsHeader h) (k : Known) (b : Block) (keeps : DriverKeeps h k) (clean : broken h k (Read b) ≡ []) (after : TraceRecord) (m : ℕ → ℕ) where
+  placed : is_no_event h k b ≡ false
+  placed = (parts h k b (possible h k b clean)).0
+
+  pub noted_transfer : kind b ≡ TransferEvent → (is_in_profile b ≡ true → is_impossible_transfer h k b ≡ false → FollowsTrace h (transfer_read h k b) after m) →
+      FollowsTrace h (event_read h k (kind b) b) after m
+  noted_transfer is noted =
+      subst (λ (l : Known). FollowsTrace h l after m) (read_transfer h k b is) (noted (in_profile h k b clean is) (transfer_possible h k b (possible h k b clean) is))
+
+  pub noted_completion : kind b ≡ CommandCompletion → (IsSetUp h k → is_impossible_completion h k b ≡ false → FollowsTrace h (completed h k b) after m) →
+      FollowsTrace h (event_read h k (kind b) b) after m
+  noted_completion is noted =
+      subst (λ (l : Known). FollowsTrace h l after m) (read_completion h k b is) (noted (set_up h headed k keeps) (completion_possible h k b (possible h k b clean) is))
+
+  pub noted_other : (kind b ≡ TransferEvent → ⊥) → (kind b ≡ CommandCompletion → ⊥) → FollowsTrace h k after m → FollowsTrace h (event_read h k (kind b) b) after m
+  noted_other no_transfer no_completion noted = subst (λ (l : Known). FollowsTrace h l after m) (read_other h k b no_transfer no_completion) noted
+
+-- an event that was noted and counted
+pub event_step : (h : Header) (k : Known) (on : k.stopped ≡ false) (b : Block) → is_impossible h k b ≡ false → (is_transfer_event (kind b) && not (is_in_profile b)) ≡ false → (noted after : TraceRecord) (m : ℕ → ℕ) →
+    (broken h k (Read b) ≡ [] → FollowsTrace h (event_read h k (kind b) b) noted m) →
+    ((l : Known) → FollowsTrace h l noted m → (cycle b == cycle_of (event_shape h) l.reads) ≡ true → FollowsTrace h (record l { reads = l.reads + 1 }) after m) →
+    IsRowStep h k (Read b) after m
+event_step h k on b may within noted after m notes counts =
+    let clean = clean_event h k on b may within in
+    record { clean = clean; followed = counted h k b after m (counts (event_read h k (kind b) b) (notes clean) (in_turn h k b may)) }

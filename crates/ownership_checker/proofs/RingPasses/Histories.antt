@@ -1,0 +1,216 @@
+-- What a row of the driver says that breaks no rule; where no descriptor was withdrawn nothing is free; and what breaks no rule of the trace's version
+-- breaks no lenient one
+use Rattle.std.proofs.Common.{◌≡◌, ◌∷◌, ◌++◌, ◌∙◌, ◌==◌, ℕ, Bool, true, false, if◌then◌else◌, List, [], Option, Some, None, filter, refl, sym, ap, subst, inl, inr}
+use Rattle.std.proofs.lemmas.Bool.{or_parts}
+use Rattle.std.specs.List.{list_any}
+use Rattle.safety.proofs.Words.{cases_Bool, cond-true, no_flips, Header, Known, Ring, Write, Sub, Reg, Bell, Read, learned, nothing, shape_of}
+use Rattle.segments.specs.Givings.{flips_passed, is_not_restored, unrestored}
+use Rattle.segments.specs.RingView.{due_positions}
+use Rattle.traces.specs.declared.row.Row.{Row}
+use Rattle.traces.specs.declared.trace_row.TraceRow.{TraceRow}
+use Rattle.traces.specs.declared.trace_row.TraceRow.TheVariants.{Plain, Comes, Goes, Withdraws}
+use Rattle.traces.specs.Header.{driver_rings}
+use Rattle.ownership_rules.specs.Refusal.{broken_of, first_of}
+use Rattle.ownership_rules.specs.Rules.{broken, tests}
+use Rattle.ownership_rules.specs.declared.refusal.Refusal.{Refusal}
+use Rattle.ownership_rules.specs.declared.refusal.Refusal.TheVariants.{AfterStop, BadFree, BadRing, BadWithdraw, NotRestored, WriteToOwned}
+use Rattle.safety.proofs.Lenient.{lenient_row}
+use Rattle.safety.proofs.NothingFree.{free_same}
+use Rattle.safety.specs.RingChanges.Changes.{forgotten, is_bad_free, is_bad_ring}
+use Rattle.safety.specs.RingChanges.Histories.{AreKept, IsKept, header_now, known_now}
+use Rattle.safety.specs.RingChanges.Withdrawals.{is_bad_withdraw, is_left, restored, ring_restored, some_flips}
+use Rattle.driver_rows.specs.RingRows.Withdrawing.{is_passed, withdraws_badly}
+use Rattle.leases.proofs.RingLeases.NothingRestored.{restored_same}
+use Rattle.ownership_checker.specs.RingPasses.Clean.{AreClean}
+use Rattle.ownership_checker.specs.RingPasses.Passing.{NothingFree}
+use Rattle.ownership_checker.specs.RingPasses.Rules.{broken_restored, driver_broken}
+use Rattle.ownership_checker.proofs.RingPasses.Broken.{breaks_none}
+
+-- ---- a row of the driver
+
+abbrev chosen : Bool → Bool → List Refusal → List Refusal → List Refusal
+chosen stopped left cs ds = if stopped then AfterStop ∷ [] else if left then cs ++ NotRestored ∷ [] else ds
+
+not_none : (cs : List Refusal) (c : Refusal) → cs ++ c ∷ [] ≡ [] → ⊥
+not_none [] c e = cc e
+not_none (d ∷ ds) c e = cc e
+
+none_chosen : (stopped left flips : Bool) (cs ds : List Refusal) → chosen stopped left cs (broken_of ((WriteToOwned, flips) ∷ []) ++ ds) ≡ [] →
+    (stopped ≡ false) × (left ≡ false) × (flips ≡ false) × (ds ≡ [])
+none_chosen true left flips cs ds e = cc e
+none_chosen false true flips cs ds e = absurd (not_none cs NotRestored e)
+none_chosen false false true cs ds e = cc e
+none_chosen false false false cs ds e = (refl, refl, refl, e)
+
+none_of : (stopped left flips : Bool) (cs ds : List Refusal) → stopped ≡ false → left ≡ false → flips ≡ false → ds ≡ [] → chosen stopped left cs (broken_of ((WriteToOwned, flips) ∷ []) ++ ds) ≡ []
+none_of true left flips cs ds on stands none clean = absurd (cc)
+none_of false true flips cs ds on stands none clean = absurd (cc)
+none_of false false true cs ds on stands none clean = absurd (cc)
+none_of false false false cs ds on stands none clean = clean
+
+at_stop : (stopped left : Bool) (cs ds : List Refusal) → stopped ≡ true → chosen stopped left cs ds ≡ AfterStop ∷ []
+at_stop true left cs ds off = refl
+at_stop false left cs ds off = absurd (cc)
+
+where_left : (stopped left : Bool) (cs ds : List Refusal) → stopped ≡ false → left ≡ true → chosen stopped left cs ds ≡ cs ++ NotRestored ∷ []
+where_left true left cs ds on is = absurd (cc)
+where_left false true cs ds on is = refl
+where_left false false cs ds on is = absurd (cc)
+
+where_restored : (stopped left : Bool) (cs ds : List Refusal) → stopped ≡ false → left ≡ false → chosen stopped left cs ds ≡ ds
+where_restored true left cs ds on is = absurd (cc)
+where_restored false true cs ds on is = absurd (cc)
+where_restored false false cs ds on is = refl
+
+least_of_both : (cs : List Refusal) (c d : Refusal) → first_of cs ≡ Some c → first_of (cs ++ d ∷ []) ≡ Some c
+least_of_both [] c d e = absurd (cc)
+least_of_both (x ∷ xs) c d e = e
+
+flips_first : (flips : Bool) (cs : List Refusal) → flips ≡ true → first_of (broken_of ((WriteToOwned, flips) ∷ []) ++ cs) ≡ Some WriteToOwned
+flips_first true cs is = refl
+flips_first false cs is = absurd (cc)
+
+no_flips_first : (flips : Bool) (cs : List Refusal) → flips ≡ false → broken_of ((WriteToOwned, flips) ∷ []) ++ cs ≡ cs
+no_flips_first true cs is = absurd (cc)
+no_flips_first false cs is = refl
+
+module _ (h : Header) (k : Known) (row : Row) where
+  -- it comes before the stop, what it starts or moves stands as declared, and behind that it breaks no rule
+  pub record BreaksNoRule : Type 0 where
+    pub on : k.stopped ≡ false
+    pub stands : is_left h k (ring_restored h k row) ≡ false
+    pub flips : some_flips h (restored h k row) row ≡ false
+    pub clean : broken h (restored h k row) row ≡ []
+
+  pub breaks_no_rule : driver_broken h k row ≡ [] → BreaksNoRule
+  breaks_no_rule clean =
+      let parts = none_chosen k.stopped (is_left h k (ring_restored h k row)) (some_flips h (restored h k row) row) (broken h k row) (broken h (restored h k row) row) clean in
+      record { on = parts.0; stands = parts.1; flips = parts.2; clean = parts.3 }
+
+  pub no_rule_broken : BreaksNoRule → driver_broken h k row ≡ []
+  no_rule_broken c =
+      none_of k.stopped (is_left h k (ring_restored h k row)) (some_flips h (restored h k row) row) (broken h k row) (broken h (restored h k row) row) c.on c.stands c.flips c.clean
+
+  pub plain_kept : driver_broken h k row ≡ [] → IsKept h k (Plain row)
+  plain_kept clean = let c = breaks_no_rule clean in (lenient_row h (restored h k row) row c.clean, c.stands, c.flips)
+
+  -- ---- the least rule that it breaks
+
+  pub least_off : k.stopped ≡ true → first_of (driver_broken h k row) ≡ Some AfterStop
+  least_off off = ap first_of (at_stop k.stopped (is_left h k (ring_restored h k row)) (broken h k row) (broken_restored h (restored h k row) row) off)
+
+  module _ (on : k.stopped ≡ false) where
+    pub left_broken : is_left h k (ring_restored h k row) ≡ true → driver_broken h k row ≡ broken h k row ++ NotRestored ∷ []
+    left_broken left = where_left k.stopped (is_left h k (ring_restored h k row)) (broken h k row) (broken_restored h (restored h k row) row) on left
+
+    pub restored_broken : is_left h k (ring_restored h k row) ≡ false → driver_broken h k row ≡ broken_restored h (restored h k row) row
+    restored_broken stands = where_restored k.stopped (is_left h k (ring_restored h k row)) (broken h k row) (broken_restored h (restored h k row) row) on stands
+
+    pub least_left : (c : Refusal) → is_left h k (ring_restored h k row) ≡ true → first_of (broken h k row) ≡ Some c → first_of (driver_broken h k row) ≡ Some c
+    least_left c left least = ap first_of (left_broken left) ∙ least_of_both (broken h k row) c NotRestored least
+
+    pub only_left : is_left h k (ring_restored h k row) ≡ true → broken h k row ≡ [] → first_of (driver_broken h k row) ≡ Some NotRestored
+    only_left left none = ap first_of (left_broken left) ∙ ap (λ cs. first_of (cs ++ NotRestored ∷ [])) none
+
+    pub least_restored : (c : Refusal) → is_left h k (ring_restored h k row) ≡ false → first_of (broken_restored h (restored h k row) row) ≡ Some c → first_of (driver_broken h k row) ≡ Some c
+    least_restored c stands least = ap first_of (restored_broken stands) ∙ least
+
+module _ (h : Header) (k : Known) (row : Row) where
+  pub least_flips : some_flips h k row ≡ true → first_of (broken_restored h k row) ≡ Some WriteToOwned
+  least_flips flips = flips_first (some_flips h k row) (broken h k row) flips
+
+  pub unflipped : some_flips h k row ≡ false → broken_restored h k row ≡ broken h k row
+  unflipped none = no_flips_first (some_flips h k row) (broken h k row) none
+
+  pub least_unflipped : some_flips h k row ≡ false → (c : Refusal) → first_of (broken h k row) ≡ Some c → first_of (broken_restored h k row) ≡ Some c
+  least_unflipped none c least = ap first_of (unflipped none) ∙ least
+
+-- ---- nothing is free
+
+forgotten_free : (k : Known) (id : ℕ) → NothingFree k → NothingFree (forgotten k id)
+unfolding forgotten
+forgotten_free k id none r = elim (cases_Bool (r == id)) [
+  | inl same ↦ rw same (λ p. refl)
+  | inr other ↦ rw other (none r)
+]
+
+none_in : (f P : ℕ → Bool) (xs : List ℕ) → ((p : ℕ) → f p ≡ false) → list_any P (filter f xs) ≡ false
+none_in f P [] none = refl
+none_in f P (x ∷ xs) none = rw (none x) (none_in f P xs none)
+
+module _ (h : Header) (k : Known) (none : NothingFree k) where
+  stands : (r : ℕ) → is_not_restored (shape_of h r) (k.ring r) k.memory ≡ false
+  unfolding is_not_restored unrestored
+  stands r = none_in (k.ring r).free _ (due_positions (shape_of h r) (k.ring r)) (none r)
+
+  flips_none : (a w : ℕ) (rs : List Ring) → list_any (λ r. flips_passed r.shape (k.ring r.id) a w) rs ≡ false
+  flips_none a w [] = refl
+  flips_none a w (r ∷ rs) = rw (no_flips r.shape (k.ring r.id) a w (none r.id)) (flips_none a w rs)
+
+  none_left : (o : Option ℕ) → is_left h k o ≡ false
+  unfolding is_left
+  none_left None = refl
+  none_left (Some r) = stands r
+
+  no_flip : (row : Row) → some_flips h k row ≡ false
+  unfolding some_flips
+  no_flip (Write a w) = flips_none a w (driver_rings h)
+  no_flip (Sub r blocks) = refl
+  no_flip (Reg r v) = refl
+  no_flip (Bell s t) = refl
+  no_flip (Read b) = refl
+
+  -- what a row starts or moves stands as declared, and it flips nothing
+  pub stands_where_restored : (row : Row) → is_left h k (ring_restored h k row) ≡ false
+  stands_where_restored row = none_left (ring_restored h k row)
+
+  pub flips_none_restored : (row : Row) → some_flips h (restored h k row) row ≡ false
+  flips_none_restored row = subst (λ x. some_flips h x row ≡ false) (sym (restored_same h k row none)) (no_flip row)
+
+  -- what it breaks is what it breaks where nothing was withdrawn
+  pub driver_same : (row : Row) → driver_broken h k row ≡ broken h k row
+  unfolding broken
+  driver_same row = elim (cases_Bool k.stopped) [
+    | inl off ↦
+        at_stop k.stopped (is_left h k (ring_restored h k row)) (broken h k row) (broken_restored h (restored h k row) row) off
+        ∙ sym (cond-true k.stopped (AfterStop ∷ []) (broken_of (tests h k row)) off)
+    | inr on ↦
+        restored_broken h k row on (stands_where_restored row) ∙ unflipped h (restored h k row) row (flips_none_restored row)
+        ∙ ap (λ x. broken h x row) (restored_same h k row none)
+  ]
+
+-- ---- behind rows
+
+module _ (h : Header) (past : List TraceRow) (none : NothingFree (known_now h past)) where
+  pub known_plain : (row : Row) → known_now h (Plain row ∷ past) ≡ learned (header_now h past) (known_now h past) row
+  known_plain row = ap (λ k. learned (header_now h past) k row) (restored_same (header_now h past) (known_now h past) row none)
+
+  pub plain_free : (row : Row) → NothingFree (known_now h (Plain row ∷ past))
+  plain_free row r p =
+      let k = known_now h past in
+      let g = header_now h past in
+      ap (λ f. f p) (free_same g (restored g k row) row r) ∙ ap (λ (x : Known). (x.ring r).free p) (restored_same g k row none) ∙ none r p
+
+  pub comes_free : (ring : Ring) → NothingFree (known_now h (Comes ring ∷ past))
+  comes_free ring = forgotten_free (known_now h past) ring.id none
+
+  pub goes_free : (id : ℕ) → NothingFree (known_now h (Goes id ∷ past))
+  goes_free id = forgotten_free (known_now h past) id none
+
+pub nothing_free : NothingFree nothing
+unfolding nothing
+nothing_free r p = refl
+
+-- what is withdrawn by the trace's version is withdrawn by the lenient rule
+pub withdrawn_kept : (h : Header) (k : Known) (r p : ℕ) → withdraws_badly h k r p ≡ false → is_bad_withdraw h k r p ≡ false
+unfolding withdraws_badly
+withdrawn_kept h k r p good = (or_parts (is_bad_withdraw h k r p) (is_passed h (shape_of h r) (k.ring r) p) good).0
+
+pub kept_now : (h : Header) (past : List TraceRow) → AreClean h past → AreKept h past
+kept_now h [] clean = tt
+kept_now h (Plain row ∷ past) clean = (kept_now h past clean.0, plain_kept (header_now h past) (known_now h past) row clean.1)
+kept_now h (Comes ring ∷ past) clean = (kept_now h past clean.0, breaks_none (known_now h past) BadRing (is_bad_ring (header_now h past) (known_now h past) ring) clean.1)
+kept_now h (Goes id ∷ past) clean = (kept_now h past clean.0, breaks_none (known_now h past) BadFree (is_bad_free (header_now h past) (known_now h past) id) clean.1)
+kept_now h (Withdraws r q ∷ past) clean =
+    let parts = breaks_none (known_now h past) BadWithdraw (withdraws_badly (header_now h past) (known_now h past) r q) clean.1 in
+    (kept_now h past clean.0, (parts.0, withdrawn_kept (header_now h past) (known_now h past) r q parts.1))

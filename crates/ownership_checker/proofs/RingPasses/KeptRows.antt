@@ -1,0 +1,108 @@
+-- How far a pass has come over rows that are kept in memory, and what that says of all of them
+use Rattle.std.proofs.Common.{◌≡◌, ℕ, ◌+◌, ◌<◌, ◌≤◌, List, [], ◌∷◌, ◌++◌, ◌∙◌, All, Some, ap, sym, subst, arith, length, get_or, add-zero, refl}
+use Rattle.std.specs.Prelude.{drop, reverse, take}
+use Rattle.std.proofs.lemmas.Grind.{common_steps}
+use Rattle.std.proofs.lemmas.List.Elements.{All-weaker}
+use Rattle.traces.specs.Limits.{most_streamed_lines}
+use Rattle.traces.specs.TraceRows.{IsTraceRow}
+use Rattle.traces.specs.declared.header.Header.{Header}
+use Rattle.traces.specs.declared.trace_row.TraceRow.{TraceRow}
+use Rattle.ring_knowledge.specs.declared.lease.Lease.{Lease}
+use Rattle.ownership_rules.specs.declared.refusal.Refusal.{Refusal}
+use Rattle.ownership_rules.specs.Leases.{without_end}
+use Rattle.leases.specs.LeaseBooks.Lents.{Lent, lents}
+use Rattle.trace_record.specs.declared.fault.StepFault.{StepFault}
+use Rattle.trace_record.specs.declared.fault.StepFault.TheVariants.{Refused}
+use Rattle.trace_record.specs.Steps.{IfRefused}
+use Rattle.safety.specs.RingChanges.Histories.{FitsFields, header_now, known_now}
+use Rattle.ownership_checker.specs.RingPasses.Clean.{IsLeastOfRow}
+use Rattle.ownership_checker.specs.RingPasses.KeptRows.{IsBehindAll}
+use Rattle.ownership_checker.specs.RingPasses.Passing.{IsRingLogged, IsRingPassed}
+use Rattle.ownership_checker.specs.RingPasses.Rules.{ring_verdict}
+use Rattle.ownership_checker.specs.declared.pass.ring_pass.RingPass.{RingPass}
+use Rattle.ownership_checker.proofs.RingPasses.RowsFit.{fits}
+use Rattle.ownership_checker.proofs.RingPasses.Steps.{all_reversed, no_harm}
+use Rattle.ownership_checker.proofs.RingPasses.Verdicts.{none_refused, reversed_twice, row_refused}
+use Rattle.ownership_checker.proofs.RingPasses.Walks.{walks}
+
+-- one row more: the newest first
+one_more : (rows : List TraceRow) (i : ℕ) (d : TraceRow) → i < length rows → reverse (take (i + 1) rows) ≡ get_or rows i d ∷ reverse (take i rows)
+one_more rows i d below = grind (arith, common_steps, below)
+
+many : (rows : List TraceRow) (i : ℕ) → i < length rows → length (reverse (take i rows)) ≡ i
+many rows i below = grind (arith, common_steps, below)
+
+none_taken : (rows : List TraceRow) → reverse (take 0 rows) ≡ []
+none_taken rows = grind (arith, common_steps)
+
+all_taken : (rows : List TraceRow) → take (length rows) rows ≡ rows
+all_taken rows = grind (arith, common_steps)
+
+parts : (rows : List TraceRow) (i : ℕ) (d : TraceRow) → i < length rows → reverse (reverse (take i rows)) ++ get_or rows i d ∷ drop (i + 1) rows ≡ rows
+parts rows i d below = grind (arith, common_steps, below)
+
+-- so many of the rows were passed
+pub record IsPassedTo {B M : Type 0} (words : M → ℕ → ℕ) (holds : List Lease → Header → List Lent → B → Type 0) (h : Header) (first : ℕ) (rows : List TraceRow) (log : B) (i number : ℕ)
+    (pass : RingPass B M) : Type 0 where
+  pub numbered : number ≡ first + i
+  pub passed : IsRingPassed words h (reverse (take i rows)) pass
+  pub logged : (list : List Lease) → holds list h (lents h first []) log → IsRingLogged (holds list) h first (reverse (take i rows)) pass
+
+module _ {B M : Type 0} (words : M → ℕ → ℕ) (holds : List Lease → Header → List Lent → B → Type 0) (h : Header) (first : ℕ) (rows : List TraceRow) (log : B) where
+  pub begun : (pass : RingPass B M) → IsRingPassed words h [] pass →
+      ((list : List Lease) (first : ℕ) → holds list h (lents h first []) log → IsRingLogged (holds list) h first [] pass) → IsPassedTo words holds h first rows log 0 first pass
+  begun pass passed logged = record {
+    numbered = sym (add-zero first);
+    passed = subst (λ (past : List TraceRow). IsRingPassed words h past pass) (sym (none_taken rows)) passed;
+    logged = λ list kept. subst (λ (past : List TraceRow). IsRingLogged (holds list) h first past pass) (sym (none_taken rows)) (logged list first kept);
+  }
+
+  module _ (i number : ℕ) (pass : RingPass B M) (p : IsPassedTo words holds h first rows log i number pass) where
+    module _ (row d : TraceRow) (below : i < length rows) (is : get_or rows i d ≡ row) where
+      next : row ∷ reverse (take i rows) ≡ reverse (take (i + 1) rows)
+      next = ap (λ (r : TraceRow). r ∷ reverse (take i rows)) (sym is) ∙ sym (one_more rows i d below)
+
+      pub few : first + length rows ≤ most_streamed_lines + 1 → (g : Header) × (past : List TraceRow) × IsRingPassed words g past pass × (length past ≤ most_streamed_lines)
+      few within = let n = many rows i below in (h, reverse (take i rows), p.passed, omega (arith, n, below, within))
+
+      room : first + length rows ≤ most_streamed_lines + 1 → first + length (reverse (take i rows)) < without_end
+      unfolding without_end
+      room within = let n = many rows i below in omega (arith, n, below, within)
+
+      number_so : number ≡ first + length (reverse (take i rows))
+      number_so = let n = many rows i below in omega (arith, n, p.numbered)
+
+      pub row_more : first + length rows ≤ most_streamed_lines + 1 → (later : RingPass B M) → ((g : Header) (past : List TraceRow) → IsRingPassed words g past pass → IsRingPassed words g (row ∷ past) later) →
+          ((list : List Lease) (g : Header) (first : ℕ) (past : List TraceRow) → IsRingPassed words g past pass → number ≡ first + length past → first + length past < without_end →
+          IsRingLogged (holds list) g first past pass → IsRingLogged (holds list) g first (row ∷ past) later) → IsPassedTo words holds h first rows log (i + 1) (number + 1) later
+      row_more within later passes logs = record {
+        numbered = let n = p.numbered in omega (arith, n);
+        passed = subst (λ (past : List TraceRow). IsRingPassed words h past later) next (passes h (reverse (take i rows)) p.passed);
+        logged = λ list kept.
+            subst (λ (past : List TraceRow). IsRingLogged (holds list) h first past later) next
+            (logs list h first (reverse (take i rows)) p.passed number_so (room within) (p.logged list kept));
+      }
+
+      pub refused : (c : Refusal) (e : StepFault) → e ≡ Refused c →
+          IfRefused e (λ x. (g : Header) (past : List TraceRow) → IsRingPassed words g past pass → IsLeastOfRow (header_now g past) (known_now g past) row x) →
+          ring_verdict h first rows ≡ Some (number, c)
+      refused c e told least =
+          let past : List TraceRow = reverse (take i rows) in
+          let so = subst (λ (f : StepFault). IfRefused f (λ x. (g : Header) (past : List TraceRow) → IsRingPassed words g past pass → IsLeastOfRow (header_now g past) (known_now g past) row x)) told least in
+          let whole : reverse past ++ row ∷ drop (i + 1) rows ≡ rows = ap (λ (r : TraceRow). reverse past ++ r ∷ drop (i + 1) rows) (sym is) ∙ parts rows i d below in
+          ap (ring_verdict h first) (sym whole) ∙ row_refused h first past (drop (i + 1) rows) row c p.passed.clean (so h past p.passed) ∙ ap (λ n. Some (n, c)) (sym number_so)
+
+    pub ended : i ≡ length rows → All IsTraceRow rows → IsBehindAll words holds h first rows log pass
+    ended all are =
+        let whole : take i rows ≡ rows = ap (λ n. take n rows) all ∙ all_taken rows in
+        let passed = subst (λ (xs : List TraceRow). IsRingPassed words h (reverse xs) pass) whole p.passed in
+        let fit = all_reversed rows (All-weaker IsTraceRow FitsFields fits rows are) in
+        let clean = passed.clean in
+        let twice = reversed_twice rows in
+        record {
+          verdict = ap (ring_verdict h first) (sym twice) ∙ none_refused h first (reverse rows) clean;
+          walk = rw twice at (walks h passed.opening (reverse rows) fit clean);
+          harmless = rw twice at (no_harm words h (reverse rows) pass passed fit);
+          passed = passed;
+          logged = λ list kept. subst (λ (xs : List TraceRow). IsRingLogged (holds list) h first (reverse xs) pass) whole (p.logged list kept);
+        }

@@ -1,0 +1,154 @@
+-- What the log of a pass keeps behind one row more
+use Rattle.std.proofs.Common.{◌≡◌, ◌+◌, ◌<◌, ◌≤◌, ◌∷◌, ◌∙◌, ℕ, Bool, true, false, not, ◌||◌, ◌==◌, None, Some, List, [], length, map, arith, refl, sym, ap, subst}
+use Rattle.std.proofs.lemmas.Bool.{or_parts}
+use Rattle.safety.proofs.Words.{Header, Known, Ring, IsHeader, Bell, Write, learned, none-some, on_ring, open_leases}
+use Rattle.std.proofs.lemmas.Bool.{false≢true}
+use Rattle.std.specs.List.{position}
+use Rattle.trb.specs.declared.ring_kind.RingKind.{RingKind}
+use Rattle.trb.specs.declared.ring_kind.RingKind.TheVariants.{Cmd, Evt, Xfer}
+use Rattle.trace_record.proofs.RingFinder.FoundRings.{none_here}
+use Rattle.trace_record.proofs.RingFinder.HeaderRings.{not_found, ring_found}
+use Rattle.trace_record.proofs.RingFinder.RingsApart.{IsAmong}
+use Rattle.ownership_rules.specs.Rules.{lenient}
+use Rattle.safety.proofs.TestsPassed.{clean_tests}
+use Rattle.safety.specs.EndpointsKeep.{is_transfer_ring}
+use Rattle.traces.specs.declared.row.Row.{Row}
+use Rattle.traces.specs.declared.trace_row.TraceRow.{TraceRow}
+use Rattle.traces.specs.declared.trace_row.TraceRow.TheVariants.{Plain, Comes, Goes}
+use Rattle.traces.specs.Header.{is_driver_kind, is_transfer_kind, ring_with}
+use Rattle.ownership_rules.specs.Leases.{without_end}
+use Rattle.ownership_rules.specs.Moves.{is_being_bound}
+use Rattle.leases.specs.LeaseBooks.InStep.{AreOpen, IsInStep}
+use Rattle.leases.specs.LeaseBooks.Lents.{Lent, ended_where, grown, lents, passed_on}
+use Rattle.leases.specs.LeaseBooks.OtherShapes.{AreShapedAlike}
+use Rattle.leases.specs.LeaseBooks.Ranges.{FindsRanges}
+use Rattle.leases.specs.declared.book.ranges.RangeIndexes.{RangeIndexes}
+use Rattle.leases.proofs.LeaseBooks.RangePlaces.{some_end}
+use Rattle.leases.specs.LeaseRows.CleanRows.{HoldsAll, IsNextRow}
+use Rattle.safety.specs.RingChanges.Changes.{IsComing, is_bad_free, is_bad_ring, is_had, with_ring, without_ring}
+use Rattle.safety.specs.RingChanges.Histories.{header_now, known_now}
+use Rattle.leases.specs.RingLeases.RingLents.{is_of_ring, ring_lents}
+use Rattle.leases.proofs.RingLeases.HeldBehind.{comes_alike, comes_commands, goes_alike, goes_commands, ranges_found}
+use Rattle.leases.proofs.RingLeases.LentBehind.{comes_lent, goes_lent, in_step_now, lent_open}
+use Rattle.ownership_checker.specs.RingPasses.Passing.{IsRingPassed}
+use Rattle.ownership_checker.specs.declared.pass.ring_pass.RingPass.{RingPass}
+use Rattle.leases.proofs.RingLeases.FreeRows.{rung_now}
+use Rattle.safety.specs.RingChanges.Withdrawals.{ring_restored}
+use Rattle.segments.specs.RingView.{Restores}
+use Rattle.ownership_checker.proofs.RingPasses.Steps.{headed_now, tracked_now}
+
+-- before the first row the leases of a history are those of a trace
+pub lents_first : (h : Header) (first : ℕ) → lents h first [] ≡ ring_lents h first []
+unfolding lents ring_lents
+lents_first h first = refl
+
+-- a ring that goes is a transfer ring
+pub goes_transfer : (h : Header) (k : Known) (id : ℕ) → is_bad_free h k id ≡ false → is_transfer_ring (ring_with h id) ≡ true
+unfolding is_bad_free
+goes_transfer h k id good =
+    let two = or_parts (not (is_transfer_ring (ring_with h id)) || is_had k id) (is_being_bound h k id) good in
+    let one = or_parts (not (is_transfer_ring (ring_with h id))) (is_had k id) two.0 in
+    not_false (is_transfer_ring (ring_with h id)) one.0
+  where
+    not_false : (b : Bool) → not b ≡ false → b ≡ true
+    not_false true e = refl
+    not_false false e = absurd cc
+
+pub transfer_drives : (n : RingKind) → is_transfer_kind n ≡ true → is_driver_kind n ≡ true
+transfer_drives Xfer e = refl
+transfer_drives Cmd e = refl
+transfer_drives Evt e = absurd cc
+
+-- the ring with this ID is there, and drives
+pub drives : (h : Header) → IsHeader h → (q : Ring) (id : ℕ) → IsAmong q h.rings → q.id ≡ id → is_transfer_ring (ring_with h id) ≡ true → is_driver_kind q.shape.kind ≡ true
+drives h is q id among same transfer =
+    transfer_drives q.shape.kind (subst (λ o. is_transfer_ring o ≡ true) (ap (ring_with h) (sym same) ∙ ring_found h is q among) transfer)
+
+-- no ring has it
+pub none_drives : (h : Header) (id : ℕ) → position (λ (q : Ring). q.id == id) h.rings ≡ None → is_transfer_ring (ring_with h id) ≡ true → ⊥
+none_drives h id none transfer =
+    let nowhere : ring_with h id ≡ None = not_found (λ q. q.id == id) h.rings (none_here h (λ q. q.id == id) h.rings none refl) in
+    false≢true (ap is_transfer_ring (sym nowhere) ∙ transfer)
+
+module _ {B M : Type 0} (words : M → ℕ → ℕ) (Holds : Header → List Lent → B → Type 0)
+    (other_rings : (h g : Header) (ts : List Lent) (log : B) → AreShapedAlike h g ts → Holds h ts log → Holds g ts log)
+    (h : Header) (first : ℕ) (past : List TraceRow) (before : RingPass B M) (p : IsRingPassed words h past before) (room : first + length past < without_end) where
+  abbrev g : Header
+  g = header_now h past
+
+  abbrev k : Known
+  k = known_now h past
+
+  abbrev ts : List Lent
+  ts = ring_lents h first past
+
+  low : first + length past ≤ without_end
+  low = omega (arith, room)
+
+  -- the row of the driver is the next of what is known and lent
+  pub next_row : (row : Row) → lenient before.header k row ≡ [] → IsNextRow before.header k ts row before.record (words before.memory)
+  next_row row clean = record {
+    followed = p.tracked.follows;
+    keeps = p.tracked.keeps (clean_tests before.header k row clean).0;
+    entries = p.entries;
+    step = subst (λ (x : Header). IsInStep x k ts) (sym p.header) (in_step_now h first past low);
+    clean = clean;
+  }
+
+  -- by the rings of the pass
+  pub held_before : (log : B) (x : RangeIndexes) → HoldsAll Holds g ts log x → HoldsAll Holds before.header ts log x
+  held_before log x held = subst (λ (y : Header). HoldsAll Holds y ts log x) (sym p.header) held
+
+  pub opened_before : AreOpen before.header k ts
+  opened_before = subst (λ (y : Header). AreOpen y k ts) (sym p.header) (lent_open h first past low)
+
+  -- what is lent behind a row, as the log is told of it by the rings of the pass
+  pub behind_logged : (later : Header → Known) (us : List Lent) → us ≡ passed_on (open_leases g k) (open_leases g (later g)) (first + length past) ts → (number : ℕ) → number ≡ first + length past → (log : B) (x : RangeIndexes) →
+      HoldsAll Holds before.header (passed_on (open_leases before.header k) (open_leases before.header (later before.header)) number ts) log x → HoldsAll Holds g us log x
+  behind_logged later us is number numbered log x held =
+      subst (λ vs. HoldsAll Holds g vs log x) (sym is)
+      (subst (λ n. HoldsAll Holds g (passed_on (open_leases g k) (open_leases g (later g)) n ts) log x) numbered
+      (subst (λ (y : Header). HoldsAll Holds y (passed_on (open_leases y k) (open_leases y (later y)) number ts) log x) p.header held))
+
+  -- a row of the driver that restores no ring
+  pub plain_logged : (row : Row) → known_now h (Plain row ∷ past) ≡ learned g k row → (number : ℕ) → number ≡ first + length past → (log : B) (x : RangeIndexes) →
+      HoldsAll Holds before.header (grown before.header k row number ts) log x → HoldsAll Holds g (ring_lents h first (Plain row ∷ past)) log x
+  unfolding ring_lents grown
+  plain_logged row is number numbered log x held =
+      behind_logged (λ y. learned y k row) (ring_lents h first (Plain row ∷ past)) (ap (λ m. passed_on (open_leases g k) (open_leases g m) (first + length past) ts) is) number numbered log x held
+
+  pub comes_logged : (ring : Ring) → IsComing ring → k.stopped ≡ false → is_bad_ring g k ring ≡ false → HoldsAll Holds g ts before.log before.ranges →
+      HoldsAll Holds (with_ring g ring) (ring_lents h first (Comes ring ∷ past)) before.log before.ranges
+  comes_logged ring coming on good held =
+      let is = headed_now words h past before p in
+      let d = (tracked_now words h past before p).keeps on in
+      subst (λ us. HoldsAll Holds (with_ring g ring) us before.log before.ranges) (sym (comes_lent h first past low is d ring coming good))
+      (record {
+        held = other_rings g (with_ring g ring) ts before.log (comes_alike g is k d ring coming good ts (lent_open h first past low)) held.held;
+        found = ranges_found g (with_ring g ring) before.ranges (comes_commands g is k d ring coming good) ts held.found;
+      })
+
+  pub goes_logged : (id number : ℕ) → number ≡ first + length past → k.stopped ≡ false → is_bad_free g k id ≡ false → (log : B) → Holds before.header (map (ended_where (is_of_ring id) number) ts) log →
+      HoldsAll Holds g ts before.log before.ranges → HoldsAll Holds (without_ring g id) (ring_lents h first (Goes id ∷ past)) log before.ranges
+  goes_logged id number numbered on good log ended held =
+      let is = headed_now words h past before p in
+      let d = (tracked_now words h past before p).keeps on in
+      let over : ring_lents h first (Goes id ∷ past) ≡ map (ended_where (is_of_ring id) (first + length past)) ts = goes_lent h first past low is d id good in
+      let there : Holds g (ring_lents h first (Goes id ∷ past)) log =
+      subst (λ us. Holds g us log) (ap (λ n. map (ended_where (is_of_ring id) n) ts) numbered ∙ sym over)
+      (subst (λ (y : Header). Holds y (map (ended_where (is_of_ring id) number) ts) log) p.header ended) in
+      let opened = lent_open h first (Goes id ∷ past) (omega (arith, room)) in
+      record {
+        held = other_rings g (without_ring g id) (ring_lents h first (Goes id ∷ past)) log (goes_alike g is k d id good (ring_lents h first (Goes id ∷ past)) opened) there;
+        found = subst (λ us. FindsRanges (without_ring g id) us before.ranges) (sym over)
+            (ranges_found g (without_ring g id) before.ranges (goes_commands g is k d id good) (map (ended_where (is_of_ring id) (first + length past)) ts)
+            (some_end g before.ranges (is_of_ring id) (first + length past) ts held.found));
+      }
+
+  -- the doorbell of an endpoint that has a ring
+  pub rung_lents : (row : Row) (id : ℕ) → ((a w : ℕ) → row ≡ Write a w → ⊥) → ring_restored g k row ≡ Some id →
+      ring_lents h first (Plain row ∷ past) ≡ passed_on (open_leases g k) (open_leases g (on_ring g k id Restores)) (first + length past) ts
+  unfolding ring_restored
+  rung_lents (Bell s t) id other has = rung_now h first past s t id has
+  rung_lents (Write a w) id other has = absurd (other a w refl)
+  rung_lents _ id other has = absurd (none-some id has)

@@ -1,0 +1,259 @@
+-- How far the rows of a trace were read and passed, between which rings come and go, and what that says of the whole text
+use Rattle.std.proofs.Common.{◌≡◌, ℕ, Bool, ◌+◌, ◌-◌, ◌<◌, ◌≤◌, List, [], ◌∷◌, ◌++◌, ◌∙◌, true, false, Option, Some, None, Result, Ok, Err, All, refl, ap, sym, subst, arith, length, append-nil, append_assoc, add-zero}
+use Rattle.std.specs.Prelude.{IfErr, IfOk, reverse}
+use Rattle.safety.proofs.Words.{All-cons, All-nil}
+use Rattle.traces.specs.Limits.{most_streamed_lines}
+use Rattle.traces.specs.declared.header.Header.{Header}
+use Rattle.traces.specs.declared.trace_row.TraceRow.{TraceRow}
+use Rattle.trace_reader.specs.declared.fault.LineFault.{LineFault}
+use Rattle.trace_reader.specs.DriverRows.{text_taken}
+use Rattle.trace_reader.specs.declared.row_reader.reader.RowReader.{RowReader}
+use Rattle.trace_reader.specs.declared.row_reader.fault.StreamFault.{StreamFault}
+use Rattle.trace_reader.specs.declared.row_reader.fault.StreamFault.TheVariants.{Line, Device, Memory}
+use Rattle.trace_reader.specs.Streaming.Ahead.{ahead_of}
+use Rattle.trace_reader.specs.Streaming.Answers.{IsCall, has_ended}
+use Rattle.trace_reader.specs.Streaming.ReaderState.{IsOpened, IsSameTrace, progress_of}
+use Rattle.trace_reader.specs.Streaming.Streams.{HasRead, IfBadLine, IsBadTaken, OfStream}
+use Rattle.trace_reader.proofs.Streaming.Streams.{end_read, line_read_bad, opened_read, row_numbered, row_read}
+use Rattle.ring_knowledge.specs.declared.lease.Lease.{Lease}
+use Rattle.ownership_rules.specs.declared.refusal.Refusal.{Refusal}
+use Rattle.ownership_rules.specs.Leases.{without_end}
+use Rattle.leases.specs.LeaseBooks.Lents.{Lent, lents}
+use Rattle.safety.specs.RingChanges.Histories.{FitsFields, header_now, known_now}
+use Rattle.leases.specs.RingLeases.RingLents.{ring_lents}
+use Rattle.ownership_checker.specs.RingPasses.Clean.{IsLeastOfRow}
+use Rattle.ownership_checker.specs.RingPasses.Passing.{DoNoHarm, IsRingLogged, IsRingPassed}
+use Rattle.ownership_checker.specs.RingPasses.Reading.{Begins, IfRefusedRow, IsWholeLog, OfTrace, with_rows}
+use Rattle.ownership_checker.specs.RingPasses.RingRows.{ring_row}
+use Rattle.ownership_checker.specs.RingPasses.Rules.{ring_verdict}
+use Rattle.ownership_checker.specs.declared.pass.ring_pass.RingPass.{RingPass}
+use Rattle.ownership_checker.specs.declared.pass.reading.Passed.{Passed}
+use Rattle.ownership_checker.specs.declared.pass.reading.Passed.TheVariants.{Whole, Refused}
+use Rattle.ownership_checker.proofs.RingPasses.RowsFit.{row_fits}
+use Rattle.ownership_checker.proofs.RingPasses.Verdicts.{none_refused, one_more, reversed_more, reversed_twice, row_refused}
+use Rattle.ownership_checker.proofs.RingPasses.Walks.{walks}
+
+-- a call between two readers answered so
+abbrev pub Gives : Option (List ℕ) → Option (List ℕ) → RowReader → RowReader → Result (Option (ℕ × TraceRow)) StreamFault → Type 0
+Gives held held' r r' answer = IsCall (progress_of r) (progress_of r') held held' (ahead_of r.ahead) (ahead_of r'.ahead) answer
+
+-- a call gave a row, and the reading goes on
+pub record IsGiven (held held' : Option (List ℕ)) (r r' : RowReader) (row : ℕ × TraceRow) : Type 0 where
+  pub headed : IsSameTrace r r'
+  pub on : r'.ended ≡ false
+  pub call : Gives held held' r r' (Ok (Some row))
+
+pub given : {o : Option (ℕ × TraceRow)} (held held' : Option (List ℕ)) (r r' : RowReader) (row : ℕ × TraceRow) → o ≡ Some row → IsSameTrace r r' → r'.ended ≡ has_ended (Ok o) → Gives held held' r r' (Ok o) →
+    IsGiven held held' r r' row
+given held held' r r' row is headed over call = record {
+  headed = headed;
+  on = subst (λ (o : Option (ℕ × TraceRow)). r'.ended ≡ has_ended (Ok o)) is over;
+  call = subst (λ (o : Option (ℕ × TraceRow)). Gives held held' r r' (Ok o)) is call;
+}
+
+-- it gave none
+pub record IsOver (held held' : Option (List ℕ)) (r r' : RowReader) : Type 0 where
+  pub headed : IsSameTrace r r'
+  pub over : r'.ended ≡ true
+  pub call : Gives held held' r r' (Ok None)
+
+pub ended : {o : Option (ℕ × TraceRow)} (held held' : Option (List ℕ)) (r r' : RowReader) → o ≡ None → IsSameTrace r r' → r'.ended ≡ has_ended (Ok o) → Gives held held' r r' (Ok o) → IsOver held held' r r'
+ended held held' r r' is headed over call = record {
+  headed = headed;
+  over = subst (λ (o : Option (ℕ × TraceRow)). r'.ended ≡ has_ended (Ok o)) is over;
+  call = subst (λ (o : Option (ℕ × TraceRow)). Gives held held' r r' (Ok o)) is call;
+}
+
+-- behind a row fewer lines may be left
+pub fewer_left : (held held' : Option (List ℕ)) (r r' : RowReader) (row : ℕ × TraceRow) → IsGiven held held' r r' row → most_streamed_lines - r'.lines < most_streamed_lines - r.lines
+fewer_left held held' r r' row next = let n = row_numbered ring_row held held' r r' row next.on next.call in omega (arith, n.0, n.1, r'.within)
+
+-- each row is taken as it stands
+as_taken : (row one : TraceRow) → row ≡ one → ring_row row ≡ Ok one
+as_taken row one same = ap (λ (r : TraceRow). Ok r) same
+
+-- what is read of the text, as of the reader with which the reading began
+of_start : (before held : Option (List ℕ)) (start r : RowReader) (first : ℕ) (rows : List TraceRow) → IsSameTrace start r →
+    OfStream before held (λ text. text_taken r.keeps ring_row text ≡ Ok (record { header = r.header; first = first; rows = rows })) →
+    OfStream before held (λ text. text_taken start.keeps ring_row text ≡ Ok (record { header = start.header; first = first; rows = rows }))
+of_start before held start r first rows same read =
+    subst (λ (k : Bool). OfStream before held (λ text. text_taken k ring_row text ≡ Ok (record { header = start.header; first = first; rows = rows }))) same.1
+    (subst (λ (h : Header). OfStream before held (λ text. text_taken r.keeps ring_row text ≡ Ok (record { header = h; first = first; rows = rows }))) same.0 read)
+
+-- what a pass comes to that ends at a row
+pub ended_refused : {B : Type 0} (r : Result (Passed B) StreamFault) (P Q : ℕ → Refusal → Type 0) → ((row : ℕ) (c : Refusal) → P row c → Q row c) → IfOk r (λ p. IfRefusedRow p P) → IfOk r (λ p. IfRefusedRow p Q)
+ended_refused (Ok (Whole log)) P Q f so = tt
+ended_refused (Ok (Refused row c)) P Q f so = f row c so
+ended_refused (Err e) P Q f so = tt
+
+pub ended_bad : {B : Type 0} (r : Result (Passed B) StreamFault) (P Q : ℕ → LineFault → Type 0) → ((e : StreamFault) → IfBadLine e P → IfBadLine e Q) → IfErr r (λ e. IfBadLine e P) → IfErr r (λ e. IfBadLine e Q)
+ended_bad (Ok passed) P Q f so = tt
+ended_bad (Err e) P Q f so = f e so
+
+-- so many rows were read and passed
+pub record IsUnderway {B M : Type 0} (words : M → ℕ → ℕ) (holds : List Lease → Header → List Lent → B → Type 0) (start : RowReader) (held held' : Option (List ℕ)) (log : B) (reader : RowReader)
+    (pass : RingPass B M) : Type 0 where
+  pub past : List TraceRow
+  pub numbered : reader.lines ≡ start.lines + length past
+  pub headed : IsSameTrace start reader
+  pub read : (keeps : Bool) (before : Option (List ℕ)) → IsOpened keeps before held (Ok start) → HasRead ring_row before held' (start.lines + 1) (reverse past) reader
+  pub fitting : All FitsFields past
+  pub passed : IsRingPassed words start.header past pass
+  pub logged : (list : List Lease) → Begins (holds list) start log → IsRingLogged (holds list) start.header (start.lines + 1) past pass
+
+module _ {B M : Type 0} (words : M → ℕ → ℕ) (holds : List Lease → Header → List Lent → B → Type 0) (start : RowReader) (held : Option (List ℕ)) (log : B) where
+  pub underway : (pass : RingPass B M) (h : Header) → h ≡ start.header → IsRingPassed words h [] pass →
+      ((list : List Lease) (first : ℕ) → holds list h (lents h first []) log → IsRingLogged (holds list) h first [] pass) → IsUnderway words holds start held held log start pass
+  underway pass h is passed logged = record {
+    past = [];
+    numbered = sym (add-zero start.lines);
+    headed = (refl, refl);
+    read = λ keeps before opened. opened_read ring_row keeps before held start opened;
+    fitting = All-nil FitsFields;
+    passed = subst (λ (x : Header). IsRingPassed words x [] pass) is passed;
+    logged = λ list begins.
+        subst (λ (x : Header). IsRingLogged (holds list) x (start.lines + 1) [] pass) is
+        (logged list (start.lines + 1) (subst (λ (x : Header). holds list x (lents x (start.lines + 1) []) log) (sym is) (begins (start.lines + 1))));
+  }
+
+  module _ (held' held'' : Option (List ℕ)) (r r' : RowReader) (pass : RingPass B M) (u : IsUnderway words holds start held held' log r pass) where
+    module _ (row : ℕ × TraceRow) (next : IsGiven held' held'' r r' row) (one : TraceRow) (told : row.1 ≡ one) where
+      number_so : row.0 ≡ start.lines + 1 + length u.past
+      number_so = let n = row_numbered ring_row held' held'' r r' row next.on next.call in omega (arith, n.0, u.numbered)
+
+      room_so : start.lines + 1 + length u.past < without_end
+      unfolding without_end
+      room_so = let n = row_numbered ring_row held' held'' r r' row next.on next.call in omega (arith, n.0, n.1, u.numbered, r'.within)
+
+      pub few_so : (h : Header) × (past : List TraceRow) × IsRingPassed words h past pass × (length past ≤ most_streamed_lines)
+      few_so = (start.header, u.past, u.passed, omega (arith, u.numbered, r.within))
+
+      pub fits_so : FitsFields one
+      fits_so = row_fits held' held'' r r' row one (as_taken row.1 one told) next.on next.call
+
+      read_so : (keeps : Bool) (before : Option (List ℕ)) → IsOpened keeps before held (Ok start) → HasRead ring_row before held'' (start.lines + 1) (reverse (one ∷ u.past)) r'
+      read_so keeps before opened =
+          subst (λ (rows : List TraceRow). HasRead ring_row before held'' (start.lines + 1) rows r') (reversed_more u.past one)
+          (row_read ring_row before held' held'' (start.lines + 1) (reverse u.past) r r' next.headed (u.read keeps before opened) row one (as_taken row.1 one told) next.on next.call)
+
+      pub row_passed : (pass' : RingPass B M) → ((h : Header) (past : List TraceRow) → IsRingPassed words h past pass → IsRingPassed words h (one ∷ past) pass') →
+          ((list : List Lease) (h : Header) (first : ℕ) (past : List TraceRow) → IsRingPassed words h past pass → row.0 ≡ first + length past → first + length past < without_end →
+          IsRingLogged (holds list) h first past pass → IsRingLogged (holds list) h first (one ∷ past) pass') → IsUnderway words holds start held held'' log r' pass'
+      row_passed pass' passes logs = record {
+        past = one ∷ u.past;
+        numbered = let n = row_numbered ring_row held' held'' r r' row next.on next.call in omega (arith, n.0, n.1, u.numbered);
+        headed = (next.headed.0 ∙ u.headed.0, next.headed.1 ∙ u.headed.1);
+        read = read_so;
+        fitting = All-cons FitsFields one u.past fits_so u.fitting;
+        passed = passes start.header u.past u.passed;
+        logged = λ list begins. logs list start.header (start.lines + 1) u.past u.passed number_so room_so (u.logged list begins);
+      }
+
+      -- a refused row, and rows behind it
+      pub refused_so : (last : Option (List ℕ)) (c : Refusal) → ((h : Header) (past : List TraceRow) → IsRingPassed words h past pass → IsLeastOfRow (header_now h past) (known_now h past) one c) →
+          ((before : Option (List ℕ)) (first : ℕ) (done : List TraceRow) → HasRead ring_row before held'' first done r' →
+          (more : List TraceRow) × OfStream before last (λ text. text_taken r'.keeps ring_row text ≡ Ok (with_rows r' first (done ++ more)))) →
+          (keeps : Bool) (before : Option (List ℕ)) → IsOpened keeps before held (Ok start) → OfTrace keeps before last (λ trace. ring_verdict trace.header trace.first trace.rows ≡ Some (row.0, c))
+      refused_so last c least rest keeps before opened =
+          let first = start.lines + 1 in
+          let read = rest before first (reverse (one ∷ u.past)) (read_so keeps before opened) in
+          let rows : List TraceRow = reverse (one ∷ u.past) ++ read.0 in
+          let refused : ring_verdict r'.header first rows ≡ Some (row.0, c) =
+          ap (λ (x : Header). ring_verdict x first rows) (next.headed.0 ∙ u.headed.0)
+          ∙ ap (ring_verdict start.header first) (one_more u.past one read.0)
+          ∙ row_refused start.header first u.past read.0 one c u.passed.clean (least start.header u.past u.passed)
+          ∙ ap (λ n. Some (n, c)) (sym number_so) in (
+            with_rows r' first rows,
+            subst (λ (k : Bool). OfStream before last (λ text. text_taken k ring_row text ≡ Ok (with_rows r' first rows))) (next.headed.1 ∙ u.headed.1 ∙ opened.0) read.1,
+            refused,
+          )
+
+      -- a refused row, and a bad line behind it
+      pub bad_behind : (last : Option (List ℕ)) (e : StreamFault) →
+          IfBadLine e (λ line fault. (before : Option (List ℕ)) (first : ℕ) (done : List TraceRow) → HasRead ring_row before held'' first done r' → IsBadTaken r'.keeps ring_row before last line fault) →
+          IfBadLine e (λ line fault. (keeps : Bool) (before : Option (List ℕ)) → IsOpened keeps before held (Ok start) → IsBadTaken keeps ring_row before last line fault)
+      bad_behind last (Line line fault) told = λ keeps before opened.
+          subst (λ (k : Bool). IsBadTaken k ring_row before last line fault) (next.headed.1 ∙ u.headed.1 ∙ opened.0) (told before (start.lines + 1) (reverse (one ∷ u.past)) (read_so keeps before opened))
+      bad_behind last Device told = tt
+      bad_behind last Memory told = tt
+
+    -- a bad line is told
+    pub bad_so : (e : StreamFault) → IsSameTrace r r' → r'.ended ≡ true → Gives held' held'' r r' (Err e) →
+        IfBadLine e (λ line fault. (keeps : Bool) (before : Option (List ℕ)) → IsOpened keeps before held (Ok start) → IsBadTaken keeps ring_row before held'' line fault)
+    bad_so (Line line fault) headed over call = λ keeps before opened.
+        subst (λ (k : Bool). IsBadTaken k ring_row before held'' line fault) (u.headed.1 ∙ opened.0) (line_read_bad ring_row before held' held'' (start.lines + 1) (reverse u.past) r r' headed (u.read keeps before opened) over line fault call)
+    bad_so Device headed over call = tt
+    bad_so Memory headed over call = tt
+
+    -- no row is left
+    pub whole_so : IsOver held' held'' r r' → (r.ended ≡ true → held'' ≡ held') →
+        (kept : B) → ((h : Header) (past : List TraceRow) → IsRingPassed words h past pass → All FitsFields past → DoNoHarm h (reverse past)) →
+        ((list : List Lease) (h : Header) (first : ℕ) (past : List TraceRow) → IsRingLogged (holds list) h first past pass → holds list (header_now h past) (ring_lents h first past) kept) →
+        (keeps : Bool) (before : Option (List ℕ)) (list : List Lease) → IsOpened keeps before held (Ok start) → Begins (holds list) start log → OfTrace keeps before held'' (λ trace. IsWholeLog (holds list) trace kept)
+    whole_so last still kept harmless logs keeps before list opened begins =
+        let first = start.lines + 1 in (
+          with_rows start first (reverse u.past),
+          subst (λ (k : Bool). OfStream before held'' (λ text. text_taken k ring_row text ≡ Ok (with_rows start first (reverse u.past)))) opened.0 (of_start before held'' start r first (reverse u.past) u.headed
+              (end_read ring_row before held' held'' first (reverse u.past) r r' last.headed (u.read keeps before opened) last.over last.call still)),
+          record {
+            verdict = none_refused start.header first u.past u.passed.clean;
+            walk = walks start.header u.passed.opening u.past u.fitting u.passed.clean;
+            harmless = harmless start.header u.past u.passed u.fitting;
+            kept = rw (reversed_twice u.past) (logs list start.header first u.past (u.logged list begins));
+          },
+        )
+
+-- ---- rows that are read behind a refused one
+
+-- further rows were read
+pub record IsReadOn (start : RowReader) (held held' : Option (List ℕ)) (reader : RowReader) : Type 0 where
+  pub headed : IsSameTrace start reader
+  pub read : (before : Option (List ℕ)) (first : ℕ) (done : List TraceRow) → HasRead ring_row before held first done start → (more : List TraceRow) × HasRead ring_row before held' first (done ++ more) reader
+
+module _ (start : RowReader) (held : Option (List ℕ)) where
+  pub none_read_on : IsReadOn start held held start
+  none_read_on = record {
+    headed = (refl, refl);
+    read = λ before first done read. ([], subst (λ (rows : List TraceRow). HasRead ring_row before held first rows start) (sym (append-nil done)) read);
+  }
+
+  module _ (held' held'' : Option (List ℕ)) (r r' : RowReader) (u : IsReadOn start held held' r) where
+    module _ (before : Option (List ℕ)) (first : ℕ) (done : List TraceRow) where
+      abbrev Read : Option (List ℕ) → RowReader → Type 0
+      Read x reader = (more : List TraceRow) × HasRead ring_row before x first (done ++ more) reader
+
+      row_more : (row : ℕ × TraceRow) → IsGiven held' held'' r r' row → (one : TraceRow) → ring_row row.1 ≡ Ok one → Read held' r → Read held'' r'
+      row_more row next one taken (more, read) = (
+        more ++ one ∷ [],
+        subst (λ (rows : List TraceRow). HasRead ring_row before held'' first rows r') (append_assoc done more (one ∷ []))
+            (row_read ring_row before held' held'' first (done ++ more) r r' next.headed read row one taken next.on next.call),
+      )
+
+      all_more : IsOver held' held'' r r' → (r.ended ≡ true → held'' ≡ held') → Read held' r →
+          (more : List TraceRow) × OfStream before held'' (λ text. text_taken start.keeps ring_row text ≡ Ok (with_rows start first (done ++ more)))
+      all_more last still (more, read) = (
+        more,
+        of_start before held'' start r first (done ++ more) u.headed
+            (end_read ring_row before held' held'' first (done ++ more) r r' last.headed read last.over last.call still),
+      )
+
+      bad_more : IsSameTrace r r' → r'.ended ≡ true → (line : ℕ) (fault : LineFault) → Gives held' held'' r r' (Err (Line line fault)) → Read held' r → IsBadTaken start.keeps ring_row before held'' line fault
+      bad_more headed over line fault call (more, read) =
+          subst (λ (k : Bool). IsBadTaken k ring_row before held'' line fault) u.headed.1 (line_read_bad ring_row before held' held'' first (done ++ more) r r' headed read over line fault call)
+
+    pub row_read_on : (row : ℕ × TraceRow) → IsGiven held' held'' r r' row → IsReadOn start held held'' r'
+    row_read_on row next = record {
+      headed = (next.headed.0 ∙ u.headed.0, next.headed.1 ∙ u.headed.1);
+      read = λ before first done read. row_more before first done row next row.1 (as_taken row.1 row.1 refl) (u.read before first done read);
+    }
+
+    pub all_read_on : IsOver held' held'' r r' → (r.ended ≡ true → held'' ≡ held') →
+        (before : Option (List ℕ)) (first : ℕ) (done : List TraceRow) → HasRead ring_row before held first done start →
+        (more : List TraceRow) × OfStream before held'' (λ text. text_taken start.keeps ring_row text ≡ Ok (with_rows start first (done ++ more)))
+    all_read_on last still before first done read = all_more before first done last still (u.read before first done read)
+
+    pub bad_read_on : (e : StreamFault) → IsSameTrace r r' → r'.ended ≡ true → Gives held' held'' r r' (Err e) →
+        IfBadLine e (λ line fault. (before : Option (List ℕ)) (first : ℕ) (done : List TraceRow) → HasRead ring_row before held first done start → IsBadTaken start.keeps ring_row before held'' line fault)
+    bad_read_on (Line line fault) headed over call = λ before first done read. bad_more before first done headed over line fault call (u.read before first done read)
+    bad_read_on Device headed over call = tt
+    bad_read_on Memory headed over call = tt

@@ -1,0 +1,305 @@
+-- A row more of a pass
+use Rattle.std.proofs.Common.{◌≡◌, ◌+◌, ◌++◌, ◌∷◌, ◌∙◌, ℕ, true, false, List, [], All, Option, Some, None, Result, Ok, Err, IfErr, suc, length, reverse, arith, refl, sym, ap, subst, inl, inr}
+use Rattle.safety.proofs.Words.{reverse-append, All-cons, All-head, All-nil, All-tail, Header, Known, Ring, IsHeader, DriverKeeps, nothing, on_ring}
+use Rattle.std.proofs.lemmas.Bool.{false≢true}
+use Rattle.safety.proofs.DriverHistories.{kept_driver}
+use Rattle.safety.proofs.Lenient.{lenient_row}
+use Rattle.safety.proofs.NothingKept.{nothing_kept}
+use Rattle.safety.proofs.TestsPassed.{clean_tests}
+use Rattle.event_ring.specs.EventPlaceValue.{EventState}
+use Rattle.trb.specs.declared.ring_kind.RingKind.TheVariants.{Xfer}
+use Rattle.traces.specs.declared.row.Row.{Row}
+use Rattle.traces.specs.declared.trace_row.TraceRow.{TraceRow}
+use Rattle.traces.specs.declared.trace_row.TraceRow.TheVariants.{Plain, Comes, Goes, Withdraws}
+use Rattle.trace_record.specs.RingFinder.Finding.{IsFinder}
+use Rattle.trace_record.proofs.RingFinder.HeaderRings.{id_below, shape_allowed}
+use Rattle.trace_record.proofs.RingFinder.RingsApart.{IsAmong}
+use Rattle.trace_record.specs.declared.trace_record.TraceRecord.{TraceRecord}
+use Rattle.trace_record.specs.FollowsTrace.{FollowsTrace}
+use Rattle.trace_record.specs.Fresh.{IsWithin}
+use Rattle.trace_record.specs.declared.fault.StepFault as step
+use Rattle.trace_record.specs.declared.fault.StepFault.TheVariants as variants
+use Rattle.trace_record.specs.Steps as steps
+use Rattle.trace_record.specs.Steps.{IsLeast, IsRowStep}
+use Rattle.ownership_rules.specs.declared.refusal.Refusal.{Refusal}
+use Rattle.ownership_checker.specs.JudgedRows.Tracking.{IsTracked}
+use Rattle.ownership_checker.proofs.JudgedRows.Keeping.{contexts_fit}
+use Rattle.trace_record.specs.Premises.{ContextsFit}
+use Rattle.leases.specs.LeaseRows.LeftBehind.{EntriesFit}
+use Rattle.leases.proofs.LeaseRows.EntriesFit.{nothing_fits, row_fits, still_fit}
+use Rattle.safety.specs.RingChanges.Changes.{IsComing, forgotten, is_bad_free, is_bad_ring, with_ring, without_ring}
+use Rattle.safety.specs.RingChanges.Histories.{AreKept, FitsFields, header_now, known_now}
+use Rattle.safety.specs.RingChanges.Withdrawals.{is_left, restored, restored_on, ring_restored, some_flips}
+use Rattle.safety.proofs.RingChanges.Restored.{row_comes, row_keeps, stopped_still}
+use Rattle.safety.proofs.RingChanges.Withdrawn.{withdraw_keeps}
+use Rattle.safety.proofs.RingChanges.GoneRings.{gone_ring_kept}
+use Rattle.safety.proofs.RingChanges.RingRuns.{comes_keeps}
+use Rattle.safety.proofs.RingChanges.RingsHeadline.{rings_headline}
+use Rattle.ownership_rules.specs.declared.refusal.Refusal.TheVariants.{BadFree, BadRing, BadWithdraw}
+use Rattle.ownership_rules.specs.Refusal.{first_of}
+use Rattle.driver_rows.specs.RingRows.RingSteps.{IsRingStep}
+use Rattle.driver_rows.specs.RingRows.Withdrawing.{withdraws_badly}
+use Rattle.leases.proofs.RingLeases.NothingRestored.{restored_same}
+use Rattle.ownership_checker.specs.RingPasses.Clean.{IsLeastOfRow}
+use Rattle.ownership_checker.specs.RingPasses.Passing.{DoNoHarm, IsRingPassed, NothingFree}
+use Rattle.ownership_checker.specs.declared.pass.ring_pass.RingPass.{RingPass}
+use Rattle.ownership_checker.proofs.RingPasses.Broken.{least_broken, none_broken}
+use Rattle.ownership_checker.proofs.RingPasses.Histories.{comes_free, driver_same, flips_none_restored, goes_free, kept_now, no_rule_broken, nothing_free, plain_free, stands_where_restored}
+use Rattle.ownership_checker.proofs.RingPasses.Verdicts.{reversed_twice}
+
+among_last : (r : Ring) (rs : List Ring) → IsAmong r (rs ++ r ∷ [])
+among_last r [] = inl refl
+among_last r (x ∷ rs) = inr (among_last r rs)
+
+-- a ring that a header has behind it may come, by its line alone
+pub coming_by_header : (h : Header) (r : Ring) → IsHeader (with_ring h r) → r.shape.kind ≡ Xfer → IsComing r
+unfolding with_ring
+coming_by_header h r is kind = record {
+  low = id_below (with_ring h r) is r (among_last r h.rings);
+  kind = kind;
+  shape = shape_allowed (with_ring h r) is r (among_last r h.rings);
+}
+
+all_joined : (xs ys : List TraceRow) → All FitsFields xs → All FitsFields ys → All FitsFields (xs ++ ys)
+all_joined [] ys first second = second
+all_joined (x ∷ xs) ys first second = All-cons FitsFields x (xs ++ ys) (All-head FitsFields x xs first) (all_joined xs ys (All-tail FitsFields x xs first) second)
+
+pub all_reversed : (rows : List TraceRow) → All FitsFields rows → All FitsFields (reverse rows)
+all_reversed [] are = are
+all_reversed (row ∷ rows) are =
+    subst (All FitsFields) (sym (reverse-append (row ∷ []) rows))
+    (all_joined (reverse rows) (row ∷ []) (all_reversed rows (All-tail FitsFields row rows are)) (All-cons FitsFields row [] (All-head FitsFields row rows are) (All-nil FitsFields)))
+
+one_more : (events : Option EventState) (n : ℕ) → IsWithin events n → IsWithin events (n + 1)
+one_more None n within = tt
+one_more (Some e) n within = omega (arith, within)
+
+one_later : (t : TraceRecord) (n : ℕ) → IsWithin t.events n → IsWithin t.events (suc n)
+one_later t n within = subst (IsWithin t.events) (omega arith) (one_more t.events n within)
+
+-- of a refusal of a row, what follows of it
+pub refused_too : {T : Type 0} (r : Result T step.StepFault) (P Q : Refusal → Type 0) → ((c : Refusal) → P c → Q c) → IfErr r (λ e. steps.IfRefused e P) → IfErr r (λ e. steps.IfRefused e Q)
+refused_too (Ok x) P Q f so = tt
+refused_too (Err (variants.Refused c)) P Q f so = f c so
+refused_too (Err variants.Memory) P Q f so = tt
+
+pub told_of : (e : step.StepFault) (P Q : Refusal → Type 0) → ((c : Refusal) → P c → Q c) → steps.IfRefused e P → steps.IfRefused e Q
+told_of (variants.Refused c) P Q f so = f c so
+told_of variants.Memory P Q f so = tt
+
+forgotten_fits : (k : Known) (id : ℕ) → EntriesFit k → EntriesFit (forgotten k id)
+unfolding forgotten
+forgotten_fits k id fit = still_fit k (forgotten k id) refl (λ s d at. at) fit
+
+restored_fits : (h : Header) (k : Known) (o : Option ℕ) → EntriesFit k → EntriesFit (restored_on h k o)
+unfolding restored_on on_ring
+restored_fits h k None fit = fit
+restored_fits h k (Some r) fit = still_fit k (restored_on h k (Some r)) refl (λ s d at. at) fit
+
+module _ {B M : Type 0} (words : M → ℕ → ℕ) where
+  pub before_rows : (pass : RingPass B M) → IsHeader pass.header → IsFinder pass.header.rings pass.finder → IsWithin pass.record.events 0 → FollowsTrace pass.header nothing pass.record (words pass.memory) →
+      IsRingPassed words pass.header [] pass
+  before_rows pass is found unread follows = record {
+    opening = is;
+    header = refl;
+    headed = is;
+    found = found;
+    few_reads = unread;
+    tracked = record { follows = follows; keeps = λ on. nothing_kept pass.header is };
+    entries = nothing_fits pass.header;
+    clean = tt;
+    unwithdrawn = λ none. nothing_free;
+  }
+
+  module _ (h : Header) (past : List TraceRow) (before : RingPass B M) (p : IsRingPassed words h past before) where
+    abbrev g : Header
+    g = header_now h past
+
+    abbrev k : Known
+    k = known_now h past
+
+    -- what is tracked, by the rings that are there
+    pub tracked_now : IsTracked g k before.record (words before.memory)
+    tracked_now = subst (λ (x : Header). IsTracked x k before.record (words before.memory)) p.header p.tracked
+
+    pub headed_now : IsHeader g
+    headed_now = subst IsHeader p.header p.headed
+
+    -- behind a row of the driver: what it starts or moves stood as declared
+    pub plain_behind : (row : Row) (after : TraceRecord) (memory : ℕ → ℕ) → is_left g k (ring_restored g k row) ≡ false → some_flips g (restored g k row) row ≡ false →
+        IsRowStep g (restored g k row) row after memory → IsWithin after.events (length past + 1) →
+        (later : RingPass B M) → later.header ≡ before.header → later.finder ≡ before.finder → later.record ≡ after → words later.memory ≡ memory →
+        (later.has_withdrawn ≡ false → NothingFree (known_now h (Plain row ∷ past))) → IsRingPassed words h (Plain row ∷ past) later
+    plain_behind row after memory stands flips now reads later header same is at none =
+        let clean = lenient_row g (restored g k row) row now.clean in
+        let on : k.stopped ≡ false = sym (stopped_still g k (ring_restored g k row)) ∙ (clean_tests g (restored g k row) row clean).0 in
+        let keeps = tracked_now.keeps on in
+        let keeps_restored : DriverKeeps g (restored g k row) = row_keeps g headed_now k keeps row stands in
+        let tracked : IsTracked g (known_now h (Plain row ∷ past)) after memory = record {
+          follows = now.followed;
+          keeps = λ still. kept_driver g headed_now (restored g k row) row keeps_restored (row_comes g headed_now k keeps row clean flips) still;
+        } in
+        let number : length past + 1 ≡ length (Plain row ∷ past) = omega arith in
+        record {
+          opening = p.opening;
+          header = header ∙ p.header;
+          headed = subst IsHeader (sym header) p.headed;
+          found = rw (header, same) p.found;
+          few_reads = rw is (subst (IsWithin after.events) number reads);
+          tracked = rw (is, at) (subst (λ (x : Header). IsTracked x (known_now h (Plain row ∷ past)) after memory) (sym (header ∙ p.header)) tracked);
+          entries = row_fits g headed_now (restored g k row) row keeps_restored clean (restored_fits g k (ring_restored g k row) p.entries);
+          clean = (p.clean, no_rule_broken g k row (record { on = on; stands = stands; flips = flips; clean = now.clean }));
+          unwithdrawn = none;
+        }
+
+    -- the same where nothing was withdrawn
+    module _ (has_none : before.has_withdrawn ≡ false) where
+      pub none_now : NothingFree k
+      none_now = p.unwithdrawn has_none
+
+      pub quiet_behind : (row : Row) (after : TraceRecord) (memory : ℕ → ℕ) → IsRowStep before.header k row after memory → IsWithin after.events (length past + 1) →
+          (later : RingPass B M) → later.header ≡ before.header → later.finder ≡ before.finder → later.record ≡ after → words later.memory ≡ memory → IsRingPassed words h (Plain row ∷ past) later
+      quiet_behind row after memory step reads later header same is at =
+          let here : IsRowStep g k row after memory = subst (λ (x : Header). IsRowStep x k row after memory) p.header step in
+          plain_behind row after memory (stands_where_restored g k none_now row) (flips_none_restored g k none_now row)
+          (subst (λ (x : Known). IsRowStep g x row after memory) (sym (restored_same g k row none_now)) here) reads later header same is at (λ none. plain_free h past none_now row)
+
+      pub least_quiet : (row : Row) (c : Refusal) → IsLeast before.header k row c → IsLeastOfRow g k (Plain row) c
+      least_quiet row c least = ap first_of (driver_same g k none_now row) ∙ subst (λ (x : Header). IsLeast x k row c) p.header least
+
+    -- where the ring that a row starts or moves stands as declared, this holds what is known once that is the controller's again
+    pub restored_tracked : (row : Row) (o : Option ℕ) (after : TraceRecord) → o ≡ ring_restored before.header k row → k.stopped ≡ false → is_left before.header k (ring_restored before.header k row) ≡ false →
+        FollowsTrace before.header (restored_on before.header k o) after (words before.memory) → IsTracked before.header (restored before.header k row) after (words before.memory)
+    restored_tracked row o after is on stands follows = record {
+      follows = subst (λ (x : Option ℕ). FollowsTrace before.header (restored_on before.header k x) after (words before.memory)) is follows;
+      keeps = λ still. row_keeps before.header p.headed k (p.tracked.keeps on) row stands;
+    }
+
+    -- behind a ring that comes
+    pub comes_behind : (ring : Ring) (after : TraceRecord) → ring.shape.kind ≡ Xfer → (DriverKeeps before.header k → k.stopped ≡ false → IsRingStep before.header k (Comes ring) after (words before.memory)) →
+        k.stopped ≡ false → IsWithin after.events (length past) → (later : RingPass B M) → later.header ≡ with_ring before.header ring → IsHeader later.header → IsFinder later.header.rings later.finder → later.record ≡ after →
+        words later.memory ≡ words before.memory → later.has_withdrawn ≡ before.has_withdrawn → IsRingPassed words h (Comes ring ∷ past) later
+    comes_behind ring after kind stepped on reads later header is found recorded at same =
+        let keeps = tracked_now.keeps on in
+        let now : IsRingStep g k (Comes ring) after (words before.memory) =
+        subst (λ (x : Header). IsRingStep x k (Comes ring) after (words before.memory)) p.header (stepped (p.tracked.keeps on) on) in
+        let there : later.header ≡ with_ring g ring = header ∙ ap (λ (x : Header). with_ring x ring) p.header in
+        let coming : IsComing ring = coming_by_header g ring (subst IsHeader there is) kind in
+        record {
+          opening = p.opening;
+          header = there;
+          headed = is;
+          found = found;
+          few_reads = rw recorded (one_later after (length past) reads);
+          tracked = rw (recorded, at) (subst (λ (x : Header). IsTracked x (known_now h (Comes ring ∷ past)) after (words before.memory)) (sym there)
+              (record { follows = now.followed; keeps = λ still. comes_keeps g headed_now ring coming k keeps now.kept.1 }));
+          entries = forgotten_fits k _ p.entries;
+          clean = (p.clean, none_broken k BadRing (is_bad_ring g k ring) now.kept);
+          unwithdrawn = λ none. comes_free h past (p.unwithdrawn (sym same ∙ none)) ring;
+        }
+
+    -- behind a ring that goes
+    pub goes_behind : (id : ℕ) (after : TraceRecord) → (DriverKeeps before.header k → k.stopped ≡ false → IsRingStep before.header k (Goes id) after (words before.memory)) →
+        k.stopped ≡ false → IsWithin after.events (length past) → (later : RingPass B M) → later.header ≡ without_ring before.header id → IsHeader later.header → IsFinder later.header.rings later.finder → later.record ≡ after →
+        words later.memory ≡ words before.memory → later.has_withdrawn ≡ before.has_withdrawn → IsRingPassed words h (Goes id ∷ past) later
+    goes_behind id after stepped on reads later header is found recorded at same =
+        let keeps = tracked_now.keeps on in
+        let now : IsRingStep g k (Goes id) after (words before.memory) =
+        subst (λ (x : Header). IsRingStep x k (Goes id) after (words before.memory)) p.header (stepped (p.tracked.keeps on) on) in
+        let there : later.header ≡ without_ring g id = header ∙ ap (λ (x : Header). without_ring x id) p.header in
+        record {
+          opening = p.opening;
+          header = there;
+          headed = is;
+          found = found;
+          few_reads = rw recorded (one_later after (length past) reads);
+          tracked = rw (recorded, at) (subst (λ (x : Header). IsTracked x (known_now h (Goes id ∷ past)) after (words before.memory)) (sym there)
+              (record { follows = now.followed; keeps = λ still. gone_ring_kept g headed_now k keeps id now.kept.1 }));
+          entries = forgotten_fits k _ p.entries;
+          clean = (p.clean, none_broken k BadFree (is_bad_free g k id) now.kept);
+          unwithdrawn = λ none. goes_free h past (p.unwithdrawn (sym same ∙ none)) id;
+        }
+
+    -- behind a descriptor that is withdrawn
+    pub withdrawn_behind : (r q : ℕ) (after : TraceRecord) → (DriverKeeps before.header k → k.stopped ≡ false → IsRingStep before.header k (Withdraws r q) after (words before.memory)) →
+        (DriverKeeps before.header k → withdraws_badly before.header k r q ≡ false) → k.stopped ≡ false → IsWithin after.events (length past) →
+        (later : RingPass B M) → later.header ≡ before.header → later.finder ≡ before.finder → later.record ≡ after → words later.memory ≡ words before.memory → later.has_withdrawn ≡ true →
+        IsRingPassed words h (Withdraws r q ∷ past) later
+    unfolding on_ring
+    withdrawn_behind r q after stepped good on reads later header same recorded at has =
+        let keeps = tracked_now.keeps on in
+        let keeps_before = p.tracked.keeps on in
+        let now : IsRingStep g k (Withdraws r q) after (words before.memory) =
+        subst (λ (x : Header). IsRingStep x k (Withdraws r q) after (words before.memory)) p.header (stepped keeps_before on) in
+        record {
+          opening = p.opening;
+          header = header ∙ p.header;
+          headed = subst IsHeader (sym header) p.headed;
+          found = rw (header, same) p.found;
+          few_reads = rw recorded (one_later after (length past) reads);
+          tracked = rw (recorded, at) (subst (λ (x : Header). IsTracked x (known_now h (Withdraws r q ∷ past)) after (words before.memory)) (sym (header ∙ p.header))
+              (record { follows = now.followed; keeps = λ still. withdraw_keeps g r q headed_now k keeps now.kept.1 }));
+          entries = still_fit k (known_now h (Withdraws r q ∷ past)) refl (λ s d at. at) p.entries;
+          clean = (p.clean, none_broken k BadWithdraw (withdraws_badly g k r q) (on, subst (λ (x : Header). withdraws_badly x k r q ≡ false) p.header (good keeps_before)));
+          unwithdrawn = λ none. absurd (false≢true (sym none ∙ has));
+        }
+
+    -- the log and the indexes tell nothing of this
+    pub same_still : (later : RingPass B M) → later.header ≡ before.header → later.finder ≡ before.finder → later.record ≡ before.record → later.memory ≡ before.memory →
+        later.has_withdrawn ≡ before.has_withdrawn → IsRingPassed words h past later
+    same_still later header finder known memory withdrawn = rw (header, finder, known, memory, withdrawn) (record {
+      opening = p.opening;
+      header = p.header;
+      headed = p.headed;
+      found = p.found;
+      few_reads = p.few_reads;
+      tracked = p.tracked;
+      entries = p.entries;
+      clean = p.clean;
+      unwithdrawn = p.unwithdrawn;
+    })
+
+    -- no run beside the rows, in their order, does harm
+    pub no_harm : All FitsFields past → DoNoHarm h (reverse past)
+    no_harm are = rings_headline h (reverse past) p.opening (all_reversed past are) (subst (AreKept h) (sym (reversed_twice past)) (kept_now h past p.clean))
+
+  -- ---- a ring that is refused, whatever rows were passed before it
+
+  pub comes_refused : (before : RingPass B M) (ring : Ring) → ((h : Header) (past : List TraceRow) → IsRingPassed words h past before → (known_now h past).stopped ≡ false) → (e : step.StepFault) →
+      steps.IfRefused e (λ c. (c ≡ BadRing) × ((k : Known) → FollowsTrace before.header k before.record (words before.memory) → is_bad_ring before.header k ring ≡ true)) →
+      steps.IfRefused e (λ c. (h : Header) (past : List TraceRow) → IsRingPassed words h past before → IsLeastOfRow (header_now h past) (known_now h past) (Comes ring) c)
+  comes_refused before ring on (variants.Refused c) bad = λ h past p.
+      let g = header_now h past in
+      let k = known_now h past in
+      subst (λ (x : Refusal). IsLeastOfRow g k (Comes ring) x) (sym bad.0)
+      (least_broken k BadRing (is_bad_ring g k ring) (on h past p) (subst (λ (x : Header). is_bad_ring x k ring ≡ true) p.header (bad.1 k p.tracked.follows)))
+  comes_refused before ring on variants.Memory bad = tt
+
+  pub goes_refused : (before later : RingPass B M) (id : ℕ) → ((h : Header) (past : List TraceRow) → IsRingPassed words h past before → IsRingPassed words h past later × ((known_now h past).stopped ≡ false)) →
+      (e : step.StepFault) →
+      steps.IfRefused e (λ c. (c ≡ BadFree) × ((k : Known) (memory : ℕ → ℕ) → FollowsTrace later.header k later.record memory → DriverKeeps later.header k → is_bad_free later.header k id ≡ true)) →
+      steps.IfRefused e (λ c. (h : Header) (past : List TraceRow) → IsRingPassed words h past before → IsLeastOfRow (header_now h past) (known_now h past) (Goes id) c)
+  goes_refused before later id still (variants.Refused c) bad = λ h past p.
+      let g = header_now h past in
+      let k = known_now h past in
+      let q = (still h past p).0 in
+      let on = (still h past p).1 in
+      subst (λ (x : Refusal). IsLeastOfRow g k (Goes id) x) (sym bad.0)
+      (least_broken k BadFree (is_bad_free g k id) on (subst (λ (x : Header). is_bad_free x k id ≡ true) q.header (bad.1 k (words later.memory) q.tracked.follows (q.tracked.keeps on))))
+  goes_refused before later id still variants.Memory bad = tt
+
+  -- a descriptor that is refused
+  pub withdrawn_refused : (before later : RingPass B M) (r q : ℕ) → ((h : Header) (past : List TraceRow) → IsRingPassed words h past before → IsRingPassed words h past later × ((known_now h past).stopped ≡ false)) →
+      (e : step.StepFault) →
+      steps.IfRefused e (λ c. (c ≡ BadWithdraw) × ((k : Known) → FollowsTrace later.header k later.record (words later.memory) → DriverKeeps later.header k → ContextsFit later.header k → withdraws_badly later.header k r q ≡ true)) →
+      steps.IfRefused e (λ c. (h : Header) (past : List TraceRow) → IsRingPassed words h past before → IsLeastOfRow (header_now h past) (known_now h past) (Withdraws r q) c)
+  withdrawn_refused before later r q still (variants.Refused c) bad = λ h past p.
+      let g = header_now h past in
+      let k = known_now h past in
+      let l = (still h past p).0 in
+      let on = (still h past p).1 in
+      let keeps = l.tracked.keeps on in
+      subst (λ (x : Refusal). IsLeastOfRow g k (Withdraws r q) x) (sym bad.0)
+      (least_broken k BadWithdraw (withdraws_badly g k r q) on
+      (subst (λ (x : Header). withdraws_badly x k r q ≡ true) l.header (bad.1 k l.tracked.follows keeps (contexts_fit later.header k keeps))))
+  withdrawn_refused before later r q still variants.Memory bad = tt

@@ -1,0 +1,12 @@
+use Rattle.std.proofs.Common.{◌≡◌, ◌-◌}
+use Rattle.traces.specs.Limits.{most_streamed_lines}
+use Rattle.ownership_checker.proofs.RingPasses.RowsRead.{IsUnderway}
+use Rattle.ownership_checker.proofs.pass.reading.pass_rows.Given as goal
+
+abbrev pub invariant-loop-pass : goal.invariant-loop-pass
+invariant-loop-pass g l =
+    IsUnderway (g.M.WordMemory.words) (g.B.LeaseLog.holds) l.fn.reader (g.S.Source.held l.fn.source) (g.S.Source.held l.source) l.fn.log l.reader l.pass × (g.S.Source.failed l.source ≡ g.S.Source.failed l.fn.source)
+
+-- the lines that a trace may still have
+abbrev pub decreases-loop-pass : goal.decreases-loop-pass
+decreases-loop-pass g l = most_streamed_lines - l.reader.lines

@@ -1,0 +1,46 @@
+use Rattle.std.proofs.Common.{◌≤◌, ◌≡◌, ◌<◌, ◌^◌, ◌∙◌, Some, true, ap, arith, get_or, length, not, refl, subst, sym}
+use Rattle.std.proofs.lemmas.Option.{slice_get_read, slice_get_within}
+use Rattle.traces.specs.declared.ring.Ring.{Ring}
+use Rattle.traces.specs.Header.{is_transfer_kind, ring_with}
+use Rattle.segments.specs.Descriptors.{length_from}
+use Rattle.segments.specs.RingView.{Withdraws, floor_number}
+use Rattle.ring_knowledge.specs.Rings.{on_ring}
+use Rattle.ownership_rules.specs.OpenLeases.{open_leases}
+use Rattle.leases.specs.LeaseBooks.InStep.{AreOpen}
+use Rattle.leases.specs.LeaseBooks.Lents.{passed_on}
+use Rattle.driver_rows.proofs.RingRows.Lists.{read_there}
+use Rattle.ownership_checker.proofs.RingPasses.FreeLeases.{count_is, found, no_room, none_high, withdrawn_held}
+use Rattle.ownership_checker.proofs.RingPasses.Logged.{transfer_drives}
+use Rattle.ownership_checker.proofs.pass.ring_pass.RingPass.end_withdrawn.Goals as goal
+
+pub returns-then-is_none-clause-ended : goal.returns-then-is_none-clause-ended
+returns-then-is_none-clause-ended g c = λ list k memory ts f from transfer opened held.
+    let h = c.args.self.now.header in
+    let n = c.in-Some.at in
+    let there = c.in-Some.ensures.there in
+    let items = c.args.self.now.record.rings.items in
+    let known = c.index.result.now in
+    let at = slice_get_read items (length items) n known refl (omega (arith, c.requires.as_many, slice_get_within h.rings n there.ring there.at)) c.index.ensures in
+    let follows = f.rings.each n there.ring known there.at at (transfer_drives there.ring.shape.kind there.kind) in
+    let floor : floor_number (k.ring there.ring.id) ≤ c.args.position = rw there.named from in
+    let counted = c.from-count.ensures ∙ c.descriptor_length.ensures there.ring.shape (k.ring there.ring.id) follows (rw there.named from) ∙ count_is (k.ring there.ring.id) c.args.position in
+    absurd (no_room there.ring.shape (k.ring there.ring.id) known c.args.position c.from-count.result follows (omega (arith, follows.marks.passed, floor)) counted (subst (λ n. n < 2 ^ 32) (sym c.from-count.ensures) c.descriptor_length.type_inv) c.ranges.position.fits (none_high c.checked_add.result _ _ c.checked_add.ensures (c.is_none.ensures ∙ ap not c.if-is_none.true)))
+
+pub returns-clause-ended : goal.returns-clause-ended
+returns-clause-ended g c = λ list k memory ts f from transfer opened held.
+    let h = c.args.self.now.header in
+    let n = c.in-Some.at in
+    let there = c.in-Some.ensures.there in
+    let items = c.args.self.now.record.rings.items in
+    let known = c.index.result.now in
+    let row = c.args.number in
+    let p = c.args.position in
+    let Holds = g.B.LeaseLog.holds list in
+    let at = slice_get_read items (length items) n known refl (omega (arith, c.requires.as_many, slice_get_within h.rings n there.ring there.at)) c.index.ensures in
+    let follows = f.rings.each n there.ring known there.at at (transfer_drives there.ring.shape.kind there.kind) in
+    let counted = c.from-count.ensures ∙ c.descriptor_length.ensures there.ring.shape (k.ring there.ring.id) follows (rw there.named from) ∙ count_is (k.ring there.ring.id) p in
+    let read : c.index-rings-at.result ≡ there.ring = c.index-rings-at.is ∙ ap (λ xs. get_or xs n c.index-rings-at.result) c.as_slice-rings.ensures ∙ read_there h.rings n c.index-rings-at.result there.ring there.at in
+    let told = subst (λ (r : Ring). ring_with h r.id ≡ Some r → is_transfer_kind r.shape.kind ≡ true → c.from-count.result ≡ length_from (k.ring r.id).lengths 0 p → AreOpen h k ts → Holds h ts c.args.self.now.log →
+    Holds h (passed_on (open_leases h k) (open_leases h (on_ring h k r.id (Withdraws p))) row ts) c.note_withdrawing.new.book) read (c.note_withdrawing.ensures list h k ts c.requires.headed) in
+    withdrawn_held Holds h c.requires.headed k ts opened c.args.id n there row p c.note_withdrawing.new.book c.args.self.now.ranges
+    (told (found Holds h c.requires.headed k ts opened c.args.id n there row) there.kind counted opened held.held) held.found

@@ -1,0 +1,75 @@
+use Rattle.std.proofs.Common.{◌≡◌, ◌<◌, ◌∙◌, ◌∷◌, [], false, Some, arith, ap, subst, sym}
+use Rattle.traces.specs.declared.header.Header.{Header}
+use Rattle.traces.specs.declared.row.Row.{Row}
+use Rattle.traces.specs.declared.trace_row.TraceRow.TheVariants.{Plain}
+use Rattle.segments.specs.RingView.{Restores}
+use Rattle.ring_knowledge.specs.Learned.{learned}
+use Rattle.ring_knowledge.specs.Rings.{on_ring}
+use Rattle.ownership_rules.specs.Leases.{without_end}
+use Rattle.ownership_rules.specs.OpenLeases.{open_leases}
+use Rattle.ownership_rules.specs.Rules.{lenient}
+use Rattle.leases.specs.LeaseBooks.Lents.{passed_on}
+use Rattle.leases.specs.LeaseRows.CleanRows.{HoldsAll}
+use Rattle.leases.proofs.LeaseRows.OtherRows.{on_more}
+use Rattle.trace_record.specs.WordPlaces.{IsPlaced}
+use Rattle.safety.specs.RingChanges.Histories.{header_now, known_now}
+use Rattle.safety.specs.RingChanges.Withdrawals.{restored, ring_restored}
+use Rattle.leases.specs.RingLeases.RingLents.{ring_lents}
+use Rattle.leases.proofs.RingLeases.FreeRows.{plain_now}
+use Rattle.ownership_checker.proofs.RingPasses.FreeLeases.{none_restored, restored_transfer, runs_on}
+use Rattle.ownership_checker.proofs.RingPasses.Logged.{behind_logged, held_before, next_row, opened_before, plain_logged, rung_lents}
+use Rattle.ownership_checker.proofs.pass.ring_pass.RingPass.note_leases.Goals as goal
+
+pub returns-in_default-clause-logged : goal.returns-in_default-clause-logged
+returns-in_default-clause-logged g c = on_more c.note_row.result (λ told list h first past p placed is clean numbered room held.
+    let words = g.M.WordMemory.words in
+    let Holds = g.B.LeaseLog.holds list in
+    let other = g.met.B.LeaseLog.other_rings list in
+    let before = c.args.self.now in
+    let row = c.args.row.now in
+    let k = known_now h past in
+    let gh = header_now h past in
+    let same : restored gh k row ≡ k = none_restored gh k row (sym is ∙ c.in_default.is) in
+    let lenient_now : lenient before.header k row ≡ [] = subst (λ (x : Header). lenient x k row ≡ []) (sym p.header) (subst (λ x. lenient gh x row ≡ []) same clean) in
+    plain_logged words Holds other h first past before p room row (ap (λ x. learned gh x row) same) c.args.number numbered c.note_row.new.book c.note_row.new.ranges
+    (told list k (ring_lents h first past) placed (next_row words Holds other h first past before p room row lenient_now) (held_before words Holds other h first past before p room before.log before.ranges held))) c.note_row.ensures.step
+
+pub returns-in-Write-clause-logged : goal.returns-in-Write-clause-logged
+returns-in-Write-clause-logged g c = on_more c.note_moved.result (λ told list h first past p placed is clean numbered room held.
+    let words = g.M.WordMemory.words in
+    let Holds = g.B.LeaseLog.holds list in
+    let other = g.met.B.LeaseLog.other_rings list in
+    let before = c.args.self.now in
+    let later = c.note_moved.new.self in
+    let row = c.args.row.now in
+    let k = known_now h past in
+    let gh = header_now h past in
+    let moves_now : ring_restored gh k row ≡ Some c.in-Some.id = sym is ∙ c.in-Some.is in
+    let moves : ring_restored before.header k row ≡ Some c.in-Some.id = subst (λ (x : Header). ring_restored x k row ≡ Some c.in-Some.id) (sym p.header) moves_now in
+    let on : k.stopped ≡ false = runs_on gh k row clean in
+    let early : c.args.number < without_end = omega (arith, numbered, room) in
+    behind_logged words Holds other h first past before p room (λ y. learned y (restored y k row) row) (ring_lents h first (Plain row ∷ past)) (plain_now h first past row) c.args.number numbered later.log later.ranges
+    (subst (λ (r : Row). HoldsAll Holds before.header (passed_on (open_leases before.header k) (open_leases before.header (learned before.header (restored before.header k r) r)) c.args.number (ring_lents h first past)) later.log later.ranges)
+    (sym c.in-Write.is)
+    (told list k (words before.memory) (ring_lents h first past) c.in-Write.at c.in-Write.word p.tracked.follows (p.tracked.keeps on) (subst (λ (r : Row). IsPlaced before.header k r c.args.place) c.in-Write.is placed)
+    (subst (λ (r : Row). ring_restored before.header k r ≡ Some c.in-Some.id) c.in-Write.is moves) (opened_before words Holds other h first past before p room) early
+    (held_before words Holds other h first past before p room before.log before.ranges held)))) c.note_moved.ensures.moved
+
+pub returns-in_default-row-clause-logged : goal.returns-in_default-row-clause-logged
+returns-in_default-row-clause-logged g c = on_more c.note_rung.result (λ told list h first past p placed is clean numbered room held.
+    let words = g.M.WordMemory.words in
+    let Holds = g.B.LeaseLog.holds list in
+    let other = g.met.B.LeaseLog.other_rings list in
+    let before = c.args.self.now in
+    let later = c.note_rung.new.self in
+    let row = c.args.row.now in
+    let k = known_now h past in
+    let gh = header_now h past in
+    let id = c.in-Some.id in
+    let moves_now : ring_restored gh k row ≡ Some id = sym is ∙ c.in-Some.is in
+    let moves : ring_restored before.header k row ≡ Some id = subst (λ (x : Header). ring_restored x k row ≡ Some id) (sym p.header) moves_now in
+    let on : k.stopped ≡ false = runs_on gh k row clean in
+    behind_logged words Holds other h first past before p room (λ y. on_ring y k id Restores) (ring_lents h first (Plain row ∷ past))
+    (rung_lents words Holds other h first past before p room row id c.in_default-row.not-Write moves_now) c.args.number numbered later.log later.ranges
+    (told list k (words before.memory) (ring_lents h first past) p.tracked.follows (restored_transfer before.header k (p.tracked.keeps on) row id moves) (opened_before words Holds other h first past before p room)
+    (held_before words Holds other h first past before p room before.log before.ranges held))) c.note_rung.ensures.restored

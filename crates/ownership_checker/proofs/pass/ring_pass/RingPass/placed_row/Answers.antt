@@ -1,0 +1,39 @@
+use Rattle.std.proofs.Common.{length, refl}
+use Rattle.safety.specs.RingChanges.Histories.{known_now}
+use Rattle.safety.proofs.Lenient.{lenient_row}
+use Rattle.leases.proofs.LeaseRows.OtherRows.{on_both}
+use Rattle.leases.specs.RingLeases.RingLents.{ring_lents}
+use Rattle.ownership_checker.proofs.RingPasses.Logged.{held_before, next_row, plain_logged}
+use Rattle.ownership_checker.proofs.RingPasses.Histories.{known_plain}
+use Rattle.ownership_checker.proofs.RingPasses.Steps.{least_quiet, none_now, quiet_behind, refused_too}
+use Rattle.ownership_checker.proofs.pass.ring_pass.RingPass.placed_row.Goals as goal
+
+pub returns-clause-passed : goal.returns-clause-passed
+returns-clause-passed g c =
+    let words = g.M.WordMemory.words in
+    let before = c.args.self.now in
+    on_both c.check_row.result (λ ok reads h past p placed.
+    let k = known_now h past in
+    quiet_behind words h past before p c.requires.unwithdrawn c.args.row.now c.check_row.new.kept (words c.check_row.new.memory) (ok k p.tracked placed) (reads (length past) p.few_reads) _ refl refl refl refl)
+    c.check_row.ensures.ok c.check_row.ensures.reads
+
+pub returns-clause-refused : goal.returns-clause-refused
+returns-clause-refused g c =
+    let words = g.M.WordMemory.words in
+    let before = c.args.self.now in
+    refused_too c.check_row.result _ _ (λ r least h past p placed. least_quiet words h past before p c.requires.unwithdrawn c.args.row.now r (least (known_now h past) p.tracked placed)) c.check_row.ensures.refused
+
+pub returns-clause-logged : goal.returns-clause-logged
+returns-clause-logged g c =
+    let words = g.M.WordMemory.words in
+    let before = c.args.self.now in
+    let row = c.args.row.now in
+    on_both c.check_row.result (λ ok reads list h first past p placed numbered room held.
+    let Holds = g.B.LeaseLog.holds list in
+    let other = g.met.B.LeaseLog.other_rings list in
+    let k = known_now h past in
+    let step = ok k p.tracked placed in
+    plain_logged words Holds other h first past before p room row (known_plain h past (none_now words h past before p c.requires.unwithdrawn) row) c.args.number numbered c.note_row.new.book c.note_row.new.ranges
+    (c.in_ok-note_row.ensures.step list k (ring_lents h first past) placed (next_row words Holds other h first past before p room row (lenient_row before.header k row step.clean))
+    (held_before words Holds other h first past before p room before.log before.ranges held)))
+    c.check_row.ensures.ok c.check_row.ensures.reads

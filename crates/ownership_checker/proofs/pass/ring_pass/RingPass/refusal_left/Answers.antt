@@ -1,0 +1,20 @@
+use Rattle.std.proofs.Common.{◌≡◌, [], subst}
+use Rattle.traces.specs.declared.header.Header.{Header}
+use Rattle.ownership_rules.specs.Rules.{broken}
+use Rattle.trace_record.specs.Steps.{IsLeast}
+use Rattle.safety.specs.RingChanges.Histories.{header_now, known_now}
+use Rattle.ownership_checker.proofs.RingPasses.Histories.{least_left, only_left}
+use Rattle.ownership_checker.proofs.RingPasses.Steps.{told_of}
+use Rattle.ownership_checker.proofs.pass.ring_pass.RingPass.refusal_left.Goals as goal
+
+pub returns-in-Ok : goal.returns-in-Ok
+returns-in-Ok g c = λ h past p placed on left.
+    let k = known_now h past in
+    let step = c.in-Ok.ensures.ok k p.tracked placed in
+    only_left (header_now h past) k c.args.row.now on left (subst (λ (x : Header). broken x k c.args.row.now ≡ []) p.header step.clean)
+
+pub returns-in-Err : goal.returns-in-Err
+returns-in-Err g c = told_of c.in-Err.fault _ _ (λ r least h past p placed on left.
+    let k = known_now h past in
+    least_left (header_now h past) k c.args.row.now on r left
+    (subst (λ (x : Header). IsLeast x k c.args.row.now r) p.header (least k p.tracked placed))) c.in-Err.ensures.refused

@@ -1,0 +1,65 @@
+use Rattle.std.proofs.Common.{◌≡◌, ◌∙◌, ◌∷◌, false, arith, length, refl, sym, subst}
+use Rattle.std.proofs.lemmas.Result.{err_from_is_err_and}
+use Rattle.trace_record.specs.Fresh.{IsWithin}
+use Rattle.safety.specs.RingChanges.Histories.{header_now, known_now}
+use Rattle.ownership_rules.specs.declared.refusal.Refusal.TheVariants.{BadFree}
+use Rattle.ownership_checker.proofs.RingPasses.Broken.{least_stopped}
+use Rattle.ownership_checker.proofs.RingPasses.Steps.{goes_behind, goes_refused, same_still}
+use Rattle.traces.specs.declared.header.Header.{Header}
+use Rattle.traces.specs.declared.trace_row.TraceRow.TheVariants.{Goes}
+use Rattle.leases.specs.LeaseBooks.InStep.{AreOpen}
+use Rattle.leases.specs.declared.book.ranges.RangeIndexes.{RangeIndexes}
+use Rattle.leases.specs.LeaseRows.CleanRows.{HoldsAll}
+use Rattle.safety.specs.RingChanges.Changes.{is_bad_free, without_ring}
+use Rattle.leases.specs.RingLeases.RingLents.{ring_lents}
+use Rattle.leases.proofs.RingLeases.LentBehind.{lent_open}
+use Rattle.ownership_checker.proofs.RingPasses.Logged.{goes_logged, goes_transfer}
+use Rattle.ownership_checker.proofs.pass.ring_pass.RingPass.ring_goes.Goals as goal
+
+pub returns-then-is_stopped-clause-refused : goal.returns-then-is_stopped-clause-refused
+returns-then-is_stopped-clause-refused g c = λ h past p.
+    let k = known_now h past in
+    least_stopped k BadFree (is_bad_free (header_now h past) k c.args.id) (sym (c.is_stopped.ensures k p.tracked.follows.registers) ∙ c.if-is_stopped.true)
+
+pub returns-in_err-check_going-clause-refused : goal.returns-in_err-check_going-clause-refused
+returns-in_err-check_going-clause-refused g c =
+    let words = g.M.WordMemory.words in
+    let e = err_from_is_err_and c.from_residual.result c.from_residual.ensures.1 in
+    rw (e.1, e.2)
+    (goes_refused words c.args.self.now c.end_leases.new.self c.args.id
+    (λ h past p. (
+      same_still words h past c.args.self.now p c.end_leases.new.self c.end_leases.ensures.header c.end_leases.ensures.finder c.end_leases.ensures.record c.end_leases.ensures.memory c.end_leases.ensures.withdrawn,
+      sym (c.is_stopped.ensures (known_now h past) p.tracked.follows.registers) ∙ c.if-is_stopped.false,
+    ))
+    c.in_err-check_going.field-0.0 c.in_err-check_going.ensures.refused)
+
+pub returns-clause-passed : goal.returns-clause-passed
+returns-clause-passed g c = λ h past p.
+    let words = g.M.WordMemory.words in
+    let k = known_now h past in
+    let before = c.end_leases.new.self in
+    let q = same_still words h past c.args.self.now p before c.end_leases.ensures.header c.end_leases.ensures.finder c.end_leases.ensures.record c.end_leases.ensures.memory c.end_leases.ensures.withdrawn in
+    goes_behind words h past before q c.args.id c.check_going.new.kept
+    (λ keeps on. c.in_ok-check_going.ensures.ok k (words before.memory) q.tracked.follows keeps on)
+    (sym (c.is_stopped.ensures k p.tracked.follows.registers) ∙ c.if-is_stopped.false)
+    (subst (λ e. IsWithin e (length past)) (sym c.in_ok-check_going.ensures.events) q.few_reads) _
+    c.in_ok-check_going.ensures.goes c.in_ok-check_going.ensures.headed c.in_ok-check_going.ensures.found refl refl refl
+
+pub returns-clause-logged : goal.returns-clause-logged
+returns-clause-logged g c = λ list h first past p numbered room held.
+    let words = g.M.WordMemory.words in
+    let before = c.args.self.now in
+    let later = c.end_leases.new.self in
+    let Holds = g.B.LeaseLog.holds list in
+    let k = known_now h past in
+    let id = c.args.id in
+    let on = sym (c.is_stopped.ensures k p.tracked.follows.registers) ∙ c.if-is_stopped.false in
+    let q = same_still words h past before p later c.end_leases.ensures.header c.end_leases.ensures.finder c.end_leases.ensures.record c.end_leases.ensures.memory c.end_leases.ensures.withdrawn in
+    let step = c.in_ok-check_going.ensures.ok k (words later.memory) q.tracked.follows (q.tracked.keeps on) on in
+    let good : is_bad_free (header_now h past) k id ≡ false = subst (λ (x : Header). is_bad_free x k id ≡ false) q.header step.kept.1 in
+    let here : is_bad_free before.header k id ≡ false = subst (λ (x : Header). is_bad_free x k id ≡ false) (sym p.header) good in
+    let opened : AreOpen before.header k (ring_lents h first past) = subst (λ (x : Header). AreOpen x k (ring_lents h first past)) (sym p.header) (lent_open h first past (omega (arith, room))) in
+    let ended = c.end_leases.ensures.ended list k (words before.memory) (ring_lents h first past) p.tracked.follows (goes_transfer before.header k id here) opened
+    (subst (λ (x : Header). Holds x (ring_lents h first past) before.log) (sym p.header) held.held) in
+    subst (λ (x : RangeIndexes). HoldsAll Holds (without_ring (header_now h past) id) (ring_lents h first (Goes id ∷ past)) later.log x) (sym c.end_leases.ensures.ranges)
+    (goes_logged words Holds (g.met.B.LeaseLog.other_rings list) h first past before p room id c.args.number numbered on good later.log ended held)

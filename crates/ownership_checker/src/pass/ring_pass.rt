@@ -1,0 +1,272 @@
+//! A pass over rows between which rings come and go, and descriptors are withdrawn.
+ghost use Rattle.std.specs.Prelude.{◌≡◌, ◌+◌, ◌<◌, ◌≤◌, ℕ, true, false, [], ◌∷◌, List, All, length, map, reverse, IfErr, IfOk, OnOk};
+ghost use Rattle.trb.specs.declared.ring_kind.RingKind.TheVariants.{Xfer};
+ghost use Rattle.traces.specs.Header.{IsHeader};
+ghost use Rattle.traces.specs.Limits.{most_streamed_lines};
+ghost use Rattle.traces.specs.declared.header.Header.{Header};
+ghost use Rattle.traces.specs.declared.trace_row.TraceRow.{TraceRow};
+ghost use Rattle.traces.specs.declared.trace_row.TraceRow.TheVariants.{Plain, Comes, Goes};
+ghost use Rattle.traces.specs.Header.{ring_with};
+ghost use Rattle.ring_knowledge.specs.declared.lease.Lease.{Lease};
+ghost use Rattle.ring_knowledge.specs.Known.{Known};
+ghost use Rattle.trace_record.specs.RingFinder.Finding.{IsFinder};
+ghost use Rattle.ownership_rules.specs.Leases.{without_end};
+ghost use Rattle.safety.specs.EndpointsKeep.{is_transfer_ring};
+ghost use Rattle.leases.specs.LeaseBooks.InStep.{AreOpen};
+ghost use Rattle.leases.specs.LeaseBooks.Lents.{Lent, ended_where, lents};
+ghost use Rattle.leases.specs.RingLeases.RingLents.{is_of_ring, ring_lents};
+ghost use Rattle.trace_record.specs.FollowsTrace.{FollowsTrace};
+ghost use Rattle.safety.specs.RingChanges.Histories.{FitsFields, header_now, known_now};
+ghost use Rattle.trace_record.specs.Steps.{IfRefused};
+ghost use Rattle.trace_record.specs.WordPlaces.{IsPlaced};
+ghost use Rattle.ownership_checker.specs.RingPasses.Clean.{IsLeastOfRow};
+ghost use Rattle.ownership_checker.specs.RingPasses.KeptRows.{IsBehind};
+ghost use Rattle.ownership_checker.specs.RingPasses.Passing.{DoNoHarm, IsRingLogged, IsRingPassed};
+
+mod withdrawals;
+
+use crate::pass::behind::Behind;
+use crate::rows::check_row;
+use driver_rows::{check_coming, check_going};
+use guest_memory::WordMemory;
+use leases::{LeaseLog, RangeIndexes, note_going, note_row};
+use ownership_rules::Refusal;
+use std::alloc::{AllocError, Global};
+use trace_record::{Finder, StepFault, TraceRecord, WordPlace};
+use traces::{Header, Ring, Row};
+
+/// Where the word of a row lies that writes none.
+const NOWHERE: WordPlace = WordPlace {
+    ring: None,
+    is_lent: false,
+    giving: None,
+};
+
+/// What is known after the rows so far, the rings that are there, and the log of the leases.
+#[derive(Drop)]
+pub struct RingPass<B, M> {
+    alloc: Global,
+    header: Header,
+    finder: Finder,
+    record: TraceRecord,
+    memory: M,
+    log: B,
+    ranges: RangeIndexes,
+    /// Whether a descriptor was withdrawn: else nothing that was handed over is the driver's.
+    has_withdrawn: bool,
+}
+
+impl<B: LeaseLog + Drop, M: WordMemory + Drop> RingPass<B, M> {
+    /// Before the first row. The memory is all zero.
+    pub fn new(
+        alloc: Global,
+        header: Header,
+        log: B,
+        memory: M,
+    ) -> Result<RingPass<B, M>, AllocError>
+        requires headed { IsHeader header }
+        requires zero { (a : ℕ) → M.words memory a ≡ 0 }
+        ensures passed { IfOk result (IsRingPassed M.words header []) }
+        ensures logged { IfOk result (λ pass. (list : List Lease) (first : ℕ) → B.holds list header (lents header first []) log → IsRingLogged (B.holds list) header first [] pass) }
+    {
+        let finder = Finder::new(alloc, &header)?;
+        let record = TraceRecord::new(alloc, &header)?;
+        Ok(RingPass {
+            alloc,
+            header,
+            finder,
+            record,
+            memory,
+            log,
+            ranges: RangeIndexes::new(alloc),
+            has_withdrawn: false,
+        })
+    }
+
+    /// Checks what the driver did, or an event that it read, and notes it and its leases.
+    #[inline(always)]
+    pub fn driver_row(&mut self, number: u32, row: &Row) -> Result<(), StepFault>
+        requires so_far { (h : Header) × (past : List TraceRow) × IsRingPassed M.words h past self.old × (length past ≤ most_streamed_lines) }
+        ensures passed { OnOk result ((h : Header) (past : List TraceRow) → IsRingPassed M.words h past self.old → IsRingPassed M.words h (Plain row.now ∷ past) self.new) }
+        ensures logged { OnOk result ((list : List Lease) (h : Header) (first : ℕ) (past : List TraceRow) → IsRingPassed M.words h past self.old →
+            number ≡ first + length past → first + length past < without_end →
+            IsRingLogged (B.holds list) h first past self.old → IsRingLogged (B.holds list) h first (Plain row.now ∷ past) self.new) }
+        ensures refused { IfErr result (λ e. IfRefused e (λ c. (h : Header) (past : List TraceRow) → IsRingPassed M.words h past self.old →
+            IsLeastOfRow (header_now h past) (known_now h past) (Plain row.now) c)) }
+    {
+        if self.has_withdrawn {
+            return self.row_behind_withdrawals(number, row);
+        }
+        match row {
+            Row::Write { .. } => {
+                let place = self.record.place(&self.header, &self.finder, row);
+                self.placed_row(number, row, place)
+            }
+            _ => self.placed_row(number, row, NOWHERE),
+        }
+    }
+
+    /// The same of a row whose word lies here, where nothing was withdrawn. It goes inline for writes and for other rows each by itself.
+    #[inline(always)]
+    fn placed_row(&mut self, number: u32, row: &Row, place: WordPlace) -> Result<(), StepFault>
+        requires unwithdrawn { self.old.has_withdrawn ≡ false }
+        requires so_far { (h : Header) × (past : List TraceRow) × IsRingPassed M.words h past self.old × (length past ≤ most_streamed_lines) }
+        ensures passed { OnOk result ((h : Header) (past : List TraceRow) → IsRingPassed M.words h past self.old → IsPlaced self.old.header (known_now h past) row.now place →
+            IsRingPassed M.words h (Plain row.now ∷ past) self.new) }
+        ensures logged { OnOk result ((list : List Lease) (h : Header) (first : ℕ) (past : List TraceRow) → IsRingPassed M.words h past self.old →
+            IsPlaced self.old.header (known_now h past) row.now place →
+            number ≡ first + length past → first + length past < without_end →
+            IsRingLogged (B.holds list) h first past self.old → IsRingLogged (B.holds list) h first (Plain row.now ∷ past) self.new) }
+        ensures refused { IfErr result (λ e. IfRefused e (λ c. (h : Header) (past : List TraceRow) → IsRingPassed M.words h past self.old →
+            IsPlaced self.old.header (known_now h past) row.now place →
+            IsLeastOfRow (header_now h past) (known_now h past) (Plain row.now) c)) }
+    {
+        note_row(
+            &mut self.log,
+            &mut self.ranges,
+            &self.header,
+            &self.finder,
+            &self.record,
+            &self.memory,
+            number,
+            row,
+            place,
+        )?;
+        check_row(
+            &self.header,
+            &self.finder,
+            &mut self.record,
+            &mut self.memory,
+            row,
+            place,
+        )
+    }
+
+    /// Checks a transfer ring that comes, and takes it up. No lease begins or ends (xHCI 4.9).
+    #[inline(never)]
+    pub fn ring_comes(&mut self, ring: Ring) -> Result<(), StepFault>
+        requires so_far { (h : Header) × (past : List TraceRow) × IsRingPassed M.words h past self.old }
+        requires transfers { ring.shape.kind ≡ Xfer }
+        ensures passed { OnOk result ((h : Header) (past : List TraceRow) → IsRingPassed M.words h past self.old → IsRingPassed M.words h (Comes ring ∷ past) self.new) }
+        ensures logged { OnOk result ((list : List Lease) (h : Header) (first : ℕ) (past : List TraceRow) → IsRingPassed M.words h past self.old →
+            first + length past < without_end →
+            IsRingLogged (B.holds list) h first past self.old → IsRingLogged (B.holds list) h first (Comes ring ∷ past) self.new) }
+        ensures refused { IfErr result (λ e. IfRefused e (λ c. (h : Header) (past : List TraceRow) → IsRingPassed M.words h past self.old →
+            IsLeastOfRow (header_now h past) (known_now h past) (Comes ring) c)) }
+    {
+        if self.record.registers.is_stopped() {
+            return Err(StepFault::Refused(Refusal::AfterStop));
+        }
+        check_coming(
+            self.alloc,
+            &mut self.header,
+            &mut self.finder,
+            &mut self.record,
+            &self.memory,
+            ring,
+        )?;
+        Ok(())
+    }
+
+    /// Checks a ring that goes, ends the leases of its blocks and Links, and forgets it (xHCI 4.9).
+    #[inline(never)]
+    pub fn ring_goes(&mut self, number: u32, id: u8) -> Result<(), StepFault>
+        requires so_far { (h : Header) × (past : List TraceRow) × IsRingPassed M.words h past self.old }
+        ensures passed { OnOk result ((h : Header) (past : List TraceRow) → IsRingPassed M.words h past self.old → IsRingPassed M.words h (Goes id ∷ past) self.new) }
+        ensures logged { OnOk result ((list : List Lease) (h : Header) (first : ℕ) (past : List TraceRow) → IsRingPassed M.words h past self.old →
+            number ≡ first + length past → first + length past < without_end →
+            IsRingLogged (B.holds list) h first past self.old → IsRingLogged (B.holds list) h first (Goes id ∷ past) self.new) }
+        ensures refused { IfErr result (λ e. IfRefused e (λ c. (h : Header) (past : List TraceRow) → IsRingPassed M.words h past self.old →
+            IsLeastOfRow (header_now h past) (known_now h past) (Goes id) c)) }
+    {
+        if self.record.registers.is_stopped() {
+            return Err(StepFault::Refused(Refusal::AfterStop));
+        }
+        self.end_leases(number, id);
+        check_going(
+            self.alloc,
+            &mut self.header,
+            &mut self.finder,
+            &mut self.record,
+            id,
+        )?;
+        Ok(())
+    }
+
+    /// The leases end of the blocks and Links of the ring with this ID.
+    fn end_leases(&mut self, number: u32, id: u8)
+        requires headed { IsHeader self.old.header }
+        requires found { IsFinder self.old.header.rings self.old.finder }
+        ensures header { self.new.header ≡ self.old.header }
+        ensures finder { self.new.finder ≡ self.old.finder }
+        ensures record { self.new.record ≡ self.old.record }
+        ensures memory { self.new.memory ≡ self.old.memory }
+        ensures ranges { self.new.ranges ≡ self.old.ranges }
+        ensures withdrawn { self.new.has_withdrawn ≡ self.old.has_withdrawn }
+        ensures ended { (list : List Lease) (k : Known) (memory : ℕ → ℕ) (ts : List Lent) → FollowsTrace self.old.header k self.old.record memory →
+            is_transfer_ring (ring_with self.old.header id) ≡ true → AreOpen self.old.header k ts → B.holds list self.old.header ts self.old.log →
+            B.holds list self.old.header (map (ended_where (is_of_ring id) number) ts) self.new.log }
+    {
+        let Some(place) = self.finder.ring_named(id) else {
+            return;
+        };
+        let Some(ring) = self.header.rings.as_slice().get(place) else {
+            return;
+        };
+        let Some(known) = self.record.rings.as_slice().get(place) else {
+            return;
+        };
+        note_going(&mut self.log, number, ring, known);
+    }
+
+    /// The rings that are there.
+    pub fn header(&self) -> &Header
+        ensures { result.now ≡ self.now.header }
+    {
+        &self.header
+    }
+
+    /// What finds them.
+    pub fn finder(&self) -> &Finder
+        ensures { result.now ≡ self.now.finder }
+    {
+        &self.finder
+    }
+
+    /// What is known after the rows so far.
+    pub fn record(&self) -> &TraceRecord
+        ensures { result.now ≡ self.now.record }
+    {
+        &self.record
+    }
+
+    /// The memory after the rows so far.
+    pub fn memory(&self) -> &M
+        ensures { result.now ≡ self.now.memory }
+    {
+        &self.memory
+    }
+
+    /// The log of the rows so far. No run of the controller's model beside them does harm.
+    pub fn into_log(self) -> B
+        ensures harmless { (h : Header) (past : List TraceRow) → IsRingPassed M.words h past self → All FitsFields past → DoNoHarm h (reverse past) }
+        ensures logged { (list : List Lease) (h : Header) (first : ℕ) (past : List TraceRow) → IsRingLogged (B.holds list) h first past self →
+            B.holds list (header_now h past) (ring_lents h first past) result }
+    {
+        self.log
+    }
+
+    /// What is known behind the rows so far, and the log of their leases.
+    pub fn into_behind(self) -> Behind<B, M>
+        ensures behind { (h : Header) (past : List TraceRow) → IsRingPassed M.words h past self → IsBehind M.words h past result }
+        ensures logged { (list : List Lease) (h : Header) (first : ℕ) (past : List TraceRow) → IsRingLogged (B.holds list) h first past self →
+            B.holds list (header_now h past) (ring_lents h first past) result.log }
+    {
+        Behind {
+            header: self.header,
+            kept: self.record,
+            memory: self.memory,
+            log: self.log,
+        }
+    }
+}

@@ -1,7 +1,0 @@
-mod AnyTests
-mod BitTests
-mod Counts
-mod AreaLists
-mod MarkedWords
-mod WordTests
-pub mod Words

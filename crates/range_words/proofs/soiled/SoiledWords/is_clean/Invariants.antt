@@ -1,7 +1,0 @@
-use Rattle.range_words.proofs.Words.{◌≡◌, ℕ, ◌/◌, ◌<◌, ◌≤◌, false}
-use Rattle.std.specs.Prelude.{slice_index_or}
-use Rattle.range_words.specs.Marks.{mark_of}
-use Rattle.range_words.proofs.soiled.SoiledWords.is_clean.Given as goal
-
-abbrev pub invariant-loop-page : goal.invariant-loop-page
-invariant-loop-page l = (p : ℕ) → l.first / 1024 ≤ p → p < l.page → slice_index_or l.self.marks (mark_of p) false ≡ false

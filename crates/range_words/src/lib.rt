@@ -1,8 +1,0 @@
-//! Which words of memory lie in areas of one length, and which words are soiled.
-#![tactic(auto)]
-
-mod areas;
-mod soiled;
-
-pub use areas::Areas;
-pub use soiled::SoiledWords;

@@ -1,3 +1,0 @@
-mod RegisterTests
-mod StartRules
-mod RegisterRows

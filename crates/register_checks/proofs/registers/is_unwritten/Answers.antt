@@ -1,5 +1,0 @@
-use Rattle.register_checks.proofs.StartRules.{not_written}
-use Rattle.register_checks.proofs.registers.is_unwritten.Goals as goal
-
-pub returns : goal.returns
-returns c = λ k f. not_written k c.args.register c.is_written.result (c.is_written.ensures k f)

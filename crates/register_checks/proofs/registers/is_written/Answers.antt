@@ -1,8 +1,0 @@
-use Rattle.std.proofs.Common.{ap, ◌∙◌}
-use Rattle.std.specs.Prelude.{is_some}
-use Rattle.ownership_rules.specs.Registers.{is_written}
-use Rattle.register_checks.proofs.registers.is_written.Goals as goal
-
-pub returns : goal.returns
-unfolding is_written
-returns c = λ k f. c.is_some.ensures ∙ ap (λ o. is_some o) (c.value.ensures k f)

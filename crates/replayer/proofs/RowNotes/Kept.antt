@@ -1,0 +1,53 @@
+-- What is kept of single rings
+use Rattle.std.proofs.Common.{◌≡◌, ℕ, ◌∙◌, true, List, Option, Some, None, refl, ap, sym, subst}
+use Rattle.std.specs.Prelude.{◌==◌, is_some, position, slice_get}
+use Rattle.std.proofs.lemmas.Bool.{eqb-true, false≢true}
+use Rattle.std.proofs.lemmas.Option.{same_Some}
+use Rattle.segments.specs.RingView.{floor_number}
+use Rattle.traces.specs.declared.ring.Ring.{Ring}
+use Rattle.traces.specs.declared.header.Header.{Header}
+use Rattle.traces.specs.Header.{IsHeader, command_id, command_ring, id_or_none, is_transfer_kind, ring_with}
+use Rattle.ring_knowledge.specs.declared.ring_record.RingRecord.{RingRecord}
+use Rattle.ring_knowledge.specs.RingRecords.{FollowsRing}
+use Rattle.ring_knowledge.specs.Known.{Known}
+use Rattle.ring_knowledge.specs.Rings.{next_command}
+use Rattle.trace_record.specs.RingFinder.RecordsOfRings.{FollowsRings}
+use Rattle.trace_record.proofs.RingFinder.RingsApart.{among_at}
+use Rattle.trace_record.proofs.RingFinder.HeaderRings.{find_some, ring_found}
+use Rattle.safety.specs.Keeps.{DriverKeeps, IsDriverRing, IsTransferRing}
+use Rattle.safety.proofs.RingIds.{none_has_256}
+use Rattle.safety.proofs.SafeContext.{command_is_ring, next_is}
+use Rattle.driver_rows.proofs.DoorbellRows.Followed.{found_at, none_found, command_id_is}
+use Rattle.event_rows.proofs.TransferEvents.Reports.{driven}
+
+module _ (h : Header) (headed : IsHeader h) where
+  -- ---- the command ring
+
+  id_there : (o : Option Ring) → command_ring h ≡ o → IsDriverRing h (command_id h) → is_some o ≡ true
+  unfolding command_id
+  id_there None none is = absurd (none_has_256 h headed is.ring (sym (ap (λ o. ring_with h (id_or_none o)) none) ∙ is.found))
+  id_there (Some r) some is = refl
+
+  -- there is one once the controller is started
+  pub some_command : (k : Known) → DriverKeeps h k → k.started ≡ true → is_some (command_ring h) ≡ true
+  some_command k d on = id_there (command_ring h) refl (command_is_ring h k d on)
+
+  pub next_there : (k : Known) (ring : Ring) (n : ℕ) → command_ring h ≡ Some ring → n ≡ floor_number (k.ring ring.id) → n ≡ next_command h k
+  next_there k ring n there is = is ∙ ap (λ i. floor_number (k.ring i)) (sym (command_id_is h ring there)) ∙ sym (next_is h k)
+
+  -- ---- the transfer ring with an ID
+
+  module _ (id : ℕ) (transfer : IsTransferRing h id) where
+    pub kept_there : (n : ℕ) → position (λ ring. ring.id == id) h.rings ≡ Some n → (k : Known) (items : List RingRecord) → FollowsRings h k items → (known : RingRecord) →
+        slice_get items n ≡ Some known → (ring : Ring) × FollowsRing ring.shape (k.ring id) known
+    kept_there n e k items f known at =
+        let found = found_at (λ ring. ring.id == id) h.rings n e in
+        let is : found.0.id ≡ id = eqb-true found.0.id id found.2 in
+        let same : found.0 ≡ transfer.ring = same_Some found.0 transfer.ring (sym (ring_found h headed found.0 (among_at h.rings n found.0 found.1)) ∙ ap (λ j. ring_with h j) is ∙ transfer.found) in
+        let kind = ap (λ (q : Ring). is_transfer_kind q.shape.kind) same ∙ transfer.kind in
+        (found.0, subst (λ i. FollowsRing found.0.shape (k.ring i) known) is (f.each n found.0 known found.1 at (driven found.0.shape.kind kind)))
+
+    pub not_there : {X : Type 0} → position (λ ring. ring.id == id) h.rings ≡ None → X
+    not_there none =
+        let found = find_some (λ q. q.id == id) h.rings transfer.ring transfer.found in
+        absurd (false≢true (sym (none_found (λ ring. ring.id == id) h.rings none transfer.ring found.0) ∙ found.1))

@@ -1,0 +1,25 @@
+use Rattle.std.proofs.Common.{◌∙◌, ◌++◌, ap, subst, sym}
+use Rattle.replayer.specs.LazySteps.Notes.{row_notes}
+use Rattle.replayer.specs.RowNotes.Noted.{AreNoted, MayBeRead}
+use Rattle.replayer.proofs.RowNotes.Lists.{more_ok}
+use Rattle.replayer.proofs.RowNotes.Notings.{alone, none_said, quiet}
+use Rattle.replayer.proofs.row_notes.rows.note_row.Goals as goal
+
+pub returns-in_ok-note_bell-in-Bell : goal.returns-in_ok-note_bell-in-Bell
+returns-in_ok-note_bell-in-Bell g c = λ k f d clean.
+    let h = c.args.header.now in
+    let old = c.args.notes.now.items in
+    alone h k c.args.row.now old c.note_bell.new.notes.items c.new.result.items c.new.ensures.items
+    (c.in_ok-note_bell-in-Bell.ensures h k f.devices ∙ ap (λ r. old ++ row_notes h k r) (sym c.in-Bell.is))
+
+pub returns-in-Read : goal.returns-in-Read
+returns-in-Read g c =
+    let h = c.args.header.now in
+    more_ok _ _ c.note_event.result (λ placed says. λ k f d clean.
+    subst (λ r. AreNoted h k r c.args.notes.now.items c.note_event.new.notes.items placed.items) (sym c.in-Read.is) (says k f d (subst (λ r. MayBeRead h k r) c.in-Read.is clean)))
+    c.note_event.ensures
+
+pub returns-in_default : goal.returns-in_default
+returns-in_default g c = λ k f d clean.
+    none_said c.args.header.now k c.args.row.now c.args.notes.now.items c.new-in_default.result.items c.new-in_default.ensures.items
+    (quiet c.args.header.now k c.args.row.now c.in_default.not-Bell c.in_default.not-Read)

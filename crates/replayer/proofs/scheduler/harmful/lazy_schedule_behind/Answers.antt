@@ -1,0 +1,14 @@
+use Rattle.std.proofs.Common.{◌≡◌, ◌∙◌, sym, subst}
+use Rattle.std.specs.Prelude.{reverse}
+use Rattle.traces.specs.Rows.{AreSteps}
+use Rattle.safety.specs.LazyRuns.Lazy.{lazy_steps}
+use Rattle.ownership_checker.proofs.RingPasses.Histories.{kept_now}
+use Rattle.replayer.proofs.Schedules.Fitting.{lazy_steps_are, rows_fit}
+use Rattle.replayer.proofs.scheduler.harmful.lazy_schedule_behind.Goals as goal
+
+pub make_all-requires : goal.make_all-requires
+make_all-requires c =
+    let h = c.args.header.now in
+    let rows = c.args.before.now in
+    let same : c.deref.result.now ≡ lazy_steps h rows = c.deref.ensures.value ∙ c.in-Ok.ensures.steps in
+    subst AreSteps (sym same) (lazy_steps_are h c.requires.headed rows (rows_fit rows c.requires.fitting) (kept_now h (reverse rows) c.in-Ok.ensures.clean))

@@ -1,0 +1,7 @@
+use Rattle.replayer.specs.LazySteps.Notes.{any_notes}
+use Rattle.replayer.proofs.RowNotes.Lists.{on_more}
+use Rattle.replayer.proofs.scheduler.notes.note_beginning.Goals as goal
+
+pub returns : goal.returns
+unfolding any_notes
+returns c = on_more c.add_note.result (λ added. λ h k. added) c.add_note.ensures

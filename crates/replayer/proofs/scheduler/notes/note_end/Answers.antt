@@ -1,0 +1,12 @@
+use Rattle.std.proofs.Common.{◌∙◌, ◌∷◌, ◌++◌, [], ap, append_assoc}
+use Rattle.segments.specs.declared.spot.Spot.TheVariants.{Data}
+use Rattle.replayer.specs.declared.lazy_steps.note.Note.TheVariants.{Begun, Placed}
+use Rattle.replayer.specs.LazySteps.Notes.{any_notes}
+use Rattle.replayer.proofs.RowNotes.Lists.{on_more}
+use Rattle.replayer.proofs.scheduler.notes.note_end.Goals as goal
+
+pub returns : goal.returns
+unfolding any_notes
+returns c =
+    on_more c.add_note-2.result (λ second. λ h k.
+    second ∙ ap (λ l. l ++ Placed c.args.id (Data 0) ∷ []) c.in_ok-add_note.ensures ∙ append_assoc c.args.list.now.items (Begun c.args.id ∷ []) (Placed c.args.id (Data 0) ∷ [])) c.add_note-2.ensures

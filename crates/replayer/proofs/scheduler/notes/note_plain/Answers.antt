@@ -1,0 +1,28 @@
+use Rattle.std.proofs.Common.{◌≡◌, ℕ, List, ◌++◌, ap, refl, subst, sym}
+use Rattle.std.specs.Prelude.{All, map}
+use Rattle.traces.specs.declared.row.Row.{Row}
+use Rattle.ring_knowledge.specs.Known.{Known}
+use Rattle.ring_knowledge.specs.Learned.{learned}
+use Rattle.safety.specs.RingChanges.Histories.{known_now}
+use Rattle.safety.specs.Keeps.{IsTransferRing}
+use Rattle.trace_record.specs.FollowsTrace.{FollowsTrace}
+use Rattle.replayer.specs.LazySteps.Notes.{placed_note}
+use Rattle.replayer.proofs.Schedules.Noting.{followed, plain_noted}
+use Rattle.replayer.proofs.scheduler.notes.note_plain.Goals as goal
+
+pub returns-clause-noted : goal.returns-clause-noted
+returns-clause-noted g c = λ h past p.
+    let words = g.M.WordMemory.words in
+    let row = c.args.row.now in
+    let after = c.driver_row.new.self in
+    let q = c.in_ok-driver_row.ensures.passed h past p in
+    let behind = c.header-2.result.now in
+    let kept = c.record-2.result.now in
+    let mid = c.note_row.new.notes.items in
+    let new = c.note_placed.new.notes.items in
+    plain_noted words h past row c.args.pass.now after p q c.args.list.now.items mid new c.in_ok-placed.placed.items c.header.result.now behind kept (words after.memory)
+    c.header.ensures c.header-2.ensures c.record-2.ensures refl
+    (λ keeps may. c.in_ok-placed.ensures (known_now h past)
+    (followed words h past row c.args.pass.now after p q c.header.result.now c.record.result.now (words c.memory.result.now) c.header.ensures c.record.ensures (ap words c.memory.ensures)) keeps may)
+    (subst (λ (l : List ℕ). (j : Known) (d : Row) (m : ℕ → ℕ) → FollowsTrace behind (learned behind j d) kept m → All (IsTransferRing behind) l → new ≡ mid ++ map (placed_note behind j d) l)
+    c.as_slice.ensures.value c.in_ok-note_placed.ensures)

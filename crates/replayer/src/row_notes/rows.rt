@@ -1,0 +1,125 @@
+//! The notes of one row: those that come before it is noted in the record, and those that come behind that.
+ghost use Rattle.std.specs.Prelude.{◌≡◌, ◌++◌, ℕ, [], map, All, IfOk, OnOk};
+ghost use Rattle.traces.specs.Header.{IsHeader};
+ghost use Rattle.traces.specs.declared.header.Header.{Header as HeaderValue};
+ghost use Rattle.traces.specs.declared.row.Row.{Row as RowValue};
+ghost use Rattle.traces.specs.declared.row.Row.TheVariants.{Bell, Read};
+ghost use Rattle.ring_knowledge.specs.Known.{Known};
+ghost use Rattle.ring_knowledge.specs.Learned.{learned};
+ghost use Rattle.trace_record.specs.RingFinder.Finding.{IsFinder};
+ghost use Rattle.trace_record.specs.DeviceSlots.Devices.{FollowsDevices};
+ghost use Rattle.ownership_rules.specs.Rules.{lenient};
+ghost use Rattle.safety.specs.Keeps.{DriverKeeps, IsTransferRing};
+ghost use Rattle.replayer.specs.LazySteps.Notes.{placed_note, row_notes};
+ghost use Rattle.trace_record.specs.FollowsTrace.{FollowsTrace};
+ghost use Rattle.replayer.specs.RowNotes.Noted.{AreNoted, MayBeRead};
+
+use crate::lazy_steps::Note;
+use crate::row_notes::completions::note_completion;
+use crate::row_notes::notes::add_note;
+use crate::row_notes::reports::note_report;
+use crate::row_notes::rings::floor_of;
+use guest_memory::WordMemory;
+use std::alloc::{AllocError, Global};
+use trace_record::{DeviceRecord, Finder, TraceRecord};
+use traces::{Header, Row, Step};
+use trb::{Block, BlockKind};
+
+/// Adds the notes of a row that come before it is noted in the record. The result is the IDs of the rings that it binds or moves, in
+/// order: where they stand is noted behind it.
+pub fn note_row<M: WordMemory>(
+    alloc: Global,
+    header: &Header,
+    finder: &Finder,
+    kept: &TraceRecord,
+    memory: &M,
+    row: &Row,
+    notes: &mut Vec<Note>,
+) -> Result<Vec<u8>, AllocError>
+    requires headed { IsHeader header.now }
+    requires found { IsFinder header.now.rings finder.now }
+    ensures { IfOk result (λ placed. (k : Known) → FollowsTrace header.now k kept.now (M.words memory.now) → DriverKeeps header.now k → MayBeRead header.now k row.now →
+        AreNoted header.now k row.now notes.old.items notes.new.items placed.items) }
+{
+    match row {
+        Row::Bell { slot, target } => {
+            note_bell(&kept.devices, *slot, *target, notes)?;
+            Ok(Vec::new(alloc))
+        }
+        Row::Read { event } => note_event(alloc, header, finder, kept, memory, *event, notes),
+        _ => Ok(Vec::new(alloc)),
+    }
+}
+
+/// Adds where the rings with these IDs stand, by the record behind the row that bound or moved them.
+pub fn note_placed(
+    header: &Header,
+    finder: &Finder,
+    after: &TraceRecord,
+    placed: &[u8],
+    notes: &mut Vec<Note>,
+) -> Result<(), AllocError>
+    requires headed { IsHeader header.now }
+    requires found { IsFinder header.now.rings finder.now }
+    ensures { OnOk result ((k : Known) (row : RowValue) (m : ℕ → ℕ) → FollowsTrace header.now (learned header.now k row) after.now m → All (IsTransferRing header.now) placed.now →
+        notes.new.items ≡ notes.old.items ++ map (placed_note header.now k row) placed.now) }
+{
+    for &ring in placed {
+        let spot = floor_of(finder, after, ring);
+        add_note(Note::Placed { ring, spot }, notes)?;
+    }
+    Ok(())
+}
+
+/// The notes of a doorbell.
+fn note_bell(
+    devices: &DeviceRecord,
+    slot: u8,
+    target: u8,
+    notes: &mut Vec<Note>,
+) -> Result<(), AllocError>
+    ensures { OnOk result ((h : HeaderValue) (k : Known) → FollowsDevices k devices.now → notes.new.items ≡ notes.old.items ++ row_notes h k (Bell slot target)) }
+{
+    if slot == 0 {
+        return Ok(());
+    }
+    match devices.ring_of(slot, target) {
+        Some(ring) => add_note(Note::Begun { ring }, notes),
+        None => Ok(()),
+    }
+}
+
+/// The notes of an event, up to its post.
+fn note_event<M: WordMemory>(
+    alloc: Global,
+    header: &Header,
+    finder: &Finder,
+    kept: &TraceRecord,
+    memory: &M,
+    event: Block,
+    notes: &mut Vec<Note>,
+) -> Result<Vec<u8>, AllocError>
+    requires headed { IsHeader header.now }
+    requires found { IsFinder header.now.rings finder.now }
+    ensures { IfOk result (λ placed. (k : Known) → FollowsTrace header.now k kept.now (M.words memory.now) → DriverKeeps header.now k → lenient header.now k (Read event) ≡ [] →
+        AreNoted header.now k (Read event) notes.old.items notes.new.items placed.items) }
+{
+    match event.kind() {
+        BlockKind::TransferEvent => {
+            note_report(header, finder, kept, event, notes)?;
+            Ok(Vec::new(alloc))
+        }
+        BlockKind::CommandCompletion => {
+            note_completion(alloc, header, finder, kept, memory, event, notes)
+        }
+        _ => {
+            add_note(
+                Note::Made {
+                    step: Step::Other { event },
+                },
+                notes,
+            )?;
+            Ok(Vec::new(alloc))
+        }
+    }
+}

@@ -1,0 +1,70 @@
+ghost use Rattle.std.specs.Prelude.{◌≡◌, ◌≤◌, ◌+◌, ◌*◌, ℕ, All, Some, length, reverse, IfErr, IfOk, OnOk};
+ghost use Rattle.traces.specs.Header.{IsHeader};
+ghost use Rattle.traces.specs.Limits.{most_lines};
+ghost use Rattle.traces.specs.TraceRows.{IsTraceRow};
+ghost use Rattle.controller_model.specs.Steps.{NoHarm};
+ghost use Rattle.controller_model.specs.Scenes.{scene_replayed};
+ghost use Rattle.ownership_checker.specs.RingPasses.Clean.{AreClean};
+ghost use Rattle.ownership_checker.specs.RingPasses.Rules.{ring_verdict};
+ghost use Rattle.safety.specs.LazyRuns.LateEvents.{IsTimely};
+ghost use Rattle.safety.specs.LazyRuns.Law.{ContainsAll};
+ghost use Rattle.safety.specs.LazyRuns.Lazy.{lazy_steps};
+ghost use Rattle.replayer.specs.Schedules.Verdicts.{IfRefusedAt};
+
+use crate::lazy_steps::steps_of_notes;
+use crate::scheduler::fault::ScheduleFault;
+use crate::scheduler::notes::notes_of;
+use guest_memory::{PageMemory, WordMemory};
+use std::alloc::Global;
+use trace_reader::TextRows;
+use traces::{Header, Schedule, Step, Steps, TraceRow};
+
+/// Checks a trace in one pass, and makes its lazy schedule: all rows in their order, and directly before each event that is read the steps
+/// of the controller that it needs; a ring that comes or goes and a descriptor that is withdrawn need none. Where no success is read while
+/// its ring is held, it is a run of the controller's model that contains all rows, and its replay does no harm. A schedule has room for it:
+/// no trace has so many rows that it would not. Where a row breaks a rule, the first such row is told, and the least of the rules that it
+/// breaks.
+pub fn lazy_schedule(alloc: Global, trace: &TextRows) -> Result<Schedule, ScheduleFault>
+    ensures clean { OnOk result (AreClean trace.now.header (reverse trace.now.rows.items)) }
+    ensures steps { IfOk result (λ schedule. schedule.steps ≡ lazy_steps trace.now.header trace.now.rows.items) }
+    ensures runs { IfOk result (λ schedule. IsTimely trace.now.header (reverse trace.now.rows.items) →
+        ContainsAll trace.now.header trace.now.rows.items (reverse schedule.steps)) }
+    ensures replays { IfOk result (λ schedule. IsTimely trace.now.header (reverse trace.now.rows.items) →
+        (scene_replayed trace.now.header trace.now.rows.items schedule.steps).ending ≡ NoHarm) }
+    ensures few { IfOk result (λ schedule. length schedule.steps ≤ 3 * length trace.now.rows.items + 3) }
+    ensures refused { IfErr result (λ e. IfRefusedAt e (λ row c.
+        ring_verdict trace.now.header trace.now.first trace.now.rows.items ≡ Some (row, c))) }
+{
+    let steps = steps_of(
+        alloc,
+        &trace.header,
+        trace.first,
+        trace.rows.as_slice(),
+        PageMemory::new(alloc),
+    )?;
+    Ok(Schedule {
+        steps: Steps::new(steps),
+    })
+}
+
+/// Checks rows, `first` the number of the first; the steps of their lazy schedule.
+pub(crate) fn steps_of<M: WordMemory + Drop>(
+    alloc: Global,
+    header: &Header,
+    first: u32,
+    rows: &[TraceRow],
+    memory: M,
+) -> Result<Vec<Step>, ScheduleFault>
+    requires headed { IsHeader header.now }
+    requires fits { All IsTraceRow rows.now }
+    requires within { first + length rows.now ≤ most_lines + 1 }
+    requires zero { (a : ℕ) → M.words memory a ≡ 0 }
+    ensures clean { OnOk result (AreClean header.now (reverse rows.now)) }
+    ensures steps { IfOk result (λ steps. steps.items ≡ lazy_steps header.now rows.now) }
+    ensures refused { IfErr result (λ e. IfRefusedAt e (λ row c. ring_verdict header.now first rows.now ≡ Some (row, c))) }
+{
+    let rings = header.copy(alloc)?;
+    let notes = notes_of(alloc, rings, first, rows, memory)?;
+    let first_rings = header.copy(alloc)?;
+    Ok(steps_of_notes(alloc, first_rings, rows, notes)?)
+}

@@ -1,5 +1,0 @@
-use Rattle.ring_finder.proofs.Words.{◌≡◌, ◌++◌, map, take, start_of}
-use Rattle.ring_finder.proofs.finder.push_starts.Given as goal
-
-abbrev pub invariant-loop-segment : goal.invariant-loop-segment
-invariant-loop-segment l = l.starts.items ≡ l.fn.starts.items ++ map (start_of l.number) (take l.segment-index l.ring.shape.segments)

@@ -1,8 +1,0 @@
-//! The leases of a trace in which rings come and go between rows, and descriptors are withdrawn.
-#![tactic(auto)]
-
-mod freeing;
-mod going;
-
-pub use freeing::{note_moving, note_restoring, note_withdrawing};
-pub use going::note_going;

@@ -1,7 +1,0 @@
-//! One row of a trace, judged by all its rules: what it breaks first, or what is known after it.
-#![tactic(auto)]
-
-mod events;
-mod row;
-
-pub use row::check_row;

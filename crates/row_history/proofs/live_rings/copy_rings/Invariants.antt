@@ -1,6 +1,0 @@
-use Rattle.std.proofs.Common.{◌≡◌, take}
-use Rattle.row_history.proofs.live_rings.copy_rings.Given as goal
-
--- the rings so far
-abbrev pub invariant-loop-ring : goal.invariant-loop-ring
-invariant-loop-ring l = l.copies.items ≡ take l.ring-index l.rings

@@ -1,9 +1,0 @@
-use Rattle.std.proofs.Common.{◌≤◌, arith, length}
-use Rattle.row_reader.proofs.Arriving.{kept}
-use Rattle.row_reader.proofs.ahead.Ahead.keep_last.Goals as goal
-
-pub returns : goal.returns
-returns c front back is size =
-    let ahead = c.args.self.now in
-    let fits : ahead.end ≤ length ahead.bytes.items = omega (arith, ahead.came, ahead.bytes.ok) in
-    kept ahead.bytes.items front back ahead.done ahead.end c.args.count ahead.within fits is size

@@ -1,0 +1,281 @@
+-- Each position before a ring's floor was given by a write of its own: floors, summed, and events that are read are no more than rows
+use Rattle.std.proofs.Common.{◌≡◌, ◌≢◌, ◌+◌, ◌<◌, ◌≤◌, ◌∷◌, ◌∙◌, ◌==◌, if◌then◌else◌, ℕ, suc, true, false, List, [], All, length, Option, Some, None, arith, refl, sym, ap, inl, inr}
+use Rattle.safety.proofs.LazyRuns.Words.{cases_Bool, cases_eq, cond_both, All-head, All-tail, is_inside, put, put_at, put_off, Opens, Restores, RingChange, RingView, new_ring, floor_number, Header, Row, Sub, Write, Reg, Bell, Read, TraceRow, Comes, Goes, Plain, Withdraws, IsHeader, shape_of, command_id, Register, Known, on_ring, nothing, endpoint_rung, rung, learned, AreKept, FitsFields, header_now, known_now, forgotten, restored, restored_on, ring_restored, with_ring, without_ring, register_leaves, view_after, kind, Block, DriverKeeps, IsDriverRing, ring_shape, Declares, Writes, changed, ring_with, is_driver_ring, driver_ring, endpoints_of, rings_of, nothing_keeps, row_keeps, still_of, not_in_both, transfer_driver, written_view, event_same, still_reads}
+use Rattle.safety.specs.RingsKeep as rings
+use Rattle.segments.specs.RingView as changes
+use Rattle.safety.proofs.RingChanges.GoneRings as rings_gone
+use Rattle.safety.proofs.RingChanges.Restored.{row_comes, row_keeps as kept_row}
+use Rattle.safety.proofs.RingChanges.RingsHeadline.{Keeps, now_keeps}
+use Rattle.safety.proofs.LazyRuns.Counts.{given_among, all_given, none_given, same_given, one_more, no_more}
+use Rattle.safety.proofs.LazyRuns.Induction.{kept_on}
+use Rattle.safety.proofs.LazyRuns.Progress.{of_driver, on_driver, off_driver, none_of_driver, driver_le}
+use Rattle.safety.proofs.LazyRuns.RingRows.{OthersStay, comes_stay, goes_stay}
+use Rattle.safety.proofs.LazyRuns.Totals.{total, total_grows, total_le, total_none, total_one}
+
+-- how many rows read an event
+unfoldable pub events : List TraceRow → ℕ
+events [] = 0
+events (Plain (Read b) ∷ past) = suc (events past)
+events (_ ∷ past) = events past
+
+module _ (h : Header) where
+  -- ---- rows that give nothing
+
+  abbrev GivesNone : Known → Known → Type 0
+  GivesNone k l = (r : ℕ) → (l.ring r).given ≡ (k.ring r).given
+
+  declares_none : (k : Known) (r : ℕ) (blocks : List Block) → GivesNone k (learned h k (Sub r blocks))
+  unfolding learned
+  declares_none k r blocks q =
+      view_after h (λ v. v.given ≡ (k.ring q).given) k r (Declares blocks) q (λ same. ap (λ n. (k.ring n).given) (sym same)) (λ other. refl)
+
+  opens_none : (k : Known) (r : ℕ) → GivesNone k (on_ring h k r Opens)
+  opens_none k r q = view_after h (λ v. v.given ≡ (k.ring q).given) k r Opens q (λ same. ap (λ n. (k.ring n).given) (sym same)) (λ other. refl)
+
+  endpoint_none : (k : Known) (s t : ℕ) (o : Option ℕ) → GivesNone k (endpoint_rung h k s t o)
+  unfolding endpoint_rung
+  endpoint_none k s t None q = refl
+  endpoint_none k s t (Some r) q = opens_none k r q
+
+  rung_none : (k : Known) (s t : ℕ) → GivesNone k (learned h k (Bell s t))
+  unfolding learned rung
+  rung_none k s t =
+      cond_both (s == 0) (on_ring h k (command_id h) Opens) (endpoint_rung h k s t (k.ring_of s t)) (GivesNone k)
+      (λ _. opens_none k (command_id h)) (λ _. endpoint_none k s t (k.ring_of s t))
+
+  register_none : (k : Known) (r : Register) (x : ℕ) → GivesNone k (learned h k (Reg r x))
+  register_none k r x q = ap (λ f. (f q).given) (register_leaves h k r x).ring
+
+  event_none : (k : Known) (b : Block) → GivesNone k (learned h k (Read b))
+  unfolding learned
+  event_none k b r = ((event_same h k (kind b) b).rings r).given
+
+  change_none : (k : Known) (r : ℕ) (change : RingChange) → ((v : RingView) → (changed (shape_of h r) v change).given ≡ v.given) → GivesNone k (on_ring h k r change)
+  change_none k r change same q =
+      view_after h (λ v. v.given ≡ (k.ring q).given) k r change q (λ here. same (k.ring r) ∙ ap (λ n. (k.ring n).given) (sym here)) (λ other. refl)
+
+  restored_none : (k : Known) (o : Option ℕ) → GivesNone k (restored_on h k o)
+  unfolding restored_on
+  restored_none k None r = refl
+  restored_none k (Some q) r = change_none k q Restores (λ v. refl) r
+
+  -- ---- the positions of the driver's rings that are given, summed, where of ring r those below n r are counted
+
+  module _ (n : ℕ → ℕ) where
+    of_ring : Known → ℕ → ℕ
+    of_ring k r = of_driver h r (given_among (k.ring r) (n r))
+
+    all_rings : Known → ℕ
+    all_rings k = total (of_ring k) 256
+
+    none_more : (k l : Known) → GivesNone k l → all_rings l ≤ all_rings k
+    unfolding all_rings of_ring
+    none_more k l none = total_le (of_ring l) (of_ring k) 256 (λ r. omega (arith, ap (λ m. of_driver h r m) (same_given (k.ring r) (l.ring r) (n r) (none r))))
+
+    module _ (is : IsHeader h) (k : Known) (a w : ℕ) where
+      abbrev l : Known
+      l = learned h k (Write a w)
+
+      ring_is : (r : ℕ) → given_among (l.ring r) (n r) ≡ given_among (changed (shape_of h r) (k.ring r) (Writes a w)) (n r)
+      ring_is r = ap (λ v. given_among v (n r)) (written_view h k a w r)
+
+      near : (r : ℕ) → of_ring l r ≤ of_ring k r + 1
+      unfolding of_ring
+      near r =
+          elim (cases_Bool (is_driver_ring (ring_with h r))) [
+            | inl driver ↦
+                omega (
+                  arith,
+                  on_driver h r (given_among (l.ring r) (n r)) driver,
+                  on_driver h r (given_among (k.ring r) (n r)) driver,
+                  ring_is r,
+                  one_more (shape_of h r) (ring_shape h is r (driver_ring h r driver)).is (k.ring r) a w (n r),
+                )
+            | inr other ↦ omega (arith, off_driver h r (given_among (l.ring r) (n r)) other)
+          ]
+
+      -- the ring has the word
+      record IsWritten (r : ℕ) : Type 0 where
+        driver : IsDriverRing h r
+        inside : is_inside (shape_of h r) a ≡ true
+
+      written : (r : ℕ) → of_ring k r < of_ring l r → IsWritten r
+      unfolding of_ring
+      written r more =
+          elim (cases_Bool (is_driver_ring (ring_with h r))) [
+            | inl driver ↦
+                elim (cases_Bool (is_inside (shape_of h r) a)) [
+                  | inl inside ↦ record { driver = driver_ring h r driver; inside = inside }
+                  | inr outside ↦
+                      absurd (omega (
+                        arith,
+                        more,
+                        on_driver h r (given_among (l.ring r) (n r)) driver,
+                        on_driver h r (given_among (k.ring r) (n r)) driver,
+                        ring_is r,
+                        no_more (shape_of h r) (ring_shape h is r (driver_ring h r driver)).is (k.ring r) a w (n r) outside,
+                      ))
+                ]
+            | inr other ↦ absurd (omega (arith, more, off_driver h r (given_among (l.ring r) (n r)) other))
+          ]
+
+      write_one : all_rings l ≤ all_rings k + 1
+      unfolding all_rings
+      write_one =
+          total_one (of_ring k) (of_ring l) 256 near
+          (λ r c first second.
+          elim (cases_eq r c) [
+            | inl same ↦ same
+            | inr other ↦ let x = written r first in let y = written c second in absurd (not_in_both h is r c x.driver y.driver other a x.inside y.inside)
+          ])
+
+    before_any : all_rings nothing ≡ 0
+    unfolding all_rings of_ring nothing
+    before_any = total_none (of_ring nothing) 256 (λ r. ap (λ m. of_driver h r m) (none_given (nothing.ring r) (n r) (λ p. refl)) ∙ none_of_driver h r)
+
+    -- a row of the driver gives one position at most, and one that reads an event none
+    row_most : IsHeader h → (k : Known) (row : Row) → all_rings (learned h k row) ≤ all_rings k + 1
+    row_most is k (Sub r blocks) = omega (arith, none_more k (learned h k (Sub r blocks)) (declares_none k r blocks))
+    row_most is k (Write a w) = write_one is k a w
+    row_most is k (Reg r x) = omega (arith, none_more k (learned h k (Reg r x)) (register_none k r x))
+    row_most is k (Bell s t) = omega (arith, none_more k (learned h k (Bell s t)) (rung_none k s t))
+    row_most is k (Read b) = omega (arith, none_more k (learned h k (Read b)) (event_none k b))
+
+    event_most : (k : Known) (b : Block) → all_rings (learned h k (Read b)) ≤ all_rings k
+    event_most k b = none_more k (learned h k (Read b)) (event_none k b)
+
+    restored_most : (k : Known) (row : Row) → all_rings (restored h k row) ≤ all_rings k
+    restored_most k row = none_more k (restored h k row) (restored_none k (ring_restored h k row))
+
+    withdrawn_most : (k : Known) (r p : ℕ) → all_rings (on_ring h k r (changes.Withdraws p)) ≤ all_rings k
+    withdrawn_most k r p = none_more k (on_ring h k r (changes.Withdraws p)) (change_none k r (changes.Withdraws p) (λ v. refl))
+
+-- ---- a ring comes or goes
+
+module _ (h g : Header) (k : Known) (id : ℕ) (o : OthersStay h g k id) (n : ℕ → ℕ) where
+  abbrev without : Known
+  without = forgotten k id
+
+  other_same : (r : ℕ) → r ≢ id → of_ring g n without r ≡ of_ring h n k r
+  unfolding of_ring of_driver forgotten
+  other_same r other =
+      ap (λ q. if is_driver_ring q then given_among (without.ring r) (n r) else 0) (o.listed r other)
+      ∙ ap (λ v. if is_driver_ring (ring_with h r) then given_among v (n r) else 0) (put_off k.ring id new_ring r other)
+
+  -- nothing of it is given
+  here_none : of_ring g n without id ≡ 0
+  unfolding of_ring forgotten
+  here_none = ap (λ m. of_driver g id m) (none_given (without.ring id) (n id) (λ p. ap (λ (v : RingView). v.given p) (put_at k.ring id new_ring))) ∙ none_of_driver g id
+
+  comes_most : all_rings g n without ≤ all_rings h n k
+  unfolding all_rings
+  comes_most =
+      total_le (of_ring g n without) (of_ring h n k) 256
+      (λ r. elim (cases_eq r id) [
+        | inl same ↦ let none : of_ring g n without r ≡ 0 = ap (of_ring g n without) same ∙ here_none in omega (arith, none)
+        | inr other ↦ omega (arith, other_same r other)
+      ])
+
+  -- where the first m positions of it were given
+  goes_most : (m : ℕ) → id < 256 → given_among (k.ring id) m ≡ m → all_rings g n without + of_driver h id m ≤ all_rings h (put n id m) k
+  unfolding all_rings of_ring
+  goes_most m low all =
+      let there : ℕ → ℕ = put n id m in
+      let here : of_driver h id (given_among (k.ring id) (there id)) ≡ of_driver h id m = ap (λ x. of_driver h id (given_among (k.ring id) x)) (put_at n id m) ∙ ap (λ x. of_driver h id x) all in
+      total_grows (of_ring g n without) (of_ring h there k) id (of_driver h id m) 256 low
+      (λ r other. omega (arith, other_same r other, ap (λ x. of_driver h r (given_among (k.ring r) x)) (put_off n id m r other))) (omega (arith, here_none, here))
+
+-- ---- behind all rows
+
+-- the numbers of the floors of the driver's rings, summed
+unfoldable pub floors : Header → Known → ℕ
+floors h k = total (λ r. of_driver h r (floor_number (k.ring r))) 256
+
+module _ (h : Header) where
+  -- those of the rings that went
+  unfoldable pub gone : List TraceRow → ℕ
+  gone [] = 0
+  gone (Goes id ∷ past) = gone past + of_driver (header_now h past) id (floor_number ((known_now h past).ring id))
+  gone (_ ∷ past) = gone past
+
+  module _ (is : IsHeader h) where
+    pub kept_before : (row : TraceRow) (past : List TraceRow) → All FitsFields (row ∷ past) → AreKept h (row ∷ past) → Keeps h is past
+    kept_before row past are kept = now_keeps h is past (All-tail FitsFields row past are) kept.0 (kept_on (header_now h past) (known_now h past) row kept.1)
+
+    driven : (row : Row) (past : List TraceRow) → All FitsFields (Plain row ∷ past) → AreKept h (Plain row ∷ past) → (n : ℕ → ℕ) → all_rings (header_now h past) n (known_now h past) + gone past + events past ≤ length past →
+        all_rings (header_now h past) n (known_now h (Plain row ∷ past)) + gone past + events past ≤ length (Plain row ∷ past)
+    driven row past are kept n before =
+        let p = kept_before (Plain row) past are kept in
+        let g : Header = header_now h past in
+        omega (arith, before, restored_most g n (known_now h past) row, row_most g n p.headed (restored g (known_now h past) row) row)
+
+    change_on : (g : Header) (k : Known) (r : ℕ) (change : RingChange) → k.stopped ≡ false → (on_ring g k r change).stopped ≡ false
+    unfolding on_ring
+    change_on g k r change on = on
+
+    stays_on : (k : Known) (id : ℕ) → k.stopped ≡ false → (forgotten k id).stopped ≡ false
+    unfolding forgotten
+    stays_on k id on = on
+
+    -- each write gives one position at most; of a ring that goes those before its floor were given
+    given_most : (past : List TraceRow) → All FitsFields past → AreKept h past → (n : ℕ → ℕ) → all_rings (header_now h past) n (known_now h past) + gone past + events past ≤ length past
+    unfolding events gone ring_restored restored_on
+    given_most [] are kept n = omega (arith, before_any h n)
+    given_most (Plain (Read b) ∷ past) are kept n =
+        omega (arith, given_most past (All-tail FitsFields (Plain (Read b)) past are) kept.0 n, event_most (header_now h past) n (known_now h past) b)
+    given_most (Plain (Sub r blocks) ∷ past) are kept n = driven (Sub r blocks) past are kept n (given_most past (All-tail FitsFields (Plain (Sub r blocks)) past are) kept.0 n)
+    given_most (Plain (Write a w) ∷ past) are kept n = driven (Write a w) past are kept n (given_most past (All-tail FitsFields (Plain (Write a w)) past are) kept.0 n)
+    given_most (Plain (Reg r x) ∷ past) are kept n = driven (Reg r x) past are kept n (given_most past (All-tail FitsFields (Plain (Reg r x)) past are) kept.0 n)
+    given_most (Plain (Bell s t) ∷ past) are kept n = driven (Bell s t) past are kept n (given_most past (All-tail FitsFields (Plain (Bell s t)) past are) kept.0 n)
+    given_most (Withdraws r p ∷ past) are kept n =
+        omega (arith, given_most past (All-tail FitsFields (Withdraws r p) past are) kept.0 n, withdrawn_most (header_now h past) n (known_now h past) r p)
+    given_most (Comes ring ∷ past) are kept n =
+        let p = kept_before (Comes ring) past are kept in
+        let g : Header = header_now h past in
+        let k : Known = known_now h past in
+        let stay = comes_stay g p.headed k p.keeps ring (All-head FitsFields (Comes ring) past are) kept.1.1 in
+        omega (arith, given_most past (All-tail FitsFields (Comes ring) past are) kept.0 n, comes_most g (with_ring g ring) k ring.id stay n)
+    given_most (Goes id ∷ past) are kept n =
+        let p = kept_before (Goes id) past are kept in
+        let g : Header = header_now h past in
+        let k : Known = known_now h past in
+        let m : ℕ = floor_number (k.ring id) in
+        let driver = transfer_driver g id (rings_gone.gone g p.headed k p.keeps id kept.1.1) in
+        let all : given_among (k.ring id) m ≡ m = all_given (k.ring id) m (p.keeps.rings id driver).passed in
+        omega (
+          arith,
+          given_most past (All-tail FitsFields (Goes id) past are) kept.0 (put n id m),
+          goes_most g (without_ring g id) k id (goes_stay g p.headed k p.keeps id kept.1.1) n m (All-head FitsFields (Goes id) past are) all,
+        )
+
+    -- ---- before a floor all is given
+
+    rings_kept : (past : List TraceRow) → All FitsFields past → AreKept h past → rings.RingsKeep (header_now h past) (known_now h past)
+    rings_kept [] are kept = nothing_keeps h is
+    rings_kept (Plain row ∷ past) are kept =
+        let p = kept_before (Plain row) past are kept in
+        let g : Header = header_now h past in
+        let k : Known = restored g (known_now h past) row in
+        let d : DriverKeeps g k = kept_row g p.headed (known_now h past) p.keeps row kept.1.1 in
+        row_keeps g p.headed k row (rings_of g k d) (endpoints_of g k d.states) d.commands_stay (row_comes g p.headed (known_now h past) p.keeps row kept.1.0 kept.1.2)
+        (still_reads g p.headed k row (rings_of g k d) (endpoints_of g k d.states) (still_of g p.headed k row d kept.1.0))
+    rings_kept (Withdraws r q ∷ past) are kept =
+        let p = now_keeps h is (Withdraws r q ∷ past) are kept (change_on (header_now h past) (known_now h past) r (changes.Withdraws q) kept.1.0) in rings_of (header_now h past) (known_now h (Withdraws r q ∷ past)) p.keeps
+    rings_kept (Comes ring ∷ past) are kept =
+        let p = now_keeps h is (Comes ring ∷ past) are kept (stays_on (known_now h past) ring.id kept.1.0) in
+        rings_of (header_now h (Comes ring ∷ past)) (known_now h (Comes ring ∷ past)) p.keeps
+    rings_kept (Goes id ∷ past) are kept =
+        let p = now_keeps h is (Goes id ∷ past) are kept (stays_on (known_now h past) id kept.1.0) in
+        rings_of (header_now h (Goes id ∷ past)) (known_now h (Goes id ∷ past)) p.keeps
+
+    pub floors_most : (past : List TraceRow) → All FitsFields past → AreKept h past → floors (header_now h past) (known_now h past) + gone past + events past ≤ length past
+    unfolding floors all_rings of_ring
+    floors_most past are kept =
+        let g : Header = header_now h past in
+        let k : Known = known_now h past in
+        let at : ℕ → ℕ = λ r. floor_number (k.ring r) in
+        let same : floors g k ≤ all_rings g at k =
+        total_le (λ r. of_driver g r (floor_number (k.ring r))) (λ r. of_driver g r (given_among (k.ring r) (floor_number (k.ring r)))) 256
+        (λ r. driver_le g r (floor_number (k.ring r)) (given_among (k.ring r) (floor_number (k.ring r)))
+        (λ driver. omega (arith, all_given (k.ring r) (floor_number (k.ring r)) (rings_kept past are kept r driver).passed))) in
+        omega (arith, same, given_most past are kept at)

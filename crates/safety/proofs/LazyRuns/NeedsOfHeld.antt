@@ -1,0 +1,237 @@
+-- The need of a ring that is held is 0, where no event is late: until its doorbell no success of its blocks is read
+use Rattle.std.proofs.Common.{◌≡◌, ◌≢◌, ◌+◌, ◌==◌, ◌&&◌, if◌then◌else◌, ◌∷◌, ◌∙◌, ℕ, not, max, Bool, false, List, [], Option, Some, None, option_map, refl, sym, ap, subst, inl, inr, ne_eqb, eq-eqb}
+use Rattle.safety.proofs.LazyRuns.Words.{cond_both, cond-false, false≢true, not_from_false, Block, BlockKind, TransferEvent, CommandCompletion, kind, code, pointer, slot, endpoint, is_success, is_halting, is_trb_error, is_stopping, Spot, number, after, RingView, RingChange, changed, new_ring, Shape, put, put_at, put_off, cases_eq, Opens, Holds, Reaches, Restores, is_open, ceiling, named, stopped_number, target, Command, StopEndpoint, is_off, Change, SlotGoesOn, DeviceLeft, Disables, Places, Stops, Resets, changes, Header, Row, Sub, Write, Reg, Bell, Read, TraceRow, Plain, Comes, Goes, Withdraws, IsDriverRow, shape_of, command_id, is_ring, ring_having, Known, RingSpot, on_ring, spot_on, command_at, next_command, endpoint_rung, rung, event_read, learned, declaration_leaves, write_leaves, register_leaves, view_after, is_report_of_success, is_held_ring, is_late, is_late_row, number_behind, begins_anew, number_reported, ends_need, number_needed, need, header_after, known_after, forgotten, restored, restored_on, ring_restored}
+use Rattle.ring_knowledge.specs.Rings.{event_at}
+use Rattle.ring_knowledge.specs.Transfers as transfers
+use Rattle.segments.specs.RingView as changes
+use Rattle.ring_knowledge.specs.Completions as completions
+
+abbrev pub IsHeld : Known → ℕ → Type 0
+IsHeld k r = is_open (k.ring r) ≡ false
+
+-- ring r is held in l, if it was in k
+abbrev StaysHeld : Known → Known → ℕ → Type 0
+StaysHeld k l r = IsHeld k r → IsHeld l r
+
+held_as_before : (v w : RingView) → w.held ≡ v.held → is_open v ≡ false → is_open w ≡ false
+unfolding is_open
+held_as_before v w same held = rw same held
+
+module _ (h : Header) where
+  reaches_held : (k : Known) (q : ℕ) (t : Spot) (r : ℕ) → StaysHeld k (on_ring h k q (Reaches t)) r
+  reaches_held k q t r held =
+      view_after h (λ v. is_open v ≡ false) k q (Reaches t) r
+      (λ same. held_as_before (k.ring q) (record (k.ring q) { floor = t }) refl (subst (λ n. is_open (k.ring n) ≡ false) same held)) (λ other. held)
+
+  holds_held : (k : Known) (q n r : ℕ) → StaysHeld k (on_ring h k q (Holds n)) r
+  unfolding is_open
+  holds_held k q n r held = view_after h (λ v. is_open v ≡ false) k q (Holds n) r (λ same. refl) (λ other. held)
+
+  -- ---- an event holds rings, and opens none
+
+  transfer_held : (k : Known) (c s i q r : ℕ) (t : Spot) → StaysHeld k (transfers.transferred h k c s i q t) r
+  unfolding transfers.transferred transfers.broken_off transfers.passed transfers.stopped_at
+  transfer_held k c s i q r t held =
+      let passed : Known = on_ring h k q (Reaches (after (shape_of h q) (number t))) in
+      let behind : IsHeld passed r = reaches_held k q (after (shape_of h q) (number t)) r held in
+      let n : ℕ = stopped_number (shape_of h q) (k.ring q) t in
+      cond_both (is_success c) _ _ (λ (l : Known). IsHeld l r) (λ _. behind)
+      (λ _. cond_both (is_halting c) _ _ (λ (l : Known). IsHeld l r) (λ _. holds_held passed q (number t + 1) r behind)
+      (λ _. cond_both (is_trb_error c) _ _ (λ (l : Known). IsHeld l r) (λ _. holds_held passed q (number t + 1) r behind)
+      (λ _. cond_both (is_stopping c) _ k (λ (l : Known). IsHeld l r) (λ _. reaches_held (on_ring h k q (Holds n)) q t r (holds_held k q n r held)) (λ _. held))))
+
+  transfer_at_held : (k : Known) (b : Block) (o : Option RingSpot) (r : ℕ) → StaysHeld k (transfers.transferred_at h k b o) r
+  unfolding transfers.transferred_at
+  transfer_at_held k b None r held = held
+  transfer_at_held k b (Some at) r held = transfer_held k (code b) (slot b) (endpoint b) at.ring r at.spot held
+
+  set_held : (k : Known) (q : ℕ) (t : Spot) (r : ℕ) → StaysHeld k (completions.set_to h k q t) r
+  unfolding completions.set_to
+  set_held k q t r held = holds_held (on_ring h k q (Reaches t)) q (number t) r (reaches_held k q t r held)
+
+  moved_to_held : (k : Known) (q : ℕ) (o : Option Spot) (r : ℕ) → StaysHeld k (completions.moved_to h k q o) r
+  unfolding completions.moved_to
+  moved_to_held k q None r held = held
+  moved_to_held k q (Some t) r held = set_held k q t r held
+
+  moved_held : (k : Known) (o : Option ℕ) (p : ℕ) (cycle : Bool) (r : ℕ) → StaysHeld k (completions.moved h k o p cycle) r
+  unfolding completions.moved
+  moved_held k None p cycle r held = held
+  moved_held k (Some q) p cycle r held = moved_to_held k q (target (shape_of h q) (k.ring q) p cycle) r held
+
+  bound_held : (k : Known) (s i : ℕ) (o : Option ℕ) (p : ℕ) (cycle : Bool) (r : ℕ) → StaysHeld k (completions.bound_to h k s i o p cycle) r
+  unfolding completions.bound_to
+  bound_held k s i None p cycle r held = held
+  bound_held k s i (Some q) p cycle r held = moved_held k (Some q) p cycle r held
+
+  ceiling_held : (k : Known) (o : Option ℕ) (r : ℕ) → StaysHeld k (completions.held_at_ceiling h k o) r
+  unfolding completions.held_at_ceiling
+  ceiling_held k None r held = held
+  ceiling_held k (Some q) r held = holds_held k q (ceiling (shape_of h q) (k.ring q)) r held
+
+  pointed_held : (k : Known) (s i p : ℕ) (cycle : Bool) (r : ℕ) → StaysHeld k (completions.pointed h k s i p cycle) r
+  unfolding completions.pointed
+  pointed_held k s i p cycle r held =
+      cond_both (is_off (k.endpoint_state s i)) _ _ (λ (l : Known). IsHeld l r) (λ _. bound_held k s i (ring_having h p) p cycle r held) (λ _. moved_held k (k.ring_of s i) p cycle r held)
+
+  change_held : (c : Command) (k : Known) (change : Change) (r : ℕ) → StaysHeld k (completions.changed_by h c k change) r
+  unfolding completions.changed_by completions.disabled completions.in_state
+  change_held c k (SlotGoesOn s) r held = held
+  change_held c k (DeviceLeft s) r held = held
+  change_held c k (Disables s which) r held = held
+  change_held c k (Places s i p cycle state) r held = pointed_held k s i p cycle r held
+  change_held c k (Stops s i) r held = ceiling_held (completions.in_state h k s i _) (k.ring_of s i) r held
+  change_held c k (Resets s i) r held = held
+
+  changes_held : (c : Command) (k : Known) (all : List Change) (r : ℕ) → StaysHeld k (completions.changed_by_all h c k all) r
+  unfolding completions.changed_by_all
+  changes_held c k [] r held = held
+  changes_held c k (change ∷ rest) r held = changes_held c (completions.changed_by h c k change) rest r (change_held c k change r held)
+
+  ended_held : (k : Known) (c : Command) (r : ℕ) → StaysHeld k (completions.stop_ended h k c) r
+  unfolding completions.stop_ended
+  ended_held k (StopEndpoint s i) r held = held
+  ended_held k _ r held = held
+
+  finished_held : (k : Known) (b : Block) (o : Option Command) (r : ℕ) → StaysHeld k (completions.finished h k b o) r
+  unfolding completions.finished completions.succeeded
+  finished_held k b None r held = held
+  finished_held k b (Some c) r held =
+      let done : Known = if code b == 1 then completions.succeeded h k (slot b) c else k in
+      ended_held done c r (cond_both (code b == 1) (completions.succeeded h k (slot b) c) k (λ (l : Known). IsHeld l r)
+      (λ _. changes_held c k (changes h.context_size k.memory (slot b) c) r held) (λ _. held))
+
+  event_held : (k : Known) (t : BlockKind) (b : Block) (r : ℕ) → StaysHeld k (event_read h k t b) r
+  unfolding event_read transfers.transfer_read completions.completed
+  event_held k TransferEvent b r held = transfer_at_held k b (event_at h k b) r held
+  event_held k CommandCompletion b r held =
+      reaches_held (completions.finished h k b (command_at h k (next_command h k))) (command_id h) (after (shape_of h (command_id h)) (next_command h k)) r
+      (finished_held k b (command_at h k (next_command h k)) r held)
+  event_held k _ b r held = held
+
+  -- ---- a doorbell opens its own ring
+
+  opens_other : (k : Known) (q r : ℕ) → r ≢ q → StaysHeld k (on_ring h k q Opens) r
+  opens_other k q r other held = view_after h (λ v. is_open v ≡ false) k q Opens r (λ same. absurd (other same)) (λ _. held)
+
+  endpoint_held : (k : Known) (s t : ℕ) (o : Option ℕ) (r : ℕ) → is_ring r o ≡ false → StaysHeld k (endpoint_rung h k s t o) r
+  unfolding endpoint_rung
+  endpoint_held k s t None r other held = held
+  endpoint_held k s t (Some q) r other held = opens_other k q r (λ same. false≢true (sym other ∙ eq-eqb q r (sym same))) held
+
+  bell_held : (k : Known) (s t r : ℕ) → r ≢ command_id h → (not (s == 0) && is_ring r (k.ring_of s t)) ≡ false → StaysHeld k (rung h k s t) r
+  unfolding rung
+  bell_held k s t r no_command quiet held =
+      cond_both (s == 0) _ _ (λ (l : Known). IsHeld l r) (λ _. opens_other k (command_id h) r no_command held)
+      (λ endpoint. endpoint_held k s t (k.ring_of s t) r (sym (ap (λ c. c && is_ring r (k.ring_of s t)) (not_from_false (s == 0) endpoint)) ∙ quiet) held)
+
+  -- ring r is held behind a row, if it was before: but for its doorbell
+  pub row_held : (k : Known) (row : Row) (r : ℕ) → r ≢ command_id h → begins_anew h k r row ≡ false → StaysHeld k (learned h k row) r
+  unfolding learned begins_anew
+  row_held k (Sub q blocks) r no_command quiet held = held_as_before (k.ring r) _ ((declaration_leaves h k q blocks).pointers r).held held
+  row_held k (Write a x) r no_command quiet held = held_as_before (k.ring r) _ ((write_leaves h k a x).pointers r).held held
+  row_held k (Reg q x) r no_command quiet held = held_as_before (k.ring r) _ (ap (λ f. (f r).held) (register_leaves h k q x).ring) held
+  row_held k (Bell s t) r no_command quiet held = bell_held k s t r no_command quiet held
+  row_held k (Read b) r no_command quiet held = event_held k (kind b) b r held
+
+  -- ---- no success of its blocks is read
+
+  at_spot : (k : Known) (r q : ℕ) (o : Option Spot) → (q == r) ≡ false → number_behind r (option_map (λ t. let at : RingSpot = record { ring = q; spot = t } in at) o) ≡ 0
+  unfolding number_behind
+  at_spot k r q None other = refl
+  at_spot k r q (Some t) other = cond-false (q == r) (number t + 1) 0 other
+
+  on_open_ring : (k : Known) (r a : ℕ) (o : Option ℕ) → IsHeld k r → is_held_ring k o ≡ false → number_behind r (spot_on h k a o) ≡ 0
+  unfolding spot_on is_held_ring number_behind
+  on_open_ring k r a None held opened = refl
+  on_open_ring k r a (Some q) held opened =
+      at_spot k r q (named (shape_of h q) (k.ring q) a)
+      (ne_eqb q r (λ same. false≢true (sym opened ∙ not_from_false (is_open (k.ring q)) (subst (λ n. is_open (k.ring n) ≡ false) (sym same) held))))
+
+  none_reported : (k : Known) (r : ℕ) (row : Row) → IsHeld k r → is_late k row ≡ false → number_reported h k r row ≡ 0
+  unfolding number_reported is_late event_at
+  none_reported k r (Sub q blocks) held timely = refl
+  none_reported k r (Write a x) held timely = refl
+  none_reported k r (Reg q x) held timely = refl
+  none_reported k r (Bell s t) held timely = refl
+  none_reported k r (Read b) held timely =
+      cond_both (is_report_of_success b) (number_behind r (event_at h k b)) 0 (λ n. n ≡ 0)
+      (λ success. on_open_ring k r (pointer b) (k.ring_of (slot b) (endpoint b)) held
+      (sym (ap (λ c. c && is_held_ring k (k.ring_of (slot b) (endpoint b))) success) ∙ timely))
+      (λ _. refl)
+
+-- none of the rows to come is late, and the command ring stays the same one
+abbrev pub AreTimely : Header → Known → List TraceRow → Type 0
+AreTimely h k [] = Unit {0}
+AreTimely h k (row ∷ later) = ((command_id (header_after h row) ≡ command_id h) × (is_late_row k row ≡ false)) × AreTimely (header_after h row) (known_after h k row) later
+
+pub timely_then : (h : Header) (k : Known) (b : Block) (later : List TraceRow) → AreTimely h k (Plain (Read b) ∷ later) → AreTimely h (learned h k (Read b)) later
+unfolding ring_restored restored_on
+timely_then h k b later timely = timely.1
+
+module _ (h : Header) where
+  forgotten_held : (k : Known) (id r : ℕ) → StaysHeld k (forgotten k id) r
+  unfolding forgotten is_open
+  forgotten_held k id r held =
+      elim (cases_eq r id) [
+        | inl same ↦ ap (λ (v : RingView). is_open v) (ap (λ n. put k.ring id new_ring n) same ∙ put_at k.ring id new_ring)
+        | inr other ↦ ap (λ (v : RingView). is_open v) (put_off k.ring id new_ring r other) ∙ held
+      ]
+
+  -- what restores or withdraws leaves the ring held
+  quiet_held : (k : Known) (q : ℕ) (change : RingChange) → ((v : RingView) (shape : Shape) → (changed shape v change).held ≡ v.held) → (r : ℕ) → StaysHeld k (on_ring h k q change) r
+  quiet_held k q change same r held =
+      view_after h (λ v. is_open v ≡ false) k q change r
+      (λ here. held_as_before (k.ring q) (changed (shape_of h q) (k.ring q) change) (same (k.ring q) (shape_of h q)) (subst (λ n. is_open (k.ring n) ≡ false) here held)) (λ other. held)
+
+  restored_held : (k : Known) (o : Option ℕ) (r : ℕ) → StaysHeld k (restored_on h k o) r
+  unfolding restored_on
+  restored_held k None r held = held
+  restored_held k (Some q) r held = quiet_held k q Restores (λ v shape. refl) r held
+
+  anew_same : (k : Known) (o : Option ℕ) (r : ℕ) (row : Row) → IsDriverRow row → begins_anew h k r row ≡ false → begins_anew h (restored_on h k o) r row ≡ false
+  unfolding begins_anew restored_on on_ring
+  anew_same k None r row driver_row quiet = quiet
+  anew_same k (Some q) r (Bell s t) driver_row quiet = quiet
+  anew_same k (Some q) r (Sub p blocks) driver_row quiet = quiet
+  anew_same k (Some q) r (Write a x) driver_row quiet = quiet
+  anew_same k (Some q) r (Reg p x) driver_row quiet = quiet
+  anew_same k (Some q) r (Read b) driver_row quiet = absurd driver_row
+
+  plain_held : (k : Known) (row : Row) (r : ℕ) → r ≢ command_id h → begins_anew h k r row ≡ false → StaysHeld k (learned h (restored h k row) row) r
+  unfolding ring_restored restored_on
+  plain_held k (Read b) r other quiet held = row_held h k (Read b) r other quiet held
+  plain_held k (Sub q blocks) r other quiet held = row_held h k (Sub q blocks) r other quiet held
+  plain_held k (Reg q x) r other quiet held = row_held h k (Reg q x) r other quiet held
+  plain_held k (Write a x) r other quiet held =
+      let o : Option ℕ = ring_restored h k (Write a x) in
+      row_held h (restored_on h k o) (Write a x) r other (anew_same k o r (Write a x) tt quiet) (restored_held k o r held)
+  plain_held k (Bell s t) r other quiet held =
+      let o : Option ℕ = ring_restored h k (Bell s t) in
+      row_held h (restored_on h k o) (Bell s t) r other (anew_same k o r (Bell s t) tt quiet) (restored_held k o r held)
+
+  -- ring r is held behind a row of any kind, if it was before: but for its doorbell
+  any_held : (k : Known) (row : TraceRow) (r : ℕ) → r ≢ command_id h → ends_need h k r row ≡ false → StaysHeld k (known_after h k row) r
+  unfolding ends_need
+  any_held k (Plain row) r other quiet held = plain_held k row r other quiet held
+  any_held k (Comes ring) r other quiet held = forgotten_held k ring.id r held
+  any_held k (Goes id) r other quiet held = forgotten_held k id r held
+  any_held k (Withdraws q p) r other quiet held = quiet_held k q (changes.Withdraws p) (λ v shape. refl) r held
+
+  none_needed : (k : Known) (r : ℕ) (row : TraceRow) → IsHeld k r → is_late_row k row ≡ false → number_needed h k r row ≡ 0
+  unfolding number_needed
+  none_needed k r (Plain row) held timely = none_reported h k r row held timely
+  none_needed k r (Comes ring) held timely = refl
+  none_needed k r (Goes id) held timely = refl
+  none_needed k r (Withdraws q p) held timely = refl
+
+pub need_of_held : (later : List TraceRow) (h : Header) (k : Known) (r : ℕ) → r ≢ command_id h → IsHeld k r → AreTimely h k later → need h k r later ≡ 0
+unfolding need
+need_of_held [] h k r no_command held timely = refl
+need_of_held (row ∷ later) h k r no_command held timely =
+    let g : Header = header_after h row in
+    let l : Known = known_after h k row in
+    cond_both (ends_need h k r row) 0 (max (number_needed h k r row) (need g l r later)) (λ n. n ≡ 0) (λ _. refl)
+    (λ quiet.
+    ap (λ n. max n (need g l r later)) (none_needed h k r row held timely.0.1)
+    ∙ ap (λ n. max 0 n) (need_of_held later g l r (λ same. no_command (same ∙ timely.0.0)) (any_held h k row r no_command quiet held) timely.1))

@@ -1,0 +1,233 @@
+-- What the schedule follows stays where a ring comes or goes, where a descriptor is withdrawn, and where a ring is restored: no pointer moves
+use Rattle.std.proofs.Common.{◌≡◌, ◌≢◌, ◌==◌, ◌∷◌, ◌∙◌, ℕ, not, Bool, true, false, List, [], find, filter, Option, Some, None, refl, sym, ap, subst, inl, inr, eq-eqb, ne_eqb}
+use Rattle.safety.proofs.LazyRuns.Words.{cases_eq, cond_both, cond-false, cond-true, not_from_false, not_from_true, none-some, put, put_off, Spot, Data, RingView, RingChange, Restores, changed, new_ring, is_open, IsSpot, spot_address, spot_cycle, Header, Ring, Row, IsHeader, shape_of, command_id, ring_with, World, next_take, counted, Known, on_ring, DriverKeeps, IsTransferRing, Runs, view_after, IsComing, forgotten, is_bad_free, is_bad_ring, emptied, with_ring, without_ring, without_descriptor, is_bad_withdraw, is_left, restored, restored_on, ring_restored}
+use Rattle.segments.specs.RingView as changes
+use Rattle.safety.proofs.RingChanges.GoneRings as gone
+use Rattle.safety.proofs.RingChanges.NewRings as new
+use Rattle.safety.proofs.RingChanges.Restored as restores
+use Rattle.safety.proofs.RingChanges.RingRuns as runs
+use Rattle.safety.proofs.RingChanges.Withdrawn as withdrawn
+use Rattle.safety.proofs.LazyRuns.Follows.{StandsAt, IsActiveIfOpen, Follows}
+
+-- what no row of these moves
+pub record StaysPut (w v : World) : Type 0 where
+  pub posted : v.posted ≡ w.posted
+  pub reads : v.reads ≡ w.reads
+  pub pointers : v.pointer_of ≡ w.pointer_of
+  pub cycles : v.cycle_state ≡ w.cycle_state
+  pub active : v.is_active ≡ w.is_active
+
+open_same : (v w : RingView) → w.held ≡ v.held → is_open w ≡ true → is_open v ≡ true
+unfolding is_open
+open_same v w same opened = rw (sym same) opened
+
+module _ (h : Header) where
+  -- ---- the rings are the same
+
+  stands_too : (w v : World) → StaysPut w v → v.events ≡ w.events → (r : ℕ) (t : Spot) → StandsAt h w r t → StandsAt h v r t
+  stands_too w v p events r t at = record {
+    is_spot = at.is_spot;
+    pointer = ap (λ f. f r) p.pointers ∙ at.pointer;
+    cycle = ap (λ f. f r) p.cycles ∙ at.cycle;
+    next = ap (λ f. next_take (shape_of h r) (f r)) events ∙ at.next;
+  }
+
+  -- what is known goes from k to l
+  pub record Learns (k l : Known) : Type 0 where
+    pub ring_of : l.ring_of ≡ k.ring_of
+    pub started : l.started ≡ k.started
+    pub floors : (r : ℕ) → (l.ring r).floor ≡ (k.ring r).floor
+    pub held : (r : ℕ) → (l.ring r).held ≡ (k.ring r).held
+
+  follows_too : (k l : Known) (pointers : ℕ → Spot) (w v : World) → Learns k l → StaysPut w v → v.events ≡ w.events → Runs h l v → Follows h k pointers w → Follows h l pointers v
+  follows_too k l pointers w v learns p events run f =
+      let had : (s i r : ℕ) → l.ring_of s i ≡ Some r → k.ring_of s i ≡ Some r = λ s i r at. ap (λ g. g s i) (sym learns.ring_of) ∙ at in
+      let still : (r : ℕ) → IsActiveIfOpen k w r → IsActiveIfOpen l v r = λ r was opened. ap (λ g. g r) p.active ∙ was (open_same (k.ring r) (l.ring r) (learns.held r) opened) in
+      record {
+        runs = run;
+        all_read = p.posted ∙ f.all_read ∙ sym p.reads;
+        floors = λ s i r at. subst (λ t. StandsAt h v r t) (sym (learns.floors r)) (stands_too w v p events r (k.ring r).floor (f.floors s i r (had s i r at)));
+        traced = λ s i r at. f.traced s i r (had s i r at) ∙ sym (learns.floors r);
+        active = λ s i r at. still r (f.active s i r (had s i r at));
+        before = λ off. f.before (sym learns.started ∙ off);
+        command = λ on. stands_too w v p events (command_id h) (pointers (command_id h)) (f.command (sym learns.started ∙ on));
+        command_active = still (command_id h) f.command_active;
+      }
+
+  -- of one ring neither the floor nor the number at which it is held changes
+  one_learns : (k : Known) (r : ℕ) (change : RingChange) → ((v : RingView) → (changed (shape_of h r) v change).floor ≡ v.floor) → ((v : RingView) → (changed (shape_of h r) v change).held ≡ v.held) →
+      Learns k (on_ring h k r change)
+  unfolding on_ring
+  one_learns k r change floor held = record {
+    ring_of = refl;
+    started = refl;
+    floors = λ q. view_after h (λ v. v.floor ≡ (k.ring q).floor) k r change q (λ same. floor (k.ring r) ∙ ap (λ n. (k.ring n).floor) (sym same)) (λ other. refl);
+    held = λ q. view_after h (λ v. v.held ≡ (k.ring q).held) k r change q (λ same. held (k.ring r) ∙ ap (λ n. (k.ring n).held) (sym same)) (λ other. refl);
+  }
+
+  pub restored_learns : (k : Known) (o : Option ℕ) → Learns k (restored_on h k o)
+  unfolding restored_on
+  restored_learns k None = record { ring_of = refl; started = refl; floors = λ r. refl; held = λ r. refl }
+  restored_learns k (Some r) = one_learns k r Restores (λ v. refl) (λ v. refl)
+
+  pub withdrawn_learns : (k : Known) (r p : ℕ) → Learns k (on_ring h k r (changes.Withdraws p))
+  withdrawn_learns k r p = one_learns k r (changes.Withdraws p) (λ v. refl) (λ v. refl)
+
+  all_stays : (w : World) → StaysPut w w
+  all_stays w = record { posted = refl; reads = refl; pointers = refl; cycles = refl; active = refl }
+
+  pub restored_follows : IsHeader h → (k : Known) (pointers : ℕ → Spot) (w : World) (row : Row) → DriverKeeps h k → is_left h k (ring_restored h k row) ≡ false → Follows h k pointers w →
+      Follows h (restored h k row) pointers w
+  restored_follows is k pointers w row d good f =
+      follows_too k (restored h k row) pointers w w (restored_learns k (ring_restored h k row)) (all_stays w) refl (restores.row_runs h is k d row w good f.runs) f
+
+  withdrawn_stays : (w : World) (r p : ℕ) → StaysPut w (counted h (without_descriptor w r p))
+  unfolding counted without_descriptor
+  withdrawn_stays w r p = record { posted = refl; reads = refl; pointers = refl; cycles = refl; active = refl }
+
+  withdrawn_events : (w : World) (r p : ℕ) → (counted h (without_descriptor w r p)).events ≡ w.events
+  unfolding counted without_descriptor
+  withdrawn_events w r p = refl
+
+  pub withdrawn_follows : IsHeader h → (k : Known) (pointers : ℕ → Spot) (w : World) (r p : ℕ) → DriverKeeps h k → is_bad_withdraw h k r p ≡ false → Follows h k pointers w →
+      Follows h (on_ring h k r (changes.Withdraws p)) pointers (counted h (without_descriptor w r p))
+  withdrawn_follows is k pointers w r p d good f =
+      follows_too k (on_ring h k r (changes.Withdraws p)) pointers w (counted h (without_descriptor w r p)) (withdrawn_learns k r p) (withdrawn_stays w r p)
+      (withdrawn_events w r p) (withdrawn.withdraw_runs h r p is k w d good f.runs) f
+
+-- ---- a ring comes or goes
+
+-- a ring with another ID is found among the rings without this one
+listed_still : (rings : List Ring) (id q : ℕ) → q ≢ id → find (λ (x : Ring). x.id == q) (filter (λ x. not (x.id == id)) rings) ≡ find (λ x. x.id == q) rings
+listed_still [] id q other = refl
+listed_still (r ∷ rest) id q other =
+    let test : Ring → Bool = λ x. x.id == q in
+    let keep : Ring → Bool = λ x. not (x.id == id) in
+    let later : find test (filter keep rest) ≡ find test rest = listed_still rest id q other in
+    elim (cases_eq r.id id) [
+      | inl gone ↦
+          let no : (r.id == q) ≡ false = ne_eqb r.id q (λ same. other (sym same ∙ gone)) in
+          ap (find test) (cond-false (not (r.id == id)) (r ∷ filter keep rest) (filter keep rest) (not_from_true (r.id == id) (eq-eqb r.id id gone)))
+          ∙ later ∙ sym (cond-false (r.id == q) (Some r) (find test rest) no)
+      | inr stays ↦
+          ap (find test) (cond-true (not (r.id == id)) (r ∷ filter keep rest) (filter keep rest) (not_from_false (r.id == id) (ne_eqb r.id id stays)))
+          ∙ cond_both (r.id == q) (Some r) (find test (filter keep rest)) (λ o. o ≡ find test (r ∷ rest))
+          (λ yes. sym (cond-true (r.id == q) (Some r) (find test rest) yes)) (λ no. later ∙ sym (cond-false (r.id == q) (Some r) (find test rest) no))
+    ]
+
+-- the rings but one are those of h, and the ring of no endpoint is that one
+pub record OthersStay (h g : Header) (k : Known) (id : ℕ) : Type 0 where
+  pub listed : (r : ℕ) → r ≢ id → ring_with g r ≡ ring_with h r
+  pub shapes : (r : ℕ) → r ≢ id → shape_of g r ≡ shape_of h r
+  pub command : command_id g ≡ command_id h
+  pub no_command : command_id h ≢ id
+  pub not_had : (s i r : ℕ) → k.ring_of s i ≡ Some r → r ≢ id
+
+module _ (h g : Header) (k : Known) (id : ℕ) (o : OthersStay h g k id) (pointers : ℕ → Spot) (w : World) (f : Follows h k pointers w) where
+  abbrev l : Known
+  l = forgotten k id
+
+  abbrev v : World
+  v = counted g (emptied w id)
+
+  abbrev now : ℕ → Spot
+  now = put pointers id (Data 0)
+
+  ring_stays : (r : ℕ) → r ≢ id → l.ring r ≡ k.ring r
+  unfolding forgotten
+  ring_stays r other = put_off k.ring id new_ring r other
+
+  stands_on : (r : ℕ) (t : Spot) → r ≢ id → StandsAt h w r t → StandsAt g v r t
+  unfolding counted emptied
+  stands_on r t other at = record {
+    is_spot = subst (λ shape. IsSpot shape t) (sym (o.shapes r other)) at.is_spot;
+    pointer = at.pointer ∙ ap (λ shape. spot_address shape t) (sym (o.shapes r other));
+    cycle = at.cycle ∙ ap (λ shape. spot_cycle shape t) (sym (o.shapes r other));
+    next = ap (λ shape. next_take shape (put w.events id [] r)) (o.shapes r other) ∙ ap (λ events. next_take (shape_of h r) events) (put_off w.events id [] r other) ∙ at.next;
+  }
+
+  active_on : (r : ℕ) → r ≢ id → IsActiveIfOpen k w r → IsActiveIfOpen l v r
+  unfolding counted emptied
+  active_on r other was opened = was (subst (λ x. is_open x ≡ true) (ring_stays r other) opened)
+
+  had : (s i r : ℕ) → l.ring_of s i ≡ Some r → k.ring_of s i ≡ Some r
+  unfolding forgotten
+  had s i r at = at
+
+  started_same : l.started ≡ k.started
+  unfolding forgotten
+  started_same = refl
+
+  read_same : v.posted ≡ v.reads
+  unfolding counted emptied
+  read_same = f.all_read
+
+  pointer_same : (r : ℕ) → r ≢ id → now r ≡ pointers r
+  pointer_same r other = put_off pointers id (Data 0) r other
+
+  pub others_follow : Runs g l v → Follows g l now v
+  others_follow run = record {
+    runs = run;
+    all_read = read_same;
+    floors = λ s i r at.
+        let other = o.not_had s i r (had s i r at) in
+        subst (λ x. StandsAt g v r x.floor) (sym (ring_stays r other)) (stands_on r (k.ring r).floor other (f.floors s i r (had s i r at)));
+    traced = λ s i r at.
+        let other = o.not_had s i r (had s i r at) in
+        pointer_same r other ∙ f.traced s i r (had s i r at) ∙ ap (λ x. x.floor) (sym (ring_stays r other));
+    active = λ s i r at. active_on r (o.not_had s i r (had s i r at)) (f.active s i r (had s i r at));
+    before = λ off. ap now o.command ∙ pointer_same (command_id h) o.no_command ∙ f.before (sym started_same ∙ off);
+    command = λ on.
+        subst (λ c. StandsAt g v c (now c)) (sym o.command)
+        (subst (λ t. StandsAt g v (command_id h) t) (sym (pointer_same (command_id h) o.no_command))
+        (stands_on (command_id h) (pointers (command_id h)) o.no_command (f.command (sym started_same ∙ on))));
+    command_active = subst (λ c. IsActiveIfOpen l v c) (sym o.command) (active_on (command_id h) o.no_command f.command_active);
+  }
+
+module _ (h : Header) (is : IsHeader h) (k : Known) (d : DriverKeeps h k) where
+  module _ (r : Ring) (coming : IsComing r) (good : is_bad_ring h k r ≡ false) where
+    absent : ring_with h r.id ≡ None
+    absent = runs.no_ring h is r coming k good
+
+    abbrev z : Known
+    z = forgotten k r.id
+
+    z_keeps : DriverKeeps h z
+    z_keeps = runs.f_keeps h is r coming k d absent
+
+    z_new : z.ring r.id ≡ new_ring
+    z_new = runs.fresh h is r coming k d absent
+
+    z_good : is_bad_ring h z r ≡ false
+    z_good = runs.bad_same h is r coming k d absent ∙ good
+
+    pub comes_stay : OthersStay h (with_ring h r) k r.id
+    unfolding with_ring
+    comes_stay = record {
+      listed = λ q other. new.found_before (λ (x : Ring). x.id == q) h.rings r (ne_eqb r.id q (λ same. other (sym same)));
+      shapes = λ q other. new.shape_same h is z z_keeps r coming z_new z_good q other;
+      command = new.command_same h is z z_keeps r coming z_new z_good;
+      no_command = new.no_command h is z z_keeps r coming z_new z_good;
+      not_had = λ s i q has same.
+          let t : IsTransferRing h q = d.states.transfer s i q has in
+          none-some t.ring (sym absent ∙ ap (λ n. ring_with h n) (sym same) ∙ t.found);
+    }
+
+    pub comes_follows : (pointers : ℕ → Spot) (w : World) → Follows h k pointers w → Follows (with_ring h r) (forgotten k r.id) (put pointers r.id (Data 0)) (counted h (emptied w r.id))
+    unfolding counted
+    comes_follows pointers w f = others_follow h (with_ring h r) k r.id comes_stay pointers w f (runs.comes_runs h is r coming k w d good f.runs)
+
+  module _ (id : ℕ) (good : is_bad_free h k id ≡ false) where
+    pub goes_stay : OthersStay h (without_ring h id) k id
+    unfolding without_ring
+    goes_stay = record {
+      listed = λ q other. listed_still h.rings id q other;
+      shapes = λ q other. gone.shape_same h is k d id good q other;
+      command = gone.command_same h is k d id good;
+      no_command = gone.no_command h is k d id good;
+      not_had = gone.not_had h is k d id good;
+    }
+
+    pub goes_follows : (pointers : ℕ → Spot) (w : World) → Follows h k pointers w → Follows (without_ring h id) (forgotten k id) (put pointers id (Data 0)) (counted h (emptied w id))
+    unfolding counted
+    goes_follows pointers w f = others_follow h (without_ring h id) k id goes_stay pointers w f (runs.goes_runs h is id k w d good f.runs)

@@ -1,0 +1,132 @@
+-- What a Transfer Event says that breaks no rule, by its code: the spot that it names, and what the controller did there
+use Rattle.std.proofs.Common.{◌≡◌, ◌<◌, ◌&&◌, ◌||◌, ◌∙◌, ℕ, not, Bool, true, false, [], Option, Some, None, option_map, refl, sym, ap, inl, inr, ltb-true}
+use Rattle.safety.proofs.LazyRuns.Words.{and_cases, and_parts, or_parts, or_cases, or_from, not-false, not-true, false≢true, none-some, same_Some, Block, is_set, word, kind, code, pointer, slot, endpoint, is_transfer_event, is_success, is_halting, is_trb_error, is_stopping, is_transfer_code, Spot, Data, Link, ceiling, named, is_data_below, is_open, is_stop_spot, is_off, is_running, Header, Read, shape_of, Known, RingSpot, spot_on, is_in_profile, is_working, is_stopping_now, can_report, can_report_at, is_impossible_by_kind, is_impossible_transfer, lenient, event_facts, transfer_kind, StopCode, chain, spot_is}
+use Rattle.ring_knowledge.specs.Rings.{event_at}
+
+module _ (h : Header) where
+  -- the ring of its endpoint, and the spot there that it names
+  pub record TransferFacts (k : Known) (b : Block) : Type 0 where
+    pub ring : ℕ
+    pub spot : Spot
+    pub bound : k.ring_of (slot b) (endpoint b) ≡ Some ring
+    pub named_is : named (shape_of h ring) (k.ring ring) (pointer b) ≡ Some spot
+    pub at : event_at h k b ≡ Some (record { ring = ring; spot = spot })
+    pub no_data : is_set (word b 3) 2 ≡ false
+    pub code_is : is_transfer_code (code b) ≡ true
+    pub may : can_report h k (code b) (slot b) (endpoint b) ring spot ≡ true
+
+  ring_named : (k : Known) (a : ℕ) (o : Option ℕ) (at : RingSpot) → spot_on h k a o ≡ Some at → o ≡ Some at.ring
+  unfolding spot_on
+  ring_named k a None at e = absurd (none-some at e)
+  ring_named k a (Some r) at e = by (named (shape_of h r) (k.ring r) a) e
+    where
+      by : (m : Option Spot) → option_map (λ t. let x : RingSpot = record { ring = r; spot = t } in x) m ≡ Some at → ◌≡◌ {A = Option ℕ} (Some r) (Some at.ring)
+      by None found = absurd (none-some at found)
+      by (Some t) found = ap (λ (x : RingSpot). Some x.ring) (same_Some (record { ring = r; spot = t }) at found)
+
+  named_by : (k : Known) (b : Block) (o : Option RingSpot) → event_at h k b ≡ o → can_report_at h k b o ≡ true → is_set (word b 3) 2 ≡ false → is_transfer_code (code b) ≡ true → TransferFacts k b
+  unfolding can_report_at event_at
+  named_by k b None found can no_data code_is = absurd (false≢true can)
+  named_by k b (Some at) found can no_data code_is = record {
+    ring = at.ring;
+    spot = at.spot;
+    bound = ring_named k (pointer b) (k.ring_of (slot b) (endpoint b)) at found;
+    named_is = spot_is h k (pointer b) (k.ring_of (slot b) (endpoint b)) at found;
+    at = found;
+    no_data = no_data;
+    code_is = code_is;
+    may = can;
+  }
+
+  by_kind : (k : Known) (b : Block) → is_transfer_event (kind b) ≡ true → is_impossible_by_kind h k (kind b) b ≡ is_impossible_transfer h k b
+  unfolding is_impossible_by_kind
+  by_kind k b transfer = ap (λ t. is_impossible_by_kind h k t b) (transfer_kind (kind b) transfer)
+
+  facts_from : (k : Known) (b : Block) → is_impossible_transfer h k b ≡ false → is_in_profile b ≡ true → TransferFacts k b
+  unfolding is_impossible_transfer is_in_profile
+  facts_from k b possible inside =
+      let parts = and_parts (not (is_set (word b 3) 2)) (is_transfer_code (code b)) inside in
+      elim (and_cases (is_in_profile b) (is_off (k.endpoint_state (slot b) (endpoint b)) || not (can_report_at h k b (event_at h k b))) possible) [
+        | inl outside ↦ absurd (false≢true (sym outside ∙ inside))
+        | inr none ↦
+            let can = or_parts (is_off (k.endpoint_state (slot b) (endpoint b))) (not (can_report_at h k b (event_at h k b))) none in
+            named_by k b (event_at h k b) refl (not-false (can_report_at h k b (event_at h k b)) can.1) (not-true (is_set (word b 3) 2) parts.0) parts.1
+      ]
+
+  pub transfer_facts : (k : Known) (b : Block) → lenient h k (Read b) ≡ [] → is_transfer_event (kind b) ≡ true → TransferFacts k b
+  transfer_facts k b clean transfer =
+      let f = event_facts h k b clean in
+      let inside : not (is_in_profile b) ≡ false = ap (λ c. c && not (is_in_profile b)) (sym transfer) ∙ f.inside in
+      facts_from k b (sym (by_kind k b transfer) ∙ f.possible) (not-false (is_in_profile b) inside)
+
+  -- ---- by its code
+
+  -- the spot is this block, and it is below what the controller may have taken
+  pub record NamesBlock (k : Known) (r : ℕ) (t : Spot) : Type 0 where
+    pub position : ℕ
+    pub is : t ≡ Data position
+    pub below : position < ceiling (shape_of h r) (k.ring r)
+
+  -- the endpoint is Running, and its ring is open
+  pub record IsAtWork (k : Known) (b : Block) (r : ℕ) : Type 0 where
+    pub runs : is_running (k.endpoint_state (slot b) (endpoint b)) ≡ true
+    pub opened : is_open (k.ring r) ≡ true
+
+  data_below : (k : Known) (r : ℕ) (t : Spot) → is_data_below (ceiling (shape_of h r) (k.ring r)) t ≡ true → NamesBlock k r t
+  unfolding is_data_below
+  data_below k r (Data p) below = record { position = p; is = refl; below = ltb-true p (ceiling (shape_of h r) (k.ring r)) below }
+  data_below k r (Link q) below = absurd (false≢true below)
+
+  at_work : (k : Known) (b : Block) (r : ℕ) → is_working k (slot b) (endpoint b) r ≡ true → IsAtWork k b r
+  unfolding is_working
+  at_work k b r works = let parts = and_parts (is_running (k.endpoint_state (slot b) (endpoint b))) (is_open (k.ring r)) works in record { runs = parts.0; opened = parts.1 }
+
+  module _ (k : Known) (b : Block) (f : TransferFacts k b) where
+    below : Bool
+    below = is_data_below (ceiling (shape_of h f.ring) (k.ring f.ring)) f.spot
+
+    works : Bool
+    works = is_working k (slot b) (endpoint b) f.ring
+
+    stops : Bool
+    stops = works && is_stopping_now h k (slot b) (endpoint b) && is_stop_spot (shape_of h f.ring) (k.ring f.ring) f.spot
+
+    cases : (is_success (code b) ≡ true → below ≡ true) × (is_success (code b) ≡ false → (is_halting (code b) || is_trb_error (code b)) ≡ true → (below && works) ≡ true)
+        × (is_success (code b) ≡ false → (is_halting (code b) || is_trb_error (code b)) ≡ false → stops ≡ true)
+    unfolding below works stops can_report
+    cases = chain (is_success (code b)) (is_halting (code b) || is_trb_error (code b)) below (below && works) stops f.may
+
+    pub success_names : is_success (code b) ≡ true → NamesBlock k f.ring f.spot
+    unfolding below
+    success_names success = data_below k f.ring f.spot (cases.0 success)
+
+    pub error_names : is_success (code b) ≡ false → (is_halting (code b) || is_trb_error (code b)) ≡ true → NamesBlock k f.ring f.spot × IsAtWork k b f.ring
+    unfolding below works
+    error_names fails breaks = let parts = and_parts below works (cases.1 fails breaks) in (data_below k f.ring f.spot parts.0, at_work k b f.ring parts.1)
+
+    -- a Stop Endpoint for the endpoint is the next command
+    pub record StopsThere : Type 0 where
+      pub work : IsAtWork k b f.ring
+      pub now : is_stopping_now h k (slot b) (endpoint b) ≡ true
+      pub there : is_stop_spot (shape_of h f.ring) (k.ring f.ring) f.spot ≡ true
+
+    pub stop_names : is_success (code b) ≡ false → (is_halting (code b) || is_trb_error (code b)) ≡ false → StopsThere
+    unfolding stops works
+    stop_names fails quiet =
+        let all = and_parts (works && is_stopping_now h k (slot b) (endpoint b)) (is_stop_spot (shape_of h f.ring) (k.ring f.ring) f.spot) (cases.2 fails quiet) in
+        let two = and_parts works (is_stopping_now h k (slot b) (endpoint b)) all.0 in
+        record { work = at_work k b f.ring two.0; now = two.1; there = all.1 }
+
+    -- a code of the profile that is none of the others is that of a stop
+    pub stop_code : is_success (code b) ≡ false → (is_halting (code b) || is_trb_error (code b)) ≡ false → StopCode (code b)
+    stop_code fails quiet =
+        let two = or_parts (is_halting (code b)) (is_trb_error (code b)) quiet in
+        record {
+          success = fails;
+          halting = two.0;
+          error = two.1;
+          stopping = elim (or_cases (is_success (code b) || is_halting (code b) || is_trb_error (code b)) (is_stopping (code b)) f.code_is) [
+            | inl other ↦ absurd (false≢true (sym (or_from (is_success (code b) || is_halting (code b)) (is_trb_error (code b)) (or_from (is_success (code b)) (is_halting (code b)) fails two.0) two.1) ∙ other))
+            | inr stopping ↦ stopping
+          ];
+        }

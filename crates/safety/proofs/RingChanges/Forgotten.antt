@@ -1,0 +1,128 @@
+-- Of an ID that no ring has all may be forgotten
+use Rattle.std.proofs.Common.{◌≡◌, ◌≢◌, ◌<◌, ◌==◌, ◌∙◌, ℕ, List, [], Some, None, get_or, arith, refl, sym, ap, subst, inl, inr, eq-eqb, ne_eqb}
+use Rattle.guest_memory.specs.Memory.{put}
+use Rattle.safety.proofs.Words.{cases_eq, cases_option, cond-true, cond-false, none-some, Block, RingView, RingKeeps, Header, Ring, Read, IsHeader, ring_with, ring_having, shape_of, command_id, command_ring, World, Known, learned, lenient, Binding, binds, ring_bound, IsTransferRing, DriverKeeps, Stands, FreeRing, state_of, Agrees}
+use Rattle.segments.specs.RingView.{new_ring}
+use Rattle.safety.proofs.Areas.{context_lies}
+use Rattle.safety.proofs.DriverRings.{transfer_ring}
+use Rattle.safety.proofs.Headers.{command_named}
+use Rattle.safety.proofs.KeptCommandRing.{command_with}
+use Rattle.safety.proofs.RingIds.{having_transfer}
+use Rattle.safety.specs.RingChanges.Changes.{emptied, forgotten}
+use Rattle.safety.proofs.RingChanges.EventsAlike.{KeepsRings}
+use Rattle.safety.proofs.RingChanges.OtherRings.{BindsAsBefore, IsAsBefore, OtherRings, other_rings_keep}
+use Rattle.safety.proofs.RingChanges.OtherWorlds.{OtherTakes, free_new, other_worlds_agree}
+use Rattle.safety.proofs.RingChanges.ReadAlike.{BindsAlike, read_alike, read_possible}
+use Rattle.safety.proofs.RingChanges.Squares.{Other, cleared, cleared_apart, cleared_here, cleared_put}
+
+module _ (h : Header) (is : IsHeader h) (k : Known) (d : DriverKeeps h k) (id : ℕ) (low : id < 256) (absent : ring_with h id ≡ None) where
+  other : (s : ℕ) (q : Ring) → ring_with h s ≡ Some q → s ≢ id
+  other s q found same = none-some q (sym absent ∙ ap (λ n. ring_with h n) (sym same) ∙ found)
+
+  pub no_command : command_id h ≢ id
+  no_command same =
+      elim (cases_option (command_ring h)) [
+        | inl none ↦ let named = command_named h is None none in absurd (omega (arith, same, named, low))
+        | inr some ↦ other (command_id h) some.0 (command_with h is some.0 some.1) same
+      ]
+
+  not_had : (s i x : ℕ) → k.ring_of s i ≡ Some x → x ≢ id
+  not_had s i x at = let ring = d.states.transfer s i x at in other x ring.ring ring.found
+
+  not_bound : (p s : ℕ) → ring_having h p ≡ Some s → s ≢ id
+  not_bound p s names = let ring = transfer_ring h s (having_transfer h is p s names) in other s ring.ring ring.found
+
+  as_before : (s : ℕ) → IsTransferRing h s → IsAsBefore h h.rings k (cleared id k.ring) s
+  as_before s ring = record { transfer = ring; shape = refl; view = cleared_apart id k.ring s (other s ring.ring ring.found) }
+
+  bound_same : (b : Binding) → BindsAsBefore h h.rings k (cleared id k.ring) b
+  unfolding ring_bound
+  bound_same b = λ s names. (names, as_before s (transfer_ring h s (having_transfer h is b.pointer s names)))
+
+  pub others : OtherRings h h.rings k (cleared id k.ring)
+  others = record {
+    command = refl;
+    command_ring = λ ring. ring;
+    command_shape = refl;
+    command_view = cleared_apart id k.ring (command_id h) no_command;
+    events = refl;
+    size = refl;
+    keeps = λ s ring. subst (λ v. RingKeeps (shape_of h s) k.memory v) (sym (cleared_apart id k.ring s (other s ring.ring ring.found))) (d.rings s ring);
+    clean = d.clean;
+    had = λ s i x at. as_before x (d.states.transfer s i x at);
+    each = λ s. elim (cases_eq s id) [
+      | inl here ↦ inr (ap (cleared id k.ring) here ∙ cleared_here id k.ring)
+      | inr away ↦ inl (cleared_apart id k.ring s away)
+    ];
+    devices = λ s e at. let device = d.devices s e at in (device.rings, device.entry_rings);
+    contexts = λ p n c u at. (context_lies h k d p n c u at).rings;
+    binds = λ p c u i b l. bound_same (get_or (binds h k c) i b);
+  }
+
+  pub forgotten_keeps : DriverKeeps h (forgotten k id)
+  unfolding forgotten
+  forgotten_keeps = other_rings_keep h h.rings k (cleared id k.ring) d others
+
+  module _ (w : World) where
+    here : {X : Type 0} (f : ℕ → X) (x : X) (s : ℕ) → s ≡ id → put f id x s ≡ x
+    here f x s same = cond-true (s == id) x (f s) (eq-eqb s id same)
+
+    apart : {X : Type 0} (f : ℕ → X) (x : X) (s : ℕ) → s ≢ id → put f id x s ≡ f s
+    apart f x s away = cond-false (s == id) x (f s) (ne_eqb s id away)
+
+    abbrev v : World
+    v = record w { queue = put w.queue id []; lengths = put w.lengths id []; events = put w.events id []; reported = put w.reported id 0 }
+
+    state_apart : (s : ℕ) → s ≢ id → state_of v s ≡ state_of w s
+    state_apart s away = λ j. record { pointer = w.pointer_of s; cycle = w.cycle_state s; active = w.is_active s; events = apart w.events [] s away j; reported = apart w.reported 0 s away j }
+
+    free_still : (s : ℕ) → FreeRing (shape_of h s) k.ring_of (k.ring s) (state_of w s) s → FreeRing (shape_of h s) k.ring_of (cleared id k.ring s) (state_of v s) s
+    free_still s free = elim (cases_eq s id) [
+      | inl same ↦ free_new (shape_of h s) k.ring_of (cleared id k.ring s) (state_of v s) s free.none free.rests.inactive (here w.events [] s same) (here k.ring new_ring s same)
+      | inr away ↦
+          subst (λ x. FreeRing (shape_of h s) k.ring_of (cleared id k.ring s) x s) (sym (state_apart s away))
+          (subst (λ y. FreeRing (shape_of h s) k.ring_of y (state_of w s) s) (sym (cleared_apart id k.ring s away)) free)
+    ]
+
+    takes : Stands h k w → OtherTakes h h.rings k (cleared id k.ring) w v.queue v.lengths v.events v.reported
+    takes stands = record {
+      queues = λ s. elim (cases_eq s id) [
+        | inl same ↦ here w.queue [] s same ∙ sym (ap (λ (y : RingView). y.queue) (here k.ring new_ring s same))
+        | inr away ↦ apart w.queue [] s away ∙ stands.queues s ∙ sym (ap (λ (y : RingView). y.queue) (cleared_apart id k.ring s away))
+      ];
+      counts = λ s. elim (cases_eq s id) [
+        | inl same ↦ here w.lengths [] s same ∙ sym (ap (λ (y : RingView). y.lengths) (here k.ring new_ring s same))
+        | inr away ↦ apart w.lengths [] s away ∙ stands.lengths s ∙ sym (ap (λ (y : RingView). y.lengths) (cleared_apart id k.ring s away))
+      ];
+      command = (apart w.events [] (command_id h) no_command, apart w.reported 0 (command_id h) no_command);
+      had = λ s i x at. let away = not_had s i x at in (apart w.events [] x away, apart w.reported 0 x away);
+      free = λ s away free. free_still s free;
+    }
+
+    pub forgotten_agrees : (unread : List Block) → Agrees h k unread w → Agrees h (forgotten k id) unread (emptied w id)
+    unfolding forgotten emptied
+    forgotten_agrees unread a = other_worlds_agree h h.rings k (cleared id k.ring) w v.queue v.lengths v.events v.reported d others (takes a.stands) unread a
+
+  -- ---- an event
+
+  rings_same : KeepsRings h h.rings (cleared id) (Other id)
+  rings_same = record {
+    shape = λ s away. refl;
+    view = cleared_apart id;
+    changes = cleared_put id;
+    command = refl;
+    command_kept = no_command;
+    events = refl;
+    size = refl;
+  }
+
+  binds_same : BindsAlike h h.rings (cleared id) (Other id) rings_same k
+  binds_same p c u i b l = (refl, not_bound (get_or (binds h k c) i b).pointer)
+
+  pub forgotten_read : (e : Block) → lenient h (forgotten k id) (Read e) ≡ lenient h k (Read e)
+  unfolding forgotten
+  forgotten_read e = read_possible h h.rings (cleared id) (Other id) rings_same k e not_had
+
+  pub forgotten_learned : (e : Block) → lenient h k (Read e) ≡ [] → learned h (forgotten k id) (Read e) ≡ forgotten (learned h k (Read e)) id
+  unfolding forgotten
+  forgotten_learned e may = (read_alike h h.rings (cleared id) (Other id) rings_same is k d not_had binds_same e may).0

@@ -1,0 +1,290 @@
+-- A ring that goes: what a driver keeps it keeps still
+use Rattle.std.proofs.Common.{◌≡◌, ◌≢◌, ◌<◌, ◌==◌, ◌&&◌, ◌||◌, ◌∷◌, ◌∙◌, ℕ, not, Bool, true, false, List, [], Option, Some, None, find, filter, get_or, length, nat_lt, arith, refl, sym, ap, subst, inl, inr, eqb-true, eq-eqb, ne_eqb}
+use Rattle.guest_memory.specs.Memory.{put}
+use Rattle.safety.proofs.Words.{list_all, and_from, is_shape, may_stand_together, Block, World, Stands, FreeRing, state_of, Agrees, Cmd, Evt, Xfer, RingKind, same_Some, cases_Bool, cases_eq, list_any, list_any_at, range_with_len, cond-true, cond-false, false≢true, false_from_ne_true, none-some, not-false, not_from_false, not-true, or_parts, is_inside, place_count, RingView, RingKeeps, Command, device_context_bytes, input_context_bytes, Header, Ring, IsHeader, clash, is_command_kind, is_event_kind, is_transfer_kind, is_ring, ring_with, shape_of, shape_or, command_ring, command_id, event_ring, event_shape, event_size, ring_having, id_of, id_or_none, touches_ring, Known, entry_of, Binding, binds, ring_bound, binds_ring, is_being_bound, any_of, from_filter, some_of, IsIn, is_transfer_ring, IsDriverRing, IsTransferRing, IsUnfinished, DriverKeeps}
+use Rattle.segments.specs.Places.{touches}
+use Rattle.segments.specs.RingView.{new_ring}
+use Rattle.segments.specs.Shape.{rings_overlap}
+use Rattle.safety.proofs.Areas.{context_lies}
+use Rattle.safety.proofs.DriverRings.{transfer_ring}
+use Rattle.safety.proofs.Headers.{found_in, header_parts, together, transfer_not_command}
+use Rattle.safety.proofs.RingIds.{having_transfer}
+use Rattle.safety.proofs.UnfinishedLists.{in_range, unfinished_fails}
+use Rattle.safety.specs.RingChanges.Changes.{emptied, forgotten, is_bad_free, is_had, without_ring}
+use Rattle.safety.proofs.RingChanges.ListedRings.{all_kept, together_kept}
+use Rattle.safety.proofs.RingChanges.OtherWorlds.{OtherTakes, free_new, other_worlds_agree}
+use Rattle.safety.proofs.RingChanges.OtherRings.{OtherRings, IsAsBefore, BindsAsBefore, other_rings_keep}
+
+-- ---- some rings of a list
+
+module _ (p keep : Ring → Bool) where
+  -- what passes is among them, so the same one is found
+  find_kept : (rs : List Ring) → ((q : Ring) → IsIn q rs → p q ≡ true → keep q ≡ true) → find p (filter keep rs) ≡ find p rs
+  find_kept [] kept = refl
+  find_kept (y ∷ ys) kept =
+      let rest = find_kept ys (λ q at. kept q (inr at)) in
+      elim (cases_Bool (p y)) [
+        | inl passes ↦
+            ap (find p) (cond-true (keep y) (y ∷ filter keep ys) (filter keep ys) (kept y (inl refl) passes))
+            ∙ cond-true (p y) (Some y) (find p (filter keep ys)) passes ∙ sym (cond-true (p y) (Some y) (find p ys) passes)
+        | inr fails ↦
+            elim (cases_Bool (keep y)) [
+              | inl stays ↦
+                  ap (find p) (cond-true (keep y) (y ∷ filter keep ys) (filter keep ys) stays)
+                  ∙ cond-false (p y) (Some y) (find p (filter keep ys)) fails ∙ rest ∙ sym (cond-false (p y) (Some y) (find p ys) fails)
+              | inr goes ↦
+                  ap (find p) (cond-false (keep y) (y ∷ filter keep ys) (filter keep ys) goes) ∙ rest ∙ sym (cond-false (p y) (Some y) (find p ys) fails)
+            ]
+      ]
+
+  -- the one that is found is among them
+  found_kept : (rs : List Ring) (q : Ring) → find p rs ≡ Some q → keep q ≡ true → find p (filter keep rs) ≡ Some q
+  found_kept [] q found kept = absurd (none-some q found)
+  found_kept (y ∷ ys) q found kept =
+      elim (cases_Bool (p y)) [
+        | inl passes ↦
+            let same : Some y ≡ Some q = sym (cond-true (p y) (Some y) (find p ys) passes) ∙ found in
+            ap (find p) (cond-true (keep y) (y ∷ filter keep ys) (filter keep ys) (ap keep (same_Some y q same) ∙ kept))
+            ∙ cond-true (p y) (Some y) (find p (filter keep ys)) passes ∙ same
+        | inr fails ↦
+            let rest = found_kept ys q (sym (cond-false (p y) (Some y) (find p ys) fails) ∙ found) kept in
+            elim (cases_Bool (keep y)) [
+              | inl stays ↦
+                  ap (find p) (cond-true (keep y) (y ∷ filter keep ys) (filter keep ys) stays) ∙ cond-false (p y) (Some y) (find p (filter keep ys)) fails ∙ rest
+              | inr goes ↦ ap (find p) (cond-false (keep y) (y ∷ filter keep ys) (filter keep ys) goes) ∙ rest
+            ]
+      ]
+
+  none_kept : (rs : List Ring) → list_any p rs ≡ false → list_any p (filter keep rs) ≡ false
+  none_kept rs none =
+      false_from_ne_true (list_any p (filter keep rs)) (λ t.
+      let q = some_of p (filter keep rs) t in
+      false≢true (sym none ∙ any_of p rs q.0 (from_filter keep rs q.0 q.1).0 q.2))
+
+ids_differ : (x r : Ring) → clash x r ≡ false → (x.id == r.id) ≡ false
+ids_differ x r none =
+    let three = or_parts (x.id == r.id || rings_overlap x.shape r.shape || (is_command_kind x.shape.kind && is_command_kind r.shape.kind)) (is_event_kind x.shape.kind && is_event_kind r.shape.kind) none in
+    let two = or_parts (x.id == r.id || rings_overlap x.shape r.shape) (is_command_kind x.shape.kind && is_command_kind r.shape.kind) three.0 in
+    (or_parts (x.id == r.id) (rings_overlap x.shape r.shape) two.0).0
+
+transfer_no_command : (kind : RingKind) → is_transfer_kind kind ≡ true → is_command_kind kind ≡ false
+transfer_no_command Cmd t = absurd (false≢true t)
+transfer_no_command Evt t = absurd (false≢true t)
+transfer_no_command Xfer t = refl
+
+transfer_no_event : (kind : RingKind) → is_transfer_kind kind ≡ true → is_event_kind kind ≡ false
+transfer_no_event Cmd t = absurd (false≢true t)
+transfer_no_event Evt t = absurd (false≢true t)
+transfer_no_event Xfer t = refl
+
+module _ (h : Header) (is : IsHeader h) (k : Known) (d : DriverKeeps h k) (id : ℕ) (good : is_bad_free h k id ≡ false) where
+  abbrev keep : Ring → Bool
+  keep q = not (q.id == id)
+
+  abbrev g : Header
+  g = record h { rings = filter keep h.rings }
+
+  abbrev views : ℕ → RingView
+  views = put k.ring id new_ring
+
+  pub parts : (is_transfer_ring (ring_with h id) ≡ true) × (is_had k id ≡ false) × (is_being_bound h k id ≡ false)
+  unfolding is_bad_free
+  parts =
+      let two = or_parts (not (is_transfer_ring (ring_with h id)) || is_had k id) (is_being_bound h k id) good in
+      let one = or_parts (not (is_transfer_ring (ring_with h id))) (is_had k id) two.0 in
+      (not-false (is_transfer_ring (ring_with h id)) one.0, one.1, two.1)
+
+  pub gone : IsTransferRing h id
+  gone = transfer_ring h id parts.0
+
+  -- ---- other rings are found as before
+
+  stays : (q : Ring) → q.id ≢ id → keep q ≡ true
+  stays q other = not_from_false (q.id == id) (ne_eqb q.id id other)
+
+  -- no two rings have its ID
+  only_one : (q : Ring) → IsIn q h.rings → q.id ≡ id → q ≡ gone.ring
+  only_one q at same =
+      let there = found_in (λ x. x.id == id) h.rings gone.ring gone.found in
+      let both : q.id ≡ gone.ring.id = same ∙ sym (eqb-true gone.ring.id id there.1) in
+      elim (together h.rings q gone.ring (header_parts h is).1 at there.0) [
+        | inl one ↦ one
+        | inr apart ↦ elim apart [
+          | inl first ↦ absurd (false≢true (sym (ids_differ q gone.ring first) ∙ eq-eqb q.id gone.ring.id both))
+          | inr second ↦ absurd (false≢true (sym (ids_differ gone.ring q second) ∙ eq-eqb gone.ring.id q.id (sym both)))
+        ]
+      ]
+
+  -- a ring of another kind has another ID
+  of_other_kind : (test : Ring → Bool) → test gone.ring ≡ false → (q : Ring) → IsIn q h.rings → test q ≡ true → keep q ≡ true
+  of_other_kind test fails q at passes = stays q (λ same. false≢true (sym fails ∙ ap test (sym (only_one q at same)) ∙ passes))
+
+  ring_same : (s : ℕ) → s ≢ id → ring_with g s ≡ ring_with h s
+  ring_same s other = find_kept (λ q. q.id == s) keep h.rings (λ q at passes. stays q (λ same. other (sym (eqb-true q.id s passes) ∙ same)))
+
+  pub shape_same : (s : ℕ) → s ≢ id → shape_of g s ≡ shape_of h s
+  unfolding shape_of
+  shape_same s other = ap (λ o. shape_or Xfer o) (ring_same s other)
+
+  -- it isn't there any more
+  not_there : (s : ℕ) (q : Ring) → ring_with g s ≡ Some q → s ≢ id
+  not_there s q found same =
+      let there = found_in (λ x. x.id == s) (filter keep h.rings) q found in
+      let kept = (from_filter keep h.rings q there.0).1 in
+      false≢true (sym (not-true (q.id == id) kept) ∙ eq-eqb q.id id (eqb-true q.id s there.1 ∙ same))
+
+  driver_before : (s : ℕ) → IsDriverRing g s → IsDriverRing h s
+  driver_before s ring = record { ring = ring.ring; found = sym (ring_same s (not_there s ring.ring ring.found)) ∙ ring.found; kind = ring.kind }
+
+  view_same : (s : ℕ) → s ≢ id → views s ≡ k.ring s
+  view_same s other = cond-false (s == id) new_ring (k.ring s) (ne_eqb s id other)
+
+  transfer_still : (s : ℕ) → s ≢ id → IsTransferRing h s → IsAsBefore h (filter keep h.rings) k views s
+  transfer_still s other ring = record {
+    transfer = record { ring = ring.ring; found = ring_same s other ∙ ring.found; kind = ring.kind };
+    shape = shape_same s other;
+    view = view_same s other;
+  }
+
+  command_ring_same : command_ring g ≡ command_ring h
+  unfolding command_ring
+  command_ring_same = find_kept (λ q. is_command_kind q.shape.kind) keep h.rings (of_other_kind (λ q. is_command_kind q.shape.kind) (transfer_no_command gone.ring.shape.kind gone.kind))
+
+  pub event_ring_same : event_ring g ≡ event_ring h
+  unfolding event_ring
+  event_ring_same = find_kept (λ q. is_event_kind q.shape.kind) keep h.rings (of_other_kind (λ q. is_event_kind q.shape.kind) (transfer_no_event gone.ring.shape.kind gone.kind))
+
+  pub command_same : command_id g ≡ command_id h
+  unfolding command_id
+  command_same = ap id_or_none command_ring_same
+
+  pub events_same : event_shape g ≡ event_shape h
+  unfolding event_shape
+  events_same = ap (λ o. shape_or Evt o) event_ring_same
+
+  pub size_same : event_size g ≡ event_size h
+  unfolding event_size
+  size_same = ap place_count events_same
+
+  pub no_command : command_id h ≢ id
+  no_command same = transfer_not_command h is id gone (sym same)
+
+  -- ---- no endpoint has it, and no unfinished command binds it
+
+  pub not_had : (s i r : ℕ) → k.ring_of s i ≡ Some r → r ≢ id
+  unfolding is_had
+  not_had s i r has same =
+      let low = d.numbered s i r has in
+      let some_slot : 0 < s = positive s (λ zero. none-some r (sym (d.states.no_endpoint s i (inl zero)) ∙ has)) in
+      let some_index : 0 < i = positive i (λ zero. none-some r (sym (d.states.no_endpoint s i (inr zero)) ∙ has)) in
+      let row : ℕ → Bool = λ t. list_any (λ j. is_ring id (k.ring_of t j)) (range_with_len 1 31) in
+      let inner : row s ≡ true = any_of (λ j. is_ring id (k.ring_of s j)) (range_with_len 1 31) i (in_range 1 31 i (omega arith) (omega (arith, low.1))) (ap (is_ring id) has ∙ eq-eqb r id same) in
+      false≢true (sym parts.1 ∙ any_of row (range_with_len 1 255) s (in_range 1 255 s (omega arith) (omega (arith, low.0))) inner)
+    where
+      positive : (n : ℕ) → (n ≡ 0 → ⊥) → 0 < n
+      positive n some = elim (cases_eq n 0) [ inl zero ↦ absurd (some zero) | inr other ↦ omega (arith, other) ]
+
+  having_still : (test : Ring → Bool) (o : Option Ring) (s : ℕ) → find test h.rings ≡ o → s ≢ id → id_of o ≡ Some s → id_of (find test (filter keep h.rings)) ≡ Some s
+  having_still test None s found other names = absurd (none-some s names)
+  having_still test (Some q) s found other names = ap id_of (found_kept test keep h.rings q found (stays q (λ same. other (sym (same_Some q.id s names) ∙ same)))) ∙ names
+
+  pub having_same : (p s : ℕ) → s ≢ id → ring_having h p ≡ Some s → ring_having g p ≡ Some s
+  unfolding ring_having
+  having_same p s other names =
+      having_still (λ q. is_transfer_kind q.shape.kind && is_inside q.shape p) (find (λ q. is_transfer_kind q.shape.kind && is_inside q.shape p) h.rings) s refl other names
+
+  bound_same : (b : Binding) → is_ring id (ring_bound h b) ≡ false → BindsAsBefore h (filter keep h.rings) k views b
+  unfolding ring_bound
+  bound_same b unbound = λ s names.
+      let other : s ≢ id = λ same. false≢true (sym unbound ∙ ap (is_ring id) names ∙ eq-eqb s id same) in
+      (having_same b.pointer s other names, transfer_still s other (transfer_ring h s (having_transfer h is b.pointer s names)))
+
+  pub none_binds : (p : ℕ) (c : Command) → IsUnfinished h k p c → (i : ℕ) (b : Binding) → i < length (binds h k c) → is_ring id (ring_bound h (get_or (binds h k c) i b)) ≡ false
+  unfolding is_being_bound binds_ring
+  none_binds p c u i b low =
+      let none : binds_ring h k id c ≡ false = unfinished_fails h k (binds_ring h k id) p c parts.2 u in
+      false_from_ne_true (is_ring id (ring_bound h (get_or (binds h k c) i b))) (λ t.
+      false≢true (sym none ∙ list_any_at (λ x. is_ring id (ring_bound h x)) (binds h k c) i b low t))
+
+  area_apart : (from len : ℕ) → touches_ring h from len ≡ false → touches_ring g from len ≡ false
+  unfolding touches_ring
+  area_apart from len none = none_kept (λ q. touches q.shape from len) keep h.rings none
+
+  pub others : OtherRings h (filter keep h.rings) k views
+  others = record {
+    command = command_same;
+    command_ring = λ ring. record { ring = ring.ring; found = ring_same (command_id h) no_command ∙ ring.found; kind = ring.kind };
+    command_shape = ap (λ n. shape_of g n) command_same ∙ shape_same (command_id h) no_command;
+    command_view = ap views command_same ∙ view_same (command_id h) no_command;
+    events = events_same;
+    size = size_same;
+    keeps = λ s ring.
+        let other = not_there s ring.ring ring.found in
+        subst (λ v. RingKeeps (shape_of g s) k.memory v) (sym (view_same s other)) (subst (λ x. RingKeeps x k.memory (k.ring s)) (sym (shape_same s other)) (d.rings s (driver_before s ring)));
+    clean = λ s a ring word inside. d.clean s a (driver_before s ring) word (ap (λ x. is_inside x a) (sym (shape_same s (not_there s ring.ring ring.found))) ∙ inside);
+    had = λ s i r at. transfer_still r (not_had s i r at) (d.states.transfer s i r at);
+    each = λ s. elim (cases_eq s id) [
+      | inl here ↦ inr (cond-true (s == id) new_ring (k.ring s) (eq-eqb s id here))
+      | inr other ↦ inl (view_same s other)
+    ];
+    devices = λ s e at. let device = d.devices s e at in (area_apart e (device_context_bytes h.context_size) device.rings, area_apart (entry_of k s) 8 device.entry_rings);
+    contexts = λ p n c u at. area_apart n (input_context_bytes h.context_size) (context_lies h k d p n c u at).rings;
+    binds = λ p c u i b low. bound_same (get_or (binds h k c) i b) (none_binds p c u i b low);
+  }
+
+  -- what a driver keeps, without the ring that goes
+  pub gone_ring_kept : DriverKeeps (without_ring h id) (forgotten k id)
+  unfolding without_ring forgotten
+  gone_ring_kept = other_rings_keep h (filter keep h.rings) k views d others
+
+  -- ---- the header is one still
+
+  pub gone_ring_header : IsHeader (without_ring h id)
+  unfolding without_ring
+  gone_ring_header =
+      let was = header_parts h is in
+      and_from (list_all (λ q. nat_lt q.id 256 && is_shape q.shape) (filter keep h.rings)) (may_stand_together (filter keep h.rings))
+      (all_kept keep (λ q. nat_lt q.id 256 && is_shape q.shape) h.rings was.0) (together_kept keep h.rings was.1)
+
+  -- ---- a world that forgets it too
+
+  pub put_here : {X : Type 0} (f : ℕ → X) (x : X) (s : ℕ) → s ≡ id → put f id x s ≡ x
+  put_here f x s same = cond-true (s == id) x (f s) (eq-eqb s id same)
+
+  pub put_apart : {X : Type 0} (f : ℕ → X) (x : X) (s : ℕ) → s ≢ id → put f id x s ≡ f s
+  put_apart f x s other = cond-false (s == id) x (f s) (ne_eqb s id other)
+
+  module _ (w : World) where
+    abbrev v : World
+    v = record w { queue = put w.queue id []; lengths = put w.lengths id []; events = put w.events id []; reported = put w.reported id 0 }
+
+    state_apart : (s : ℕ) → s ≢ id → state_of v s ≡ state_of w s
+    state_apart s other =
+        λ j. record { pointer = w.pointer_of s; cycle = w.cycle_state s; active = w.is_active s; events = put_apart w.events [] s other j; reported = put_apart w.reported 0 s other j }
+
+    free_still : (s : ℕ) → FreeRing (shape_of h s) k.ring_of (k.ring s) (state_of w s) s → FreeRing (shape_of g s) k.ring_of (views s) (state_of v s) s
+    free_still s free = elim (cases_eq s id) [
+      | inl here ↦ free_new (shape_of g s) k.ring_of (views s) (state_of v s) s free.none free.rests.inactive (put_here w.events [] s here) (put_here k.ring new_ring s here)
+      | inr other ↦
+          subst (λ x. FreeRing (shape_of g s) k.ring_of (views s) x s) (sym (state_apart s other))
+          (subst (λ y. FreeRing (shape_of g s) k.ring_of y (state_of w s) s) (sym (view_same s other)) (subst (λ y. FreeRing y k.ring_of (k.ring s) (state_of w s) s) (sym (shape_same s other)) free))
+    ]
+
+    takes : Stands h k w → OtherTakes h (filter keep h.rings) k views w v.queue v.lengths v.events v.reported
+    takes stands = record {
+      queues = λ s. elim (cases_eq s id) [
+        | inl here ↦ put_here w.queue [] s here ∙ sym (ap (λ (y : RingView). y.queue) (put_here k.ring new_ring s here))
+        | inr other ↦ put_apart w.queue [] s other ∙ stands.queues s ∙ sym (ap (λ (y : RingView). y.queue) (view_same s other))
+      ];
+      counts = λ s. elim (cases_eq s id) [
+        | inl here ↦ put_here w.lengths [] s here ∙ sym (ap (λ (y : RingView). y.lengths) (put_here k.ring new_ring s here))
+        | inr other ↦ put_apart w.lengths [] s other ∙ stands.lengths s ∙ sym (ap (λ (y : RingView). y.lengths) (view_same s other))
+      ];
+      command = (put_apart w.events [] (command_id h) no_command, put_apart w.reported 0 (command_id h) no_command);
+      had = λ s i x at. let other = not_had s i x at in (put_apart w.events [] x other, put_apart w.reported 0 x other);
+      free = λ s other free. free_still s free;
+    }
+
+    pub gone_ring_agrees : (unread : List Block) → Agrees h k unread w → Agrees (without_ring h id) (forgotten k id) unread (emptied w id)
+    unfolding without_ring forgotten emptied
+    gone_ring_agrees unread a = other_worlds_agree h (filter keep h.rings) k views w v.queue v.lengths v.events v.reported d others (takes a.stands) unread a

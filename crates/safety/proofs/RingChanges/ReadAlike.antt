@@ -1,0 +1,209 @@
+-- What is read is possible, and learned, as it was where other rings are there
+use Rattle.std.proofs.Common.{◌≡◌, ◌+◌, ◌-◌, ◌==◌, ◌&&◌, ◌||◌, if◌then◌else◌, ◌∷◌, ◌∙◌, ℕ, not, Bool, true, false, List, [], map, All, Option, Some, None, nat_lt, option_and_then, slice_get, refl, sym, ap, subst}
+use Rattle.safety.proofs.Words.{or_parts, false≢true, cond-true, All-head, All-tail, Block, BlockKind, TransferEvent, CommandCompletion, kind, code, slot, endpoint, pointer, cycle, is_event, is_success, is_halting, is_trb_error, is_transfer_event, is_command_completion, Spot, after, floor_number, address_of, cycle_of, RingView, Reaches, ceiling, is_data_below, is_open, is_stop_spot, Command, NoOp, EnableSlot, DisableSlot, AddressDevice, ConfigureEndpoint, EvaluateContext, ResetEndpoint, StopEndpoint, SetTrDequeue, ResetDevice, command_of, named_slot, named_context, is_stop_of, is_off, is_running, may_answer_slot, can_succeed, Config, register_or_zero, placed_by_context, changes, added_endpoints, Header, Read, IsHeader, Ring, shape_of, command_id, Known, RingSpot, on_ring, event_at, command_at, next_command, succeeded, stop_ended, finished, completed, event_read, learned, Binding, binding_in, binds, can_finish, may_be_taken, is_stopping_now, is_working, can_report, can_report_at, is_in_profile, is_impossible_transfer, is_impossible_completion, is_impossible_by_kind, is_past_room, is_impossible, event_tests, lenient_tests, lenient, broken_of, AfterStop, ImpossibleEvent, NotInProfile, changed_by, is_bad_command, names_disabled_endpoint, names_disabled_slot, has_bad_context, has_bad_content, IsUnfinished, DriverKeeps}
+use Rattle.safety.proofs.CleanRows.{EventFacts, event_facts}
+use Rattle.safety.proofs.KeptRings.{CompletionFacts, completion_facts, next_unfinished}
+use Rattle.safety.proofs.TransferFrames.{transfer_slots}
+use Rattle.safety.proofs.RingChanges.OtherRings.{stop_seen_same}
+use Rattle.safety.proofs.RingChanges.EventsAlike.{ChangesAlike, HasKept, HavesAlike, KeepsRings, changes_alike, event_at_alike, event_kept, on_alike, other, transfer_alike}
+
+module _ (h : Header) (rings : List Ring) (over : (ℕ → RingView) → ℕ → RingView) (Kept : ℕ → Type 0) (o : KeepsRings h rings over Kept) where
+  abbrev g : Header
+  g = record h { rings = rings }
+
+  abbrev l : Known → Known
+  l k = other h rings over Kept k
+
+  abbrev Has : Known → Type 0
+  Has k = HasKept h rings over Kept k
+
+  abbrev Haves : ℕ → Type 0
+  Haves p = HavesAlike h rings over Kept p
+
+  -- the pointers of what unfinished commands bind lie in kept rings
+  abbrev pub BindsAlike : Known → Type 0
+  BindsAlike k = (p : ℕ) (c : Command) → IsUnfinished h k p c → All (λ b. Haves b.pointer) (binds h k c)
+
+  -- ---- the command ring
+
+  command_shape : shape_of g (command_id g) ≡ shape_of h (command_id h)
+  command_shape = ap (λ n. shape_of g n) o.command ∙ o.shape (command_id h) o.command_kept
+
+  command_view : (k : Known) → over k.ring (command_id g) ≡ k.ring (command_id h)
+  command_view k = ap (over k.ring) o.command ∙ o.view k.ring (command_id h) o.command_kept
+
+  next_alike : (k : Known) → next_command g (l k) ≡ next_command h k
+  unfolding next_command
+  next_alike k = ap (λ (v : RingView). floor_number v) (command_view k)
+
+  next_is : (k : Known) → command_at g (l k) (next_command g (l k)) ≡ command_at h k (next_command h k)
+  unfolding next_command command_at
+  next_is k = λ j. option_and_then command_of (slice_get (command_view k j).queue (floor_number (command_view k j)))
+
+  taken_alike : (k : Known) → may_be_taken g (l k) ≡ may_be_taken h k
+  unfolding may_be_taken next_command
+  taken_alike k = λ j. nat_lt (floor_number (command_view k j)) (ceiling (command_shape j) (command_view k j))
+
+  stopping_alike : (k : Known) (s i : ℕ) → is_stopping_now g (l k) s i ≡ is_stopping_now h k s i
+  unfolding is_stopping_now
+  stopping_alike k s i = λ j. taken_alike k j && is_stop_of s i (next_is k j)
+
+  -- ---- which events are possible
+
+  report_alike : (k : Known) (c s i r : ℕ) (t : Spot) → Kept r → can_report g (l k) c s i r t ≡ can_report h k c s i r t
+  unfolding can_report is_working
+  report_alike k c s i r t kept = λ j.
+      if is_success c then is_data_below (ceiling (o.shape r kept j) (o.view k.ring r kept j)) t
+      else if is_halting c || is_trb_error c then is_data_below (ceiling (o.shape r kept j) (o.view k.ring r kept j)) t && (is_running (k.endpoint_state s i) && is_open (o.view k.ring r kept j))
+      else (is_running (k.endpoint_state s i) && is_open (o.view k.ring r kept j)) && stopping_alike k s i j && is_stop_spot (o.shape r kept j) (o.view k.ring r kept j) t
+
+  report_at_alike : (k : Known) (b : Block) (q : Option RingSpot) → ((at : RingSpot) → q ≡ Some at → Kept at.ring) → can_report_at g (l k) b q ≡ can_report_at h k b q
+  unfolding can_report_at
+  report_at_alike k b None kept = refl
+  report_at_alike k b (Some at) kept = report_alike k (code b) (slot b) (endpoint b) at.ring at.spot (kept at refl)
+
+  transfer_possible : (k : Known) (b : Block) → Has k → is_impossible_transfer g (l k) b ≡ is_impossible_transfer h k b
+  unfolding is_impossible_transfer
+  transfer_possible k b kept =
+      let same = ap (can_report_at g (l k) b) (event_at_alike h rings over Kept o k b kept) ∙ report_at_alike k b (event_at h k b) (λ at is. event_kept h rings over Kept o k b at kept is) in
+      λ j. is_in_profile b && (is_off (k.endpoint_state (slot b) (endpoint b)) || not (same j))
+
+  finish_alike : (k : Known) (b : Block) (q : Option Command) → can_finish (l k) b q ≡ can_finish k b q
+  unfolding can_finish
+  finish_alike k b None = refl
+  finish_alike k b (Some c) = λ j.
+      may_answer_slot (Some c) (slot b)
+      && (if code b == 1 then can_succeed k.slot_state k.endpoint_state (register_or_zero k.register Config) (slot b) c else not (stop_seen_same h rings k (over k.ring) c j))
+
+  completion_possible : (k : Known) (b : Block) → is_impossible_completion g (l k) b ≡ is_impossible_completion h k b
+  unfolding is_impossible_completion
+  completion_possible k b =
+      let finish = ap (can_finish (l k) b) (next_is k) ∙ finish_alike k b (command_at h k (next_command h k)) in
+      λ j. not (taken_alike k j) || not (pointer b == address_of (command_shape j) (next_alike k j)) || code b == 0 || not (finish j)
+
+  kind_possible : (k : Known) (n : BlockKind) (b : Block) → Has k → is_impossible_by_kind g (l k) n b ≡ is_impossible_by_kind h k n b
+  unfolding is_impossible_by_kind
+  kind_possible k TransferEvent b kept = transfer_possible k b kept
+  kind_possible k CommandCompletion b kept = completion_possible k b
+  kind_possible k _ b kept = refl
+
+  pub read_possible : (k : Known) (b : Block) → Has k → lenient g (l k) (Read b) ≡ lenient h k (Read b)
+  unfolding lenient lenient_tests event_tests is_impossible is_past_room
+  read_possible k b kept = λ j.
+      if k.stopped then AfterStop ∷ []
+      else broken_of (
+      (ImpossibleEvent, not k.started || nat_lt (o.size j - 2) (k.reads - k.dequeue) || not (cycle b == cycle_of (o.events j) k.reads) || not (is_event (kind b)) || kind_possible k (kind b) b kept j)
+      ∷ (NotInProfile, is_transfer_event (kind b) && not (is_in_profile b)) ∷ [])
+
+  -- ---- what is learned
+
+  module _ (is : IsHeader h) (k : Known) (d : DriverKeeps h k) (kept : Has k) (bound : BindsAlike k) where
+    places_alike : (c : Command) (s n : ℕ) (is : List ℕ) (x : Known) → All (λ b. Haves b.pointer) (map (binding_in h k n) is) →
+        ChangesAlike h rings over Kept c x (map (placed_by_context h.context_size k.memory s n) is)
+    unfolding binding_in
+    places_alike c s n [] x all = tt
+    places_alike c s n (i ∷ is) x all =
+        let b : Binding = binding_in h k n i in
+        ((λ off. All-head (λ b. Haves b.pointer) b (map (binding_in h k n) is) all), places_alike c s n is _ (All-tail (λ b. Haves b.pointer) b (map (binding_in h k n) is) all))
+
+    -- the endpoint of a Set TR Dequeue is there
+    there : (s i p : ℕ) (bit : Bool) → is_bad_command h k (SetTrDequeue s i p bit) ≡ false → is_off (k.endpoint_state s i) ≡ false
+    unfolding is_bad_command names_disabled_endpoint
+    there s i p bit good =
+        let content = or_parts _ (has_bad_content h k (SetTrDequeue s i p bit)) good in
+        let context = or_parts _ (has_bad_context h k (named_context (SetTrDequeue s i p bit))) content.0 in
+        let names = or_parts (names_disabled_slot k (named_slot (SetTrDequeue s i p bit))) (i == 0 || is_off (k.endpoint_state s i)) context.0 in
+        (or_parts (i == 0) (is_off (k.endpoint_state s i)) names.1).1
+
+    success_alike : (n p : ℕ) (c : Command) → IsUnfinished h k p c → ChangesAlike h rings over Kept c k (changes h.context_size k.memory n c)
+    unfolding changes binds binding_in changed_by
+    success_alike n p NoOp u = tt
+    success_alike n p EnableSlot u = (tt, tt)
+    success_alike n p (DisableSlot s) u = (tt, (tt, (tt, tt)))
+    success_alike n p (AddressDevice s bsr m) u = (
+      tt,
+      (
+        (λ off. All-head (λ b. Haves b.pointer) (binding_in h k m 1) []
+            (subst (λ bs. All (λ b. Haves b.pointer) bs) (cond-true (is_off (k.endpoint_state s 1)) (binding_in h k m 1 ∷ []) [] off) (bound p (AddressDevice s bsr m) u))),
+        tt,
+      ),
+    )
+    success_alike n p (ConfigureEndpoint s false m) u = (tt, (tt, places_alike (ConfigureEndpoint s false m) s m (added_endpoints k.memory m) _ (bound p (ConfigureEndpoint s false m) u)))
+    success_alike n p (ConfigureEndpoint s true m) u = (tt, (tt, tt))
+    success_alike n p (EvaluateContext s m) u = tt
+    success_alike n p (ResetEndpoint s i) u = (tt, tt)
+    success_alike n p (StopEndpoint s i) u = (tt, tt)
+    success_alike n p (SetTrDequeue s i a bit) u =
+        ((λ off. absurd (false≢true (sym (there s i a bit (d.unfinished p (SetTrDequeue s i a bit) u).good) ∙ off))), tt)
+    success_alike n p (ResetDevice s) u = (tt, (tt, tt))
+
+    ended_alike : (x : Known) (c : Command) → stop_ended g (l x) c ≡ l (stop_ended h x c)
+    unfolding stop_ended
+    ended_alike x (StopEndpoint s i) = refl
+    ended_alike x NoOp = refl
+    ended_alike x EnableSlot = refl
+    ended_alike x (DisableSlot s) = refl
+    ended_alike x (AddressDevice s bsr n) = refl
+    ended_alike x (ConfigureEndpoint s dc n) = refl
+    ended_alike x (EvaluateContext s n) = refl
+    ended_alike x (ResetEndpoint s i) = refl
+    ended_alike x (SetTrDequeue s i p bit) = refl
+    ended_alike x (ResetDevice s) = refl
+
+    ended_has : (x : Known) (c : Command) → (stop_ended h x c).ring_of ≡ x.ring_of
+    unfolding stop_ended
+    ended_has x (StopEndpoint s i) = refl
+    ended_has x NoOp = refl
+    ended_has x EnableSlot = refl
+    ended_has x (DisableSlot s) = refl
+    ended_has x (AddressDevice s bsr n) = refl
+    ended_has x (ConfigureEndpoint s dc n) = refl
+    ended_has x (EvaluateContext s n) = refl
+    ended_has x (ResetEndpoint s i) = refl
+    ended_has x (SetTrDequeue s i p bit) = refl
+    ended_has x (ResetDevice s) = refl
+
+    abbrev Alike : Known → Known → Type 0
+    Alike x y = (y ≡ l x) × Has x
+
+    by_code : (n p : ℕ) (c : Command) (b : Bool) → IsUnfinished h k p c → Alike (if b then succeeded h k n c else k) (if b then succeeded g (l k) n c else l k)
+    unfolding succeeded
+    by_code n p c true u = changes_alike h rings over Kept o c (changes h.context_size k.memory n c) k kept (success_alike n p c u)
+    by_code n p c false u = (refl, kept)
+
+    finished_alike : (b : Block) (q : Option Command) → ((c : Command) → q ≡ Some c → (p : ℕ) × IsUnfinished h k p c) → Alike (finished h k b q) (finished g (l k) b q)
+    unfolding finished
+    finished_alike b None u = (refl, kept)
+    finished_alike b (Some c) u =
+        let its = u c refl in
+        let both = by_code (slot b) its.0 c (code b == 1) its.1 in
+        let x : Known = if code b == 1 then succeeded h k (slot b) c else k in
+        (ap (λ y. stop_ended g y c) both.0 ∙ ended_alike x c, λ s i r at. both.1 s i r (ap (λ f. f s i) (sym (ended_has x c)) ∙ at))
+
+    completed_alike : (b : Block) → ((c : Command) → command_at h k (next_command h k) ≡ Some c → (p : ℕ) × IsUnfinished h k p c) → Alike (completed h k b) (completed g (l k) b)
+    unfolding completed on_ring
+    completed_alike b u =
+        let q : Option Command = command_at h k (next_command h k) in
+        let f = finished_alike b q u in
+        let to = Reaches (after (shape_of h (command_id h)) (next_command h k)) in (
+          (λ j. on_ring g (finished g (l k) b (next_is k j)) (o.command j) (Reaches (after (command_shape j) (next_alike k j))))
+              ∙ ap (λ x. on_ring g x (command_id h) to) f.0 ∙ on_alike h rings over Kept o (finished h k b q) (command_id h) to o.command_kept,
+          f.1,
+        )
+
+    module _ (b : Block) (may : lenient h k (Read b) ≡ []) where
+      facts : EventFacts h k b
+      facts = event_facts h k b may
+
+      read_kind : (n : BlockKind) → kind b ≡ n → Alike (event_read h k n b) (event_read g (l k) n b)
+      unfolding event_read
+      read_kind TransferEvent at = (transfer_alike h rings over Kept o k b kept, λ s i r has. kept s i r (ap (λ f. f s i) (sym (transfer_slots h k b).ring_of) ∙ has))
+      read_kind CommandCompletion at =
+          let finish : CompletionFacts h k b = completion_facts h k b (ap is_command_completion at) facts.possible in
+          completed_alike b (λ c here. (next_command h k, next_unfinished h is k d facts.started finish.below c here))
+      read_kind _ at = (refl, kept)
+
+      -- the event is learned, and endpoints have kept rings still
+      pub read_alike : Alike (learned h k (Read b)) (learned g (l k) (Read b))
+      unfolding learned
+      read_alike = let r = read_kind (kind b) refl in ((λ j. record (r.0 j) { reads = k.reads + 1 }), r.1)

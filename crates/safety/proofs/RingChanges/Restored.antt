@@ -1,0 +1,163 @@
+-- A ring that a row starts or moves is restored first: all of it stands as declared, and nothing of it is free any more
+use Rattle.std.proofs.Common.{◌≡◌, ◌≢◌, ◌||◌, ◌∷◌, ◌∙◌, ℕ, not, Bool, false, [], List, Option, None, Some, option_and_then, slice_get, refl, sym, ap, subst, inl, inr}
+use Rattle.safety.proofs.Words.{command_of, flat_map, or_parts, Ring, cases_eq, list_any, none-some, same_Some, Block, block_at, RingView, IsRestored, address_of, cycle_of, positions_given, flips_passed, unrestored, is_declared_as, Command, SetTrDequeue, Header, Row, Sub, Write, Reg, Bell, Read, IsHeader, shape_of, command_id, driver_rings, World, Known, on_ring, command_at, command_given, learned, lenient, MayCome, MovesRestored, KeepsPassed, IsRestoring, IsTransferRing, DriverKeeps, Runs}
+use Rattle.segments.specs.Givings.{is_not_restored}
+use Rattle.segments.specs.RingView.{Restores}
+use Rattle.segments.proofs.Withdrawing.{restores_keeps}
+use Rattle.safety.specs.RingsKeep.{IsDriverRing}
+use Rattle.safety.proofs.DriverRings.{driver_test}
+use Rattle.safety.proofs.DriverRows.{ring_elsewhere, ring_here}
+use Rattle.safety.proofs.EventBehind.{behind_kept, event_behind}
+use Rattle.safety.proofs.Headers.{ring_shape, transfer_driver, transfer_not_command}
+use Rattle.safety.proofs.HeldFurther.{read_same}
+use Rattle.safety.proofs.LeasesBehind.{none_fewer}
+use Rattle.safety.proofs.PassedBehind.{unrestored_before}
+use Rattle.safety.proofs.RingsOfHeader.{HasRing, has_ring, none_of_ring}
+use Rattle.safety.specs.RingChanges.Withdrawals.{is_left, restored, restored_on, ring_moved, ring_restored, some_flips}
+use Rattle.safety.proofs.RingChanges.QuietKeeps.{quiet_keeps}
+use Rattle.safety.proofs.RingChanges.QuietRuns.{IsGood, quiet_runs}
+use Rattle.safety.proofs.RingChanges.QuietWorlds.{restored_agrees}
+
+-- a list is the lists of its elements alone, one after the other
+each_alone : (test : Ring → Bool) (xs : List Ring) → list_any test (flat_map (λ q. q ∷ []) xs) ≡ list_any test xs
+each_alone test [] = refl
+each_alone test (x ∷ rest) = ap (λ b. test x || b) (each_alone test rest)
+
+module _ (h : Header) (is : IsHeader h) (r : ℕ) (transfer : IsTransferRing h r) where
+  other : r ≢ command_id h
+  other = transfer_not_command h is r transfer
+
+  abbrev Stands : Known → Type 0
+  Stands k = is_not_restored (shape_of h r) (k.ring r) k.memory ≡ false
+
+  moved : (k : Known) (c : Command) → MovesRestored k c → MovesRestored (on_ring h k r Restores) c
+  unfolding on_ring
+  moved k c restored t i x cycle at q has =
+      elim (cases_eq q r) [
+        | inl same ↦ subst IsRestored (sym (ap (λ n. (on_ring h k r Restores).ring n) same ∙ ring_here h k r Restores)) (λ p. refl)
+        | inr away ↦ subst IsRestored (sym (ring_elsewhere h k r q Restores away)) (restored t i x cycle at q has)
+      ]
+
+  pub restored_keeps : (k : Known) → DriverKeeps h k → Stands k → DriverKeeps h (on_ring h k r Restores)
+  restored_keeps k d stands =
+      quiet_keeps h r Restores tt other k d (λ driver. restores_keeps (shape_of h r) (ring_shape h is r driver).is k.memory (k.ring r) (d.rings r driver) stands) (λ p c u. moved k c)
+
+  -- behind an event no more is free, and memory and what is declared are the same
+  behind : (k : Known) (e : Block) → DriverKeeps h k → lenient h k (Read e) ≡ [] → Stands k → Stands (learned h k (Read e))
+  unfolding is_not_restored
+  behind k e d may stands =
+      let l : Known = learned h k (Read e) in
+      let driver : IsDriverRing h r = driver_test h r (transfer_driver h r transfer) in
+      let test : (ℕ → ℕ) → List Block → ℕ → Bool = λ m q p. not (is_declared_as (block_at m (address_of (shape_of h r) p)) (cycle_of (shape_of h r) p) (slice_get q p)) in
+      elim ((event_behind h is k d e may).rings r) [
+        | inl same ↦ (λ j. list_any (test ((event_behind h is k d e may).driver.memory j) (same j).queue) (unrestored (shape_of h r) (same j))) ∙ stands
+        | inr on ↦
+            (λ j. list_any (test ((event_behind h is k d e may).driver.memory j) (((read_same h k e).rings r).queue j)) (unrestored (shape_of h r) (l.ring r)))
+            ∙ none_fewer (test k.memory (k.ring r).queue) (unrestored (shape_of h r) (k.ring r)) (unrestored (shape_of h r) (l.ring r))
+            (unrestored_before (shape_of h r) k.memory (k.ring r) (l.ring r) on.1 (behind_kept h is k d e may r driver).passes) stands
+      ]
+
+  good : IsGood h r Restores Stands
+  good = record { quiet = tt; other = other; keeps = restored_keeps; behind = behind }
+
+  pub restored_runs : (k : Known) (w : World) → DriverKeeps h k → Stands k → Runs h k w → Runs h (on_ring h k r Restores) w
+  restored_runs k w d stands run = quiet_runs h is r Restores Stands good k w w d stands run (λ later keeps agrees. restored_agrees h r other later run.unread w agrees)
+
+pub stopped_still : (h : Header) (k : Known) (o : Option ℕ) → (restored_on h k o).stopped ≡ k.stopped
+unfolding restored_on on_ring
+stopped_still h k None = refl
+stopped_still h k (Some r) = refl
+
+module _ (h : Header) (is : IsHeader h) (k : Known) (d : DriverKeeps h k) where
+  -- the ring that a row starts or moves is the one of an endpoint
+  pub record OfEndpoint (r : ℕ) : Type 0 where
+    pub slot : ℕ
+    pub index : ℕ
+    pub has : k.ring_of slot index ≡ Some r
+
+  moved_of : (o : Option Command) (r : ℕ) → ring_moved k o ≡ Some r → OfEndpoint r
+  unfolding ring_moved
+  moved_of (Some (SetTrDequeue s i p cycle)) r at = record { slot = s; index = i; has = at }
+  moved_of None r at = absurd (none-some r at)
+  moved_of (Some _) r at = absurd (none-some r at)
+
+  restored_of : (row : Row) (r : ℕ) → ring_restored h k row ≡ Some r → OfEndpoint r
+  unfolding ring_restored
+  restored_of (Bell s t) r at = record { slot = s; index = t; has = at }
+  restored_of (Write a w) r at = moved_of (command_given h k a w) r at
+  restored_of _ r at = absurd (none-some r at)
+
+  transfer : (r : ℕ) → OfEndpoint r → IsTransferRing h r
+  transfer r e = d.states.transfer e.slot e.index r e.has
+
+  -- ---- where it is restored
+
+  pub row_keeps : (row : Row) → is_left h k (ring_restored h k row) ≡ false → DriverKeeps h (restored h k row)
+  unfolding restored_on is_left
+  row_keeps row good = by (ring_restored h k row) refl good
+    where
+      by : (o : Option ℕ) → ring_restored h k row ≡ o → is_left h k o ≡ false → DriverKeeps h (restored_on h k o)
+      by None at good = d
+      by (Some r) at good = restored_keeps h is r (transfer r (restored_of row r at)) k d good
+
+  pub row_runs : (row : Row) (w : World) → is_left h k (ring_restored h k row) ≡ false → Runs h k w → Runs h (restored h k row) w
+  unfolding restored_on is_left
+  row_runs row w good run = by (ring_restored h k row) refl good
+    where
+      by : (o : Option ℕ) → ring_restored h k row ≡ o → is_left h k o ≡ false → Runs h (restored_on h k o) w
+      by None at good = run
+      by (Some r) at good = restored_runs h is r (transfer r (restored_of row r at)) k w d good run
+
+  -- ---- the row may come there
+
+  ring_of_same : (o : Option ℕ) → (restored_on h k o).ring_of ≡ k.ring_of
+  unfolding restored_on on_ring
+  ring_of_same None = refl
+  ring_of_same (Some r) = refl
+
+  -- nothing is free of the ring
+  none_free : (o : Option ℕ) (r : ℕ) → o ≡ Some r → IsRestored ((restored_on h k o).ring r)
+  unfolding restored_on
+  none_free None r at = absurd (none-some r at)
+  none_free (Some q) r at = subst (λ n. IsRestored ((on_ring h k q Restores).ring n)) (same_Some q r at) (subst IsRestored (sym (ring_here h k q Restores)) (λ p. refl))
+
+  command_ring_same : (row : Row) → (restored h k row).ring (command_id h) ≡ k.ring (command_id h)
+  unfolding restored_on
+  command_ring_same row = by (ring_restored h k row) refl
+    where
+      by : (o : Option ℕ) → ring_restored h k row ≡ o → (restored_on h k o).ring (command_id h) ≡ k.ring (command_id h)
+      by None at = refl
+      by (Some r) at = ring_elsewhere h k r (command_id h) Restores (λ same. transfer_not_command h is r (transfer r (restored_of row r at)) (sym same))
+
+  given_same : (row : Row) (a w : ℕ) → command_given h (restored h k row) a w ≡ command_given h k a w
+  unfolding command_given command_at
+  given_same row a w =
+      ap (λ (v : RingView). option_and_then (λ p. option_and_then command_of (slice_get v.queue p)) (slice_get (positions_given (shape_of h (command_id h)) v a w) 0)) (command_ring_same row)
+
+  moved_restored : (a w : ℕ) (c : Command) → command_given h k a w ≡ Some c → MovesRestored (restored h k (Write a w)) c
+  unfolding ring_restored ring_moved
+  moved_restored a w c given s i p cycle at r has =
+      none_free (ring_restored h k (Write a w)) r
+      (ap (ring_moved k) (given ∙ ap (λ x. Some x) at) ∙ sym (ap (λ f. f s i) (ring_of_same (ring_restored h k (Write a w)))) ∙ has)
+
+  bell_restored : (s t r : ℕ) → (restored h k (Bell s t)).ring_of s t ≡ Some r → IsRestored ((restored h k (Bell s t)).ring r)
+  unfolding ring_restored
+  bell_restored s t r has = none_free (ring_restored h k (Bell s t)) r (sym (ap (λ f. f s t) (ring_of_same (ring_restored h k (Bell s t)))) ∙ has)
+
+  passed_kept : (m : Known) (a w : ℕ) → some_flips h m (Write a w) ≡ false → KeepsPassed h m a w
+  unfolding some_flips
+  passed_kept m a w none r driver =
+      let has : HasRing h r = has_ring h r driver in
+      let one = none_of_ring h r has (λ (q : Ring). flips_passed q.shape (m.ring q.id) a w) (λ q. q ∷ []) (each_alone (λ (q : Ring). flips_passed q.shape (m.ring q.id) a w) (driver_rings h) ∙ none) in
+      let here : flips_passed has.ring.shape (m.ring has.ring.id) a w ≡ false = (or_parts (flips_passed has.ring.shape (m.ring has.ring.id) a w) false one).0 in
+      ap (λ s. flips_passed s (m.ring r) a w) has.shape ∙ ap (λ n. flips_passed has.ring.shape (m.ring n) a w) (sym has.id) ∙ here
+
+  pub row_comes : (row : Row) → lenient h (restored h k row) row ≡ [] → some_flips h (restored h k row) row ≡ false → MayCome h (restored h k row) row
+  row_comes row clean none = (clean, by row none)
+    where
+      by : (row : Row) → some_flips h (restored h k row) row ≡ false → IsRestoring h (restored h k row) row
+      by (Sub r blocks) none = tt
+      by (Write a w) none = (passed_kept (restored h k (Write a w)) a w none, λ c given. moved_restored a w c (sym (given_same (Write a w) a w) ∙ given))
+      by (Reg r x) none = tt
+      by (Bell s t) none = λ r has. bell_restored s t r has
+      by (Read b) none = tt

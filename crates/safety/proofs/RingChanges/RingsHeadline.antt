@@ -1,0 +1,249 @@
+-- The headline where rings come and go: behind each step of each run beside rows that break no rule the world is safe
+use Rattle.std.proofs.Common.{◌≡◌, ◌∷◌, ◌++◌, ◌∙◌, false, List, [], Option, Some, None, All, reverse, option_map, option_and_then, refl, sym, ap, subst, inl, inr, append_assoc, append-nil}
+use Rattle.safety.proofs.Words.{Row, cases_Bool, cond-true, false≢true, reverse-append, All-cons, All-head, All-nil, All-tail, none-some, same_Some, Header, Step, NextRow, Look, Report, Finish, Other, Scribble, IsHeader, IsStep, World, IsSafe, Known, DriverKeeps, Runs}
+use Rattle.world_state.specs.World.{opening}
+use Rattle.controller_model.specs.Finishes as finishes
+use Rattle.controller_model.specs.Looks as looks
+use Rattle.controller_model.specs.Posts as posts
+use Rattle.controller_model.specs.Steps as steps
+use Rattle.safety.specs.Invariant.{Holds}
+use Rattle.safety.proofs.DriverHistories.{kept_driver, run_keeps}
+use Rattle.safety.proofs.FinishRuns.{finish_runs}
+use Rattle.safety.proofs.HeadlineFrom.{RowLaw, row_holds, running_is}
+use Rattle.safety.proofs.HeldFurther.{more_law}
+use Rattle.safety.proofs.LookRuns.{look_runs}
+use Rattle.safety.proofs.NothingKept.{nothing_kept}
+use Rattle.safety.proofs.Opens.{opens}
+use Rattle.safety.proofs.Other.{other_runs}
+use Rattle.safety.proofs.ReportRuns.{report_runs}
+use Rattle.safety.proofs.RowRuns.{row_runs}
+use Rattle.safety.proofs.Safe.{safe}
+use Rattle.safety.proofs.Scribble.{scribble_runs}
+use Rattle.safety.proofs.Squares.{square_law}
+use Rattle.safety.proofs.StillRings.{still_rings}
+use Rattle.safety.proofs.TestsPassed.{clean_tests}
+use Rattle.safety.specs.RingChanges.Changes.{emptied}
+use Rattle.traces.specs.declared.trace_row.TraceRow.{TraceRow}
+use Rattle.traces.specs.declared.trace_row.TraceRow.TheVariants.{Comes, Goes, Plain, Withdraws}
+use Rattle.safety.specs.RingChanges.Histories.{AreKept, IsKept, FitsFields, RingsHeadline, Scene, header_after, header_now, known_after, known_now, row_made, row_next, scene_reached, step_made}
+use Rattle.safety.specs.RingChanges.Withdrawals.{restored, ring_restored, without_descriptor}
+use Rattle.safety.proofs.RingChanges.Restored.{row_comes, row_keeps, row_runs as restored_row_runs, stopped_still}
+use Rattle.safety.proofs.RingChanges.Withdrawn.{withdraw_keeps, withdraw_runs}
+use Rattle.safety.proofs.RingChanges.GoneRings.{gone_ring_header, gone_ring_kept}
+use Rattle.safety.proofs.RingChanges.RingRuns.{comes_header, comes_keeps, comes_runs, goes_runs}
+
+some_then : {A B : Type 0} (f : A → Option B) (o : Option A) (y : B) → option_and_then f o ≡ Some y → (x : A) × (o ≡ Some x) × (f x ≡ Some y)
+some_then f None y at = absurd (none-some y at)
+some_then f (Some x) y at = (x, refl, at)
+
+some_of : {A B : Type 0} (f : A → B) (o : Option A) (y : B) → option_map f o ≡ Some y → (x : A) × (o ≡ Some x) × (f x ≡ y)
+some_of f None y at = absurd (none-some y at)
+some_of f (Some x) y at = (x, refl, same_Some (f x) y at)
+
+-- ---- one row, one step, where the header is that of the rings that are there
+
+module _ (h : Header) (is : IsHeader h) (k : Known) (keeps : DriverKeeps h k) where
+  law : RowLaw h
+  law = row_runs h is (kept_driver h) (still_rings h) (square_law h) (more_law h)
+
+  row_goes : (row : TraceRow) (w v : World) → FitsFields row → Runs h k w → IsKept h k row → row_made h w row ≡ Some v → Holds (header_after h row) (known_after h k row) (steps.counted h v)
+  row_goes (Plain row) w v is_row run kept at =
+      row_holds h is law (restored h k row) row w v is_row (row_keeps h is k keeps row kept.1) (restored_row_runs h is k keeps row w kept.1 run) (row_comes h is k keeps row kept.0 kept.2) at
+  row_goes (Withdraws r p) w v is_row run kept at =
+      inl (subst (λ x. Runs h (known_after h k (Withdraws r p)) (steps.counted h x)) (same_Some (without_descriptor w r p) v at) (withdraw_runs h r p is k w keeps kept.1 run))
+  row_goes (Comes b) w v coming run kept at =
+      inl (subst (λ x. Runs (header_after h (Comes b)) (known_after h k (Comes b)) (steps.counted h x)) (same_Some (emptied w b.id) v at) (comes_runs h is b coming k w keeps kept.1 run))
+  row_goes (Goes id) w v is_row run kept at = inl (subst (λ x. Runs (header_after h (Goes id)) (known_after h k (Goes id)) (steps.counted h x)) (same_Some (emptied w id) v at) (goes_runs h is id k w keeps kept.1 run))
+
+  record StepGoes (w u : World) : Type 0 where
+    pub running : w.stopped ≡ false
+    pub goes : Runs h k w → Runs h k (steps.counted h u)
+
+  -- a step of the controller
+  step_goes : (w u : World) (s : Step) → IsStep s → steps.made h w s ≡ Some u → (s ≡ NextRow → ⊥) → StepGoes w u
+  unfolding steps.made
+  step_goes w u NextRow is_step at other = absurd (other refl)
+  step_goes w u (Look r) is_step at other =
+      let g = running_is h is law w u (looks.looked h w r) at in
+      record { running = g.0; goes = λ run. look_runs h is k w u r run (run_keeps h is k w keeps run) g.1 }
+  step_goes w u (Report b) is_step at other =
+      let g = running_is h is law w u (posts.reported h w b) at in
+      record { running = g.0; goes = λ run. report_runs h is k w u b is_step g.0 run (run_keeps h is k w keeps run) g.1 }
+  step_goes w u (Finish b) is_step at other =
+      let g = running_is h is law w u (finishes.finished h w b) at in
+      record { running = g.0; goes = λ run. finish_runs h is k w u b is_step g.0 run (run_keeps h is k w keeps run) g.1 }
+  step_goes w u (Other b) is_step at other =
+      let g = running_is h is law w u (posts.other_posted h w b) at in
+      record { running = g.0; goes = λ run. other_runs h is k w u b is_step g.0 run (run_keeps h is k w keeps run) g.1 }
+  step_goes w u (Scribble a x) is_step at other =
+      let g = running_is h is law w u (steps.scribbled h w a x) at in
+      record { running = g.0; goes = λ run. scribble_runs h is k w u a x run (run_keeps h is k w keeps run) g.1 }
+
+running : (h : Header) (w u : World) (o : Option World) → steps.while_running h w o ≡ Some u → w.stopped ≡ false
+unfolding steps.while_running
+running h w u o at =
+    elim (cases_Bool w.stopped) [
+      | inl stopped ↦ absurd (none-some u (sym (cond-true w.stopped None o stopped) ∙ at))
+      | inr on ↦ on
+    ]
+
+-- a step of the controller is made before a stop alone
+runs_on : (h : Header) (w u : World) (s : Step) → steps.made h w s ≡ Some u → (s ≡ NextRow → ⊥) → w.stopped ≡ false
+unfolding steps.made
+runs_on h w u NextRow at other = absurd (other refl)
+runs_on h w u (Look r) at other = running h w u (looks.looked h w r) at
+runs_on h w u (Report b) at other = running h w u (posts.reported h w b) at
+runs_on h w u (Finish b) at other = running h w u (finishes.finished h w b) at
+runs_on h w u (Other b) at other = running h w u (posts.other_posted h w b) at
+runs_on h w u (Scribble a x) at other = running h w u (steps.scribbled h w a x) at
+
+-- a row that is kept isn't behind a stop
+row_off : (h : Header) (k : Known) (row : Row) → IsKept h k (Plain row) → k.stopped ≡ false
+row_off h k row kept = sym (stopped_still h k (ring_restored h k row)) ∙ (clean_tests h (restored h k row) row kept.0).0
+
+-- ---- whole runs
+
+module _ (h : Header) (is : IsHeader h) where
+  -- what holds behind rows that break no rule
+  pub record Keeps (past : List TraceRow) : Type 0 where
+    pub headed : IsHeader (header_now h past)
+    pub keeps : DriverKeeps (header_now h past) (known_now h past)
+
+  pub now_keeps : (past : List TraceRow) → All FitsFields past → AreKept h past → (known_now h past).stopped ≡ false → Keeps past
+  now_keeps [] are kept on = record { headed = is; keeps = nothing_kept h is }
+  now_keeps (Plain row ∷ past) are kept on =
+      let g : Header = header_now h past in
+      let k : Known = known_now h past in
+      let p = now_keeps past (All-tail FitsFields (Plain row) past are) kept.0 (row_off (header_now h past) (known_now h past) row kept.1) in
+      record {
+        headed = p.headed;
+        keeps = kept_driver g p.headed (restored g k row) row (row_keeps g p.headed k p.keeps row kept.1.1) (row_comes g p.headed k p.keeps row kept.1.0 kept.1.2) on;
+      }
+  now_keeps (Withdraws r q ∷ past) are kept on =
+      let p = now_keeps past (All-tail FitsFields (Withdraws r q) past are) kept.0 kept.1.0 in
+      record { headed = p.headed; keeps = withdraw_keeps (header_now h past) r q p.headed (known_now h past) p.keeps kept.1.1 }
+  now_keeps (Comes b ∷ past) are kept on =
+      let r = b in
+      let p = now_keeps past (All-tail FitsFields (Comes b) past are) kept.0 kept.1.0 in
+      let coming = All-head FitsFields (Comes b) past are in
+      record {
+        headed = comes_header (header_now h past) p.headed r coming (known_now h past) p.keeps kept.1.1;
+        keeps = comes_keeps (header_now h past) p.headed r coming (known_now h past) p.keeps kept.1.1;
+      }
+  now_keeps (Goes id ∷ past) are kept on =
+      let p = now_keeps past (All-tail FitsFields (Goes id) past are) kept.0 kept.1.0 in
+      record {
+        headed = gone_ring_header (header_now h past) p.headed (known_now h past) p.keeps id kept.1.1;
+        keeps = gone_ring_kept (header_now h past) p.headed (known_now h past) p.keeps id kept.1.1;
+      }
+
+  later_kept : (xs ys : List TraceRow) → AreKept h (xs ++ ys) → AreKept h ys
+  later_kept [] ys kept = kept
+  later_kept (x ∷ xs) ys kept = later_kept xs ys kept.0
+
+  one_more : (row : TraceRow) (rest past : List TraceRow) → reverse (row ∷ rest) ++ past ≡ reverse rest ++ (row ∷ past)
+  one_more row rest past = ap (λ l. l ++ past) (reverse-append (row ∷ []) rest) ∙ append_assoc (reverse rest) (row ∷ []) past
+
+  -- a run has come to a scene, with `past` the rows that were made, the newest first
+  record CameTo (past : List TraceRow) (x : Scene) : Type 0 where
+    made : All FitsFields past
+    left : All FitsFields x.rows
+    kept : AreKept h (reverse x.rows ++ past)
+    header : x.header ≡ header_now h past
+    holds : Holds (header_now h past) (known_now h past) x.world
+
+  here : (past : List TraceRow) (x : Scene) → CameTo past x → Runs (header_now h past) (known_now h past) x.world → Keeps past
+  here past x c run = now_keeps past c.made (later_kept (reverse x.rows) past c.kept) run.on
+
+  -- ---- a row
+
+  next : (past : List TraceRow) (x y : Scene) (rows : List TraceRow) → x.rows ≡ rows → CameTo past x → row_next (record { header = header_now h past; rows = x.rows; world = x.world }) rows ≡ Some y →
+      (row : TraceRow) × CameTo (row ∷ past) y
+  next past x y [] same c at = absurd (none-some y at)
+  next past x y (row ∷ rest) same c at =
+      let there = some_of (λ w. let z : Scene = record { header = header_after (header_now h past) row; rows = rest; world = steps.counted (header_now h past) w } in z) (row_made (header_now h past) x.world row) y at in
+      let kept : AreKept h (reverse rest ++ (row ∷ past)) = subst (AreKept h) (one_more row rest past) (subst (λ l. AreKept h (reverse l ++ past)) same c.kept) in
+      let own : AreKept h (row ∷ past) = later_kept (reverse rest) (row ∷ past) kept in
+      let left : All FitsFields (row ∷ rest) = subst (All FitsFields) same c.left in
+      let is_row : FitsFields row = All-head FitsFields row rest left in (
+        row,
+        subst (CameTo (row ∷ past)) there.2
+            (record {
+              made = All-cons FitsFields row past is_row c.made;
+              left = All-tail FitsFields row rest left;
+              kept = kept;
+              header = refl;
+              holds = elim c.holds [
+                | inl run ↦ let p = here past x c run in row_goes (header_now h past) p.headed (known_now h past) p.keeps row x.world there.0 is_row run own.1 there.1
+                | inr over ↦ absurd (false≢true (sym (off row own.1) ∙ over.stopped))
+              ];
+            }),
+      )
+    where
+      off : (row : TraceRow) → IsKept (header_now h past) (known_now h past) row → (known_now h past).stopped ≡ false
+      off (Plain row) kept = row_off (header_now h past) (known_now h past) row kept
+      off (Withdraws r p) kept = kept.0
+      off (Comes r) kept = kept.0
+      off (Goes id) kept = kept.0
+
+  -- ---- a controller's step: the same rows stay
+
+  stays : (past : List TraceRow) (x y : Scene) (s : Step) → IsStep s → (s ≡ NextRow → ⊥) → CameTo past x →
+      option_map (λ w. let z : Scene = record { header = header_now h past; rows = x.rows; world = steps.counted (header_now h past) w } in z) (steps.made (header_now h past) x.world s) ≡ Some y → CameTo past y
+  stays past x y s is_step other c at =
+      let there = some_of (λ w. let z : Scene = record { header = header_now h past; rows = x.rows; world = steps.counted (header_now h past) w } in z) (steps.made (header_now h past) x.world s) y at in
+      subst (CameTo past) there.2
+      (record {
+        made = c.made;
+        left = c.left;
+        kept = c.kept;
+        header = refl;
+        holds = elim c.holds [
+          | inl run ↦
+              let p = here past x c run in
+              inl ((step_goes (header_now h past) p.headed (known_now h past) p.keeps x.world there.0 s is_step there.1 other).goes run)
+          | inr over ↦ absurd (false≢true (sym (runs_on (header_now h past) x.world there.0 s there.1 other) ∙ over.also))
+        ];
+      })
+
+  step : (past : List TraceRow) (x y : Scene) (s : Step) → IsStep s → CameTo past x → step_made x s ≡ Some y → (now : List TraceRow) × CameTo now y
+  step past x y s is_step c at = by s is_step (ap (λ z. step_made z s) (sym same) ∙ at)
+    where
+      same : ◌≡◌ {A = Scene} x (record { header = header_now h past; rows = x.rows; world = x.world })
+      same = λ j. record { header = c.header j; rows = x.rows; world = x.world }
+
+      by : (s : Step) → IsStep s → step_made (record { header = header_now h past; rows = x.rows; world = x.world }) s ≡ Some y → (now : List TraceRow) × CameTo now y
+      by NextRow is_step at = let n = next past x y x.rows refl c at in (n.0 ∷ past, n.1)
+      by (Look r) is_step at = (past, stays past x y (Look r) is_step (λ e. cc) c at)
+      by (Report b) is_step at = (past, stays past x y (Report b) is_step (λ e. cc) c at)
+      by (Finish b) is_step at = (past, stays past x y (Finish b) is_step (λ e. cc) c at)
+      by (Other b) is_step at = (past, stays past x y (Other b) is_step (λ e. cc) c at)
+      by (Scribble a w) is_step at = (past, stays past x y (Scribble a w) is_step (λ e. cc) c at)
+
+  first : (rows : List TraceRow) → All FitsFields rows → AreKept h (reverse rows) → CameTo [] (record { header = h; rows = rows; world = opening [] })
+  first rows are kept = record {
+    made = All-nil FitsFields;
+    left = are;
+    kept = subst (AreKept h) (sym (append-nil (reverse rows))) kept;
+    header = refl;
+    holds = inl (opens h []);
+  }
+
+  came : (rows : List TraceRow) → All FitsFields rows → AreKept h (reverse rows) → (made : List Step) (x : Scene) → All IsStep made → scene_reached h rows made ≡ Some x →
+      (past : List TraceRow) × CameTo past x
+  came rows are kept [] x all at = ([], subst (CameTo []) (same_Some (record { header = h; rows = rows; world = opening [] }) x at) (first rows are kept))
+  came rows are kept (s ∷ older) x all at =
+      let before = some_then (λ z. step_made z s) (scene_reached h rows older) x at in
+      let came_before = came rows are kept older before.0 (All-tail IsStep s older all) before.1 in
+      step came_before.0 before.0 x s (All-head IsStep s older all) came_before.1 before.2
+
+  safe_there : (past : List TraceRow) (x : Scene) → CameTo past x → IsSafe x.header x.world
+  safe_there past x c =
+      subst (λ g. IsSafe g x.world) (sym c.header)
+      (elim c.holds [
+        | inl run ↦ let p = here past x c run in safe (header_now h past) p.headed (known_now h past) x.world run (run_keeps (header_now h past) p.headed (known_now h past) x.world p.keeps run)
+        | inr over ↦ over.safe
+      ])
+
+pub rings_headline : (h : Header) → RingsHeadline h
+rings_headline h rows is are kept made x all at = let c = came h is rows are kept made x all at in safe_there h is c.0 x c.1

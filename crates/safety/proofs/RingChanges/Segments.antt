@@ -1,0 +1,95 @@
+-- What is said of each segment of a ring holds of each of its blocks and words
+use Rattle.std.proofs.Common.{◌≡◌, ◌+◌, ◌-◌, ◌*◌, ◌/◌, ◌%◌, ◌^◌, length, ◌<◌, ◌≤◌, ◌==◌, ◌&&◌, ◌∙◌, ℕ, true, false, nat_le, nat_lt, arith, sym, ap, leb-true, ltb-true, eqb-true}
+use Rattle.safety.proofs.Words.{list_any, list_all, range_with_len, and_parts, or_parts, false_from_ne_true, false≢true, some_of, IsIn, is_inside, overlap, segment_has, Shape, IsShape, place_count, Xfer, Header, touches_ring, Known, is_in_range_lease, is_soiled, open_ranges, covers}
+use Rattle.segments.specs.declared.segment.Segment.{Segment}
+use Rattle.segments.specs.Places.{touches}
+use Rattle.segments.specs.Shape.{are_apart, is_in_one_page, is_segment, most_blocks, most_segments}
+use Rattle.safety.proofs.Areas.{clean_word}
+use Rattle.safety.proofs.AreaFacts.{overlap_turned}
+use Rattle.safety.proofs.Headers.{each_passes}
+use Rattle.safety.proofs.UnfinishedLists.{fails_in, in_range}
+use Rattle.safety.specs.RingChanges.Changes.{is_bad_segment, shows_first_lap}
+
+-- a segment of a transfer ring lies on a boundary of 16 bytes, and isn't empty
+segment_lies : (shape : Shape) → IsShape shape → shape.kind ≡ Xfer → (s : Segment) → IsIn s shape.segments → (s.base % 16 ≡ 0) × (0 < s.count)
+segment_lies shape is kind s at =
+    let a = and_parts (nat_le (length shape.segments) most_segments && list_all (is_segment shape.kind) shape.segments && nat_le 2 (place_count shape)) (are_apart shape.segments) is in
+    let b = and_parts (nat_le (length shape.segments) most_segments && list_all (is_segment shape.kind) shape.segments) (nat_le 2 (place_count shape)) a.0 in
+    let c = and_parts (nat_le (length shape.segments) most_segments) (list_all (is_segment shape.kind) shape.segments) b.0 in
+    let one : is_segment Xfer s ≡ true = ap (λ n. is_segment n s) (sym kind) ∙ each_passes (is_segment shape.kind) shape.segments s c.1 at in
+    let four = and_parts (nat_lt s.base (2 ^ 64) && s.base % 16 == 0 && nat_le 2 s.count && nat_le s.count most_blocks) (is_in_one_page s) one in
+    let three = and_parts (nat_lt s.base (2 ^ 64) && s.base % 16 == 0 && nat_le 2 s.count) (nat_le s.count most_blocks) four.0 in
+    let two = and_parts (nat_lt s.base (2 ^ 64) && s.base % 16 == 0) (nat_le 2 s.count) three.0 in
+    let several = leb-true 2 s.count two.1 in
+    (eqb-true (s.base % 16) 0 (and_parts (nat_lt s.base (2 ^ 64)) (s.base % 16 == 0) two.0).1, omega (arith, several))
+
+segment_aligned : (shape : Shape) → IsShape shape → shape.kind ≡ Xfer → (s : Segment) → IsIn s shape.segments → s.base % 16 ≡ 0
+segment_aligned shape is kind s at = (segment_lies shape is kind s at).0
+
+pub segment_some : (shape : Shape) → IsShape shape → shape.kind ≡ Xfer → (s : Segment) → IsIn s shape.segments → 0 < s.count
+segment_some shape is kind s at = (segment_lies shape is kind s at).1
+
+-- the segment that has a byte
+pub record HasByte (shape : Shape) (a : ℕ) : Type 0 where
+  pub segment : Segment
+  pub at : IsIn segment shape.segments
+  pub from : segment.base ≤ a
+  pub to : a < segment.base + 16 * segment.count
+
+pub has_byte : (shape : Shape) (a : ℕ) → is_inside shape a ≡ true → HasByte shape a
+has_byte shape a inside =
+    let s = some_of (segment_has a) shape.segments inside in
+    let parts = and_parts (nat_le s.0.base a) (nat_lt a (s.0.base + 16 * s.0.count)) s.2 in
+    record { segment = s.0; at = s.1; from = leb-true s.0.base a parts.0; to = ltb-true a (s.0.base + 16 * s.0.count) parts.1 }
+
+-- what a segment that is good satisfies
+pub record IsGood (h : Header) (k : Known) (s : Segment) : Type 0 where
+  pub rings : touches_ring h s.base (16 * s.count) ≡ false
+  pub leases : list_any (covers h s.base (16 * s.count)) (open_ranges h k) ≡ false
+  pub clean : is_soiled k s.base (16 * s.count) ≡ false
+  pub shows : shows_first_lap k s ≡ false
+
+module _ (h : Header) (k : Known) where
+  good_parts : (s : Segment) → is_bad_segment h k s ≡ false → IsGood h k s
+  unfolding is_bad_segment is_in_range_lease
+  good_parts s good =
+      let two = or_parts _ (shows_first_lap k s) good in
+      let one = or_parts _ (is_soiled k s.base (16 * s.count)) two.0 in
+      let zero = or_parts (touches_ring h s.base (16 * s.count)) (list_any (covers h s.base (16 * s.count)) (open_ranges h k)) one.0 in
+      record { rings = zero.0; leases = zero.1; clean = one.1; shows = two.1 }
+
+  module _ (shape : Shape) (is : IsShape shape) (kind : shape.kind ≡ Xfer) (good : list_any (is_bad_segment h k) shape.segments ≡ false) where
+    pub each_good : (s : Segment) → IsIn s shape.segments → IsGood h k s
+    each_good s at = good_parts s (fails_in (is_bad_segment h k) shape.segments s good at)
+
+    -- no word of the ring is soiled
+    pub words_clean : (a : ℕ) → a % 4 ≡ 0 → is_inside shape a ≡ true → k.soiled a ≡ false
+    words_clean a word inside =
+        let b = has_byte shape a inside in
+        let aligned = segment_aligned shape is kind b.segment b.at in
+        let i : ℕ = (a - b.segment.base) / 4 in
+        let from = b.from in
+        let to = b.to in
+        let same : b.segment.base + 4 * i ≡ a = omega (arith, word, aligned, from) in
+        ap k.soiled (sym same) ∙ clean_word k b.segment.base (16 * b.segment.count) i (each_good b.segment b.at).clean (omega (arith, to, from, aligned, word))
+
+    -- no control word shows the cycle of the first lap
+    pub block_shows : (a : ℕ) → a % 16 ≡ 0 → is_inside shape a ≡ true → (k.memory (a + 12) % 2 == 1) ≡ false
+    unfolding shows_first_lap
+    block_shows a block inside =
+        let b = has_byte shape a inside in
+        let aligned = segment_aligned shape is kind b.segment b.at in
+        let i : ℕ = (a - b.segment.base) / 16 in
+        let from = b.from in
+        let to = b.to in
+        let same : b.segment.base + 16 * i ≡ a = omega (arith, block, aligned, from) in
+        let low : i < b.segment.count = omega (arith, to, from, aligned, block) in
+        ap (λ x. k.memory (x + 12) % 2 == 1) (sym same)
+        ∙ fails_in (λ i. k.memory (b.segment.base + 16 * i + 12) % 2 == 1) (range_with_len 0 b.segment.count) i (each_good b.segment b.at).shows (in_range 0 b.segment.count i (omega arith) (omega (arith, low)))
+
+    -- it touches no range that it doesn't overlap with a segment
+    pub touches_none : (from len : ℕ) → ((s : Segment) → IsIn s shape.segments → overlap s.base (16 * s.count) from len ≡ false) → touches shape from len ≡ false
+    touches_none from len apart =
+        false_from_ne_true (touches shape from len) (λ t.
+        let s = some_of (λ s. overlap from len s.base (16 * s.count)) shape.segments (and_parts (nat_lt 0 len) _ t).1 in
+        false≢true (sym (overlap_turned s.0.base (16 * s.0.count) from len (apart s.0 s.1)) ∙ s.2))

@@ -1,0 +1,200 @@
+-- A ring that comes or goes beneath an event that isn't read yet: the two may change places
+use Rattle.std.proofs.Common.{◌≡◌, ◌≢◌, ◌*◌, ◌==◌, ◌||◌, if◌then◌else◌, ◌++◌, ◌∷◌, ◌∙◌, ℕ, not, Bool, true, false, [], Some, filter, get_or, is_some, refl, sym, ap, inl, inr, eq-eqb, ne_eqb}
+use Rattle.guest_memory.specs.Memory.{put}
+use Rattle.safety.proofs.Words.{cases_eq, cases_option, cond-true, cond-false, false≢true, false_from_ne_true, or_from, fun_ext, All-weaker, All-get_or, some_of, range_with_len, list_any, Block, RingView, Header, Read, IsHeader, Ring, ring_with, ring_having, touches_ring, is_in_range_lease, is_soiled, open_ranges, covers, is_ring, is_being_bound, Known, learned, lenient, Binding, binds, ring_bound, is_placed, DriverKeeps, is_transfer_ring}
+use Rattle.segments.specs.declared.segment.Segment.{Segment}
+use Rattle.segments.specs.RingView.{new_ring}
+use Rattle.safety.proofs.BoundBehind.{bound_before}
+use Rattle.safety.proofs.BoundRings.{ring_is}
+use Rattle.safety.proofs.DriverRings.{transfer_ring}
+use Rattle.safety.proofs.EventBehind.{event_behind}
+use Rattle.safety.proofs.LeasesBehind.{Behind, none_fewer, ranges_fewer}
+use Rattle.safety.proofs.RingIds.{having_transfer}
+use Rattle.safety.specs.RingChanges.Changes.{IsComing, forgotten, is_bad_free, is_bad_ring, is_bad_segment, is_had, shows_first_lap, with_ring, without_ring}
+use Rattle.safety.proofs.RingChanges.EventsAlike.{HasKept, HavesAlike, KeepsRings}
+use Rattle.safety.proofs.RingChanges.ReadAlike.{BindsAlike, read_alike, read_possible}
+use Rattle.safety.proofs.RingChanges.Segments.{IsGood, each_good}
+use Rattle.safety.proofs.RingChanges.NewRings as new
+use Rattle.safety.proofs.RingChanges.GoneRings as gone
+
+-- ---- all rings but one
+
+module _ (id : ℕ) where
+  abbrev pub cleared : (ℕ → RingView) → ℕ → RingView
+  cleared m = put m id new_ring
+
+  abbrev pub Other : ℕ → Type 0
+  Other r = r ≢ id
+
+  pub cleared_apart : (m : ℕ → RingView) (r : ℕ) → r ≢ id → cleared m r ≡ m r
+  cleared_apart m r other = cond-false (r == id) new_ring (m r) (ne_eqb r id other)
+
+  pub cleared_here : (m : ℕ → RingView) → cleared m id ≡ new_ring
+  cleared_here m = cond-true (id == id) new_ring (m id) (eq-eqb id id refl)
+
+  -- one that is as new is cleared already
+  cleared_new : (m : ℕ → RingView) → m id ≡ new_ring → cleared m ≡ m
+  cleared_new m new = fun_ext (λ r. elim (cases_eq r id) [
+    | inl here ↦ ap (cleared m) here ∙ cleared_here m ∙ sym new ∙ sym (ap m here)
+    | inr other ↦ cleared_apart m r other
+  ])
+
+  pub cleared_put : (m : ℕ → RingView) (r : ℕ) (v : RingView) → r ≢ id → cleared (put m r v) ≡ put (cleared m) r v
+  cleared_put m r v other = fun_ext (λ x. elim (cases_eq x id) [
+    | inl here ↦
+        let apart : (x == r) ≡ false = ne_eqb x r (λ same. other (sym same ∙ here)) in
+        cond-true (x == id) new_ring (put m r v x) (eq-eqb x id here)
+        ∙ sym (cond-false (x == r) v (cleared m x) apart ∙ cond-true (x == id) new_ring (m x) (eq-eqb x id here))
+    | inr away ↦
+        cond-false (x == id) new_ring (put m r v x) (ne_eqb x id away)
+        ∙ ap (λ y. if x == r then v else y) (sym (cleared_apart m x away))
+  ])
+
+-- ---- a ring that comes
+
+module _ (h : Header) (is : IsHeader h) (k : Known) (d : DriverKeeps h k) (r : Ring) (coming : IsComing r) (fresh : k.ring r.id ≡ new_ring) (good : is_bad_ring h k r ≡ false) (e : Block)
+    (may : lenient h k (Read e) ≡ []) where
+  abbrev l : Known
+  l = learned h k (Read e)
+
+  rings_new : KeepsRings h (h.rings ++ r ∷ []) (cleared r.id) (Other r.id)
+  rings_new = record {
+    shape = new.shape_same h is k d r coming fresh good;
+    view = cleared_apart r.id;
+    changes = cleared_put r.id;
+    command = new.command_same h is k d r coming fresh good;
+    command_kept = new.no_command h is k d r coming fresh good;
+    events = new.events_same h is k d r coming fresh good;
+    size = new.size_same h is k d r coming fresh good;
+  }
+
+  rings_old : KeepsRings h h.rings (cleared r.id) (Other r.id)
+  rings_old = record {
+    shape = λ s other. refl;
+    view = cleared_apart r.id;
+    changes = cleared_put r.id;
+    command = refl;
+    command_kept = new.no_command h is k d r coming fresh good;
+    events = refl;
+    size = refl;
+  }
+
+  has_others : (s i x : ℕ) → k.ring_of s i ≡ Some x → x ≢ r.id
+  has_others s i x at = let ring = d.states.transfer s i x at in new.another h is k d r coming fresh good x ring.ring ring.found
+
+  having_other : (p s : ℕ) → ring_having h p ≡ Some s → s ≢ r.id
+  having_other p s names = let ring = transfer_ring h s (having_transfer h is p s names) in new.another h is k d r coming fresh good s ring.ring ring.found
+
+  haves : (b : Binding) → is_placed h k (ring_bound h b) b ≡ true → HavesAlike h (h.rings ++ r ∷ []) (cleared r.id) (Other r.id) b.pointer
+  unfolding is_placed ring_bound
+  haves b placed =
+      elim (cases_option (ring_having h b.pointer)) [
+        | inl none ↦ absurd (false≢true (sym (ap (λ q. is_placed h k q b) none) ∙ placed))
+        | inr some ↦ (new.having_same h is k d r coming fresh good b.pointer some.0 some.1 ∙ sym some.1, having_other b.pointer)
+      ]
+
+  binds_new : BindsAlike h (h.rings ++ r ∷ []) (cleared r.id) (Other r.id) rings_new k
+  binds_new p c u =
+      All-weaker (λ b. is_placed h k (ring_bound h b) b ≡ true) (λ b. HavesAlike h (h.rings ++ r ∷ []) (cleared r.id) (Other r.id) b.pointer) haves (binds h k c) (d.unfinished p c u).binds
+
+  binds_old : BindsAlike h h.rings (cleared r.id) (Other r.id) rings_old k
+  binds_old p c u i b low = (refl, having_other (get_or (binds h k c) i b).pointer)
+
+  same : record k { ring = cleared r.id k.ring } ≡ k
+  same = λ j. record k { ring = cleared_new r.id k.ring fresh j }
+
+  behind_new : (learned h k (Read e)) ≡ record l { ring = cleared r.id l.ring }
+  behind_new = sym (ap (λ x. learned h x (Read e)) same) ∙ (read_alike h h.rings (cleared r.id) (Other r.id) rings_old is k d has_others binds_old e may).0
+
+  -- behind the event nothing is known of it still
+  pub still_new : l.ring r.id ≡ new_ring
+  still_new = ap (λ (x : Known). x.ring r.id) behind_new ∙ cleared_here r.id l.ring
+
+  -- the event is possible, and learned, with the ring as without it
+  pub read_with : lenient (with_ring h r) k (Read e) ≡ []
+  unfolding with_ring
+  read_with = ap (λ x. lenient (with_ring h r) x (Read e)) (sym same) ∙ read_possible h (h.rings ++ r ∷ []) (cleared r.id) (Other r.id) rings_new k e has_others ∙ may
+
+  pub learned_with : learned (with_ring h r) k (Read e) ≡ learned h k (Read e)
+  unfolding with_ring
+  learned_with =
+      ap (λ x. learned (with_ring h r) x (Read e)) (sym same) ∙ (read_alike h (h.rings ++ r ∷ []) (cleared r.id) (Other r.id) rings_new is k d has_others binds_new e may).0 ∙ sym behind_new
+
+  segment_still : (s : Segment) → IsGood h k s → is_bad_segment h l s ≡ false
+  unfolding is_bad_segment is_in_range_lease is_soiled shows_first_lap
+  segment_still s g =
+      let b : Behind h k l = event_behind h is k d e may in
+      or_from (touches_ring h s.base (16 * s.count) || is_in_range_lease h l s.base (16 * s.count) || is_soiled l s.base (16 * s.count)) (shows_first_lap l s)
+      (or_from (touches_ring h s.base (16 * s.count) || is_in_range_lease h l s.base (16 * s.count)) (is_soiled l s.base (16 * s.count))
+      (or_from (touches_ring h s.base (16 * s.count)) (is_in_range_lease h l s.base (16 * s.count)) g.rings
+      (none_fewer (covers h s.base (16 * s.count)) (open_ranges h k) (open_ranges h l) (ranges_fewer h is k l b) g.leases))
+      (ap (λ f. is_soiled (let x : Known = record k { soiled = f } in x) s.base (16 * s.count)) b.driver.soiled ∙ g.clean))
+      (ap (λ f. shows_first_lap (let x : Known = record k { memory = f } in x) s) b.driver.memory ∙ g.shows)
+
+  -- it may come behind the event too
+  pub still_comes : is_bad_ring h l r ≡ false
+  unfolding is_bad_ring
+  still_comes =
+      let p = new.parts h is k d r coming fresh good in
+      or_from (is_some (ring_with h r.id)) (list_any (is_bad_segment h l) r.shape.segments) p.0
+      (false_from_ne_true (list_any (is_bad_segment h l) r.shape.segments) (λ t.
+      let s = some_of (is_bad_segment h l) r.shape.segments t in
+      false≢true (sym (segment_still s.0 (each_good h k r.shape coming.shape coming.kind p.1 s.0 s.1)) ∙ s.2)))
+
+-- ---- a ring that goes
+
+module _ (h : Header) (is : IsHeader h) (k : Known) (d : DriverKeeps h k) (id : ℕ) (good : is_bad_free h k id ≡ false) (e : Block) (may : lenient h k (Read e) ≡ []) where
+  abbrev keep : Ring → Bool
+  keep q = not (q.id == id)
+
+  abbrev m : Known
+  m = learned h k (Read e)
+
+  rings_gone : KeepsRings h (filter keep h.rings) (cleared id) (Other id)
+  rings_gone = record {
+    shape = gone.shape_same h is k d id good;
+    view = cleared_apart id;
+    changes = cleared_put id;
+    command = gone.command_same h is k d id good;
+    command_kept = gone.no_command h is k d id good;
+    events = gone.events_same h is k d id good;
+    size = gone.size_same h is k d id good;
+  }
+
+  haves_gone : (b : Binding) → is_placed h k (ring_bound h b) b ≡ true → is_ring id (ring_bound h b) ≡ false → HavesAlike h (filter keep h.rings) (cleared id) (Other id) b.pointer
+  unfolding is_placed ring_bound
+  haves_gone b placed unbound =
+      elim (cases_option (ring_having h b.pointer)) [
+        | inl none ↦ absurd (false≢true (sym (ap (λ q. is_placed h k q b) none) ∙ placed))
+        | inr some ↦
+            let other : (s : ℕ) → ring_having h b.pointer ≡ Some s → s ≢ id = λ s names same. false≢true (sym unbound ∙ ap (is_ring id) names ∙ eq-eqb s id same) in
+            (gone.having_same h is k d id good b.pointer some.0 (other some.0 some.1) some.1 ∙ sym some.1, other)
+      ]
+
+  binds_gone : BindsAlike h (filter keep h.rings) (cleared id) (Other id) rings_gone k
+  binds_gone p c u i b low =
+      haves_gone (get_or (binds h k c) i b) (All-get_or (λ x. is_placed h k (ring_bound h x) x ≡ true) (binds h k c) i b low (d.unfinished p c u).binds) (gone.none_binds h is k d id good p c u i b low)
+
+  pub read_without : lenient (without_ring h id) (forgotten k id) (Read e) ≡ []
+  unfolding without_ring forgotten
+  read_without = read_possible h (filter keep h.rings) (cleared id) (Other id) rings_gone k e (gone.not_had h is k d id good) ∙ may
+
+  both : (learned (without_ring h id) (forgotten k id) (Read e) ≡ forgotten (learned h k (Read e)) id) × HasKept h (filter keep h.rings) (cleared id) (Other id) m
+  unfolding without_ring forgotten
+  both = read_alike h (filter keep h.rings) (cleared id) (Other id) rings_gone is k d (gone.not_had h is k d id good) binds_gone e may
+
+  pub learned_without : learned (without_ring h id) (forgotten k id) (Read e) ≡ forgotten (learned h k (Read e)) id
+  learned_without = both.0
+
+  -- it may go behind the event too
+  pub still_goes : is_bad_free h m id ≡ false
+  unfolding is_bad_free is_had
+  still_goes =
+      let p = gone.parts h is k d id good in
+      or_from (not (is_transfer_ring (ring_with h id)) || is_had m id) (is_being_bound h m id)
+      (or_from (not (is_transfer_ring (ring_with h id))) (is_had m id) (ap not p.0)
+      (false_from_ne_true (is_had m id) (λ t.
+      let s = some_of (λ s. list_any (λ i. is_ring id (m.ring_of s i)) (range_with_len 1 31)) (range_with_len 1 255) t in
+      let i = some_of (λ i. is_ring id (m.ring_of s.0 i)) (range_with_len 1 31) s.2 in
+      both.1 s.0 i.0 id (ring_is id (m.ring_of s.0 i.0) i.2) refl)))
+      (false_from_ne_true (is_being_bound h m id) (λ t. false≢true (sym p.2 ∙ bound_before h is k d e may id t)))

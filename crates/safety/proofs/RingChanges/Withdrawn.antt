@@ -1,0 +1,148 @@
+-- A descriptor that is withdrawn of a ring whose endpoint has stopped: what a driver keeps stays, and the row may be made behind any event
+-- that isn't read yet
+use Rattle.std.proofs.Common.{◌≡◌, ◌≢◌, ◌==◌, ◌&&◌, ◌||◌, ◌∙◌, ℕ, not, Bool, true, false, [], None, Some, refl, sym, ap, subst, inl, inr, eq-eqb, arith}
+use Rattle.safety.proofs.Words.{cases_eq, list_any, range_with_len, or_parts, or_from, and_parts, and_from, not-false, not_from_true, not_from_false, not-true, false≢true, false_from_ne_true, Block, RingView, IsRestored, is_open, descriptor_length, Command, EndpointState, Running, Stopped, is_stopped, Header, Read, IsHeader, is_ring, shape_of, command_id, Known, on_ring, learned, is_touched, lenient, IsIn, some_of, any_of, MovesRestored, IsTransferRing, IsUnfinished, DriverKeeps, World, counted, Agrees, Runs}
+use Rattle.segments.specs.Descriptors.{length_from}
+use Rattle.segments.specs.RingView.{Withdraws}
+use Rattle.segments.proofs.Withdrawing.{withdraws_keeps}
+use Rattle.safety.proofs.BoundRings.{ring_is}
+use Rattle.safety.proofs.CommandsRung.{set_touches}
+use Rattle.safety.proofs.DriverRows.{ring_elsewhere}
+use Rattle.safety.proofs.Headers.{ring_shape, transfer_not_command}
+use Rattle.safety.proofs.HeldBehind.{read_holds}
+use Rattle.safety.proofs.HeldFurther.{read_same}
+use Rattle.safety.proofs.OpenRings.{open_held}
+use Rattle.safety.proofs.StillRings.{untouched_behind}
+use Rattle.safety.proofs.Counted.{agrees_counted}
+use Rattle.safety.specs.RingChanges.Withdrawals.{has_stopped, is_bad_withdraw, rests_with, without_descriptor}
+use Rattle.safety.proofs.RingChanges.QuietWorlds.{withdrawn_agrees}
+use Rattle.safety.proofs.RingChanges.QuietKeeps.{quiet_keeps}
+use Rattle.safety.proofs.RingChanges.QuietRuns.{IsGood, quiet_runs}
+
+stopped_is : (e : EndpointState) → is_stopped e ≡ true → e ≡ Stopped
+stopped_is Stopped stopped = refl
+stopped_is _ stopped = absurd (false≢true stopped)
+
+running_is_not : Running ≡ Stopped → ⊥
+running_is_not same = false≢true (ap is_stopped same)
+
+module _ (h : Header) (r p : ℕ) where
+  -- the stopped endpoint that has the ring
+  pub record HasStopped (k : Known) : Type 0 where
+    pub slot : ℕ
+    pub index : ℕ
+    pub slot_in : IsIn slot (range_with_len 1 255)
+    pub index_in : IsIn index (range_with_len 1 31)
+    pub has : k.ring_of slot index ≡ Some r
+    pub stopped : is_stopped (k.endpoint_state slot index) ≡ true
+    pub untouched : is_touched h k slot index ≡ false
+
+  pub stopped_with : (k : Known) → has_stopped h k r ≡ true → HasStopped k
+  unfolding has_stopped rests_with
+  stopped_with k some =
+      let row = some_of (λ s. list_any (λ i. rests_with h k r s i) (range_with_len 1 31)) (range_with_len 1 255) some in
+      let at = some_of (λ i. rests_with h k r row.0 i) (range_with_len 1 31) row.2 in
+      let one = and_parts (is_ring r (k.ring_of row.0 at.0)) (is_stopped (k.endpoint_state row.0 at.0) && not (is_touched h k row.0 at.0)) at.2 in
+      let two = and_parts (is_stopped (k.endpoint_state row.0 at.0)) (not (is_touched h k row.0 at.0)) one.1 in
+      record {
+        slot = row.0;
+        index = at.0;
+        slot_in = row.1;
+        index_in = at.1;
+        has = ring_is r (k.ring_of row.0 at.0) one.0;
+        stopped = two.0;
+        untouched = not-true (is_touched h k row.0 at.0) two.1;
+      }
+
+  pub with_stopped : (k : Known) → HasStopped k → has_stopped h k r ≡ true
+  unfolding has_stopped rests_with
+  with_stopped k s =
+      any_of (λ t. list_any (λ i. rests_with h k r t i) (range_with_len 1 31)) (range_with_len 1 255) s.slot s.slot_in
+      (any_of (λ i. rests_with h k r s.slot i) (range_with_len 1 31) s.index s.index_in
+      (and_from (is_ring r (k.ring_of s.slot s.index)) (is_stopped (k.endpoint_state s.slot s.index) && not (is_touched h k s.slot s.index)) (ap (is_ring r) s.has ∙ eq-eqb r r refl)
+      (and_from (is_stopped (k.endpoint_state s.slot s.index)) (not (is_touched h k s.slot s.index)) s.stopped (not_from_false (is_touched h k s.slot s.index) s.untouched))))
+
+  abbrev cut : RingView → Bool
+  cut v = descriptor_length v p == 0 || list_any v.withdrawn (range_with_len p (descriptor_length v p))
+
+  parts : (k : Known) → is_bad_withdraw h k r p ≡ false → HasStopped k × (cut (k.ring r) ≡ false)
+  unfolding is_bad_withdraw
+  parts k good =
+      let both = or_parts (not (has_stopped h k r)) (cut (k.ring r)) good in
+      (stopped_with k (not-false (has_stopped h k r) both.0), both.1)
+
+  module _ (is : IsHeader h) where
+    module _ (k : Known) (d : DriverKeeps h k) (s : HasStopped k) where
+      transfer : IsTransferRing h r
+      transfer = d.states.transfer s.slot s.index r s.has
+
+      -- its ring is held
+      pub stopped_held : (k.ring r).held ≢ None
+      stopped_held none = running_is_not (sym (d.states.open_runs s.slot s.index r s.has none) ∙ stopped_is (k.endpoint_state s.slot s.index) s.stopped)
+
+      -- no unfinished command moves it
+      unmoved : (u : ℕ) (c : Command) → IsUnfinished h k u c → MovesRestored k c → MovesRestored (on_ring h k r (Withdraws p)) c
+      unfolding on_ring
+      unmoved u c unfinished_at restored t i x cycle at q has =
+          elim (cases_eq q r) [
+            | inl same ↦
+                let one = d.states.one_endpoint t i s.slot s.index r (has ∙ ap (λ n. Some n) same) s.has in
+                absurd (set_touches h is k d s.slot s.index i x t cycle u s.untouched (subst (λ y. IsUnfinished h k u y) at unfinished_at) one.0 one.1)
+            | inr other ↦ subst IsRestored (sym (ring_elsewhere h k r q (Withdraws p) other)) (restored t i x cycle at q has)
+          ]
+
+      pub withdrawn_keeps : DriverKeeps h (on_ring h k r (Withdraws p))
+      withdrawn_keeps =
+          quiet_keeps h r (Withdraws p) tt (transfer_not_command h is r transfer) k d
+          (λ driver. withdraws_keeps (shape_of h r) (ring_shape h is r driver).is k.memory (k.ring r) (d.rings r driver) p stopped_held) unmoved
+
+      module _ (e : Block) (may : lenient h k (Read e) ≡ []) where
+        closed : is_open (k.ring r) ≡ false
+        closed = false_from_ne_true (is_open (k.ring r)) (λ opened. stopped_held (open_held (k.ring r) opened))
+
+        pub stopped_behind : HasStopped (learned h k (Read e))
+        stopped_behind =
+            let holds = read_holds h is k d s.slot s.index r s.has closed s.untouched e may in
+            record {
+              slot = s.slot;
+              index = s.index;
+              slot_in = s.slot_in;
+              index_in = s.index_in;
+              has = holds.ring_of ∙ s.has;
+              stopped = ap is_stopped holds.state ∙ s.stopped;
+              untouched = untouched_behind h is k d e may s.slot s.index s.untouched;
+            }
+
+    cut_same : (v w : RingView) → w.lengths ≡ v.lengths → w.withdrawn ≡ v.withdrawn → cut v ≡ false → cut w ≡ false
+    unfolding descriptor_length
+    cut_same v w lengths withdrawn good =
+        (λ j. (length_from (lengths j) 0 p == 0 || list_any (withdrawn j) (range_with_len p (length_from (lengths j) 0 p)))) ∙ good
+
+    behind : (k : Known) (e : Block) → DriverKeeps h k → lenient h k (Read e) ≡ [] → is_bad_withdraw h k r p ≡ false → is_bad_withdraw h (learned h k (Read e)) r p ≡ false
+    unfolding is_bad_withdraw
+    behind k e d may good =
+        let before = parts k good in
+        let l : Known = learned h k (Read e) in
+        let same = (read_same h k e).rings r in
+        or_from (not (has_stopped h l r)) (cut (l.ring r)) (not_from_true (has_stopped h l r) (with_stopped l (stopped_behind k d before.0 e may)))
+        (cut_same (k.ring r) (l.ring r) same.lengths same.withdrawn before.1)
+
+    -- where it may be withdrawn
+    pub may_withdraw : (k : Known) → DriverKeeps h k → is_bad_withdraw h k r p ≡ false → r ≢ command_id h
+    may_withdraw k d good = transfer_not_command h is r (transfer k d (parts k good).0)
+
+    pub withdraw_keeps : (k : Known) → DriverKeeps h k → is_bad_withdraw h k r p ≡ false → DriverKeeps h (on_ring h k r (Withdraws p))
+    withdraw_keeps k d good = withdrawn_keeps k d (parts k good).0
+
+    pub withdraw_good : r ≢ command_id h → IsGood h r (Withdraws p) (λ k. is_bad_withdraw h k r p ≡ false)
+    withdraw_good other = record { quiet = tt; other = other; keeps = withdraw_keeps; behind = behind }
+
+    -- the run goes on
+    pub withdraw_runs : (k : Known) (w : World) → DriverKeeps h k → is_bad_withdraw h k r p ≡ false → Runs h k w → Runs h (on_ring h k r (Withdraws p)) (counted h (without_descriptor w r p))
+    unfolding counted
+    withdraw_runs k w d good run =
+        let other : r ≢ command_id h = may_withdraw k d good in
+        quiet_runs h is r (Withdraws p) (λ k. is_bad_withdraw h k r p ≡ false) (withdraw_good other) k w (counted h (without_descriptor w r p)) d good run
+        (λ later keeps agrees.
+        let there : Agrees h (on_ring h later r (Withdraws p)) run.unread (without_descriptor w r p) = withdrawn_agrees h r p other later run.unread w agrees in
+        agrees_counted h (on_ring h later r (Withdraws p)) run.unread (without_descriptor w r p) there.stands there.events there.matches there.read (λ a. let low = there.stamps a in omega (arith, low)))

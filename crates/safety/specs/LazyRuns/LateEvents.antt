@@ -1,0 +1,36 @@
+-- Late events: a success that is read while its ring is held
+use Rattle.std.specs.Prelude.{◌≡◌, ℕ, ◌&&◌, Bool, false, not, List, [], ◌∷◌, Option, Some, None}
+use Rattle.trb.specs.Block.{kind, code, slot, endpoint}
+use Rattle.trb.specs.Kind.{is_transfer_event}
+use Rattle.trb.specs.CompletionCode.{is_success}
+use Rattle.trb.specs.declared.block.Block.{Block}
+use Rattle.segments.specs.Ceiling.{is_open}
+use Rattle.traces.specs.declared.header.Header.{Header}
+use Rattle.traces.specs.declared.row.Row.{Row}
+use Rattle.traces.specs.declared.row.Row.TheVariants.{Read}
+use Rattle.traces.specs.declared.trace_row.TraceRow.{TraceRow}
+use Rattle.traces.specs.declared.trace_row.TraceRow.TheVariants.{Plain}
+use Rattle.ring_knowledge.specs.Known.{Known}
+use Rattle.safety.specs.RingChanges.Histories.{known_now}
+
+-- a Transfer Event with Success or Short Packet
+abbrev pub is_report_of_success : Block → Bool
+is_report_of_success b = is_transfer_event (kind b) && is_success (code b)
+
+unfoldable pub is_held_ring : Known → Option ℕ → Bool
+is_held_ring k None = false
+is_held_ring k (Some r) = not (is_open (k.ring r))
+
+unfoldable pub is_late : Known → Row → Bool
+is_late k (Read b) = is_report_of_success b && is_held_ring k (k.ring_of (slot b) (endpoint b))
+is_late k _ = false
+
+abbrev pub is_late_row : Known → TraceRow → Bool
+is_late_row k (Plain row) = is_late k row
+is_late_row k _ = false
+
+module _ (h : Header) where
+  -- rows, the newest first, none of which is a late event
+  abbrev pub IsTimely : List TraceRow → Type 0
+  IsTimely [] = Unit {0}
+  IsTimely (row ∷ past) = IsTimely past × (is_late_row (known_now h past) row ≡ false)

@@ -1,0 +1,49 @@
+-- The rows that calls give are those of the lines before the bad one, by their numbers
+use Rattle.std.proofs.Common.{◌≡◌, ◌+◌, ◌≤◌, ◌∷◌, ◌∙◌, ℕ, List, [], true, false, Option, Some, None, Result, Ok, Err, refl, ap, sym, subst, length, map, take, arith}
+use Rattle.traces.specs.declared.trace_row.TraceRow.{TraceRow}
+use Rattle.line_text.specs.Lines.{TextLine, lines_of}
+use Rattle.trace_reader.specs.declared.fault.LineFault.{LineFault}
+use Rattle.trace_reader.specs.Reading.{State, go_on, next_number, read_line, with_row}
+unfoldable use Rattle.trace_reader.specs.Reading.{read_lines}
+use Rattle.trace_reader.specs.Streaming.RowByRow.{Call, behind_line, call_in, call_on}
+unfoldable use Rattle.trace_reader.specs.Streaming.RowByRow.{next_row}
+use Rattle.trace_reader.specs.Streaming.WholeTexts.{AreNumbered, AreOfLines, GivenRows, IsBehind, answered, rows_given}
+use Rattle.trace_reader.proofs.Streaming.Calls.{call_of}
+use Rattle.trace_reader.proofs.Streaming.CallsJoined.{lines_left, no_ring_read}
+use Rattle.trace_reader.proofs.Streaming.LineEnds.{ended_if_read}
+use Rattle.trace_reader.proofs.Streaming.Openings.{step_of}
+
+behind_more : (number : ℕ) (row : ℕ × TraceRow) (given : GivenRows) → IsBehind (number + 1) given → IsBehind number (row ∷ given.0, given.1)
+behind_more number row (rows, None) is = tt
+behind_more number row (rows, Some fault) is = omega (arith, is)
+
+abbrev LinesLaw : List TextLine → Type 0
+LinesLaw lines = (st : State) (text : List ℕ) → lines_of text ≡ lines → st.begun ≡ true → 2 ≤ st.lines → AreOfLines st lines (rows_given lines (record { read = st; ended = false }) text)
+
+module _ (st : State) (text : List ℕ) (line : TextLine) (lines : List TextLine) (are : lines_of text ≡ line ∷ lines) (begun : st.begun ≡ true) (behind : 2 ≤ st.lines) (later : LinesLaw lines) where
+  by_line : (r : Result (State × Option TraceRow) LineFault) → read_line st line ≡ r →
+      AreOfLines st (line ∷ lines) (answered (call_on st text r).answer (rows_given lines (call_on st text r).progress (call_on st text r).left))
+  unfolding read_lines
+  by_line (Ok (next, Some row)) is =
+      let step = (step_of st line (next, Some row) is).row row refl in
+      let number : next.lines ≡ next_number st = ap (λ (s : State). s.lines) step.1 in
+      let more : 2 ≤ next.lines = omega (arith, behind, number) in
+      let given = rows_given lines (record { read = next; ended = false }) (behind_line text) in
+      let rest = later next (behind_line text) (lines_left text line lines are (ended_if_read st line (next, Some row) is)) (ap (λ (s : State). s.begun) step.1) more in
+      let read : read_lines st (take (length ((next.lines, row) ∷ given.0)) (line ∷ lines)) ≡ Ok (rest.1.0, row ∷ map (λ r. r.1) given.0) =
+      ap (λ r. go_on (next_number st) r (λ after. read_lines after (take (length given.0) lines))) is ∙ ap (with_row (Some row)) rest.1.1 in (
+        (number, subst (λ (n : ℕ). AreNumbered (n + 1) given.0) number rest.0),
+        (rest.1.0, read),
+        subst (λ (n : ℕ). IsBehind n ((next.lines, row) ∷ given.0, given.1)) number (behind_more next.lines (next.lines, row) given rest.2),
+      )
+  by_line (Ok (next, None)) is = absurd (no_ring_read st next line begun behind is)
+  by_line (Err fault) is = (tt, (st, refl), omega arith)
+
+-- where calls tell a bad line, the rows before it are those that the lines before it say
+pub rows_of_lines : (lines : List TextLine) → LinesLaw lines
+unfolding read_lines next_row
+rows_of_lines [] = λ st text are begun behind.
+    subst (λ (ls : List TextLine). AreOfLines st [] (answered (call_in st text ls).answer ([], None))) (sym are) (tt, (st, refl), tt)
+rows_of_lines (line ∷ lines) = λ st text are begun behind.
+    subst (λ (c : Call). AreOfLines st (line ∷ lines) (answered c.answer (rows_given lines c.progress c.left))) (sym (call_of st text line lines are))
+    (by_line st text line lines are begun behind (rows_of_lines lines) (read_line st line) refl)

@@ -1,0 +1,53 @@
+-- A doorbell is rung
+use Rattle.trace_record.proofs.DeviceSlots.Words.{◌≡◌, ◌==◌, ◌≤◌, ◌&&◌, if◌then◌else◌, ◌∙◌, ◌+◌, ◌*◌, ℕ, Bool, true, false, Option, Some, None, ap, sym, subst, nat_lt, is_some, slice_index_or, eq-eqb, ne_eqb, le-ltb, cond-true, cond-false, put_pair, Opens, is_stopped, Running, Header, command_id, Known, on_ring, endpoint_rung, rung, Endpoint, DeviceRecord, rung_endpoint, FollowsDevices, IsWithEndpoint, endpoint_at, fresh_endpoint}
+use Rattle.trace_record.proofs.DeviceSlots.Steps.{follows_beside, follows_still, follows_state}
+
+module _ (h : Header) (k : Known) (s t : ℕ) where
+  -- the host controller's doorbell
+  pub rung_first : s ≡ 0 → rung h k s t ≡ on_ring h k (command_id h) Opens
+  unfolding rung
+  rung_first none = cond-true (s == 0) (on_ring h k (command_id h) Opens) (endpoint_rung h k s t (k.ring_of s t)) (eq-eqb s 0 none)
+
+  pub rung_later : (s ≡ 0 → ⊥) → rung h k s t ≡ endpoint_rung h k s t (k.ring_of s t)
+  unfolding rung
+  rung_later some = cond-false (s == 0) (on_ring h k (command_id h) Opens) (endpoint_rung h k s t (k.ring_of s t)) (ne_eqb s 0 some)
+
+  -- there is no endpoint with an index above 31
+  pub no_ring_beyond : (d : DeviceRecord) → FollowsDevices k d → 32 ≤ t → k.ring_of s t ≡ None
+  no_ring_beyond d f far =
+      f.ring_of s t
+      ∙ ap (λ (e : Endpoint). e.ring) (cond-false (nat_lt t 32) (slice_index_or d.endpoints.items (s * 32 + t) fresh_endpoint) fresh_endpoint (le-ltb t 32 far))
+
+  pub rung_none : k.ring_of s t ≡ None → endpoint_rung h k s t (k.ring_of s t) ≡ k
+  unfolding endpoint_rung
+  rung_none none = ap (λ o. endpoint_rung h k s t o) none
+
+-- the record after the doorbell of the host controller
+pub follows_first : (h : Header) (k : Known) (s t : ℕ) (d : DeviceRecord) → FollowsDevices k d → s ≡ 0 → FollowsDevices (rung h k s t) d
+unfolding on_ring
+follows_first h k s t d f none = subst (λ k'. FollowsDevices k' d) (sym (rung_first h k s t none)) (follows_beside k (on_ring h k (command_id h) Opens) d f)
+
+-- and after that of no endpoint
+pub follows_beyond : (h : Header) (k : Known) (s t : ℕ) (d : DeviceRecord) → FollowsDevices k d → (s ≡ 0 → ⊥) → 32 ≤ t → FollowsDevices (rung h k s t) d
+follows_beyond h k s t d f some far =
+    subst (λ k'. FollowsDevices k' d) (sym (rung_later h k s t some ∙ rung_none h k s t (no_ring_beyond h k s t d f far))) f
+
+module _ (h : Header) (k : Known) (s t : ℕ) (old new : DeviceRecord) (f : FollowsDevices k old) (x : Endpoint) (w : IsWithEndpoint old new s t x) where
+  -- with a ring: b says whether the endpoint is Stopped
+  with_ring : (r : ℕ) (b : Bool) → x ≡ (if b then record (endpoint_at old.endpoints.items s t) { state = Running } else endpoint_at old.endpoints.items s t) →
+      FollowsDevices (record (on_ring h k r Opens) { endpoint_state = if b then put_pair k.endpoint_state s t Running else k.endpoint_state }) new
+  unfolding on_ring
+  with_ring r true is =
+      follows_beside (record k { endpoint_state = put_pair k.endpoint_state s t Running }) (on_ring h k r Opens) new (follows_state k old new f s t x Running w is)
+  with_ring r false is = follows_beside k (on_ring h k r Opens) new (follows_still k old new f s t x w is)
+
+  by_ring : (o : Option ℕ) → x ≡ (if is_some o && is_stopped (k.endpoint_state s t) then record (endpoint_at old.endpoints.items s t) { state = Running } else endpoint_at old.endpoints.items s t) →
+      FollowsDevices (endpoint_rung h k s t o) new
+  unfolding endpoint_rung
+  by_ring None is = follows_still k old new f s t x w is
+  by_ring (Some r) is = with_ring r (is_stopped (k.endpoint_state s t)) is
+
+  pub follows_rung : (s ≡ 0 → ⊥) → x ≡ rung_endpoint (endpoint_at old.endpoints.items s t) → FollowsDevices (rung h k s t) new
+  follows_rung some is =
+      subst (λ k'. FollowsDevices k' new) (sym (rung_later h k s t some))
+      (by_ring (k.ring_of s t) (is ∙ sym (λ i. if is_some (f.ring_of s t i) && is_stopped (f.endpoint_state s t i) then record (endpoint_at old.endpoints.items s t) { state = Running } else endpoint_at old.endpoints.items s t)))

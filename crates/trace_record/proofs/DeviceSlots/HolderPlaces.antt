@@ -1,0 +1,172 @@
+-- Where one endpoint alone has a ring, the sum of numbers that is kept of the ring is its number
+use Rattle.trace_record.proofs.DeviceSlots.Words.{◌≡◌, ◌≢◌, ◌+◌, ◌*◌, ◌<◌, ◌≤◌, ◌∙◌, ◌∷◌, if◌then◌else◌, ℕ, zero, suc, Bool, true, false, List, [], Option, Some, None, ap, sym, refl, arith, inl, inr, length, get_or, nat_lt, replicate, slice_index_or, lt-ltb, cond-true, Known, DeviceRecord, FollowsDevices, cases_Bool, eqb-true, false≢true, Endpoint, fresh_endpoint}
+use Rattle.std.specs.Prelude.{◌/◌, ◌%◌, nat_eq}
+use Rattle.std.specs.Option.{option_eq}
+use Rattle.std.proofs.Common.{set}
+use Rattle.std.proofs.lemmas.List.Sums.{sum_by-set}
+use Rattle.traces.specs.Header.{is_ring}
+use Rattle.trace_record.proofs.DeviceSlots.HolderCounts.{is_same, named, read_at}
+use Rattle.trace_record.proofs.DeviceSlots.NewRecord.{alike}
+use Rattle.trace_record.specs.declared.device_record.holders.Holders.{Holders}
+use Rattle.trace_record.specs.DeviceSlots.Holders.{AreCounted, AreSummed, HasOneHolder, HasRoom, HasSumRoom, IsSummed, count_of, one_of, place_of, places_sum, sum_of}
+
+if_at_most : (b : Bool) (n : ℕ) → (if b then n else 0) ≤ n
+if_at_most true n = omega arith
+if_at_most false n = omega arith
+
+-- ---- the numbers of a list
+
+-- one of them is in the sum
+in_sum : (r : ℕ) (xs : List Endpoint) (start n : ℕ) (d : Endpoint) → n < length xs → place_of r (get_or xs n d).ring (start + n) ≤ places_sum r xs start
+unfolding places_sum
+in_sum r [] start n d below = absurd (omega arith)
+in_sum r (x ∷ xs) start zero d below = let same : start + 0 ≡ start = omega arith in rw same (omega arith)
+in_sum r (x ∷ xs) start (suc n) d below =
+    let same : start + 1 + n ≡ start + suc n = omega arith in
+    let rest : place_of r (get_or xs n d).ring (start + suc n) ≤ places_sum r xs (start + 1) = rw same at (in_sum r xs (start + 1) n d (omega arith)) in
+    omega (arith, rest)
+
+-- another endpoint in place of one
+sum_set : (r : ℕ) (xs : List Endpoint) (start n : ℕ) (x d : Endpoint) → n < length xs →
+    places_sum r (set xs n x) start + place_of r (get_or xs n d).ring (start + n) ≡ places_sum r xs start + place_of r x.ring (start + n)
+unfolding places_sum
+sum_set r [] start n x d below = absurd (omega arith)
+sum_set r (y ∷ xs) start zero x d below = let same : start + 0 ≡ start = omega arith in rw same (omega arith)
+sum_set r (y ∷ xs) start (suc n) x d below =
+    let same : start + 1 + n ≡ start + suc n = omega arith in
+    let rest : places_sum r (set xs n x) (start + 1) + place_of r (get_or xs n d).ring (start + suc n) ≡ places_sum r xs (start + 1) + place_of r x.ring (start + suc n) =
+    rw same at (sum_set r xs (start + 1) n x d (omega arith)) in
+    omega (arith, rest)
+
+-- it isn't large
+few : (r : ℕ) (xs : List Endpoint) (start most : ℕ) → start + length xs ≤ most → places_sum r xs start ≤ length xs * most
+unfolding places_sum
+few r [] start most fits = omega arith
+few r (x ∷ xs) start most fits =
+    let here = if_at_most (is_ring r x.ring) start in
+    let rest = few r xs (start + 1) most (omega arith) in
+    let all : (length xs + 1) * most ≡ length xs * most + most = grind arith in
+    omega (arith, here, rest, all)
+
+-- none has the ring
+none : (r : ℕ) (xs : List Endpoint) (start : ℕ) → ((m : ℕ) (d : Endpoint) → m < length xs → is_ring r (get_or xs m d).ring ≡ false) → places_sum r xs start ≡ 0
+unfolding places_sum
+none r [] start never = refl
+none r (x ∷ xs) start never =
+    let here : place_of r x.ring start ≡ 0 = ap (λ b. let n : ℕ = if b then start else 0 in n) (never 0 x (omega arith)) in
+    let rest = none r xs (start + 1) (λ m d below. never (suc m) d (omega arith)) in
+    omega (arith, here, rest)
+
+-- one alone has it
+alone : (r : ℕ) (xs : List Endpoint) (start n : ℕ) → n < length xs → ((d : Endpoint) → is_ring r (get_or xs n d).ring ≡ true) →
+    ((m : ℕ) (d : Endpoint) → m < length xs → m ≢ n → is_ring r (get_or xs m d).ring ≡ false) → places_sum r xs start ≡ start + n
+unfolding places_sum
+alone r [] start n below has others = absurd (omega arith)
+alone r (x ∷ xs) start zero below has others =
+    let here : place_of r x.ring start ≡ start = ap (λ b. let n : ℕ = if b then start else 0 in n) (has x) in
+    let rest = none r xs (start + 1) (λ m d within. others (suc m) d (omega arith) (omega arith)) in
+    omega (arith, here, rest)
+alone r (x ∷ xs) start (suc n) below has others =
+    let here : place_of r x.ring start ≡ 0 = ap (λ b. let n : ℕ = if b then start else 0 in n) (others 0 x (omega arith) (omega arith)) in
+    let rest = alone r xs (start + 1) n (omega arith) has (λ m d within other. others (suc m) d (omega arith) (omega arith)) in
+    omega (arith, here, rest)
+
+none_fresh : (r n start : ℕ) → places_sum r (replicate n fresh_endpoint) start ≡ 0
+unfolding places_sum
+none_fresh r zero start = refl
+none_fresh r (suc n) start = zero_on (places_sum r (replicate n fresh_endpoint) (start + 1)) ∙ none_fresh r n (start + 1)
+  where
+    zero_on : (n : ℕ) → 0 + n ≡ n
+    zero_on n = omega arith
+
+pub fresh_summed : (es : List Endpoint) (hs : Holders) (n : ℕ) → es ≡ replicate n fresh_endpoint → hs.sums.items ≡ replicate 256 0 → AreSummed es hs
+fresh_summed es hs n none zeros = λ r fits.
+    ap (λ xs. slice_index_or xs r 0) zeros ∙ alike 256 r 0 ∙ sym (ap (λ xs. places_sum r xs 0) none ∙ none_fresh r n 0)
+
+-- ---- another endpoint in place of one
+
+module _ (es : List Endpoint) (hs : Holders) (counted : AreCounted es hs) (summed : AreSummed es hs) (n : ℕ) (d : Endpoint) (below : n < length es) where
+  among : (r : ℕ) → place_of r (get_or es n d).ring n ≤ places_sum r es 0
+  among r = let same : 0 + n ≡ n = omega arith in rw same at (in_sum r es 0 n d below)
+
+  set_one : (r : ℕ) (x : Endpoint) → places_sum r (set es n x) 0 + place_of r (get_or es n d).ring n ≡ places_sum r es 0 + place_of r x.ring n
+  set_one r x = let same : 0 + n ≡ n = omega arith in rw same at (sum_set r es 0 n x d below)
+
+  pub leaves_sum : (o : Option ℕ) → (get_or es n d).ring ≡ o → IsSummed hs o n
+  leaves_sum None is = tt
+  leaves_sum (Some r) is = λ fits.
+      let here : place_of r (get_or es n d).ring n ≡ n = ap (λ b. let m : ℕ = if b then n else 0 in m) (is_same r (get_or es n d).ring is) in
+      omega (arith, here, among r, summed r fits)
+
+  pub takes_sum : (o : Option ℕ) → length es ≡ 256 * 32 → HasSumRoom hs o n
+  takes_sum None many = tt
+  takes_sum (Some r) many = λ fits.
+      let most : places_sum r es 0 ≤ length es * (256 * 32) = few r es 0 (256 * 32) (omega arith) in
+      let end : length es * (256 * 32) ≡ 256 * 32 * (256 * 32) = ap (λ m. m * (256 * 32)) many in
+      omega (arith, most, end, summed r fits, many, below)
+
+  -- which has another ring, or the same
+  pub counted_now : (new : Holders) (x : Endpoint) → ((r : ℕ) → count_of new r + one_of r (get_or es n d).ring ≡ count_of hs r + one_of r x.ring) → AreCounted (set es n x) new
+  counted_now new x now = λ r fits. omega (arith, counted r fits, now r, sum_by-set (λ (e : Endpoint). one_of r e.ring) es n x d below)
+
+  pub summed_now : (new : Holders) (x : Endpoint) → ((r : ℕ) → sum_of new r + place_of r (get_or es n d).ring n ≡ sum_of hs r + place_of r x.ring n) → AreSummed (set es n x) new
+  summed_now new x now = λ r fits. omega (arith, summed r fits, now r, set_one r x)
+
+-- room stays where one lets go
+pub room_left : (old left : Holders) (before o : Option ℕ) → ((r : ℕ) → count_of left r + one_of r before ≡ count_of old r) → HasRoom old o → HasRoom left o
+room_left old left before None after room = tt
+room_left old left before (Some r) after room = λ fits. omega (arith, after r, room fits)
+
+pub sum_room_left : (old left : Holders) (before o : Option ℕ) (n : ℕ) → ((r : ℕ) → sum_of left r + place_of r before n ≡ sum_of old r) → HasSumRoom old o n → HasSumRoom left o n
+sum_room_left old left before None n after room = tt
+sum_room_left old left before (Some r) n after room = λ fits. omega (arith, after r, room fits)
+
+-- one lets go and another is taken
+pub passed_on : (left new old before now : ℕ) → left + before ≡ old → new ≡ left + now → new + before ≡ old + now
+passed_on left new old before now leaves takes = omega (arith, leaves, takes)
+
+-- ---- the endpoint that has a ring
+
+get_or_within : (xs : List Endpoint) (m : ℕ) (a b : Endpoint) → m < length xs → get_or xs m a ≡ get_or xs m b
+get_or_within [] m a b below = absurd (omega arith)
+get_or_within (x ∷ xs) zero a b below = refl
+get_or_within (x ∷ xs) (suc m) a b below = get_or_within xs m a b (omega arith)
+
+module _ (k : Known) (d : DeviceRecord) (f : FollowsDevices k d) (r : ℕ) (fits : r < 256) (one : HasOneHolder k r) (s i : ℕ) (has : k.ring_of s i ≡ Some r) where
+  here : (i < 32) × (s * 32 + i < length d.endpoints.items) × ((get_or d.endpoints.items (s * 32 + i) fresh_endpoint).ring ≡ Some r)
+  here = read_at k d f r s i has
+
+  known_at : (m : ℕ) → k.ring_of (m / 32) (m % 32) ≡ (get_or d.endpoints.items m fresh_endpoint).ring
+  known_at m =
+      let at : m / 32 * 32 + m % 32 ≡ m = omega arith in
+      let low : nat_lt (m % 32) 32 ≡ true = lt-ltb (m % 32) 32 (omega arith) in
+      f.ring_of (m / 32) (m % 32)
+      ∙ ap (λ (e : Endpoint). e.ring)
+      (cond-true (nat_lt (m % 32) 32) (slice_index_or d.endpoints.items (m / 32 * 32 + m % 32) fresh_endpoint) fresh_endpoint low
+      ∙ ap (λ n. slice_index_or d.endpoints.items n fresh_endpoint) at)
+
+  other : (m : ℕ) (e : Endpoint) → m < length d.endpoints.items → m ≢ s * 32 + i → is_ring r (get_or d.endpoints.items m e).ring ≡ false
+  other m e below away = elim (cases_Bool (is_ring r (get_or d.endpoints.items m e).ring)) [
+    | inr out ↦ out
+    | inl same ↦
+        let read : get_or d.endpoints.items m e ≡ get_or d.endpoints.items m fresh_endpoint = get_or_within d.endpoints.items m e fresh_endpoint below in
+        let both = one (m / 32) (m % 32) s i (known_at m ∙ ap (λ (x : Endpoint). x.ring) (sym read) ∙ named r (get_or d.endpoints.items m e).ring same) has in
+        absurd (away (omega (arith, both.0, both.1)))
+  ]
+
+  -- its number is the sum
+  pub its_number : (sum_of d.holders r ≡ s * 32 + i) × (i < 32) × (s * 32 + i < 256 * 32)
+  its_number =
+      let at : places_sum r d.endpoints.items 0 ≡ 0 + (s * 32 + i) =
+      alone r d.endpoints.items 0 (s * 32 + i) here.1 (λ e. is_same r (get_or d.endpoints.items (s * 32 + i) e).ring (at_any e)) other in
+      (omega (arith, at, d.summed r fits), here.0, omega (arith, here.1, d.endpoints_many))
+    where
+      at_any : (e : Endpoint) → (get_or d.endpoints.items (s * 32 + i) e).ring ≡ Some r
+      at_any e = ap (λ (x : Endpoint). x.ring) (get_or_within d.endpoints.items (s * 32 + i) e fresh_endpoint here.1) ∙ here.2
+
+-- two rings that are found to be one
+pub same_ring : (a b : Option ℕ) → option_eq nat_eq a b ≡ true → a ≡ b
+same_ring None None same = refl
+same_ring None (Some q) same = absurd (false≢true same)
+same_ring (Some p) None same = absurd (false≢true same)
+same_ring (Some p) (Some q) same = ap (λ n. Some n) (eqb-true p q same)

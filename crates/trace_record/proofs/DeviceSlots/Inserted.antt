@@ -1,0 +1,76 @@
+-- What passes a test of a list where one element more passes, or none
+use Rattle.trace_record.proofs.DeviceSlots.Words.{◌≡◌, ◌++◌, ◌&&◌, ◌||◌, if◌then◌else◌, ◌∙◌, ◌∷◌, not, Bool, true, false, List, [], Option, Some, None, ap, sym, refl, filter, filter_map, cons_option, filter_map-append}
+
+-- the new list is the old one with x at some place
+pub record Inserted {X : Type 0} (x : X) (old new : List X) : Type 0 where
+  pub front : List X
+  pub back : List X
+  pub was : old ≡ front ++ back
+  pub is : new ≡ front ++ x ∷ back
+
+heads : {X : Type 0} (x y : X) (xs ys : List X) → x ∷ xs ≡ y ∷ ys → x ≡ y
+heads x y xs ys e = cc
+
+tails : {X : Type 0} (x y : X) (xs ys : List X) → x ∷ xs ≡ y ∷ ys → xs ≡ ys
+tails x y xs ys e = cc
+
+module _ {X : Type 0} where
+  none_step : (x : X) (os ns ts : List X) (o w : Bool) → (if not o && w then x ∷ ts else ts) ≡ [] → (ts ≡ [] → ns ≡ os) →
+      (if o || w then x ∷ ns else ns) ≡ (if o then x ∷ os else os)
+  none_step x os ns ts true w e rest = ap (λ l. x ∷ l) (rest e)
+  none_step x os ns ts false true e rest = absurd (cc)
+  none_step x os ns ts false false e rest = rest e
+
+  -- of what didn't pass before nothing passes now
+  pub filter_as_before : (old now : X → Bool) (xs : List X) → filter (λ x. not (old x) && now x) xs ≡ [] → filter (λ x. old x || now x) xs ≡ filter old xs
+  filter_as_before old now [] none = refl
+  filter_as_before old now (x ∷ xs) none =
+      none_step x (filter old xs) (filter (λ x. old x || now x) xs) (filter (λ x. not (old x) && now x) xs) (old x) (now x) none (filter_as_before old now xs)
+
+  further : (x p : X) (os ns : List X) → Inserted p os ns → Inserted p (x ∷ os) (x ∷ ns)
+  further x p os ns i = record { front = x ∷ i.front; back = i.back; was = ap (λ l. x ∷ l) i.was; is = ap (λ l. x ∷ l) i.is }
+
+  one_step : (x p : X) (os ns ts : List X) (o w : Bool) → (if not o && w then x ∷ ts else ts) ≡ p ∷ [] → (ts ≡ [] → ns ≡ os) → (ts ≡ p ∷ [] → Inserted p os ns) →
+      Inserted p (if o then x ∷ os else os) (if o || w then x ∷ ns else ns)
+  one_step x p os ns ts true w e none one = further x p os ns (one e)
+  one_step x p os ns ts false true e none one =
+      record { front = []; back = os; was = refl; is = ap (λ y. y ∷ ns) (heads x p ts [] e) ∙ ap (λ l. p ∷ l) (none (tails x p ts [] e)) }
+  one_step x p os ns ts false false e none one = one e
+
+  -- one does
+  pub filter_with_one : (old now : X → Bool) (p : X) (xs : List X) → filter (λ x. not (old x) && now x) xs ≡ p ∷ [] → Inserted p (filter old xs) (filter (λ x. old x || now x) xs)
+  filter_with_one old now p [] one = absurd (cc)
+  filter_with_one old now p (x ∷ xs) one =
+      one_step x p (filter old xs) (filter (λ x. old x || now x) xs) (filter (λ x. not (old x) && now x) xs) (old x) (now x) one (filter_as_before old now xs)
+      (filter_with_one old now p xs)
+
+  module _ {Y : Type 0} (f : X → Option Y) (p : X) (os ns : List X) (i : Inserted p os ns) where
+    old_parts : filter_map f os ≡ filter_map f i.front ++ filter_map f i.back
+    old_parts = ap (filter_map f) i.was ∙ filter_map-append f i.front i.back
+
+    new_parts : (o : Option Y) → f p ≡ o → filter_map f ns ≡ filter_map f i.front ++ cons_option o (filter_map f i.back)
+    new_parts o at = ap (filter_map f) i.is ∙ filter_map-append f i.front (p ∷ i.back) ∙ ap (λ x. filter_map f i.front ++ cons_option x (filter_map f i.back)) at
+
+    -- what it stands for is one more
+    pub mapped_with_one : (y : Y) → f p ≡ Some y → Inserted y (filter_map f os) (filter_map f ns)
+    mapped_with_one y at = record { front = filter_map f i.front; back = filter_map f i.back; was = old_parts; is = new_parts (Some y) at }
+
+    -- it stands for nothing
+    pub mapped_as_before : f p ≡ None → filter_map f ns ≡ filter_map f os
+    mapped_as_before at = new_parts None at ∙ sym old_parts
+
+  mapped_step : {Y : Type 0} (f g : X → Option Y) (x : X) (xs : List X) (b : Bool) → (b ≡ true → f x ≡ g x) → filter_map f xs ≡ filter_map g xs →
+      filter_map f (if b then x ∷ xs else xs) ≡ filter_map g (if b then x ∷ xs else xs)
+  mapped_step f g x xs true same rest = λ i. cons_option (same refl i) (rest i)
+  mapped_step f g x xs false same rest = rest
+
+  -- what all stand for that pass is the same
+  pub mapped_same : {Y : Type 0} (f g : X → Option Y) (test : X → Bool) (xs : List X) → ((x : X) → test x ≡ true → f x ≡ g x) →
+      filter_map f (filter test xs) ≡ filter_map g (filter test xs)
+  mapped_same f g test [] same = refl
+  mapped_same f g test (x ∷ xs) same = mapped_step f g x (filter test xs) (test x) (same x) (mapped_same f g test xs same)
+
+  -- nothing passes the test that never holds
+  pub filter_nothing : (xs : List X) → filter (λ x. false) xs ≡ []
+  filter_nothing [] = refl
+  filter_nothing (x ∷ xs) = filter_nothing xs

@@ -1,0 +1,103 @@
+-- An endpoint gets a ring, or keeps its own
+use Rattle.trace_record.proofs.DeviceSlots.Words.{◌≡◌, ◌<◌, ◌==◌, if◌then◌else◌, ◌∙◌, ℕ, Bool, true, false, List, Option, Some, None, ap, sym, subst, refl, length, inl, inr, get_or-set_same, get_or-set_other, arith, slice_index_or, slice_set, eq-eqb, ne_eqb, cases_eq, cond-true, cond-false, put, put_pair, EndpointState, is_off, Spot, target, Header, ring_having, shape_of, Known, on_ring, bound_to, in_state, moved, moved_to, pointed, set_to, Endpoint, DeviceRecord, placed_endpoint, ring_got, FollowsDevices, IsWithBound, IsWithEndpoint, endpoint_at}
+use Rattle.trace_record.proofs.DeviceSlots.Moves.{follows_moved}
+use Rattle.trace_record.proofs.DeviceSlots.Steps.{endpoints_same, states_same, devices_same, follows_beside, follows_halt, follows_placed}
+
+pub set_at : {X : Type 0} (xs : List X) (n m : ℕ) (x d : X) → n < length xs → slice_index_or (slice_set xs n x) m d ≡ (if m == n then x else slice_index_or xs m d)
+set_at xs n m x d below = elim (cases_eq m n) [
+  | inl same ↦
+      (λ i. slice_index_or (slice_set xs n x) (same i) d) ∙ get_or-set_same xs n x d below ∙ sym (cond-true (m == n) x (slice_index_or xs m d) (eq-eqb m n same))
+  | inr apart ↦ get_or-set_other xs n m x d apart ∙ sym (cond-false (m == n) x (slice_index_or xs m d) (ne_eqb m n apart))
+]
+
+-- the rings that were bound
+module _ (k : Known) (old new : DeviceRecord) (f : FollowsDevices k old) where
+  other_fields : (bound : ℕ → Bool) → new.slots.items ≡ old.slots.items → new.endpoints.items ≡ old.endpoints.items →
+      ((r : ℕ) → bound r ≡ slice_index_or new.bound.items r false) → FollowsDevices (record k { was_bound = bound }) new
+  other_fields bound slots endpoints is = record {
+    slot_state = states_same k old new f slots;
+    device = devices_same k old new f slots;
+    endpoint_state = endpoints_same k old new f (λ (e : Endpoint). e.state) k.endpoint_state endpoints f.endpoint_state;
+    ring_of = endpoints_same k old new f (λ (e : Endpoint). e.ring) k.ring_of endpoints f.ring_of;
+    must_move = endpoints_same k old new f (λ (e : Endpoint). e.must_move) k.must_move endpoints f.must_move;
+    stop_seen = endpoints_same k old new f (λ (e : Endpoint). e.stop_seen) k.stop_seen endpoints f.stop_seen;
+    was_bound = is;
+  }
+
+  pub follows_unbound : IsWithBound old new None → FollowsDevices k new
+  follows_unbound w = other_fields k.was_bound w.slots w.endpoints (λ r. f.was_bound r ∙ sym (ap (λ xs. slice_index_or xs r false) w.bound))
+
+  pub follows_bound : (q : ℕ) → IsWithBound old new (Some q) → FollowsDevices (record k { was_bound = put k.was_bound q true }) new
+  follows_bound q w =
+      let below : q < 256 = w.below in
+      other_fields (put k.was_bound q true) w.slots w.endpoints
+      (λ r. ap (λ b. if r == q then true else b) (f.was_bound r) ∙ sym (ap (λ xs. slice_index_or xs r false) w.bound ∙ set_at old.bound.items q r true false (omega (arith, below, old.bound_many))))
+
+module _ (h : Header) (k : Known) (s i p : ℕ) (cycle : Bool) (state : EndpointState) (old mid new : DeviceRecord) (f : FollowsDevices k old) (x e : Endpoint)
+    (w : IsWithEndpoint mid new s i x) (was : e ≡ endpoint_at mid.endpoints.items s i) where
+  -- its ring stays, and k' is known in place of k
+  stays : (k' : Known) → FollowsDevices k' mid → x ≡ placed_endpoint e None state →
+      FollowsDevices (record k' { endpoint_state = put_pair k'.endpoint_state s i state; must_move = put_pair k'.must_move s i false }) new
+  stays k' f' is = follows_halt k' mid new f' s i x state false w (is ∙ ap (λ (y : Endpoint). placed_endpoint y None state) was)
+
+  gets_still : (r : ℕ) → IsWithBound old mid (Some r) → x ≡ placed_endpoint e (Some r) state →
+      FollowsDevices (record k {
+        was_bound = put k.was_bound r true;
+        endpoint_state = put_pair k.endpoint_state s i state;
+        ring_of = put_pair k.ring_of s i (Some r);
+        must_move = put_pair k.must_move s i false;
+      }) new
+  gets_still r b is =
+      follows_placed (record k { was_bound = put k.was_bound r true }) mid new (follows_bound k old mid f r b) s i x state (Some r) false w
+      (is ∙ ap (λ (y : Endpoint). placed_endpoint y (Some r) state) was)
+
+  -- the ring that it gets is moved to a spot, if one is named
+  gets_at : (r : ℕ) (o : Option Spot) → IsWithBound old mid (Some r) → x ≡ placed_endpoint e (Some r) state →
+      FollowsDevices (record (in_state h (record (moved_to h k r o) { ring_of = put_pair k.ring_of s i (Some r); was_bound = put k.was_bound r true }) s i state) {
+        must_move = put_pair k.must_move s i false;
+      }) new
+  unfolding in_state moved_to set_to on_ring
+  gets_at r None b is = gets_still r b is
+  gets_at r (Some t) b is =
+      follows_beside
+      (record k {
+        was_bound = put k.was_bound r true;
+        endpoint_state = put_pair k.endpoint_state s i state;
+        ring_of = put_pair k.ring_of s i (Some r);
+        must_move = put_pair k.must_move s i false;
+      })
+      (set_to h k r t) new (gets_still r b is)
+
+  gets_ring : (o : Option ℕ) → IsWithBound old mid o → x ≡ placed_endpoint e o state →
+      FollowsDevices (record (in_state h (bound_to h k s i o p cycle) s i state) { must_move = put_pair k.must_move s i false }) new
+  unfolding in_state bound_to moved
+  gets_ring None b is = stays k (follows_unbound k old mid f b) is
+  gets_ring (Some r) b is = gets_at r (target (shape_of h r) (k.ring r) p cycle) b is
+
+  keeps_ring : (o : Option ℕ) → IsWithBound old mid None → x ≡ placed_endpoint e None state →
+      FollowsDevices (record (in_state h (moved h k o p cycle) s i state) { must_move = put_pair k.must_move s i false }) new
+  unfolding in_state
+  keeps_ring o b is =
+      let f' = follows_moved h k old f o p cycle in
+      let now = stays (moved h k o p cycle) (follows_unbound (moved h k o p cycle) old mid f' b) is in
+      let same : (moved h k o p cycle).must_move ≡ k.must_move = λ n t j. (f'.must_move t j ∙ sym (f.must_move t j)) n in
+      let P : (ℕ → ℕ → Bool) → Type 0 =
+      λ g. FollowsDevices (record (moved h k o p cycle) { endpoint_state = put_pair (moved h k o p cycle).endpoint_state s i state; must_move = put_pair g s i false }) new in
+      subst P same now
+
+  -- b says whether the endpoint is Disabled
+  by_state : (b : Bool) (ring : Option ℕ) → (b ≡ true → ring_having h p ≡ ring) →
+      IsWithBound old mid (if b then ring else None) → x ≡ placed_endpoint e (if b then ring else None) state →
+      FollowsDevices (record (in_state h (if b then bound_to h k s i (ring_having h p) p cycle else moved h k (k.ring_of s i) p cycle) s i state) {
+        must_move = put_pair k.must_move s i false;
+      }) new
+  by_state true ring named b is =
+      subst (λ o. FollowsDevices (record (in_state h (bound_to h k s i o p cycle) s i state) { must_move = put_pair k.must_move s i false }) new) (sym (named refl))
+      (gets_ring ring b is)
+  by_state false ring named b is = keeps_ring (k.ring_of s i) b is
+
+  pub follows_place : (ring : Option ℕ) → (is_off (k.endpoint_state s i) ≡ true → ring_having h p ≡ ring) →
+      IsWithBound old mid (ring_got (k.endpoint_state s i) ring) → x ≡ placed_endpoint e (ring_got (k.endpoint_state s i) ring) state →
+      FollowsDevices (record (in_state h (pointed h k s i p cycle) s i state) { must_move = put_pair k.must_move s i false }) new
+  unfolding pointed
+  follows_place ring named b is = by_state (is_off (k.endpoint_state s i)) ring named b is

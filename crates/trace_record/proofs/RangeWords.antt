@@ -1,0 +1,7 @@
+pub mod AnyTests
+pub mod BitTests
+pub mod Counts
+pub mod AreaLists
+pub mod MarkedWords
+pub mod WordTests
+pub mod Words

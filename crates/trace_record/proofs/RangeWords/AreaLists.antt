@@ -1,0 +1,85 @@
+-- Areas by their first addresses, in rising order
+use Rattle.trace_record.proofs.RangeWords.Words.{◌≡◌, ◌+◌, ◌-◌, ◌<◌, ◌≤◌, ◌∷◌, ◌++◌, ◌∙◌, ℕ, List, true, false, refl, arith, length, get_or, inl, inr, sym, leb, nat_lt, Err, nat_cmp, list_any, insert, remove, Contains, IsNonDecreasingBy, IsPartitionPoint, IsPermutation, IsBinarySearchResult, cases_lt, cases_Bool, nat_tests, get_or_default, list_any_at, Contains-append_right, length-remove, get_or-remove_below, get_or-remove_above, IsNonDecreasingBy-insert, IsPermutation-insert, IsPermutation-cons, IsPermutation-middle, IsPermutation-trans, Contains-permutation, searched, overlap}
+use Rattle.trace_record.proofs.RangeWords.AnyTests.{any_none}
+
+-- those that start before an end are the first ones; of them only the last can touch
+module _ (items : List ℕ) (sorted : IsNonDecreasingBy (λ s. s) items) (from len n after : ℕ)
+    (point : IsPartitionPoint (λ s. nat_lt s (from + len) ≡ true) (λ s. nat_lt s (from + len) ≡ false) items after) where
+  far_away : (k d : ℕ) → k < length items → after ≤ k → overlap from len (get_or items k d) n ≡ false
+  far_away k d below late = let far = point.1 k d late below in grind (arith, nat_tests, far)
+
+  pub none_touches : after ≡ 0 → list_any (λ a. overlap from len a n) items ≡ false
+  none_touches none = any_none (λ a. overlap from len a n) items (λ k d below. far_away k d below (omega arith))
+
+  pub last_touches : 0 < after → after ≤ length items → nat_lt from (get_or items (after - 1) 0 + n) ≡ list_any (λ a. overlap from len a n) items
+  last_touches some bound = elim (cases_Bool (nat_lt from (get_or items (after - 1) 0 + n))) [
+    | inl near_end ↦
+        let near = point.0 (after - 1) 0 (omega arith) (omega arith) in
+        near_end ∙ sym (list_any_at (λ a. overlap from len a n) items (after - 1) 0 (omega arith) (grind (arith, nat_tests, near, near_end)))
+    | inr past ↦ past ∙ sym (any_none (λ a. overlap from len a n) items (λ k d below. elim (cases_lt k after) [
+      | inl early ↦
+          let rising = sorted k (after - 1) d (omega arith) (omega arith) in
+          let same = get_or_default items (after - 1) d 0 (omega arith) in
+          grind (arith, nat_tests, past, rising, same)
+      | inr late ↦ far_away k d below late
+    ]))
+  ]
+
+pub none_among : (items : List ℕ) (from len n : ℕ) → length items ≡ 0 → list_any (λ a. overlap from len a n) items ≡ false
+none_among items from len n none = any_none (λ a. overlap from len a n) items (λ k d below. absurd (omega (arith, none, below)))
+
+-- none touches bytes that lie before the first one, or behind the last
+module _ (items : List ℕ) (sorted : IsNonDecreasingBy (λ s. s) items) (from len n : ℕ) where
+  pub none_before : nat_lt (get_or items 0 0) (from + len) ≡ false → list_any (λ a. overlap from len a n) items ≡ false
+  none_before early = any_none (λ a. overlap from len a n) items (λ k d below.
+      let rising = sorted 0 k d (omega arith) below in
+      let same = get_or_default items 0 d 0 (omega (arith, below)) in
+      grind (arith, nat_tests, early, rising, same))
+
+  pub none_behind : nat_lt from (get_or items (length items - 1) 0 + n) ≡ false → list_any (λ a. overlap from len a n) items ≡ false
+  none_behind late = any_none (λ a. overlap from len a n) items (λ k d below.
+      let rising = sorted k (length items - 1) d (omega (arith, below)) (omega (arith, below)) in
+      let same = get_or_default items (length items - 1) d 0 (omega (arith, below)) in
+      grind (arith, nat_tests, late, rising, same))
+
+-- one more, behind those that start before it
+module _ (items : List ℕ) (start after : ℕ) where
+  pub added_sorted : IsNonDecreasingBy (λ s. s) items → after ≤ length items → IsPartitionPoint (λ s. leb s start ≡ true) (λ s. leb s start ≡ false) items after →
+      IsNonDecreasingBy (λ s. s) (insert items after start)
+  added_sorted sorted bound point =
+      IsNonDecreasingBy-insert (λ s. s) items after start sorted bound
+      (λ k d below. let low = point.0 k d (omega arith) below in grind (arith, nat_tests, low))
+      (λ k d late below. let high = point.1 k d late below in grind (arith, nat_tests, high))
+
+  pub added_all : (xs ys : List ℕ) → IsPermutation (xs ++ ys) items → IsPermutation (xs ++ start ∷ ys) (insert items after start)
+  added_all xs ys all =
+      IsPermutation-trans (xs ++ start ∷ ys) (start ∷ (xs ++ ys)) (insert items after start) (IsPermutation-middle xs start ys)
+      (IsPermutation-trans (start ∷ (xs ++ ys)) (start ∷ items) (insert items after start) (IsPermutation-cons start (xs ++ ys) items all) (IsPermutation-insert items after start))
+
+-- one less
+pub removed_sorted : (items : List ℕ) (i : ℕ) → i < length items → IsNonDecreasingBy (λ s. s) items → IsNonDecreasingBy (λ s. s) (remove items i)
+removed_sorted items i within sorted = λ j k d le below.
+    let shorter = length-remove items i within in
+    elim (cases_lt j i) [
+      | inl early ↦ elim (cases_lt k i) [
+        | inl both ↦ rw (get_or-remove_below items i d j early within, get_or-remove_below items i d k both within) (sorted j k d le (omega arith))
+        | inr late ↦ rw (get_or-remove_below items i d j early within, get_or-remove_above items i d k late within) (sorted j (k + 1) d (omega arith) (omega (arith, shorter)))
+      ]
+      | inr late ↦ rw (get_or-remove_above items i d j late within, get_or-remove_above items i d k (omega arith) within) (sorted (j + 1) (k + 1) d (omega arith) (omega (arith, shorter)))
+    ]
+
+-- what stands there is found
+pub not_missed : (items xs ys : List ℕ) (start i : ℕ) → IsBinarySearchResult (λ y. nat_cmp y start) items (Err i) → IsNonDecreasingBy (λ s. s) items → IsPermutation (xs ++ start ∷ ys) items → ⊥
+not_missed items xs ys start i missed sorted all = missed_at there.0 there.1 there.2
+  where
+    there : Contains items start
+    there = Contains-permutation (xs ++ start ∷ ys) items start all (Contains-append_right xs (start ∷ ys) start (0, omega arith, refl))
+
+    missed_at : (k : ℕ) → k < length items → get_or items k start ≡ start → ⊥
+    missed_at k below at =
+        let parts = searched items start (Err i) missed (λ a b le l. sorted a b 0 le l) in
+        let same = get_or_default items k start 0 below in
+        elim (cases_lt k i) [
+          | inl early ↦ let low = parts.1 k early in omega (arith, low, at, same)
+          | inr late ↦ let high = parts.2 k late below in omega (arith, high, at, same)
+        ]

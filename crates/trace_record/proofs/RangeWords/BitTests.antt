@@ -1,0 +1,87 @@
+-- Bits of a group of words
+use Rattle.trace_record.proofs.RangeWords.Words.{◌≡◌, ◌≢◌, ◌-◌, ◌*◌, ◌/◌, ◌%◌, ◌^◌, ◌<◌, ◌≤◌, ◌∙◌, ◌&&◌, ◌||◌, ℕ, true, false, arith, ap, sym, inl, inr, min, max, not, nat_eq, nat_le, nat_lt, cases_lt, cases_eq, nat_tests, bit_and, bit_not, bit_or, bit_at, w64, trailing_zeros}
+use Rattle.std.proofs.lemmas.Nat.{and_le_r, pow_below, pow_pos}
+use Rattle.std.proofs.lemmas.Nat.Bits.{and_pow, bit_at-lt, bit_at-pow_other, bit_at-pow_same, bit_at_and, bit_at_not, bit_at_or, bit_at-zero, bit_at-trailing_zeros, ones_shl, ones_shr, bit_at_mask_inside, bit_at_mask_below, bit_at_ones, bit_at_ones_above}
+
+min_none : (x y : ℕ) → min x y ≡ 0 → nat_lt 0 y ≡ true → nat_lt 0 x ≡ false
+min_none x y none some = grind (arith, nat_tests, none, some)
+
+min_some : (x y : ℕ) → min x y ≡ 1 → (nat_lt 0 x ≡ true) × (nat_lt 0 y ≡ true)
+min_some x y some = (grind (arith, nat_tests, some), grind (arith, nat_tests, some))
+
+max_some : (x y : ℕ) → nat_lt 0 (max x y) ≡ (nat_lt 0 x || nat_lt 0 y)
+max_some x y = grind (arith, nat_tests)
+
+-- numbers that have no 1 in the same place
+pub none_common : (b m i : ℕ) → bit_and b m ≡ 0 → nat_lt 0 (bit_at m i) ≡ true → nat_lt 0 (bit_at b i) ≡ false
+none_common b m i none has = min_none (bit_at b i) (bit_at m i) (sym (bit_at_and b m i) ∙ ap (λ x. bit_at x i) none ∙ bit_at-zero i) has
+
+-- a place at which two numbers have a 1
+pub record Common (b m : ℕ) : Type 0 where
+  pub index : ℕ
+  pub within : index < 64
+  pub both : (nat_lt 0 (bit_at b index) ≡ true) × (nat_lt 0 (bit_at m index) ≡ true)
+
+pub some_common : (b m : ℕ) → m < 2 ^ 64 → bit_and b m ≢ 0 → Common b m
+some_common b m fits some =
+    let lowest = bit_at-trailing_zeros w64 (bit_and b m) (omega (arith, some)) (omega (arith, and_le_r b m, fits)) in
+    let i = trailing_zeros w64 (bit_and b m) in
+    record { index = i; within = lowest.0; both = min_some (bit_at b i) (bit_at m i) (sym (bit_at_and b m i) ∙ lowest.1) }
+
+pub either_bit : (b m i : ℕ) → nat_lt 0 (bit_at (bit_or b m) i) ≡ (nat_lt 0 (bit_at b i) || nat_lt 0 (bit_at m i))
+either_bit b m i = ap (nat_lt 0) (bit_at_or b m i) ∙ max_some (bit_at b i) (bit_at m i)
+
+-- the ones from one place up to another
+pub run_of_ones : (low high i : ℕ) → low < 64 → high ≤ 64 → i < 64 →
+    nat_lt 0 (bit_at (bit_and ((2 ^ 64 - 1) * 2 ^ low % 2 ^ 64) ((2 ^ 64 - 1) / 2 ^ (64 - high))) i) ≡ (nat_le low i && nat_lt i high)
+run_of_ones low high i starts ends within =
+    ap (nat_lt 0) (bit_at_and _ _ i ∙ ap (λ x. min (bit_at x i) (bit_at ((2 ^ 64 - 1) / 2 ^ (64 - high)) i)) (ones_shl 64 low (omega arith))
+    ∙ ap (λ x. min (bit_at (2 ^ 64 - 2 ^ low) i) (bit_at x i)) (ones_shr 64 (64 - high) (omega arith) ∙ ap (λ k. 2 ^ k - 1) whole))
+    ∙ tested
+  where
+    whole : 64 - (64 - high) ≡ high
+    whole = omega arith
+
+    decided : (x y : ℕ) → (i < low → x ≡ 0) → (low ≤ i → x ≡ 1) → (i < high → y ≡ 1) → (high ≤ i → y ≡ 0) → nat_lt 0 (min x y) ≡ (nat_le low i && nat_lt i high)
+    decided x y below above inside behind =
+        elim (cases_lt i low) [
+          | inl early ↦ grind (arith, nat_tests, early, below early)
+          | inr late ↦ elim (cases_lt i high) [
+            | inl there ↦ grind (arith, nat_tests, late, there, above late, inside there)
+            | inr past ↦ grind (arith, nat_tests, late, past, above late, behind past)
+          ]
+        ]
+
+    tested : nat_lt 0 (min (bit_at (2 ^ 64 - 2 ^ low) i) (bit_at (2 ^ high - 1) i)) ≡ (nat_le low i && nat_lt i high)
+    tested =
+        decided (bit_at (2 ^ 64 - 2 ^ low) i) (bit_at (2 ^ high - 1) i) (bit_at_mask_below low 64 i) (λ from. bit_at_mask_inside low 64 i from within) (bit_at_ones high i) (bit_at_ones_above high i)
+
+-- the test of one bit
+tested_product : (x y : ℕ) → x < 2 → 0 < y → not (nat_eq (x * y) 0) ≡ nat_lt 0 x
+tested_product x y bit some = elim (cases_eq x 0) [
+  | inl none ↦
+      let product : x * y ≡ 0 = ap (λ z. z * y) none ∙ omega arith in
+      grind (arith, nat_tests, none, product)
+  | inr other ↦
+      let one : x ≡ 1 = omega (arith, bit, other) in
+      let product : x * y ≡ y = ap (λ z. z * y) one ∙ omega arith in
+      grind (arith, nat_tests, other, product, some)
+]
+
+pub tested_bit : (b k : ℕ) → not (nat_eq (bit_and b (2 ^ k)) 0) ≡ nat_lt 0 (bit_at b k)
+tested_bit b k = ap (λ x. not (nat_eq x 0)) (and_pow b k) ∙ tested_product (bit_at b k) (2 ^ k) (bit_at-lt b k) (pow_pos k)
+
+-- one bit is made 0
+module _ (b k : ℕ) (within : k < 64) where
+  others : (i : ℕ) → i < 64 → bit_at (bit_and b (bit_not w64 (2 ^ k))) i ≡ min (bit_at b i) (1 - bit_at (2 ^ k) i)
+  others i low = bit_at_and b _ i ∙ ap (min (bit_at b i)) (bit_at_not w64 (2 ^ k) i (pow_below k 64 within) low)
+
+  pub cleared_here : nat_lt 0 (bit_at (bit_and b (bit_not w64 (2 ^ k))) k) ≡ false
+  cleared_here =
+      let none : min (bit_at b k) (1 - 1) ≡ 0 = omega arith in
+      ap (nat_lt 0) (others k within ∙ ap (λ x. min (bit_at b k) (1 - x)) (bit_at-pow_same k) ∙ none)
+
+  pub cleared_other : (i : ℕ) → i < 64 → i ≢ k → nat_lt 0 (bit_at (bit_and b (bit_not w64 (2 ^ k))) i) ≡ nat_lt 0 (bit_at b i)
+  cleared_other i low apart =
+      let same : min (bit_at b i) (1 - 0) ≡ bit_at b i = omega (arith, bit_at-lt b i) in
+      ap (nat_lt 0) (others i low ∙ ap (λ x. min (bit_at b i) (1 - x)) (bit_at-pow_other k i apart) ∙ same)

@@ -1,0 +1,88 @@
+-- Words whose bits are 1
+use Rattle.trace_record.proofs.RangeWords.Words.{◌≡◌, ◌≢◌, ◌==◌, ◌+◌, ◌*◌, ◌/◌, ◌%◌, ◌^◌, ◌<◌, ◌≤◌, ◌∙◌, ◌&&◌, ◌||◌, ℕ, Bool, true, false, refl, arith, ap, sym, inl, inr, not, cond-true, cond-false, eq-eqb, ne_eqb, nat_le, nat_lt, cases_eq, nat_tests, bit_and, bit_not, bit_or, bit_at, w64, put, is_in, is_marked}
+use Rattle.trace_record.proofs.RangeWords.BitTests.{either_bit, cleared_here, cleared_other}
+
+put_here : (f : ℕ → ℕ) (n x m : ℕ) → m ≡ n → put f n x m ≡ x
+put_here f n x m same = cond-true (m == n) x (f m) (eq-eqb m n same)
+
+put_other : (f : ℕ → ℕ) (n x m : ℕ) → m ≢ n → put f n x m ≡ f m
+put_other f n x m apart = cond-false (m == n) x (f m) (ne_eqb m n apart)
+
+-- the bit of a word by its group and place
+pub marked_at : (f : ℕ → ℕ) (g i a : ℕ) → a / 256 ≡ g → a / 4 % 64 ≡ i → is_marked f a ≡ nat_lt 0 (bit_at (f g) i)
+marked_at f g i a group index = ap (λ h. nat_lt 0 (bit_at (f h) (a / 4 % 64))) group ∙ ap (λ j. nat_lt 0 (bit_at (f g) j)) index
+
+pub in_group : (a g : ℕ) → a / 256 ≡ g → 64 * g + a / 4 % 64 ≡ a / 4
+in_group a g group = omega (arith, group)
+
+pub between : (x y z : ℕ) → x ≤ y → y < z → (nat_le x y && nat_lt y z) ≡ true
+between x y z low high = grind (arith, nat_tests, low, high)
+
+pub low_of : (x y z : ℕ) → (nat_le x y && nat_lt y z) ≡ true → x ≤ y
+low_of x y z both = grind (arith, nat_tests, both)
+
+pub high_of : (x y z : ℕ) → (nat_le x y && nat_lt y z) ≡ true → y < z
+high_of x y z both = grind (arith, nat_tests, both)
+
+-- where a word lies by its number, and by its address
+by_number : (x y words a from : ℕ) → a ≡ 4 * x → from ≡ 4 * y → (nat_le y x && nat_lt x (y + words)) ≡ is_in a from (4 * words)
+by_number x y words a from of_a of_from = grind (arith, nat_tests, of_a, of_from)
+
+one_group_more : (h g : ℕ) → h ≢ g → nat_lt h g ≡ nat_lt h (g + 1)
+one_group_more h g apart = grind (arith, nat_tests, apart)
+
+with_group : (inside old before here : Bool) (h g : ℕ) → h ≡ g → before ≡ ((inside && nat_lt h g) || old) → here ≡ inside → (before || here) ≡ ((inside && nat_lt h (g + 1)) || old)
+with_group true old before here h g same was is = grind (arith, nat_tests, same, was, is)
+with_group false old before here h g same was is = grind (arith, nat_tests, same, was, is)
+
+-- the words of one group more are soiled
+module _ (first old new : ℕ → ℕ) (from words g bits mask a : ℕ) where
+  pub soiled_more :
+      from % 4 ≡ 0 → a % 4 ≡ 0 → bits ≡ old g →
+      ((i : ℕ) → i < 64 → nat_lt 0 (bit_at mask i) ≡ (nat_le (from / 4) (64 * g + i) && nat_lt (64 * g + i) (from / 4 + words))) →
+      ((h : ℕ) → new h ≡ put old g (bit_or bits mask) h) →
+      is_marked old a ≡ ((is_in a from (4 * words) && nat_lt (a / 256) g) || is_marked first a) →
+      is_marked new a ≡ ((is_in a from (4 * words) && nat_lt (a / 256) (g + 1)) || is_marked first a)
+  soiled_more aligned place held masked set before = elim (cases_eq (a / 256) g) [
+    | inl here ↦
+        let i : ℕ = a / 4 % 64 in
+        let is_inside : nat_lt 0 (bit_at mask i) ≡ is_in a from (4 * words) =
+        masked i (omega arith) ∙ ap (λ x. nat_le (from / 4) x && nat_lt x (from / 4 + words)) (in_group a g here)
+        ∙ by_number (a / 4) (from / 4) words a from (omega (arith, place)) (omega (arith, aligned)) in
+        let was : nat_lt 0 (bit_at bits i) ≡ is_marked old a = ap (λ b. nat_lt 0 (bit_at b i)) held ∙ sym (marked_at old g i a here refl) in
+        marked_at new g i a here refl ∙ ap (λ b. nat_lt 0 (bit_at b i)) (set g ∙ put_here old g (bit_or bits mask) g refl) ∙ either_bit bits mask i
+        ∙ with_group (is_in a from (4 * words)) (is_marked first a) (nat_lt 0 (bit_at bits i)) (nat_lt 0 (bit_at mask i)) (a / 256) g here (was ∙ before) is_inside
+    | inr other ↦
+        ap (λ b. nat_lt 0 (bit_at b (a / 4 % 64))) (set (a / 256) ∙ put_other old g (bit_or bits mask) (a / 256) other) ∙ before
+        ∙ ap (λ t. (is_in a from (4 * words) && t) || is_marked first a) (one_group_more (a / 256) g other)
+  ]
+
+gone : (s : Bool) (a at : ℕ) → a ≡ at → (s && not (a == at)) ≡ false
+gone s a at same = grind (arith, nat_tests, same)
+
+kept : (s : Bool) (a at : ℕ) → a ≢ at → (s && not (a == at)) ≡ s
+kept s a at apart = grind (arith, nat_tests, apart)
+
+-- one word is written
+module _ (old new : ℕ → ℕ) (at bits : ℕ) (aligned : at % 4 ≡ 0) (held : bits ≡ old (at / 256))
+    (set : (h : ℕ) → new h ≡ put old (at / 256) (bit_and bits (bit_not w64 (2 ^ (at / 4 % 64)))) h) where
+  at_group : new (at / 256) ≡ bit_and bits (bit_not w64 (2 ^ (at / 4 % 64)))
+  at_group = set (at / 256) ∙ put_here old (at / 256) _ (at / 256) refl
+
+  place_below : (a : ℕ) → a / 4 % 64 < 64
+  place_below a = omega arith
+
+  pub cleared : (a : ℕ) → a % 4 ≡ 0 → (is_marked old a && not (a == at)) ≡ is_marked new a
+  cleared a place = elim (cases_eq a at) [
+    | inl same ↦
+        gone (is_marked old a) a at same
+        ∙ sym (marked_at new (at / 256) (at / 4 % 64) a (ap (λ x. x / 256) same) (ap (λ x. x / 4 % 64) same) ∙ ap (λ b. nat_lt 0 (bit_at b (at / 4 % 64))) at_group ∙ cleared_here bits (at / 4 % 64) (place_below at))
+    | inr apart ↦ kept (is_marked old a) a at apart ∙ elim (cases_eq (a / 256) (at / 256)) [
+      | inl here ↦
+          let i : ℕ = a / 4 % 64 in
+          let elsewhere : i ≢ at / 4 % 64 = λ same. apart (omega (arith, same, here, place, aligned)) in
+          marked_at old (at / 256) i a here refl ∙ ap (λ b. nat_lt 0 (bit_at b i)) (sym held)
+          ∙ sym (marked_at new (at / 256) i a here refl ∙ ap (λ b. nat_lt 0 (bit_at b i)) at_group ∙ cleared_other bits (at / 4 % 64) (place_below at) i (place_below a) elsewhere)
+      | inr other ↦ sym (ap (λ b. nat_lt 0 (bit_at b (a / 4 % 64))) (set (a / 256) ∙ put_other old (at / 256) _ (a / 256) other))
+    ]
+  ]

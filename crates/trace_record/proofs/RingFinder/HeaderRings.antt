@@ -1,0 +1,138 @@
+-- Each ring of a header is found by its ID and its kind
+use Rattle.trace_record.proofs.RingFinder.Words.{◌≡◌, ◌≢◌, ◌<◌, ◌∷◌, ◌++◌, ◌∙◌, ◌==◌, ◌&&◌, List, [], Bool, true, false, Option, Some, None, refl, ap, sym, arith, inl, inr, subst, nat_lt, filter, find, ltb-true, list_any, list_all, flat_map, cases_Bool, and_parts, false≢true, IsShape, is_shape, Evt, Xfer, Ring, Header, may_stand_together, IsHeader, is_driver_kind, is_command_kind, is_event_kind, ring_with, shape_of, shape_or, id_or_none, command_ring, command_id, event_ring, event_shape}
+use Rattle.trace_record.proofs.RingFinder.ListTests.{or_false}
+use Rattle.trace_record.proofs.RingFinder.RingsApart.{IsAmong, Apart, apart_back, first_apart, rest_together, same_or_apart, same_number, other_number}
+
+-- the one ring that passes a test is found
+pub find_only : (f : Ring → Bool) (rs : List Ring) → may_stand_together rs ≡ true → (r : Ring) → IsAmong r rs → f r ≡ true → ((q : Ring) → Apart r q → f q ≡ false) → find f rs ≡ Some r
+find_only f [] together r among passes others = absurd among
+find_only f (x ∷ rest) together r (inl same) passes others = rw (ap f same ∙ passes) (ap (λ y. Some y) same)
+find_only f (x ∷ rest) together r (inr later) passes others =
+    rw (others x (apart_back x r (first_apart x rest together r later))) (find_only f rest (rest_together x rest together) r later passes others)
+
+-- what is found stands there and passes
+pub find_some : (f : Ring → Bool) (rs : List Ring) (r : Ring) → find f rs ≡ Some r → IsAmong r rs × (f r ≡ true)
+find_some f [] r e = absurd (cc)
+find_some f (x ∷ rest) r e = elim (cases_Bool (f x)) [
+  | inl passes ↦
+      let same : x ≡ r = some_is x r (sym (rw passes refl) ∙ e) in
+      (inl same, ap f (sym same) ∙ passes)
+  | inr fails ↦
+      let later = find_some f rest r (sym (rw fails refl) ∙ e) in
+      (inr later.0, later.1)
+]
+  where
+    some_is : (x y : Ring) → Some x ≡ Some y → x ≡ y
+    some_is x y e = cc
+
+abbrev pub drivers_of : List Ring → List Ring
+drivers_of rs = filter (λ r. is_driver_kind r.shape.kind) rs
+
+-- no driver ring passes
+pub no_driver : (f : Ring → Bool) (rs : List Ring) → ((q : Ring) → IsAmong q rs → is_driver_kind q.shape.kind ≡ true → f q ≡ false) → list_any f (drivers_of rs) ≡ false
+no_driver f [] none = refl
+no_driver f (x ∷ rest) none = elim (cases_Bool (is_driver_kind x.shape.kind)) [
+  | inl driver ↦ rw (driver, none x (inl refl) driver) (no_driver f rest (λ q among d. none q (inr among) d))
+  | inr other ↦ rw other (no_driver f rest (λ q among d. none q (inr among) d))
+]
+
+-- no driver ring but r passes
+pub one_driver : (f : Ring → Bool) (rs : List Ring) → may_stand_together rs ≡ true → (r : Ring) → IsAmong r rs → is_driver_kind r.shape.kind ≡ true →
+    ((q : Ring) → IsAmong q rs → Apart r q → f q ≡ false) → list_any f (drivers_of rs) ≡ f r
+one_driver f [] together r among driver none = absurd among
+one_driver f (x ∷ rest) together r (inl same) driver none =
+    let here : is_driver_kind x.shape.kind ≡ true = ap (λ (y : Ring). is_driver_kind y.shape.kind) same ∙ driver in
+    let later : list_any f (drivers_of rest) ≡ false =
+    no_driver f rest (λ q among d. none q (inr among) (subst (λ (y : Ring). Apart y q) same (first_apart x rest together q among))) in
+    rw (here, later) (or_false (f x) ∙ ap f same)
+one_driver f (x ∷ rest) together r (inr later) driver none =
+    let x_fails : f x ≡ false = none x (inl refl) (apart_back x r (first_apart x rest together r later)) in
+    let rest_is : list_any f (drivers_of rest) ≡ f r =
+    one_driver f rest (rest_together x rest together) r later driver (λ q among apart. none q (inr among) apart) in
+    elim (cases_Bool (is_driver_kind x.shape.kind)) [ inl here ↦ rw (here, x_fails) rest_is | inr other ↦ rw other rest_is ]
+
+-- driver rings from which nothing comes
+pub nothing_from : {X : Type 0} (f : Ring → List X) (rs : List Ring) → ((q : Ring) → IsAmong q rs → is_driver_kind q.shape.kind ≡ true → f q ≡ []) → flat_map f (drivers_of rs) ≡ []
+nothing_from f [] none = refl
+nothing_from f (x ∷ rest) none = elim (cases_Bool (is_driver_kind x.shape.kind)) [
+  | inl driver ↦ rw (driver, none x (inl refl) driver) (nothing_from f rest (λ q among d. none q (inr among) d))
+  | inr other ↦ rw other (nothing_from f rest (λ q among d. none q (inr among) d))
+]
+
+pub all_from_one : {X : Type 0} (f : Ring → List X) (rs : List Ring) → may_stand_together rs ≡ true → (r : Ring) → IsAmong r rs → is_driver_kind r.shape.kind ≡ true →
+    ((q : Ring) → IsAmong q rs → Apart r q → f q ≡ []) → flat_map f (drivers_of rs) ≡ f r ++ []
+all_from_one f [] together r among driver none = absurd among
+all_from_one f (x ∷ rest) together r (inl same) driver none =
+    let here : is_driver_kind x.shape.kind ≡ true = ap (λ (y : Ring). is_driver_kind y.shape.kind) same ∙ driver in
+    let later : flat_map f (drivers_of rest) ≡ [] =
+    nothing_from f rest (λ q among d. none q (inr among) (subst (λ (y : Ring). Apart y q) same (first_apart x rest together q among))) in
+    rw (here, later) (ap (λ y. f y ++ []) same)
+all_from_one f (x ∷ rest) together r (inr later) driver none =
+    let x_fails : f x ≡ [] = none x (inl refl) (apart_back x r (first_apart x rest together r later)) in
+    let rest_is : flat_map f (drivers_of rest) ≡ f r ++ [] =
+    all_from_one f rest (rest_together x rest together) r later driver (λ q among apart. none q (inr among) apart) in
+    elim (cases_Bool (is_driver_kind x.shape.kind)) [ inl here ↦ rw (here, x_fails) rest_is | inr other ↦ rw other rest_is ]
+
+each_allowed : (rs : List Ring) → list_all (λ r. nat_lt r.id 256 && is_shape r.shape) rs ≡ true → (r : Ring) → IsAmong r rs → (nat_lt r.id 256 && is_shape r.shape) ≡ true
+each_allowed [] all r among = absurd among
+each_allowed (x ∷ rest) all r (inl same) =
+    ap (λ (y : Ring). nat_lt y.id 256 && is_shape y.shape) (sym same) ∙ (and_parts (nat_lt x.id 256 && is_shape x.shape) (list_all (λ r. nat_lt r.id 256 && is_shape r.shape) rest) all).0
+each_allowed (x ∷ rest) all r (inr later) = each_allowed rest (and_parts (nat_lt x.id 256 && is_shape x.shape) (list_all (λ r. nat_lt r.id 256 && is_shape r.shape) rest) all).1 r later
+
+module _ (h : Header) (headed : IsHeader h) where
+  pub together : may_stand_together h.rings ≡ true
+  together = (and_parts (list_all (λ r. nat_lt r.id 256 && is_shape r.shape) h.rings) (may_stand_together h.rings) headed).1
+
+  module _ (r : Ring) (among : IsAmong r h.rings) where
+    parts : (nat_lt r.id 256 ≡ true) × (is_shape r.shape ≡ true)
+    parts =
+        and_parts (nat_lt r.id 256) (is_shape r.shape)
+        (each_allowed h.rings (and_parts (list_all (λ r. nat_lt r.id 256 && is_shape r.shape) h.rings) (may_stand_together h.rings) headed).0 r among)
+
+    pub id_below : r.id < 256
+    id_below = ltb-true r.id 256 parts.0
+
+    pub shape_allowed : IsShape r.shape
+    shape_allowed = parts.1
+
+    pub ring_found : ring_with h r.id ≡ Some r
+    ring_found = find_only (λ q. q.id == r.id) h.rings together r among (same_number r.id) (λ q apart. other_number q.id r.id (λ e. apart.ids (sym e)))
+
+    -- the shape of its ID is its own
+    pub shape_there : shape_of h r.id ≡ r.shape
+    unfolding shape_of
+    shape_there = ap (λ o. shape_or Xfer o) ring_found
+
+    not_event : (q : Ring) → is_event_kind r.shape.kind ≡ true → Apart r q → is_event_kind q.shape.kind ≡ false
+    not_event q is apart = by (is_event_kind q.shape.kind) (λ e. apart.one_event is e)
+      where
+        by : (b : Bool) → (b ≡ true → ⊥) → b ≡ false
+        by true n = absurd (n refl)
+        by false n = refl
+
+    pub event_found : is_event_kind r.shape.kind ≡ true → event_ring h ≡ Some r
+    unfolding event_ring
+    event_found is = find_only (λ q. is_event_kind q.shape.kind) h.rings together r among is (λ q apart. not_event q is apart)
+
+    pub event_here : is_event_kind r.shape.kind ≡ true → event_shape h ≡ r.shape
+    unfolding event_shape event_ring
+    event_here is = ap (λ o. shape_or Evt o) (find_only (λ q. is_event_kind q.shape.kind) h.rings together r among is (λ q apart. not_event q is apart))
+
+  -- the command ring, if it isn't r, has another ID
+  pub no_command_here : (r : Ring) → IsAmong r h.rings → is_command_kind r.shape.kind ≡ false → r.id ≢ command_id h
+  unfolding command_id command_ring
+  no_command_here r among is_none same = by (command_ring h) refl same
+    where
+      by : (o : Option Ring) → command_ring h ≡ o → r.id ≡ id_or_none o → ⊥
+      by None found same = omega (arith, id_below r among, same)
+      by (Some c) found same =
+          let there = find_some (λ q. is_command_kind q.shape.kind) h.rings c found in
+          elim (same_or_apart h.rings together r c among there.0) [
+            | inl one ↦ false≢true (sym is_none ∙ ap (λ (y : Ring). is_command_kind y.shape.kind) (sym one) ∙ there.1)
+            | inr apart ↦ apart.ids same
+          ]
+
+-- where no ring has the ID
+pub not_found : (f : Ring → Bool) (rs : List Ring) → ((q : Ring) → IsAmong q rs → f q ≡ false) → find f rs ≡ None
+not_found f [] fails = refl
+not_found f (x ∷ rest) fails = rw (fails x (inl refl)) (not_found f rest (λ q among. fails q (inr among)))

@@ -1,0 +1,104 @@
+-- The rings of a header lie apart: no two have the same ID or a byte in common
+use Rattle.segments.specs.Shape.{rings_overlap}
+use Rattle.trace_record.proofs.RingFinder.Words.{◌≡◌, ◌≢◌, ◌<◌, ◌∷◌, ◌∙◌, ◌==◌, ◌&&◌, ◌||◌, ◌⊎◌, ℕ, List, [], Bool, true, false, Some, None, refl, ap, sym, arith, length, get_or, zero, suc, inl, inr, subst, not, slice_get, get_or_from_slice_get, slice_get_within, list_any, or_parts, and_parts, false≢true, nat_tests, is_inside, rings_apart, Ring, clash, may_stand_together, is_command_kind, is_event_kind}
+
+pub same_number : (n : ℕ) → (n == n) ≡ true
+same_number n = grind (arith, nat_tests)
+
+pub other_number : (m n : ℕ) → m ≢ n → (m == n) ≡ false
+other_number m n h = grind (arith, nat_tests, h)
+
+-- the ring stands in the list
+abbrev pub IsAmong : Ring → List Ring → Type 0
+IsAmong r [] = ⊥
+IsAmong r (q ∷ rest) = (q ≡ r) ⊎ IsAmong r rest
+
+pub among_get : (rs : List Ring) (i : ℕ) (d : Ring) → i < length rs → IsAmong (get_or rs i d) rs
+among_get [] i d h = absurd (omega arith)
+among_get (r ∷ rest) zero d h = inl refl
+among_get (r ∷ rest) (suc i) d h = inr (among_get rest i d (omega arith))
+
+pub among_at : (rs : List Ring) (i : ℕ) (r : Ring) → slice_get rs i ≡ Some r → IsAmong r rs
+among_at rs i r e = subst (λ (x : Ring). IsAmong x rs) (get_or_from_slice_get rs i r r e) (among_get rs i r (slice_get_within rs i r e))
+
+-- what fails at each number fails for each ring
+pub each_among : (f : Ring → Bool) (rs : List Ring) → ((i : ℕ) (d : Ring) → i < length rs → f (get_or rs i d) ≡ false) → (q : Ring) → IsAmong q rs → f q ≡ false
+each_among f [] fails q among = absurd among
+each_among f (r ∷ rest) fails q (inl same) = ap f (sym same) ∙ fails 0 r (omega arith)
+each_among f (r ∷ rest) fails q (inr later) = each_among f rest (λ i d h. fails (suc i) d (omega arith)) q later
+
+-- two rings that may stand together
+pub record Apart (r q : Ring) : Type 0 where
+  pub ids : r.id ≢ q.id
+  pub memory : (a : ℕ) → is_inside r.shape a ≡ true → is_inside q.shape a ≡ true → ⊥
+  pub one_command : is_command_kind r.shape.kind ≡ true → is_command_kind q.shape.kind ≡ true → ⊥
+  pub one_event : is_event_kind r.shape.kind ≡ true → is_event_kind q.shape.kind ≡ true → ⊥
+
+not_both : (x y : Bool) → (x && y) ≡ false → x ≡ true → y ≡ true → ⊥
+not_both true y e f g = false≢true (sym e ∙ g)
+not_both false y e f g = false≢true f
+
+not_equal : (m n : ℕ) → (m == n) ≡ false → m ≢ n
+not_equal m n e same = false≢true (sym e ∙ ap (λ x. x == n) same ∙ same_number n)
+
+apart_from : (r q : Ring) → clash r q ≡ false → Apart r q
+apart_from r q e =
+    let first = or_parts (r.id == q.id || rings_overlap r.shape q.shape || (is_command_kind r.shape.kind && is_command_kind q.shape.kind))
+    (is_event_kind r.shape.kind && is_event_kind q.shape.kind) e in
+    let second = or_parts (r.id == q.id || rings_overlap r.shape q.shape) (is_command_kind r.shape.kind && is_command_kind q.shape.kind) first.0 in
+    let third = or_parts (r.id == q.id) (rings_overlap r.shape q.shape) second.0 in
+    record {
+      ids = not_equal r.id q.id third.0;
+      memory = λ a here there. rings_apart r.shape q.shape a third.1 here there;
+      one_command = not_both (is_command_kind r.shape.kind) (is_command_kind q.shape.kind) second.1;
+      one_event = not_both (is_event_kind r.shape.kind) (is_event_kind q.shape.kind) first.1;
+    }
+
+pub apart_back : (r q : Ring) → Apart r q → Apart q r
+apart_back r q x = record {
+  ids = λ e. x.ids (sym e);
+  memory = λ a here there. x.memory a there here;
+  one_command = λ here there. x.one_command there here;
+  one_event = λ here there. x.one_event there here;
+}
+
+each_apart : (r : Ring) (rest : List Ring) → list_any (clash r) rest ≡ false → (q : Ring) → IsAmong q rest → Apart r q
+each_apart r [] e q among = absurd among
+each_apart r (x ∷ rest) e q (inl same) = subst (λ (y : Ring). Apart r y) same (apart_from r x (or_parts (clash r x) (list_any (clash r) rest) e).0)
+each_apart r (x ∷ rest) e q (inr later) = each_apart r rest (or_parts (clash r x) (list_any (clash r) rest) e).1 q later
+
+not_true : (b : Bool) → not b ≡ true → b ≡ false
+not_true true e = absurd (cc)
+not_true false e = refl
+
+pub first_apart : (r : Ring) (rest : List Ring) → may_stand_together (r ∷ rest) ≡ true → (q : Ring) → IsAmong q rest → Apart r q
+first_apart r rest together q among =
+    each_apart r rest (not_true (list_any (clash r) rest) (and_parts (not (list_any (clash r) rest)) (may_stand_together rest) together).0) q among
+
+pub rest_together : (r : Ring) (rest : List Ring) → may_stand_together (r ∷ rest) ≡ true → may_stand_together rest ≡ true
+rest_together r rest together = (and_parts (not (list_any (clash r) rest)) (may_stand_together rest) together).1
+
+-- two rings are one, or apart
+pub same_or_apart : (rs : List Ring) → may_stand_together rs ≡ true → (r q : Ring) → IsAmong r rs → IsAmong q rs → (q ≡ r) ⊎ Apart r q
+same_or_apart [] together r q a b = absurd a
+same_or_apart (x ∷ rest) together r q (inl a) (inl b) = inl (sym b ∙ a)
+same_or_apart (x ∷ rest) together r q (inl a) (inr b) = inr (subst (λ (y : Ring). Apart y q) a (first_apart x rest together q b))
+same_or_apart (x ∷ rest) together r q (inr a) (inl b) = inr (apart_back q r (subst (λ (y : Ring). Apart y r) b (first_apart x rest together r a)))
+same_or_apart (x ∷ rest) together r q (inr a) (inr b) = same_or_apart rest (rest_together x rest together) r q a b
+
+-- rings of two numbers are apart
+pub numbers_apart : (rs : List Ring) → may_stand_together rs ≡ true → (i n : ℕ) (q r : Ring) → slice_get rs i ≡ Some q → slice_get rs n ≡ Some r → i ≢ n → Apart q r
+numbers_apart [] together i n q r e f other = absurd (none_some e)
+  where
+    none_some : None ≡ Some q → ⊥
+    none_some e = cc
+numbers_apart (x ∷ rest) together zero zero q r e f other = absurd (other refl)
+numbers_apart (x ∷ rest) together zero (suc n) q r e f other = subst (λ (y : Ring). Apart y r) (some_is e) (first_apart x rest together r (among_at rest n r f))
+  where
+    some_is : Some x ≡ Some q → x ≡ q
+    some_is e = cc
+numbers_apart (x ∷ rest) together (suc i) zero q r e f other = apart_back r q (subst (λ (y : Ring). Apart y q) (some_is f) (first_apart x rest together q (among_at rest i q e)))
+  where
+    some_is : Some x ≡ Some r → x ≡ r
+    some_is e = cc
+numbers_apart (x ∷ rest) together (suc i) (suc n) q r e f other = numbers_apart rest (rest_together x rest together) i n q r e f (λ same. other (ap suc same))

@@ -1,0 +1,18 @@
+use Rattle.trace_record.proofs.DeviceSlots.Words.{◌≡◌, ◌==◌, ◌&&◌, arith, named_by}
+use Rattle.std.specs.Prelude.{nat_lt}
+use Rattle.trace_record.proofs.DeviceSlots.TurnedOff.{disabled_none, disabled_twice, disabled_all, one_more, none_below, all_below}
+use Rattle.trace_record.proofs.device_record.kept.DeviceRecord.disable_each.Goals as goal
+
+pub loop-index-init : goal.loop-index-init
+loop-index-init c = disabled_none c.args.self.now c.args.slot _ (none_below (named_by c.args.named))
+
+pub loop-index-preserved : goal.loop-index-preserved
+loop-index-preserved c =
+    disabled_twice c.args.self.now c.loop-index.self c.disable_named.new.self c.args.slot (λ i. named_by c.args.named i && nat_lt i c.loop-index.index)
+    (λ i. named_by c.args.named i && i == c.loop-index.index) _ c.loop-index.invariant c.disable_named.ensures (one_more (named_by c.args.named) c.loop-index.index)
+
+pub returns : goal.returns
+returns c =
+    let end : c.loop-index.index ≡ 32 = omega (arith, c.loop-index.auto.index-end, c.loop-index-test.false) in
+    disabled_all c.args.self.now c.loop-index.self c.args.slot _ (named_by c.args.named) c.loop-index.invariant
+    (λ i below. all_below (named_by c.args.named) c.loop-index.index i (omega (arith, below, end)))

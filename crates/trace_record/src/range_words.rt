@@ -1,0 +1,7 @@
+//! Which words of memory lie in areas of one length, and which words are soiled.
+
+mod areas;
+mod soiled;
+
+pub use areas::Areas;
+pub use soiled::SoiledWords;

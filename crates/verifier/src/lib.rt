@@ -1,8 +1,0 @@
-//! The verifier of certificates.
-#![tactic(auto)]
-
-mod stream;
-mod verifying;
-
-pub use stream::verify_stream;
-pub use verifying::verify;

@@ -1,8 +1,0 @@
-use Rattle.std.proofs.Common.{ap, sym, ◌∙◌}
-use Rattle.ownership_rules.specs.Refusal.{first_broken}
-use Rattle.write_checks.specs.WriteTests.{place_tests}
-use Rattle.write_checks.proofs.checks.place_refusal.Goals as goal
-
-pub returns-in-None-clause-first : goal.returns-in-None-clause-first
-returns-in-None-clause-first g c = λ k shape f d fit follows.
-    c.block_refusal.ensures c.args.header.now k shape _ f follows ∙ ap (λ o. first_broken (place_tests c.args.header.now k c.args.ring o)) (sym c.in-None.is)

@@ -1,8 +1,0 @@
-use Rattle.std.proofs.Common.{ap, ◌∙◌}
-use Rattle.std.specs.Prelude.{unwrap_or}
-use Rattle.segments.specs.Givings.{link_of}
-use Rattle.write_checks.proofs.crossings.link_crossed.Goals as goal
-
-pub returns-clause-value : goal.returns-clause-value
-unfolding link_of
-returns-clause-value c = c.unwrap_or.ensures ∙ ap (λ o. unwrap_or o 0) c.crossing.ensures.value
