@@ -1,5 +1,5 @@
 -- What a command block says: xHCI 4.6, 6.4.3
-use Rattle.std.specs.Prelude.{ℕ, ◌==◌, ◌&&◌, Bool, true, false, not, if◌then◌else◌, Option, Some, None}
+use Rattle.std.specs.Prelude.{◌≡◌, ℕ, ◌==◌, ◌&&◌, Bool, true, false, not, if◌then◌else◌, Option, Some, None}
 use Rattle.trb.specs.declared.block.Block.{Block}
 use Rattle.trb.specs.declared.kind.BlockKind.{BlockKind}
 use Rattle.trb.specs.declared.kind.BlockKind.TheVariants as kinds
@@ -29,6 +29,10 @@ command_by_kind _ b = None
 -- the command of a block, where it is one of the profile by its type and its fields
 abbrev pub command_of : Block → Option Command
 command_of b = if is_command_left_out b then None else command_by_kind (kind b) b
+
+-- some block says the command
+abbrev pub IsSaid : Command → Type 0
+IsSaid c = (b : Block) × (command_of b ≡ Some c)
 
 -- the slot that a command names
 abbrev pub named_slot : Command → Option ℕ

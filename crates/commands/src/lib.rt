@@ -3,7 +3,9 @@
 
 mod command;
 mod fields;
+mod said_command;
 mod state;
 
 pub use command::{Command, is_stop_of};
+pub use said_command::SaidCommand;
 pub use state::{EndpointState, SlotState, State, after, is_off};

@@ -3,5 +3,6 @@ pub mod Given
 pub mod GivenTests
 pub mod OnRing
 pub mod CommandsOn
+pub mod SaidCommands
 pub mod RingWrites
 pub mod WriteSteps

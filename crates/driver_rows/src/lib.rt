@@ -11,19 +11,14 @@ mod rings;
 mod write_effects;
 mod writes;
 
-pub use bindings::{
-    awaits_binding, binds_again, forget_bound, is_bad_binding, is_bad_move, is_being_moved,
-    note_bound,
-};
-pub use context_rules::{
-    has_left_out_endpoint, is_bad_area, is_bad_command, is_in_range_lease, is_soiled,
-};
+pub use bindings::{forget_bound, note_bound};
+pub use context_rules::{is_bad_command, is_soiled};
 pub use declarations::check_declaration;
-pub use doorbells::{endpoint_ring, is_bad_doorbell, is_touched, ring_doorbell};
+pub use doorbells::{endpoint_ring, is_bad_doorbell, ring_doorbell};
 pub use registers::check_register;
 pub use rings::{
     check_coming, check_going, check_withdrawing, is_left, restore_ring, ring_restored, some_flips,
     transfer_ring,
 };
 pub use write_effects::{note_plain_write, note_write};
-pub use writes::{WordWrite, check_write, given_command, plain_refusal};
+pub use writes::{WordWrite, check_write, plain_refusal};

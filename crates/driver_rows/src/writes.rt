@@ -9,6 +9,5 @@ mod positions;
 mod word_write;
 
 pub use checks::check_write;
-pub use given_commands::given_command;
 pub use plain::plain_refusal;
 pub use word_write::WordWrite;

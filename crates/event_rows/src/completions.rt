@@ -2,11 +2,9 @@
 
 mod ending;
 mod impossible;
-mod next;
 mod placing;
 mod possible;
 mod rings;
 mod success;
 
 pub use ending::read_completion;
-pub use next::next_command;

@@ -5,7 +5,7 @@
 mod completions;
 mod transfers;
 
-pub use completions::{next_command, read_completion};
+pub use completions::read_completion;
 pub use transfers::{
     NamedSpot, count_read, is_left_out, is_no_event, named_spot, read_transfer_event,
 };

@@ -7,10 +7,7 @@ mod log;
 mod rings;
 mod rows;
 
-pub use book::{
-    IndexTables, Indexes, LeaseBook, LeaseLog, RangeIndexes, block_lease, link_lease,
-    opening_leases, range_lease,
-};
+pub use book::{Indexes, LeaseBook, LeaseLog, RangeIndexes, opening_leases};
 pub use log::CertificateLog;
 pub use rings::{note_going, note_moving, note_restoring, note_withdrawing};
 pub use rows::note_row;

@@ -48,9 +48,9 @@ fn check_rows<M: WordMemory + Drop>(
             &memory,
             number,
             row,
-            place,
+            &place,
         )?;
-        match check_row(header, &finder, &mut kept, &mut memory, row, place) {
+        match check_row(header, &finder, &mut kept, &mut memory, row, &place) {
             Ok(()) => {}
             Err(StepFault::Refused(refusal)) => return Err(CheckFault::Refused {
                 row: number,

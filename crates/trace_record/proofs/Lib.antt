@@ -5,7 +5,8 @@ pub mod OneRingHas
 mod TableWords
 mod OpenAreas
 mod OpenEntries
-pub mod PlacedWords
+pub mod GivenCommands
+pub mod PlacedRows
 pub mod FirstBroken
 pub mod Words
 pub mod RangeWords

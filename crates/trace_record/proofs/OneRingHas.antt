@@ -13,7 +13,7 @@ or_true true = refl
 or_true false = refl
 
 module _ (h : Header) (headed : IsHeader h) (k : Known) (a : ℕ) (aligned : a % 4 ≡ 0) where
-  inside_is : (q : Ring) → IsAmong q h.rings → touches q.shape a 4 ≡ is_inside q.shape a
+  pub inside_is : (q : Ring) → IsAmong q h.rings → touches q.shape a 4 ≡ is_inside q.shape a
   inside_is q among = touches-word q.shape (shape_allowed h headed q among) a aligned
 
   -- the leases of one ring

@@ -7,5 +7,6 @@ pub mod Starts
 pub mod Hints
 pub mod TouchedSegments
 pub mod FoundRings
+pub mod CommandRings
 pub mod HavingRings
 pub mod Words

@@ -29,9 +29,9 @@ pub use Rattle.std.proofs.Math.Path.{fun_ext}
 pub use Rattle.trace_record.specs.FollowsTrace.{FollowsEvents, FollowsPlace, FollowsTrace, device_contexts, inputs_of}
 pub use Rattle.trace_record.specs.Fresh.{AreFresh, IsFreshSo}
 pub use Rattle.trace_record.specs.Owned.{entries_have, is_owned, rings_have, table_has}
-pub use Rattle.trace_record.specs.WordPlaces.{IsGivenBy, IsGivenOn, IsOwnedSo, IsPlaced}
+pub use Rattle.trace_record.specs.RowPlaces.{IsGivenBy, IsGivenOn, IsOwnedSo, IsPlaced}
 pub use Rattle.trace_record.specs.declared.trace_record.TraceRecord.{TraceRecord}
-pub use Rattle.trace_record.specs.declared.word_place.WordPlace.{WordPlace}
+pub use Rattle.trace_record.specs.declared.row_place.RowPlace.{RowPlace}
 unfoldable pub use Rattle.traces.specs.Header.{driver_rings}
 pub use Rattle.traces.specs.Register.{base_address, register_or_zero}
 pub use Rattle.traces.specs.declared.register.Register.TheVariants.{Dcbaap, Erstba}

@@ -4,7 +4,8 @@ pub mod Steps
 pub mod Premises
 pub mod Fresh
 pub mod Owned
-pub mod WordPlaces
+pub mod RingCommands
+pub mod RowPlaces
 pub mod RangeWords
 pub mod RingFinder
 pub mod DeviceSlots

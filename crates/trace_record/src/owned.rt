@@ -9,10 +9,10 @@ ghost use Rattle.ring_knowledge.specs.RegisterRecords.{FollowsRegisters};
 ghost use Rattle.trace_record.specs.DeviceSlots.Devices.{FollowsDevices};
 ghost use Rattle.ownership_rules.specs.OpenLeases.{covers, is_leased, is_the_controllers, segment_ranges};
 ghost use Rattle.trace_record.specs.FollowsTrace.{FollowsEvents, FollowsTrace};
-ghost use Rattle.trace_record.specs.WordPlaces.{IsOwnedSo, IsPlaced};
+ghost use Rattle.trace_record.specs.RowPlaces.{IsOwnedSo, IsPlaced};
 
+use crate::row_place::RowPlace;
 use crate::trace_record::TraceRecord;
-use crate::word_place::WordPlace;
 use event_ring::EventPlace;
 use guest_memory::{Addr, WordMemory};
 use traces::{Header, Register, Row};
@@ -28,9 +28,9 @@ impl TraceRecord {
         header: &Header,
         memory: &M,
         row: &Row,
-        place: WordPlace,
+        place: &RowPlace,
     ) -> bool
-        ensures { (k : Known) → FollowsTrace header.now k self.now (M.words memory.now) → IsPlaced header.now k row.now place → IsOwnedSo header.now k row.now result }
+        ensures { (k : Known) → FollowsTrace header.now k self.now (M.words memory.now) → IsPlaced header.now k row.now place.now → IsOwnedSo header.now k row.now result }
     {
         match row {
             Row::Write { at, word } => {

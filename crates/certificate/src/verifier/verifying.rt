@@ -62,9 +62,9 @@ fn verify_rows<M: WordMemory + Drop>(
             &memory,
             number,
             row,
-            place,
+            &place,
         )?;
-        match check_row(header, &finder, &mut kept, &mut memory, row, place) {
+        match check_row(header, &finder, &mut kept, &mut memory, row, &place) {
             Ok(()) => {}
             Err(StepFault::Refused(_)) => return Ok(false),
             Err(StepFault::Memory) => return Err(AllocError),

@@ -1,6 +1,6 @@
 -- Slots whose entries some bytes can't touch
-use Rattle.std.proofs.Common.{◌≡◌, ℕ, ◌+◌, ◌≤◌, false, ap, arith, subst}
-use Rattle.std.specs.Prelude.{is_some, nat_lt, unwrap_or}
+use Rattle.std.proofs.Common.{◌≡◌, ℕ, ◌+◌, ◌≤◌, false, subst}
+use Rattle.std.specs.Prelude.{unwrap_or}
 use Rattle.std.proofs.lemmas.Bool.{and_left, and_right, le-ltb}
 use Rattle.contexts.specs.Contexts.{slot_entry}
 use Rattle.traces.specs.declared.register.Register.TheVariants.{Dcbaap}

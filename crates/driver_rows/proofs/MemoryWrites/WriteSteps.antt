@@ -22,11 +22,13 @@ use Rattle.safety.specs.Keeps.{DriverKeeps}
 use Rattle.trace_record.proofs.RingFinder.RingsApart.{IsAmong, among_at}
 use Rattle.trace_record.specs.declared.trace_record.TraceRecord.{TraceRecord}
 use Rattle.trace_record.specs.FollowsTrace.{FollowsTrace}
-use Rattle.driver_rows.specs.MemoryWrites.WriteTests.{GivesOnPosition, command_on, given_tests}
+use Rattle.trace_record.specs.RingCommands.{command_on}
+use Rattle.trace_record.proofs.GivenCommands.{given_by_ring, none_nowhere}
+use Rattle.driver_rows.specs.MemoryWrites.WriteTests.{GivesOnPosition, given_tests}
 use Rattle.driver_rows.specs.MemoryWrites.Allowed.{IsAllowed}
 use Rattle.trace_record.proofs.FirstBroken.{nothing_broken}
 use Rattle.driver_rows.proofs.MemoryWrites.OnRing.{inside, inside_is}
-use Rattle.driver_rows.proofs.MemoryWrites.CommandsOn.{awaits_none, command_is, none_nowhere, stays_put}
+use Rattle.driver_rows.proofs.MemoryWrites.CommandsOn.{awaits_none, stays_put}
 use Rattle.driver_rows.proofs.MemoryWrites.RingWrites.{IsStill, nothing_breaks, least_of_ring}
 
 none_some : {X Y : Type 0} (x : X) → None ≡ Some x → Y
@@ -48,6 +50,15 @@ module _ (h : Header) (headed : IsHeader h) (a w : ℕ) (aligned : a % 4 ≡ 0) 
   among : IsAmong r h.rings
   among = among_at h.rings n r at
 
+  -- the command that the write gives, by what it gives of the ring
+  by_ring : (k : Known) → positions_given r.shape (k.ring r.id) a w ≡ positions_of giving →
+      command_given h k a w ≡ (if is_command_kind r.shape.kind then command_on (k.ring r.id) (positions_of giving) else None)
+  by_ring k gives = given_by_ring h headed k a w aligned r among (inside h headed k a aligned r among driver has) giving gives
+
+  pub said_here : (k : Known) (o : Option Command) → o ≡ command_given h k a w → positions_given r.shape (k.ring r.id) a w ≡ positions_of giving →
+      o ≡ (if is_command_kind r.shape.kind then command_on (k.ring r.id) (positions_of giving) else None)
+  said_here k o is gives = is ∙ by_ring k gives
+
   -- what the record of the ring tells
   pub record IsTold (k : Known) : Type 0 where
     pub positions : positions_given r.shape (k.ring r.id) a w ≡ positions_of giving
@@ -57,9 +68,7 @@ module _ (h : Header) (headed : IsHeader h) (a w : ℕ) (aligned : a % 4 ≡ 0) 
 
   module _ (k : Known) (t : TraceRecord) (m : ℕ → ℕ) (f : FollowsTrace h k t m) (keeps : DriverKeeps h k) (on : k.stopped ≡ false) (free : writes_to_owned h k a w ≡ false) (told : IsTold k) where
     gives : command_given h k a w ≡ command
-    gives =
-        command_is h headed k a w aligned r among (inside h headed k a aligned r among driver has)
-        ∙ ap (λ ps. if is_command_kind r.shape.kind then command_on (k.ring r.id) ps else None) told.positions ∙ sym told.said
+    gives = by_ring k told.positions ∙ sym told.said
 
     still : (c : Command) → command ≡ Some c → IsStill h k a w r
     still c is = elim (cases_Bool (is_command_kind r.shape.kind)) [

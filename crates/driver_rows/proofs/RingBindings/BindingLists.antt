@@ -12,7 +12,6 @@ use Rattle.commands.specs.States.{is_off}
 use Rattle.traces.specs.declared.header.Header.{Header}
 use Rattle.traces.specs.Header.{is_ring}
 use Rattle.ring_knowledge.specs.Known.{Known}
-use Rattle.ring_knowledge.specs.Rings.{unfinished}
 use Rattle.ownership_rules.specs.Moves.{Binding, binding_in, binds, binds_again, binds_ring, has_repeats, is_among, is_bad_binding, is_bad_place, is_being_bound, is_kept, is_placed, is_taken, ring_bound, was_ring_bound}
 use Rattle.driver_rows.specs.declared.bindings.binding.RingBinding.{RingBinding}
 use Rattle.driver_rows.specs.declared.bindings.context.Bound.{Bound}

@@ -1,29 +1,24 @@
 -- The unfinished commands slot by slot
-use Rattle.std.proofs.Common.{◌≡◌, ℕ, ◌+◌, ◌%◌, ◌^◌, ◌<◌, ◌≤◌, ◌==◌, ◌&&◌, ◌||◌, if◌then◌else◌, Bool, true, false, List, [], ◌∷◌, Option, Some, None, All, refl, ap, sym, ◌∙◌, arith, subst}
-use Rattle.std.specs.Prelude.{not, nat_le, nat_lt, is_some, IfSome, option_and_then, slice_get}
+use Rattle.std.proofs.Common.{◌≡◌, ℕ, ◌+◌, ◌<◌, ◌==◌, ◌&&◌, ◌||◌, if◌then◌else◌, Bool, true, false, List, [], ◌∷◌, Option, Some, None, refl, ap, sym, ◌∙◌, arith, subst}
+use Rattle.std.specs.Prelude.{nat_lt, is_some, IfSome, option_and_then, slice_get}
 use Rattle.std.specs.List.{cons_option, filter_map, list_any}
 use Rattle.std.proofs.lemmas.Bool.{and_parts, eq-eqb, false≢true}
 use Rattle.std.proofs.lemmas.Bool.Decides.{nat_tests}
-use Rattle.std.proofs.lemmas.List.Folds.{list_any_none}
 use Rattle.trb.specs.declared.block.Block.{Block}
 use Rattle.trb.specs.declared.kind.BlockKind.{BlockKind}
 use Rattle.trb.specs.declared.kind.BlockKind.TheVariants as kinds
 use Rattle.trb.specs.Block.{kind, slot}
 use Rattle.trb.specs.Descriptor.{is_command_left_out}
-use Rattle.contexts.specs.declared.size.ContextSize.{ContextSize}
-use Rattle.contexts.specs.Contexts.{input_context_bytes}
 use Rattle.commands.specs.declared.command.Command.{Command}
-use Rattle.commands.specs.declared.command.Command.TheVariants.{AddressDevice, ConfigureEndpoint, EvaluateContext}
-use Rattle.commands.specs.Command.{command_by_kind, command_of, named_context, named_slot}
+use Rattle.commands.specs.Command.{command_by_kind, command_of, named_slot}
 use Rattle.traces.specs.declared.header.Header.{Header}
 use Rattle.traces.specs.Header.{command_id}
 use Rattle.ring_knowledge.specs.Known.{Known}
 use Rattle.ring_knowledge.specs.Rings.{command_at, unfinished, unfinished_positions}
 use Rattle.trace_record.specs.DeviceSlots.Indices.{IsOnlyAbout, index_of, is_about, is_slot, names}
 use Rattle.trace_record.specs.DeviceSlots.Unfinished.{as_list}
-use Rattle.trace_record.specs.Premises.{FitsMemory}
 use Rattle.driver_rows.specs.RingBindings.Slots.{is_below, names_below}
-use Rattle.driver_rows.proofs.RingBindings.Lists.{any_same, any_or, not_false, or_none}
+use Rattle.driver_rows.proofs.RingBindings.Lists.{any_same, any_or, or_none}
 
 -- ---- a command that a block says names a slot below 256
 

@@ -7,7 +7,7 @@ use Rattle.std.proofs.lemmas.List.Quantifiers.{position-Some}
 use Rattle.trb.specs.declared.ring_kind.RingKind.{RingKind}
 use Rattle.trb.specs.declared.ring_kind.RingKind.TheVariants.{Cmd, Evt, Xfer}
 use Rattle.segments.specs.Places.{touches}
-use Rattle.segments.specs.RingView.{RingView, positions_given}
+use Rattle.segments.specs.RingView.{positions_given}
 use Rattle.commands.specs.declared.command.Command.{Command}
 use Rattle.commands.specs.declared.command.Command.TheVariants.{SetTrDequeue}
 use Rattle.traces.specs.declared.header.Header.{Header}
@@ -18,16 +18,15 @@ use Rattle.traces.specs.Header.{IsHeader, is_command_kind, is_driver_kind}
 use Rattle.ring_knowledge.specs.Known.{Known}
 use Rattle.ring_knowledge.specs.Writes.{command_given}
 use Rattle.ring_knowledge.specs.RingRecords.{positions_of}
-use Rattle.ring_knowledge.specs.declared.ring_record.RingGiving.{RingGiving}
 use Rattle.ring_knowledge.specs.declared.ring_record.RingGiving.TheVariants.{Position}
 use Rattle.trace_record.proofs.RingFinder.FoundRings.{none_here}
 use Rattle.trace_record.proofs.RingFinder.RingsApart.{among_at}
-use Rattle.trace_record.specs.declared.word_place.WordPlace.{WordPlace}
-use Rattle.trace_record.specs.WordPlaces.{IsGivenBy, IsGivenOn, IsPlacedSo}
+use Rattle.trace_record.specs.declared.row_place.RowPlace.{RowPlace}
+use Rattle.trace_record.specs.RowPlaces.{IsGivenBy, IsGivenOn, IsPlacedSo}
 use Rattle.safety.specs.RingChanges.Withdrawals.{ring_moved, ring_restored, some_flips}
 use Rattle.driver_rows.specs.RingRows.GivenCommands.{GivesCommandAt}
-use Rattle.driver_rows.specs.MemoryWrites.WriteTests.{command_on}
-use Rattle.driver_rows.proofs.MemoryWrites.CommandsOn.{command_is, none_nowhere}
+use Rattle.trace_record.specs.RingCommands.{command_on}
+use Rattle.trace_record.proofs.GivenCommands.{command_is, none_nowhere}
 use Rattle.driver_rows.proofs.MemoryWrites.OnRing.{inside_is}
 
 none-some : {X : Type 0} {Y : Type 1} (x : X) → None ≡ Some x → Y
@@ -50,9 +49,9 @@ command_drives Cmd e = refl
 command_drives Evt e = absurd (cc)
 command_drives Xfer e = absurd (cc)
 
-module _ (h : Header) (headed : IsHeader h) (k : Known) (a w : ℕ) (place : WordPlace) (placed : IsPlacedSo h k a w place) where
+module _ (h : Header) (headed : IsHeader h) (k : Known) (a w : ℕ) (place : RowPlace) (placed : IsPlacedSo h k a w place) where
   -- no ring has the word
-  pub none_without : place.ring ≡ None → command_given h k a w ≡ None
+  none_without : place.ring ≡ None → command_given h k a w ≡ None
   none_without none =
       none_nowhere h headed k a w placed.aligned (λ q among. sym (inside_is h headed k a placed.aligned q among) ∙ none_here h (λ q. touches q.shape a 4) h.rings (sym placed.ring ∙ none) refl q among)
 
@@ -61,7 +60,7 @@ module _ (h : Header) (headed : IsHeader h) (k : Known) (a w : ℕ) (place : Wor
     by_ring : command_given h k a w ≡ (if is_command_kind ring.shape.kind then command_on (k.ring ring.id) (positions_given ring.shape (k.ring ring.id) a w) else None)
     by_ring = command_is h headed k a w placed.aligned ring (among_at h.rings n ring there) (sym (inside_is h headed k a placed.aligned ring (among_at h.rings n ring there)) ∙ has)
 
-    pub none_on : is_command_kind ring.shape.kind ≡ false → command_given h k a w ≡ None
+    none_on : is_command_kind ring.shape.kind ≡ false → command_given h k a w ≡ None
     none_on other = by_ring ∙ ap (λ (b : Bool). if b then command_on (k.ring ring.id) (positions_given ring.shape (k.ring ring.id) a w) else None) other
 
     module _ (at : place.ring ≡ Some n) (command : is_command_kind ring.shape.kind ≡ true) where
@@ -70,7 +69,7 @@ module _ (h : Header) (headed : IsHeader h) (k : Known) (a w : ℕ) (place : Wor
           let given : IsGivenOn k a w ring place.giving = subst (λ (o : Option ℕ). IsGivenBy h k a w o place.giving) at placed.given ring there in
           given.positions (command_drives ring.shape.kind command)
 
-      pub given_on : command_given h k a w ≡ command_on (k.ring ring.id) (positions_of place.giving)
+      given_on : command_given h k a w ≡ command_on (k.ring ring.id) (positions_of place.giving)
       given_on =
           by_ring ∙ ap (λ (b : Bool). if b then command_on (k.ring ring.id) (positions_given ring.shape (k.ring ring.id) a w) else None) command
           ∙ ap (command_on (k.ring ring.id)) positions_are
@@ -105,10 +104,6 @@ module _ (h : Header) (headed : IsHeader h) (k : Known) (a w : ℕ) (place : Wor
         command = commands;
         gives = positions_are n touched.0 touched.1 touched.2 at commands ∙ ap positions_of giving;
       }
-
-pub said_by : (v : RingView) (kind : RingKind) (giving : Option RingGiving) → is_command_kind kind ≡ true →
-    (if is_command_kind kind then command_on v (positions_of giving) else None) ≡ command_on v (positions_of giving)
-said_by v kind giving command = ap (λ (b : Bool). if b then command_on v (positions_of giving) else None) command
 
 -- ---- by the kinds of commands and rows
 

@@ -1,5 +1,5 @@
 -- The rings that unfinished commands bind behind a write: those of before, and those of the command that it gives
-use Rattle.std.proofs.Common.{◌≡◌, ◌||◌, ◌++◌, ◌∷◌, ◌∙◌, ℕ, Bool, true, false, List, [], Option, Some, None, ap, refl, sym, subst}
+use Rattle.std.proofs.Common.{◌≡◌, ◌||◌, ◌++◌, ◌∷◌, ◌∙◌, ℕ, Bool, true, false, List, [], Option, Some, None, ap, refl, sym}
 use Rattle.std.specs.Prelude.{◌==◌, IfSome, if◌then◌else◌, option_and_then, slice_get}
 use Rattle.std.specs.List.{list_any}
 use Rattle.guest_memory.specs.Memory.{put}

@@ -1,13 +1,11 @@
 -- The rules of a write to a word of one ring that isn't under lease
-use Rattle.std.specs.Prelude.{◌≡◌, ℕ, ◌||◌, Bool, true, List, [], ◌∷◌, ◌++◌, Option, Some, None, option_and_then, slice_get}
+use Rattle.std.specs.Prelude.{◌≡◌, ℕ, ◌||◌, Bool, true, List, [], ◌∷◌, ◌++◌, Option, Some, None}
 use Rattle.std.specs.List.{list_any}
-use Rattle.trb.specs.declared.block.Block.{Block}
 use Rattle.segments.specs.ShapeValue.{Shape}
 use Rattle.segments.specs.Shape.{IsShape}
 use Rattle.segments.specs.RingView.{RingView}
 use Rattle.segments.specs.Givings.{is_other_than_declared, is_not_declared, is_not_whole, leads_wrong, interrupts}
 use Rattle.commands.specs.declared.command.Command.{Command}
-use Rattle.commands.specs.Command.{command_of}
 use Rattle.traces.specs.declared.ring.Ring.{Ring}
 use Rattle.traces.specs.declared.header.Header.{Header}
 use Rattle.traces.specs.Header.{is_driver_kind}
@@ -24,14 +22,6 @@ use Rattle.ownership_rules.specs.declared.refusal.Refusal.TheVariants.{NotAsSubm
 pub record IsDriver (shape : Shape) : Type 0 where
   pub driver : is_driver_kind shape.kind ≡ true
   pub allowed : IsShape shape
-
--- the command that is declared at a position
-abbrev pub command_in : List Block → ℕ → Option Command
-command_in queue p = option_and_then command_of (slice_get queue p)
-
--- the command that a write gives which gives these positions of the command ring
-abbrev pub command_on : RingView → List ℕ → Option Command
-command_on v ps = option_and_then (command_in v.queue) (slice_get ps 0)
 
 -- a command is given by a position alone
 abbrev pub GivesOnPosition : Option RingGiving → Option Command → Type 0

@@ -1,40 +1,37 @@
 //! The ring that a row starts or moves, and writes that flip the Cycle bit of what is free (xHCI 4.6.9, 4.6.10, 4.7).
 ghost use Rattle.std.specs.Prelude.{◌≡◌, ℕ};
 ghost use Rattle.traces.specs.Header.{IsHeader};
+ghost use Rattle.traces.specs.declared.header.Header.{Header as HeaderValue};
 ghost use Rattle.ring_knowledge.specs.Known.{Known};
 ghost use Rattle.ring_knowledge.specs.Writes.{command_given};
 ghost use Rattle.traces.specs.declared.row.Row.TheVariants.{Write};
 ghost use Rattle.trace_record.specs.FollowsTrace.{FollowsTrace};
-ghost use Rattle.trace_record.specs.WordPlaces.{IsPlaced, IsPlacedSo};
+ghost use Rattle.trace_record.specs.RowPlaces.{IsPlaced, IsPlacedSo};
 ghost use Rattle.safety.specs.RingChanges.Withdrawals.{ring_moved, ring_restored, some_flips};
 
-use crate::writes::given_command;
 use commands::Command;
 use guest_memory::Addr;
-use trace_record::{TraceRecord, WordPlace, is_command_ring, is_event_ring};
+use trace_record::{RowPlace, TraceRecord, command_said, is_event_ring};
 use traces::{Header, Row};
 
 /// The ID of the ring that a row starts or moves: that of the endpoint whose doorbell it rings, or for which it gives a Set TR Dequeue Pointer
 /// (xHCI 4.7, 4.6.10). `place` is where the word lies that it writes.
-pub fn ring_restored(header: &Header, kept: &TraceRecord, row: &Row, place: WordPlace) -> Option<u8>
-    requires headed { IsHeader header.now }
-    ensures { (k : Known) (memory : ℕ → ℕ) → FollowsTrace header.now k kept.now memory → IsPlaced header.now k row.now place →
-        result ≡ ring_restored header.now k row.now }
+pub fn ring_restored(kept: &TraceRecord, row: &Row, place: &RowPlace) -> Option<u8>
+    ensures { (h : HeaderValue) (k : Known) (memory : ℕ → ℕ) → FollowsTrace h k kept.now memory → IsPlaced h k row.now place.now → result ≡ ring_restored h k row.now }
 {
     match row {
         Row::Bell { slot, target } => kept.devices.ring_of(*slot, *target),
-        Row::Write { .. } => ring_moved(header, kept, place),
+        Row::Write { .. } => ring_moved(kept, place),
         _ => None,
     }
 }
 
 /// The ID of the ring of the endpoint for which a write gives a Set TR Dequeue Pointer.
-fn ring_moved(header: &Header, kept: &TraceRecord, place: WordPlace) -> Option<u8>
-    requires headed { IsHeader header.now }
-    ensures { (k : Known) (memory : ℕ → ℕ) (a w : ℕ) → FollowsTrace header.now k kept.now memory → IsPlacedSo header.now k a w place →
-        result ≡ ring_moved k (command_given header.now k a w) }
+fn ring_moved(kept: &TraceRecord, place: &RowPlace) -> Option<u8>
+    ensures { (h : HeaderValue) (k : Known) (memory : ℕ → ℕ) (a w : ℕ) → FollowsTrace h k kept.now memory → IsPlacedSo h k a w place.now →
+        result ≡ ring_moved k (command_given h k a w) }
 {
-    let Some(command) = command_given(header, kept, place) else {
+    let Some(command) = command_said(place.command) else {
         return None;
     };
     match command {
@@ -43,33 +40,10 @@ fn ring_moved(header: &Header, kept: &TraceRecord, place: WordPlace) -> Option<u
     }
 }
 
-/// The command that a write gives.
-fn command_given(header: &Header, kept: &TraceRecord, place: WordPlace) -> Option<Command>
-    requires headed { IsHeader header.now }
-    ensures { (k : Known) (memory : ℕ → ℕ) (a w : ℕ) → FollowsTrace header.now k kept.now memory → IsPlacedSo header.now k a w place →
-        result ≡ command_given header.now k a w }
-{
-    let Some(number) = place.ring else {
-        return None;
-    };
-    let rings = header.rings.as_slice();
-    let Some(ring) = rings.get(number) else {
-        return None;
-    };
-    if !is_command_ring(ring) {
-        return None;
-    }
-    let records = kept.rings.as_slice();
-    let Some(known) = records.get(number) else {
-        return None;
-    };
-    given_command(ring, known, place.giving)
-}
-
 /// Whether a row writes the other Cycle bit into a block that was withdrawn and isn't restored, and that the controller may have passed (xHCI 4.9.2).
-pub fn some_flips(header: &Header, kept: &TraceRecord, row: &Row, place: WordPlace) -> bool
+pub fn some_flips(header: &Header, kept: &TraceRecord, row: &Row, place: &RowPlace) -> bool
     requires headed { IsHeader header.now }
-    ensures { (k : Known) (memory : ℕ → ℕ) → FollowsTrace header.now k kept.now memory → IsPlaced header.now k row.now place →
+    ensures { (k : Known) (memory : ℕ → ℕ) → FollowsTrace header.now k kept.now memory → IsPlaced header.now k row.now place.now →
         result ≡ some_flips header.now k row.now }
 {
     match row {
@@ -79,9 +53,9 @@ pub fn some_flips(header: &Header, kept: &TraceRecord, row: &Row, place: WordPla
 }
 
 /// The same of the write of a word.
-fn word_flips(header: &Header, kept: &TraceRecord, at: Addr, word: u32, place: WordPlace) -> bool
+fn word_flips(header: &Header, kept: &TraceRecord, at: Addr, word: u32, place: &RowPlace) -> bool
     requires headed { IsHeader header.now }
-    ensures { (k : Known) (memory : ℕ → ℕ) → FollowsTrace header.now k kept.now memory → IsPlacedSo header.now k at word place →
+    ensures { (k : Known) (memory : ℕ → ℕ) → FollowsTrace header.now k kept.now memory → IsPlacedSo header.now k at word place.now →
         result ≡ some_flips header.now k (Write at word) }
 {
     let Some(number) = place.ring else {

@@ -3,17 +3,17 @@ ghost use Rattle.traces.specs.Header.{IsHeader};
 ghost use Rattle.ring_knowledge.specs.Known.{Known};
 ghost use Rattle.ring_knowledge.specs.Writes.{with_word};
 ghost use Rattle.trace_record.specs.RingFinder.RecordsOfRings.{FollowsRings};
-ghost use Rattle.trace_record.specs.WordPlaces.{IsPlacedSo};
+ghost use Rattle.trace_record.specs.RowPlaces.{IsPlacedSo};
 
 use ring_knowledge::RingRecord;
-use trace_record::WordPlace;
+use trace_record::RowPlace;
 use traces::Header;
 
 /// The ring that has a word notes what its write gives of the ring, if it gives anything (xHCI 4.9.2).
 #[inline(always)]
-pub fn note_on_ring(header: &Header, records: &mut Vec<RingRecord>, place: WordPlace)
+pub fn note_on_ring(header: &Header, records: &mut Vec<RingRecord>, place: &RowPlace)
     requires { IsHeader header.now }
-    ensures { (k : Known) (at word : ℕ) → FollowsRings header.now k records.old.items → IsPlacedSo header.now k at word place →
+    ensures { (k : Known) (at word : ℕ) → FollowsRings header.now k records.old.items → IsPlacedSo header.now k at word place.now →
         FollowsRings header.now (with_word header.now k at word) records.new.items }
 {
     let Some(number) = place.ring else {

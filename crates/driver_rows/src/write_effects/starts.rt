@@ -13,7 +13,7 @@ ghost use Rattle.trace_record.specs.RangeWords.Holding.{HoldsAreas};
 ghost use Rattle.trace_record.specs.FollowsTrace.{FollowsTrace, inputs_of};
 ghost use Rattle.trace_record.specs.Premises.{FitsMemory};
 ghost use Rattle.trace_record.specs.RingSets.{has};
-ghost use Rattle.trace_record.specs.WordPlaces.{IsPlacedSo};
+ghost use Rattle.trace_record.specs.RowPlaces.{IsPlacedSo};
 ghost use Rattle.driver_rows.specs.RingBindings.Contexts.{HoldsContexts};
 ghost use Rattle.driver_rows.specs.WriteEffects.Starting.{IsWith, MayBeGiven, binds_ring_if};
 
@@ -25,7 +25,7 @@ use commands::Command;
 use guest_memory::{Addr, WordMemory};
 use std::alloc::AllocError;
 use trace_record::{
-    Areas, DeviceRecord, Finder, RingSet, TraceRecord, UnfinishedCommands, WordPlace,
+    Areas, DeviceRecord, Finder, RingSet, RowPlace, TraceRecord, UnfinishedCommands,
 };
 use traces::Header;
 
@@ -37,14 +37,14 @@ pub fn note_write<M: WordMemory>(
     finder: &Finder,
     t: &mut TraceRecord,
     memory: &mut M,
-    write: WordWrite,
+    write: &WordWrite<'_>,
     command: Option<Command>,
 ) -> Result<(), AllocError>
     requires headed { IsHeader header.now }
     requires found { IsFinder header.now.rings finder.now }
-    ensures ok { OnOk result ((k : Known) → FollowsTrace header.now k t.old (M.words memory.old) → IsPlacedSo header.now k write.at write.word write.place → command ≡ command_given header.now k write.at write.word →
-        DriverKeeps header.now k → lenient header.now k (Write write.at write.word) ≡ [] → k.stopped ≡ false →
-        FollowsTrace header.now (learned header.now k (Write write.at write.word)) t.new (M.words memory.new)) }
+    ensures ok { OnOk result ((k : Known) → FollowsTrace header.now k t.old (M.words memory.old) → IsPlacedSo header.now k write.now.at write.now.word write.now.place.now → command ≡ command_given header.now k write.now.at write.now.word →
+        DriverKeeps header.now k → lenient header.now k (Write write.now.at write.now.word) ≡ [] → k.stopped ≡ false →
+        FollowsTrace header.now (learned header.now k (Write write.now.at write.now.word)) t.new (M.words memory.new)) }
     ensures events { t.new.events ≡ t.old.events }
 {
     let taken = device_taken(&t.devices, &t.registers, memory, command);
@@ -70,10 +70,10 @@ pub fn note_plain_write<M: WordMemory>(
     memory: &mut M,
     at: Addr,
     word: u32,
-    place: WordPlace,
+    place: &RowPlace,
 ) -> Result<(), AllocError>
     requires headed { IsHeader header.now }
-    ensures ok { OnOk result ((k : Known) → FollowsTrace header.now k trace.old (M.words memory.old) → IsPlacedSo header.now k at word place → command_given header.now k at word ≡ None →
+    ensures ok { OnOk result ((k : Known) → FollowsTrace header.now k trace.old (M.words memory.old) → IsPlacedSo header.now k at word place.now → command_given header.now k at word ≡ None →
         DriverKeeps header.now k → lenient header.now k (Write at word) ≡ [] →
         FollowsTrace header.now (learned header.now k (Write at word)) trace.new (M.words memory.new)) }
     ensures events { trace.new.events ≡ trace.old.events }

@@ -12,7 +12,7 @@ ghost use Rattle.safety.specs.Keeps.{DriverKeeps};
 ghost use Rattle.trace_record.specs.FollowsTrace.{FollowsTrace};
 ghost use Rattle.trace_record.specs.Premises.{ContextsFit, FitsMemory};
 ghost use Rattle.trace_record.specs.Steps.{IsLeast};
-ghost use Rattle.trace_record.specs.WordPlaces.{IsPlacedSo};
+ghost use Rattle.trace_record.specs.RowPlaces.{IsPlacedSo};
 ghost use Rattle.driver_rows.specs.ContextRules.Contents.{IsAligned};
 ghost use Rattle.driver_rows.specs.MemoryWrites.WriteTests.{GivesOnPosition, IsDriver, given_tests, place_tests};
 ghost use Rattle.driver_rows.specs.MemoryWrites.Allowed.{IsAllowed};
@@ -43,15 +43,15 @@ pub fn check_write<M: WordMemory>(
     finder: &Finder,
     t: &TraceRecord,
     memory: &M,
-    write: WordWrite,
+    write: &WordWrite<'_>,
 ) -> Result<Option<Command>, Refusal>
     requires headed { IsHeader header.now }
     requires found { IsFinder header.now.rings finder.now }
     ensures ok { IfOk result (λ command. (k : Known) → FollowsTrace header.now k t.now (M.words memory.now) → DriverKeeps header.now k → ContextsFit header.now k → k.stopped ≡ false →
-        IsPlacedSo header.now k write.at write.word write.place → write.owned ≡ writes_to_owned header.now k write.at write.word → IsAllowed header.now k write.at write.word command) }
+        IsPlacedSo header.now k write.now.at write.now.word write.now.place.now → write.now.owned ≡ writes_to_owned header.now k write.now.at write.now.word → IsAllowed header.now k write.now.at write.now.word command) }
     ensures fits { IfOk result (λ command. IfSome command (FitsMemory header.now.context_size)) }
     ensures refused { IfErr result (λ c. (k : Known) → FollowsTrace header.now k t.now (M.words memory.now) → DriverKeeps header.now k → ContextsFit header.now k → k.stopped ≡ false →
-        IsPlacedSo header.now k write.at write.word write.place → write.owned ≡ writes_to_owned header.now k write.at write.word → IsLeast header.now k (Write write.at write.word) c) }
+        IsPlacedSo header.now k write.now.at write.now.word write.now.place.now → write.now.owned ≡ writes_to_owned header.now k write.now.at write.now.word → IsLeast header.now k (Write write.now.at write.now.word) c) }
 {
     if write.owned {
         return Err(Refusal::WriteToOwned);
@@ -70,7 +70,7 @@ pub fn check_write<M: WordMemory>(
     if is_event_ring(ring) {
         return Err(Refusal::WriteToOwned);
     }
-    let command = given_command(ring, known, write.place.giving);
+    let command = given_command(write.place);
     let given = OnRing {
         ring,
         known,
@@ -88,17 +88,17 @@ fn giving_refusal<M: WordMemory>(
     finder: &Finder,
     t: &TraceRecord,
     memory: &M,
-    write: WordWrite,
+    write: &WordWrite<'_>,
     given: &OnRing<'_>,
 ) -> Option<Refusal>
     requires headed { IsHeader header.now }
     requires found { IsFinder header.now.rings finder.now }
     requires driver { IsDriver given.now.ring.now.shape }
     requires aligned { IfSome given.now.command IsAligned }
-    requires quiet { GivesOnPosition write.place.giving given.now.command }
+    requires quiet { GivesOnPosition write.now.place.now.giving given.now.command }
     ensures first { (k : Known) → FollowsTrace header.now k t.now (M.words memory.now) → DriverKeeps header.now k → ContextsFit header.now k →
-        FollowsRing given.now.ring.now.shape (k.ring given.now.ring.now.id) given.now.known.now → IsFromFloor (k.ring given.now.ring.now.id) write.place.giving →
-        result ≡ first_broken (given_tests header.now k given.now.ring.now (M.words memory.now) write.at write.word write.place.giving given.now.command) }
+        FollowsRing given.now.ring.now.shape (k.ring given.now.ring.now.id) given.now.known.now → IsFromFloor (k.ring given.now.ring.now.id) write.now.place.now.giving →
+        result ≡ first_broken (given_tests header.now k given.now.ring.now (M.words memory.now) write.now.at write.now.word write.now.place.now.giving given.now.command) }
     ensures fits { IfNone result (IfSome given.now.command (FitsMemory header.now.context_size)) }
 {
     match write.place.giving {

@@ -1,11 +1,10 @@
 //! The command that a write gives, and its rules: xHCI 4.6.
-ghost use Rattle.std.specs.Prelude.{◌≡◌, ◌≤◌, ◌&&◌, ℕ, not, if◌then◌else◌, None, IfNone, IfSome};
-ghost use Rattle.segments.specs.ShapeValue.{Shape};
-ghost use Rattle.segments.specs.RingView.{RingView, floor_number};
+ghost use Rattle.std.specs.Prelude.{◌≡◌, ◌&&◌, ℕ, not, if◌then◌else◌, None, IfNone, IfSome};
+ghost use Rattle.trb.specs.declared.ring_kind.RingKind.{RingKind};
+ghost use Rattle.segments.specs.RingView.{RingView};
 ghost use Rattle.traces.specs.Header.{IsHeader, is_command_kind};
-ghost use Rattle.commands.specs.Command.{command_of};
 ghost use Rattle.ring_knowledge.specs.Known.{Known};
-ghost use Rattle.ring_knowledge.specs.RingRecords.{FollowsRing, IsFromFloor, positions_of};
+ghost use Rattle.ring_knowledge.specs.RingRecords.{positions_of};
 ghost use Rattle.trace_record.specs.RingFinder.Finding.{IsFinder};
 ghost use Rattle.traces.specs.Versions.{is_three};
 ghost use Rattle.ownership_rules.specs.Moves.{binds_again};
@@ -15,59 +14,34 @@ ghost use Rattle.safety.specs.Keeps.{DriverKeeps};
 ghost use Rattle.trace_record.specs.FollowsTrace.{FollowsTrace};
 ghost use Rattle.trace_record.specs.Premises.{ContextsFit, FitsMemory};
 ghost use Rattle.driver_rows.specs.ContextRules.Contents.{IsAligned};
-ghost use Rattle.driver_rows.specs.MemoryWrites.WriteTests.{GivesOnPosition, command_in, command_on, command_tests};
+ghost use Rattle.trace_record.specs.RingCommands.{command_on};
+ghost use Rattle.driver_rows.specs.MemoryWrites.WriteTests.{GivesOnPosition, command_tests};
 
 use crate::bindings::{binds_again, is_bad_binding, is_bad_move};
 use crate::context_rules::{has_left_out_endpoint, is_bad_command};
 use commands::Command;
 use guest_memory::WordMemory;
 use ownership_rules::Refusal;
-use ring_knowledge::{RingGiving, RingRecord};
-use trace_record::{Finder, TraceRecord, is_command_ring};
-use traces::{Header, Ring};
-use trb::Block;
+use ring_knowledge::RingGiving;
+use trace_record::{Finder, RowPlace, TraceRecord, command_said};
+use traces::Header;
 
-/// The command that a write gives which gives this of a ring, from its floor on.
-pub fn given_command(ring: &Ring, known: &RingRecord, giving: Option<RingGiving>) -> Option<Command>
-    ensures value { (v : RingView) → FollowsRing ring.now.shape v known.now → IsFromFloor v giving →
-        result ≡ (if is_command_kind ring.now.shape.kind then command_on v (positions_of giving) else None) }
+/// The command that a write gives: by a position alone.
+pub(crate) fn given_command(place: &RowPlace) -> Option<Command>
+    ensures value { (v : RingView) (kind : RingKind) → place.now.command ≡ (if is_command_kind kind then command_on v (positions_of place.now.giving) else None) →
+        result ≡ (if is_command_kind kind then command_on v (positions_of place.now.giving) else None) }
     ensures aligned { IfSome result IsAligned }
-    ensures quiet { GivesOnPosition giving result }
+    ensures quiet { GivesOnPosition place.now.giving result }
 {
-    if !is_command_ring(ring) {
-        return None;
-    }
-    match giving {
-        Some(RingGiving::Position(position)) => declared_command(known, position),
+    match place.giving {
+        Some(RingGiving::Position(_)) => command_said(place.command),
         Some(RingGiving::Crossing(_)) => None,
         None => None,
     }
 }
 
-/// The command that is declared at a position.
-fn declared_command(known: &RingRecord, position: u64) -> Option<Command>
-    ensures value { (shape : Shape) (v : RingView) → FollowsRing shape v known.now → floor_number v ≤ position → result ≡ command_in v.queue position }
-    ensures aligned { IfSome result IsAligned }
-{
-    match known.declared(position) {
-        Some(block) => command_said(&block),
-        None => None,
-    }
-}
-
-/// The command that a block says.
-fn command_said(block: &Block) -> Option<Command>
-    ensures value { result ≡ command_of block.now }
-    ensures aligned { IfSome result IsAligned }
-{
-    match Command::read(block) {
-        Ok(command) => Some(command),
-        Err(_) => None,
-    }
-}
-
 /// Which rule a command breaks first.
-pub fn command_refusal<M: WordMemory>(
+pub(crate) fn command_refusal<M: WordMemory>(
     header: &Header,
     finder: &Finder,
     t: &TraceRecord,

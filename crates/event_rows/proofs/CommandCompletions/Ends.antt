@@ -1,14 +1,6 @@
 -- Which event can end a command
-use Rattle.event_rows.proofs.CommandCompletions.Words.{◌≡◌, ◌==◌, ◌&&◌, ◌↔◌, if◌then◌else◌, ℕ, Bool, true, false, Option, None, Some, Result, Ok, Err, refl, sym, not, is_some, IfSome, eq-eqb, ne_eqb, result_ok, Block, Fault, code, slot, Command, StopEndpoint, SlotState, EndpointState, IsWell, command_well, command_of, may_answer_slot, named_endpoint, named_slot, can_succeed, endpoint_meant, endpoint_success, is_slot_enabled, slot_meant, slot_success, Config, register_or_zero, Known, can_finish, was_stop_seen}
-
--- what a block says that was read
-pub read_is : (o : Option Command) (r : Result Command Fault) → ((c : Command) → (r ≡ Ok c) ↔ (o ≡ Some c)) → result_ok r ≡ o
-read_is o (Ok c) said = sym ((said c).0 refl)
-read_is None (Err e) said = refl
-read_is (Some c) (Err e) said = absurd (never c ((said c).1 refl))
-  where
-    never : (c : Command) → Err e ≡ Ok c → ⊥
-    never c same = cc
+use Rattle.commands.specs.Command.{IsSaid}
+use Rattle.event_rows.proofs.CommandCompletions.Words.{◌≡◌, ◌==◌, ◌&&◌, if◌then◌else◌, ℕ, Bool, true, false, Option, None, Some, refl, sym, not, is_some, IfSome, eq-eqb, ne_eqb, Block, code, slot, Command, StopEndpoint, SlotState, EndpointState, IsWell, command_well, may_answer_slot, named_endpoint, named_slot, can_succeed, endpoint_meant, endpoint_success, is_slot_enabled, slot_meant, slot_success, Config, register_or_zero, Known, can_finish, was_stop_seen}
 
 -- ---- which event can end a command
 
@@ -57,7 +49,7 @@ module _ (k : Known) (b : Block) (c : Command) where
       by true false x y may one = refl
       by false e x y may one = absurd (cc)
 
--- a block that was read holds what its command may hold
-pub read_well : (b : Block) (o : Option Command) → o ≡ command_of b → IfSome o IsWell
-read_well b None e = tt
-read_well b (Some c) e = command_well b c (sym e)
+-- a command that a block says holds what it may hold
+pub said_well : (o : Option Command) → IfSome o IsSaid → IfSome o IsWell
+said_well None said = tt
+said_well (Some c) said = command_well said.0 c said.1

@@ -1,6 +1,6 @@
 -- The records of rings where the ring with an ID has changed, by its number
 use Rattle.event_rows.proofs.CommandCompletions.Words.{◌≡◌, ◌≤◌, ◌∙◌, ◌<◌, ◌==◌, ℕ, List, Bool, true, Option, None, Some, refl, ap, sym, subst, arith, get_or, slice_get, slice_set, position, eqb-true, slice_get_within, Spot, after, number, Shape, RingView, Holds, Reaches, changed, declared, floor_number, ceiling, given_count, target, Ring, Header, IsHeader, command_id, command_ring, is_driver_kind, shape_of, RingRecord, FollowsRing, Known, next_command, on_ring, moved, held_at_ceiling, ring_here, ring_elsewhere, FollowsRings, MayMoveTo, ReachesTarget, number_in, set_on, IsNextGiven}
-use Rattle.event_rows.proofs.CommandCompletions.CommandRings.{command_id_is, found_at, read_at}
+use Rattle.trace_record.proofs.RingFinder.CommandRings.{command_id_is, found_at, read_at}
 use Rattle.event_rows.proofs.CommandCompletions.OneRing.{IsOnRing, on_moved, on_held, one_at, ring_shape, rings_elsewhere, rings_with}
 
 module _ (h : Header) (headed : IsHeader h) (k : Known) (rs : List RingRecord) (f : FollowsRings h k rs) where

@@ -1,5 +1,5 @@
 -- The records of rings where one ring has changed
-use Rattle.event_rows.proofs.CommandCompletions.Words.{◌≡◌, ◌≢◌, ◌∙◌, ◌∷◌, ◌==◌, ◌⊎◌, ℕ, zero, suc, List, [], Bool, true, Option, None, Some, refl, ap, sym, subst, inl, inr, arith, slice_get, slice_set, position, eq-eqb, false≢true, length-set, Shape, Spot, number, RingView, Reaches, Holds, changed, ceiling, target, Ring, Header, IsHeader, is_driver_kind, shape_of, RingRecord, FollowsRing, Known, on_ring, set_to, bound_to, moved, moved_to, held_at_ceiling, FollowsRings, Apart, among_at, numbers_apart, none_here, shape_there, together, ring_here, ring_elsewhere, set_on}
+use Rattle.event_rows.proofs.CommandCompletions.Words.{◌≡◌, ◌≢◌, ◌∙◌, ◌∷◌, ◌==◌, ◌⊎◌, ℕ, zero, suc, List, [], Bool, true, Option, None, Some, refl, ap, sym, subst, inl, inr, arith, slice_get, slice_set, position, eq-eqb, false≢true, length-set, Spot, number, RingView, Reaches, Holds, changed, ceiling, target, Ring, Header, IsHeader, is_driver_kind, shape_of, RingRecord, FollowsRing, Known, on_ring, set_to, bound_to, moved, moved_to, held_at_ceiling, FollowsRings, Apart, among_at, numbers_apart, none_here, shape_there, together, ring_here, ring_elsewhere, set_on}
 
 -- ---- what is known of rings
 

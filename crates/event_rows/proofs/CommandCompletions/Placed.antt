@@ -1,5 +1,5 @@
 -- An endpoint that is placed, and those that an input context adds
-use Rattle.event_rows.proofs.CommandCompletions.Words.{◌≡◌, ◌∷◌, ℕ, List, [], Bool, true, false, refl, ap, sym, subst, if◌then◌else◌, Option, Command, EndpointState, is_off, Change, Places, Header, ring_having, RingRecord, Known, bound_to, changed_by, changed_by_all, in_state, moved, pointed, FollowsRings, DeviceRecord, MayChangeAll, MayPoint, MayMoveTo, ring_placed, FollowsPlaces, HasDone}
+use Rattle.event_rows.proofs.CommandCompletions.Words.{◌≡◌, ◌∷◌, ℕ, List, [], Bool, true, false, refl, ap, sym, subst, if◌then◌else◌, Command, EndpointState, is_off, Change, Places, Header, ring_having, RingRecord, Known, bound_to, changed_by, changed_by_all, in_state, moved, pointed, FollowsRings, DeviceRecord, MayChangeAll, MayPoint, MayMoveTo, ring_placed, FollowsPlaces, HasDone}
 use Rattle.event_rows.proofs.CommandCompletions.OneRing.{bound_moves, rings_same}
 
 module _ (h : Header) (k : Known) (s i p : ℕ) (cycle : Bool) where

@@ -1,5 +1,6 @@
 -- The words of std, of the crates below and of this crate's own definitions that its proofs cite, passed on by one file
-pub use Rattle.event_rows.specs.CommandCompletions.Commands.{command_in, is_no_completion}
+pub use Rattle.event_rows.specs.CommandCompletions.Commands.{is_no_completion}
+pub use Rattle.trace_record.specs.RingCommands.{command_in}
 pub use Rattle.event_rows.specs.CommandCompletions.OneRing.{MayMoveTo, ReachesTarget, number_in, ring_placed, set_on}
 pub use Rattle.event_rows.specs.CommandCompletions.Places.{AreSlots, FollowsPlaces, HasDone, KeepsRest, HasWords, IsNextGiven, succeeded_if}
 unfoldable pub use Rattle.event_rows.specs.CommandCompletions.Places.{addressed, configured}

@@ -1,19 +1,14 @@
 -- The next command on one ring, and which completion of it is impossible
-use Rattle.std.specs.Prelude.{ℕ, ◌==◌, ◌||◌, Bool, not, List, nat_lt, Option, option_and_then, slice_get}
+use Rattle.std.specs.Prelude.{◌==◌, ◌||◌, Bool, not, nat_lt}
 use Rattle.trb.specs.declared.block.Block.{Block}
 use Rattle.trb.specs.Block.{code, pointer}
 use Rattle.segments.specs.ShapeValue.{Shape}
 use Rattle.segments.specs.Places.{address_of}
 use Rattle.segments.specs.RingView.{RingView, floor_number}
 use Rattle.segments.specs.Ceiling.{ceiling}
-use Rattle.commands.specs.declared.command.Command.{Command}
-use Rattle.commands.specs.Command.{command_of}
 use Rattle.ring_knowledge.specs.Known.{Known}
+use Rattle.trace_record.specs.RingCommands.{command_in}
 use Rattle.ownership_rules.specs.Events.{can_finish}
-
--- the command that is declared at a position
-abbrev pub command_in : List Block → ℕ → Option Command
-command_in queue p = option_and_then command_of (slice_get queue p)
 
 -- of a completion: the controller can't have come to the next command, or another address is named, or there is no code, or
 -- the command can't have been finished so

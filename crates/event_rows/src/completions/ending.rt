@@ -22,37 +22,38 @@ ghost use Rattle.safety.specs.Keeps.{DriverKeeps};
 ghost use Rattle.safety.specs.Placings.{MayChangeAll};
 ghost use Rattle.trace_record.specs.FollowsTrace.{FollowsTrace, device_contexts};
 ghost use Rattle.trace_record.specs.Premises.{IsSetUp};
+ghost use Rattle.trace_record.specs.RowPlaces.{IsNext};
 ghost use Rattle.event_rows.specs.CommandCompletions.Places.{AreSlots, FollowsPlaces, HasWords, IsNextGiven, KeepsRest, succeeded_if};
 
 use crate::completions::impossible::is_impossible_completion;
-use crate::completions::next::next_command;
 use crate::completions::success::succeed;
-use commands::Command;
+use commands::{Command, SaidCommand};
 use driver_rows::forget_bound;
 use guest_memory::WordMemory;
 use ring_knowledge::RingRecord;
-use trace_record::{Areas, DeviceRecord, Finder, TraceRecord};
+use trace_record::{Areas, DeviceRecord, Finder, TraceRecord, command_said};
 use traces::Header;
 use trb::Block;
 
-/// Tells whether a controller can have posted a Command Completion Event. Where one can, it is noted: what the next command's
-/// success does, that its contexts are let go, and that the controller is behind it.
+/// Tells whether a controller can have posted a Command Completion Event, where `next` is the command at the floor of the Command
+/// Ring. Where one can, it is noted: what that command's success does, that its contexts are let go, and that the controller is behind it.
 pub fn read_completion<M: WordMemory>(
     header: &Header,
     finder: &Finder,
     t: &mut TraceRecord,
     memory: &M,
     block: Block,
+    next: Option<SaidCommand>,
 ) -> bool
     requires headed { IsHeader header.now }
     requires found { IsFinder header.now.rings finder.now }
-    ensures possible { (k : Known) → FollowsTrace header.now k t.old (M.words memory.now) → IsSetUp header.now k → k.started ≡ true →
+    ensures possible { (k : Known) → FollowsTrace header.now k t.old (M.words memory.now) → IsSetUp header.now k → k.started ≡ true → IsNext header.now k next →
         result ≡ not (is_impossible_completion header.now k block) }
-    ensures followed { OnTrue result ((k : Known) → FollowsTrace header.now k t.old (M.words memory.now) → DriverKeeps header.now k → IsSetUp header.now k →
+    ensures followed { OnTrue result ((k : Known) → FollowsTrace header.now k t.old (M.words memory.now) → DriverKeeps header.now k → IsSetUp header.now k → IsNext header.now k next →
         is_impossible_completion header.now k block ≡ false → FollowsTrace header.now (completed header.now k block) t.new (M.words memory.now)) }
     ensures events { t.new.events ≡ t.old.events }
 {
-    let command = next_command(header, finder, t);
+    let command = command_said(next);
     if is_impossible_completion(header, finder, t, command, block) {
         return false;
     }

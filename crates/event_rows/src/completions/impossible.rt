@@ -11,7 +11,8 @@ ghost use Rattle.ownership_rules.specs.Events.{is_impossible_completion};
 ghost use Rattle.trace_record.specs.RingFinder.Finding.{IsFinder};
 ghost use Rattle.trace_record.specs.FollowsTrace.{FollowsTrace};
 ghost use Rattle.trace_record.specs.Premises.{IsSetUp};
-ghost use Rattle.event_rows.specs.CommandCompletions.Commands.{command_in, is_no_completion};
+ghost use Rattle.trace_record.specs.RingCommands.{command_in};
+ghost use Rattle.event_rows.specs.CommandCompletions.Commands.{is_no_completion};
 
 use crate::completions::possible::cannot_finish;
 use commands::Command;

@@ -29,7 +29,7 @@ use crate::transfers::spots::{NamedSpot, named_spot};
 use commands::{Command, EndpointState, is_off, is_stop_of};
 use ring_knowledge::{RingRecord, is_data_below};
 use segments::{RingShape, Spot};
-use trace_record::{DeviceRecord, Finder, TraceRecord};
+use trace_record::{DeviceRecord, Finder, TraceRecord, command_said, declared_command};
 use traces::Header;
 use trb::{Block, is_success};
 
@@ -154,10 +154,8 @@ fn is_stopping_next(known: &RingRecord, slot: u8, index: u8) -> bool
 fn next_command(known: &RingRecord) -> Option<Command>
     ensures { (shape : Shape) (v : RingView) → FollowsRing shape v known.now → result ≡ option_and_then command_of (slice_get v.queue (floor_number v)) }
 {
-    match known.declared(known.floor_number()) {
-        Some(block) => Command::read(&block).ok(),
-        None => None,
-    }
+    let next = known.floor_number();
+    command_said(declared_command(known, next))
 }
 
 /// Notes a Transfer Event that can have been posted, and names this spot. A Short Packet finishes the block that it names, and no

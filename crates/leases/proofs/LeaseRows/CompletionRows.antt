@@ -1,9 +1,11 @@
 -- What is lent after the completion of a command
 use Rattle.std.proofs.Common.{◌≡◌, ◌≢◌, ◌+◌, ◌++◌, ◌∙◌, ◌&&◌, ◌||◌, ◌==◌, ℕ, List, Bool, true, false, None, Some, Option, refl, ap, sym, arith, inl, inr, subst, filter, map, nat_le, nat_lt, eqb-true, eq-eqb}
 use Rattle.leases.proofs.LeaseRows.Words.{position, cases_Bool, false≢true, nat_tests, CommandCompletion, code, kind, is_command_completion, Command, Shape, place_count, RingView, due_positions, floor_number, due_is, number-after, Ring, Header, Read, Erstba, IsHeader, command_id, driver_rings, is_command_kind, shape_of, Known, completed, event_read, learned, Leased, Block, Link, Range, Use, context_ranges, device_ranges, entry_ranges, is_among, open_leases, open_on, open_ranges, range_of_command, range_of_device, range_of_entry, segment_ranges, slots, table_range, flat_map, range_with_len, IsIn, in_among, in_filter, DriverKeeps, EventFacts, event_facts, floors_grow, CompletionFacts, completion_facts, next_at_floor, command_is_ring, SameDriver, event_same, Lent, ended_where, is_passed, let_go, slot_left, slot_ranges, is_lent, RangeIndexes, completed_device, finish_lent, Finishes, gone_are_ranges, in_either, in_flat_map, in_left, in_range, in_right, floors, is_left, IsWithinLap, Moves, all_twice, none_over, over_alike, command_found, no_command_ring, shape_there, any_append, false_unless, or_false, IsAmong, same_number, TraceRecord, EndpointRings, HoldsAll, AreLent, FloorsMove, MovesOn, IsMovedTo, IsOtherRing, is_behind, is_moved_past, moved_when, IsNextRow, grown}
+use Rattle.std.specs.Prelude.{is_some}
+use Rattle.traces.specs.Header.{command_ring}
 use Rattle.trb.specs.declared.block.Block as blocks
 use Rattle.ring_knowledge.specs.Rings as rings
-use Rattle.leases.proofs.LeaseRows.GivenHere.{command_id_is, no_ring}
+use Rattle.trace_record.proofs.RingFinder.CommandRings.{command_id_is, no_ring}
 use Rattle.leases.proofs.LeaseRows.TransferRows.{lap_now}
 
 -- ---- numbers that are passed on two rings
@@ -52,11 +54,21 @@ module _ (h : Header) (headed : IsHeader h) (k : Known) (ts : List Lent) (b : bl
   facts = event_facts h k b next.clean
 
   -- the header has a command ring
-  pub some_commands : position (λ (r : Ring). is_command_kind r.shape.kind) h.rings ≡ None → ⊥
-  some_commands none =
+  not_without : command_ring h ≡ None → ⊥
+  not_without none =
       let ring = command_is_ring h k keeps facts.started in
-      let clash : None ≡ Some ring.ring = sym (no_ring h headed (no_command_ring h none)) ∙ ring.found in
+      let clash : None ≡ Some ring.ring = sym (no_ring h headed none) ∙ ring.found in
       cc
+
+  pub has_commands : is_some (command_ring h) ≡ true
+  has_commands = by (command_ring h) refl
+    where
+      by : (o : Option Ring) → command_ring h ≡ o → is_some o ≡ true
+      by None none = absurd (not_without none)
+      by (Some ring) there = refl
+
+  pub some_commands : position (λ (r : Ring). is_command_kind r.shape.kind) h.rings ≡ None → ⊥
+  some_commands none = not_without (no_command_ring h none)
 
   pub endpoint_rings : EndpointRings h k
   endpoint_rings s i r at = let ring = keeps.states.transfer s i r at in (ring.ring, ring.found, ring.kind)

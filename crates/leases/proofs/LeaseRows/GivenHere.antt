@@ -1,7 +1,8 @@
 -- What a write gives, by the ring that has the word
-use Rattle.std.proofs.Common.{◌≡◌, ◌%◌, ◌++◌, ◌∙◌, ◌==◌, ℕ, [], true, false, Option, Some, None, refl, ap, sym, arith, inl, inr, map, append-nil}
-use Rattle.leases.proofs.LeaseRows.Words.{false≢true, RingKind, Cmd, Evt, Xfer, is_inside, touches, positions_given, crossings_given, due_positions, touches-word, Ring, Header, IsHeader, command_id, command_ring, driver_rings, id_or_none, is_command_kind, is_driver_kind, is_event_kind, ring_with, shape_of, shape_or, Known, given_of, given_by, false_unless, IsAmong, Apart, other_number, same_or_apart, all_from_one, find_some, id_below, not_found, nothing_from, shape_allowed, shape_there, together, command_found}
+use Rattle.std.proofs.Common.{◌≡◌, ◌%◌, ◌++◌, ◌∙◌, ℕ, [], true, false, Option, Some, None, refl, ap, sym, inl, inr, map, append-nil}
+use Rattle.leases.proofs.LeaseRows.Words.{false≢true, RingKind, Cmd, Evt, Xfer, is_inside, touches, positions_given, crossings_given, due_positions, touches-word, Ring, Header, IsHeader, command_id, command_ring, driver_rings, is_command_kind, is_driver_kind, is_event_kind, shape_of, shape_or, Known, given_of, given_by, false_unless, IsAmong, Apart, same_or_apart, all_from_one, nothing_from, shape_allowed, shape_there, together, command_found}
 use Rattle.ring_knowledge.specs.Rings.{Position, Crossing}
+use Rattle.trace_record.proofs.RingFinder.CommandRings.{command_id_is, commands_among, driven, no_ring}
 use Rattle.leases.proofs.LeaseRows.WordsApart.{gives_no_position, gives_no_crossing}
 
 no_driver_event : (kind : RingKind) → is_driver_kind kind ≡ true → is_event_kind kind ≡ true → ⊥
@@ -9,28 +10,7 @@ no_driver_event Cmd d e = absurd (cc)
 no_driver_event Evt d e = absurd (cc)
 no_driver_event Xfer d e = absurd (cc)
 
--- the command ring is the driver's
-pub driven : (kind : RingKind) → is_command_kind kind ≡ true → is_driver_kind kind ≡ true
-driven Cmd e = refl
-driven Evt e = absurd (cc)
-driven Xfer e = refl
-
-pub commands_among : (h : Header) (c : Ring) → command_ring h ≡ Some c → IsAmong c h.rings × (is_command_kind c.shape.kind ≡ true)
-unfolding command_ring
-commands_among h c there = find_some (λ r. is_command_kind r.shape.kind) h.rings c there
-
--- the ID of the command ring
-pub command_id_is : (h : Header) (ring : Ring) → command_ring h ≡ Some ring → command_id h ≡ ring.id
-unfolding command_id
-command_id_is h ring there = ap id_or_none there
-
 module _ (h : Header) (headed : IsHeader h) where
-  -- without a command ring no ring has its ID
-  pub no_ring : command_ring h ≡ None → ring_with h (command_id h) ≡ None
-  unfolding command_id
-  no_ring none =
-      ap (λ o. ring_with h (id_or_none o)) none ∙ not_found (λ r. r.id == 256) h.rings (λ q among. other_number q.id 256 (λ e. omega (arith, e, id_below h headed q among)))
-
   module _ (k : Known) (a : ℕ) (aligned : a % 4 ≡ 0) (w : ℕ) where
     inside_is : (q : Ring) → IsAmong q h.rings → touches q.shape a 4 ≡ is_inside q.shape a
     inside_is q among = touches-word q.shape (shape_allowed h headed q among) a aligned
@@ -51,7 +31,7 @@ module _ (h : Header) (headed : IsHeader h) where
     no_commands outside = by (command_ring h) refl
       where
         by : (o : Option Ring) → command_ring h ≡ o → positions_given (shape_of h (command_id h)) (k.ring (command_id h)) a w ≡ []
-        by None none = ap (λ o. positions_given (shape_or Xfer o) (k.ring (command_id h)) a w) (no_ring none)
+        by None none = ap (λ o. positions_given (shape_or Xfer o) (k.ring (command_id h)) a w) (no_ring h headed none)
         by (Some c) there =
             let among = (commands_among h c there).0 in
             ap (λ i. positions_given (shape_of h i) (k.ring i) a w) (command_id_is h c there)

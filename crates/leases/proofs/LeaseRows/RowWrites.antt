@@ -1,10 +1,12 @@
 -- What is lent after a clean write: what it gives comes under lease, at a free place, and the ranges that its command takes
 use Rattle.std.proofs.Common.{◌≡◌, ◌+◌, ◌<◌, ◌≤◌, ◌%◌, ◌^◌, ◌∷◌, ◌++◌, ◌∙◌, ◌==◌, ◌&&◌, ◌||◌, ℕ, List, [], Bool, true, false, None, Some, Option, refl, ap, sym, arith, inl, inr, subst, nat_le, nat_lt, length, not, map, max, option_and_then, slice_get, eqb-true, ltb-true, leb-true, get_or}
-use Rattle.leases.proofs.LeaseRows.Words.{flat_map, and_parts, or_cases, nat_tests, slice_get_read, put, ContextSize, Bytes32, Bytes64, device_context_bytes, input_context_bytes, Command, command_of, named_context, is_crossing, is_inside, place_count, touches, crossings_given, due_crossings, due_positions, floor_number, gives, gives_crossing, is_crossing_due, positions_given, link_of, Ring, Header, Write, IsHeader, command_id, is_command_kind, is_driver_kind, is_event_kind, shape_of, RingGiving, Position, Crossing, RingRecord, FollowsRing, crossings_of, least_crossing, positions_of, Known, command_given, entry_of, taken_device, noted_past, Leased, Block, Link, Range, InputContext, SlotEntry, DeviceContext, range_of_command, range_of_context, as_lease, comes_before, IsIn, from_filter, DriverKeeps, area_parts, written_devices, taking, rules_of, written_device, Lent, in_turn, is_place_free, precedes, with_begun, with_leased, is_use_free, NoneAhead, link_free, block_free, context_free, device_free, entry_free, MayTake, device_taken, entry_taken, lent_commands, from_range, lease_given, command_found, ring_here, shape_allowed, shape_there, and_false, IsAmong, among_at, same_number, TraceRecord, WordPlace, FollowsTrace, IsGivenBy, IsPlacedSo, EntryFits, SlotIsFree, command_taken, slot_taken, IsNextRow, grown}
+use Rattle.leases.proofs.LeaseRows.Words.{cases_Bool, flat_map, and_parts, or_cases, nat_tests, slice_get_read, put, ContextSize, Bytes32, Bytes64, device_context_bytes, input_context_bytes, Command, named_context, is_crossing, is_inside, place_count, touches, crossings_given, due_crossings, due_positions, floor_number, gives, gives_crossing, is_crossing_due, positions_given, link_of, Ring, Header, Write, IsHeader, command_id, is_command_kind, is_driver_kind, is_event_kind, shape_of, RingGiving, Position, Crossing, RingRecord, FollowsRing, crossings_of, least_crossing, positions_of, Known, command_given, entry_of, taken_device, noted_past, Leased, Block, Link, Range, InputContext, SlotEntry, DeviceContext, range_of_command, range_of_context, as_lease, comes_before, IsIn, from_filter, DriverKeeps, area_parts, written_devices, taking, rules_of, written_device, Lent, in_turn, is_place_free, precedes, with_begun, with_leased, is_use_free, NoneAhead, link_free, block_free, context_free, device_free, entry_free, MayTake, device_taken, entry_taken, lent_commands, from_range, lease_given, command_found, ring_here, shape_allowed, shape_there, and_false, IsAmong, among_at, same_number, TraceRecord, RowPlace, FollowsTrace, IsGivenBy, IsPlacedSo, EntryFits, SlotIsFree, command_taken, slot_taken, IsNextRow, grown}
+use Rattle.std.proofs.lemmas.Option.{slice_get_cases, slice_get_within}
 use Rattle.ring_knowledge.specs.Rings as rings
 use Rattle.leases.proofs.LeaseRows.OtherRows.{among_drivers, are_shaped}
 use Rattle.leases.proofs.LeaseRows.TransferRows.{driver_there}
-use Rattle.leases.proofs.LeaseRows.GivenHere.{command_id_is, commanded_elsewhere, commanded_here, commanded_nowhere, given_by_one, given_nowhere}
+use Rattle.trace_record.proofs.RingFinder.CommandRings.{command_id_is}
+use Rattle.leases.proofs.LeaseRows.GivenHere.{commanded_elsewhere, commanded_here, commanded_nowhere, given_by_one, given_nowhere}
 use Rattle.leases.proofs.LeaseRows.TakenRanges.{begun_none, still_free}
 
 absent_if : (b : Bool) → not b ≡ true → b ≡ false
@@ -127,7 +129,7 @@ module _ (h : Header) (headed : IsHeader h) (k : Known) (ts : List Lent) (a w nu
       lent_link c is = alone_begun (rings.Crossing q.id c) (given_is (Some (Crossing c)) is) (commanded_none (ap positions_of is))
 
       module _ (p : ℕ) (is : giving ≡ Some (Position p)) where
-        pub lent_block : is_command_kind q.shape.kind ≡ false → grown h k (Write a w) number ts ≡ with_begun number ts (Block q.id p ∷ [])
+        lent_block : is_command_kind q.shape.kind ≡ false → grown h k (Write a w) number ts ≡ with_begun number ts (Block q.id p ∷ [])
         lent_block other = alone_begun (rings.Position q.id p) (given_is (Some (Position p)) is) (commanded_elsewhere h headed k a aligned w q among driver has other)
 
         module _ (command : is_command_kind q.shape.kind ≡ true) where
@@ -147,7 +149,7 @@ module _ (h : Header) (headed : IsHeader h) (k : Known) (ts : List Lent) (a w nu
           taken_is : (c : Command) → rings.command_at h k p ≡ Some c → taken ≡ taken_device k c
           taken_is c at = ap (option_and_then (taken_device k)) (command_is (Some c) at)
 
-          pub lent_undeclared : rings.command_at h k p ≡ None → grown h k (Write a w) number ts ≡ with_begun number ts (Block q.id p ∷ [])
+          lent_undeclared : rings.command_at h k p ≡ None → grown h k (Write a w) number ts ≡ with_begun number ts (Block q.id p ∷ [])
           unfolding begun_of taken_at range_of_command range_of_context with_begun
           lent_undeclared none =
               lent_of (rings.Position q.id p ∷ []) (p ∷ []) (given_is (Some (Position p)) is) commanded
@@ -173,6 +175,26 @@ module _ (h : Header) (headed : IsHeader h) (k : Known) (ts : List Lent) (a w nu
 
           pub command_slot_free : (c : Command) → rings.command_at h k p ≡ Some c → SlotIsFree h (with_begun number ts (Block q.id p ∷ [])) (taken_device k c)
           command_slot_free c at = slot_free (taken_device k c) (may_take (taken_device k c) (taken_is c at))
+
+        -- of a ring that isn't the command ring no command is given
+        none_elsewhere : is_command_kind q.shape.kind ≡ false → command_given h k a w ≡ None
+        unfolding command_given
+        none_elsewhere other = ap (λ ps. option_and_then (rings.command_at h k) (slice_get ps 0)) (commanded_elsewhere h headed k a aligned w q among driver has other)
+
+        pub given_kind : (c : Command) → command_given h k a w ≡ Some c → is_command_kind q.shape.kind ≡ true
+        given_kind c some = elim (cases_Bool (is_command_kind q.shape.kind)) [
+          | inl command ↦ command
+          | inr other ↦ let clash : None ≡ Some c = sym (none_elsewhere other) ∙ some in absurd (cc)
+        ]
+
+        pub given_there_is : is_command_kind q.shape.kind ≡ true → (o : Option Command) → command_given h k a w ≡ o → rings.command_at h k p ≡ o
+        given_there_is command o said = sym (command_is command (rings.command_at h k p) refl) ∙ said
+
+        pub lent_without : command_given h k a w ≡ None → grown h k (Write a w) number ts ≡ with_begun number ts (Block q.id p ∷ [])
+        lent_without none = elim (cases_Bool (is_command_kind q.shape.kind)) [
+          | inl command ↦ lent_undeclared command (given_there_is command None none)
+          | inr other ↦ lent_block other
+        ]
 
         -- a position that is given is due, and wasn't given before
         due_now : (floor_number (k.ring q.id) ≤ p) × (p < floor_number (k.ring q.id) + place_count q.shape) × ((k.ring q.id).given p ≡ false)
@@ -232,33 +254,38 @@ module _ (h : Header) (headed : IsHeader h) (k : Known) (ts : List Lent) (a w nu
             link_free h (are_shaped h headed) k ts next.step.opened q (among_drivers h q among driver) (shape_allowed h headed q among) (none_ahead q k r f) c parts.0 parts.1 parts.2
             (absent_if ((k.ring q.id).crossed c) given_there.0)
 
+-- there is a record of each ring
+record_at : (h : Header) (items : List RingRecord) (n : ℕ) (q : Ring) → length items ≡ length h.rings → slice_get h.rings n ≡ Some q → (r : RingRecord) × (slice_get items n ≡ Some r)
+record_at h items n q as_many at = elim (slice_get_cases items n).1 [
+  | inl found ↦ (found.0, found.2)
+  | inr past ↦ let below = slice_get_within h.rings n q at in absurd (omega (arith, as_many, past.0, below))
+]
+
 -- the ring that a row's word lies in, its record, and what the write gives of it
-pub record AtRing (h : Header) (k : Known) (a w : ℕ) (q : Ring) (r : RingRecord) (giving : Option RingGiving) : Type 0 where
+pub record AtRing (h : Header) (k : Known) (a w : ℕ) (q : Ring) (giving : Option RingGiving) : Type 0 where
   pub among : IsAmong q h.rings
   pub driver : is_driver_kind q.shape.kind ≡ true
   pub has : touches q.shape a 4 ≡ true
-  pub follows : FollowsRing q.shape (k.ring q.id) r
+  pub known : RingRecord
+  pub follows : FollowsRing q.shape (k.ring q.id) known
   pub positions : positions_given q.shape (k.ring q.id) a w ≡ positions_of giving
   pub crossings : crossings_given q.shape (k.ring q.id) a w ≡ crossings_of giving
 
-pub at_ring : (h : Header) (k : Known) (t : TraceRecord) (memory : ℕ → ℕ) → FollowsTrace h k t memory → (a w n : ℕ) (p : WordPlace) (q : Ring) (r : RingRecord) → IsPlacedSo h k a w p → p.ring ≡ Some n →
-    q ≡ get_or h.rings n q → is_event_kind q.shape.kind ≡ false → slice_get t.rings.items n ≡ Some r → AtRing h k a w q r p.giving
-at_ring h k t memory follows a w n p q r placed is item other there =
+pub at_ring : (h : Header) (k : Known) (t : TraceRecord) (memory : ℕ → ℕ) → FollowsTrace h k t memory → (a w n : ℕ) (p : RowPlace) (q : Ring) → IsPlacedSo h k a w p → p.ring ≡ Some n →
+    q ≡ get_or h.rings n q → is_event_kind q.shape.kind ≡ false → AtRing h k a w q p.giving
+at_ring h k t memory follows a w n p q placed is item other =
     let here = ring_here h (λ x. touches x.shape a 4) h.rings n q (sym placed.ring ∙ is) refl item in
     let given = subst (λ (o : Option ℕ). IsGivenBy h k a w o p.giving) is placed.given q here.0 in
+    let record_of = record_at h t.rings.items n q follows.rings.as_many here.0 in
     record {
       among = among_at h.rings n q here.0;
       driver = ap not other;
       has = here.1;
-      follows = follows.rings.each n q r here.0 there (ap not other);
+      known = record_of.0;
+      follows = follows.rings.each n q record_of.0 here.0 record_of.1 (ap not other);
       positions = given.positions (ap not other);
       crossings = given.crossings (ap not other);
     }
-
--- the command that is declared at a position of the command ring
-pub command_at_is : (h : Header) (k : Known) (q : Ring) (p : ℕ) (o : Option Command) → command_id h ≡ q.id → o ≡ option_and_then command_of (slice_get (k.ring q.id).queue p) → rings.command_at h k p ≡ o
-unfolding rings.command_at
-command_at_is h k q p o id is = ap (λ (i : ℕ). option_and_then command_of (slice_get (k.ring i).queue p)) id ∙ sym is
 
 -- what a look-up has found
 pub record_there : (xs ys : List RingRecord) (n : ℕ) (r : RingRecord) → xs ≡ ys → true ≡ nat_lt n (length xs) → r ≡ get_or xs n r → slice_get ys n ≡ Some r

@@ -121,9 +121,9 @@ pub use Rattle.std.specs.Option.{option_map}
 pub use Rattle.std.specs.Result.{result_ok}
 pub use Rattle.trace_record.specs.FollowsTrace.{FollowsTrace}
 pub use Rattle.trace_record.specs.Premises.{EndpointRings}
-pub use Rattle.trace_record.specs.WordPlaces.{IsGivenBy, IsPlaced, IsPlacedSo}
+pub use Rattle.trace_record.specs.RowPlaces.{IsGivenBy, IsPlaced, IsPlacedSo}
 pub use Rattle.trace_record.specs.declared.trace_record.TraceRecord.{TraceRecord}
-pub use Rattle.trace_record.specs.declared.word_place.WordPlace.{WordPlace}
+pub use Rattle.trace_record.specs.declared.row_place.RowPlace.{RowPlace}
 pub use Rattle.traces.specs.Header.{IsHeader, id_or_none, is_command_kind, is_driver_kind, is_event_kind, is_ring, is_transfer_kind, ring_with, shape_or}
 unfoldable pub use Rattle.traces.specs.Header.{command_id, command_ring, driver_rings, event_ring, event_shape, ring_having, shape_of}
 pub use Rattle.traces.specs.Register.{base_address, register_or_zero, with_register}

@@ -7,19 +7,20 @@ ghost use Rattle.traces.specs.Header.{IsHeader};
 ghost use Rattle.traces.specs.declared.row.Row.TheVariants.{Read};
 ghost use Rattle.ring_knowledge.specs.Known.{Known};
 ghost use Rattle.trace_record.specs.RingFinder.Finding.{IsFinder};
+ghost use Rattle.trace_record.specs.RowPlaces.{IsNext};
 ghost use Rattle.leases.specs.LeaseBooks.Lents.{Lent, grown};
 ghost use Rattle.leases.specs.LeaseRows.CleanRows.{HoldsAll, IsNextRow};
 
 use crate::book::{LeaseLog, RangeIndexes};
 use crate::rows::left_behind::end_command;
-use crate::rows::taking::command_at;
-use trace_record::{Finder, TraceRecord};
+use commands::SaidCommand;
+use trace_record::{Finder, TraceRecord, command_said};
 use traces::Header;
 use trb::Block;
 
-/// Notes the row of a number that reads a Command Completion Event; the record is that before it. The leases end of the command's
-/// block and of the Link before it, of its input context, of what a Disable Slot that succeeded lets go, and of what a ring passes
-/// that a Set TR Dequeue moved.
+/// Notes the row of a number that reads a Command Completion Event, with which `command` ends; the record is that before it. The
+/// leases end of the command's block and of the Link before it, of its input context, of what a Disable Slot that succeeded lets go,
+/// and of what a ring passes that a Set TR Dequeue moved.
 pub(crate) fn note_completion<B: LeaseLog>(
     book: &mut B,
     ranges: &RangeIndexes,
@@ -28,10 +29,11 @@ pub(crate) fn note_completion<B: LeaseLog>(
     t: &TraceRecord,
     number: u32,
     event: Block,
+    command: Option<SaidCommand>,
 )
     requires headed { IsHeader header.now }
     requires found { IsFinder header.now.rings finder.now }
-    ensures { (list : List Lease) (k : Known) (ts : List Lent) (memory : ℕ → ℕ) → kind event ≡ CommandCompletion →
+    ensures { (list : List Lease) (k : Known) (ts : List Lent) (memory : ℕ → ℕ) → kind event ≡ CommandCompletion → IsNext header.now k command →
         IsNextRow header.now k ts (Read event) t.now memory →
         HoldsAll (B.holds list) header.now ts book.old ranges.now → HoldsAll (B.holds list) header.now (grown header.now k (Read event) number ts) book.new ranges.now }
 {
@@ -47,7 +49,7 @@ pub(crate) fn note_completion<B: LeaseLog>(
         return;
     };
     let next = known.floor_number();
-    match command_at(known, next) {
+    match command_said(command) {
         None => book.end_passed(number, ring, next, next + 1),
         Some(command) => {
             let success = event.code() == 1;

@@ -1,16 +1,12 @@
 //! The ranges that a command takes when it is given: its input context, and of a slot that takes a device context the entry and
 //! that context (xHCI 4.6.5, 6.1).
 ghost use Rattle.ring_knowledge.specs.declared.lease.Lease.{Lease};
-ghost use Rattle.std.specs.Prelude.{◌≡◌, ◌+◌, ◌%◌, ◌^◌, ◌≤◌, ℕ, true, List, [], ◌∷◌, ◌++◌, OnOk, option_and_then, slice_get};
+ghost use Rattle.std.specs.Prelude.{◌≡◌, ◌+◌, ◌%◌, ◌^◌, ◌≤◌, ℕ, true, List, [], ◌∷◌, ◌++◌, OnOk};
 ghost use Rattle.guest_memory.specs.Memory.{long_at};
-ghost use Rattle.commands.specs.Command.{command_of};
 ghost use Rattle.contexts.specs.Contexts.{device_context_bytes, input_context_bytes};
-ghost use Rattle.segments.specs.ShapeValue.{Shape};
-ghost use Rattle.segments.specs.RingView.{RingView, floor_number};
 ghost use Rattle.traces.specs.Header.{command_id, shape_of};
 ghost use Rattle.ring_knowledge.specs.Known.{Known};
 ghost use Rattle.ring_knowledge.specs.RegisterRecords.{FollowsRegisters};
-ghost use Rattle.ring_knowledge.specs.RingRecords.{FollowsRing};
 ghost use Rattle.ring_knowledge.specs.Writes.{entry_of, taken_device};
 ghost use Rattle.ownership_rules.specs.OpenLeases.{InputContext, range_of_command};
 ghost use Rattle.leases.specs.LeaseBooks.Lents.{Lent, with_begun};
@@ -23,31 +19,13 @@ use crate::book::{LeaseLog, RangeIndexes};
 use commands::Command;
 use contexts::{ContextSize, long_at};
 use guest_memory::WordMemory;
-use ring_knowledge::{RegisterRecord, RingRecord};
+use ring_knowledge::RegisterRecord;
 use std::alloc::AllocError;
 use trace_record::TraceRecord;
 use traces::{Header, Register, Ring};
-use trb::Block;
 
 /// How many bytes the entry of a slot has in the Device Context Base Address Array.
 const ENTRY_BYTES: u32 = 8;
-
-/// The command that is declared at a position of a ring from the floor on.
-pub(crate) fn command_at(known: &RingRecord, position: u64) -> Option<Command>
-    ensures { (shape : Shape) (v : RingView) → FollowsRing shape v known.now → floor_number v ≤ position → result ≡ option_and_then command_of (slice_get v.queue position) }
-{
-    match known.declared(position) {
-        Some(block) => command_in(block),
-        None => None,
-    }
-}
-
-/// The command that a block says.
-fn command_in(block: Block) -> Option<Command>
-    ensures { result ≡ command_of block }
-{
-    Command::read(&block).ok()
-}
 
 /// The ranges that the command at a position of the command ring takes come under lease.
 pub(crate) fn begin_command<B: LeaseLog, M: WordMemory>(

@@ -1,5 +1,5 @@
 -- Which rule a doorbell breaks
-use Rattle.std.proofs.Common.{◌≡◌, ℕ, [], ◌∷◌, Bool, true, false, Some, refl, ap, sym, ◌∙◌}
+use Rattle.std.proofs.Common.{◌≡◌, ℕ, [], ◌∷◌, Bool, true, false, refl, ap, sym, ◌∙◌}
 use Rattle.std.specs.Prelude.{if◌then◌else◌}
 use Rattle.traces.specs.declared.header.Header.{Header}
 use Rattle.traces.specs.declared.row.Row.TheVariants.{Bell}
@@ -9,8 +9,6 @@ use Rattle.ownership_rules.specs.Refusal.{first_of, first_broken, broken_of}
 use Rattle.ownership_rules.specs.Older.{older, stricter}
 use Rattle.ownership_rules.specs.Rules.{broken, lenient_tests, tests}
 use Rattle.ownership_rules.specs.Doorbells.{doorbell_tests, is_bad_doorbell}
-use Rattle.safety.specs.Keeps.{DriverKeeps}
-use Rattle.traces.specs.Header.{IsHeader}
 use Rattle.ring_knowledge.specs.Learned.{learned}
 use Rattle.trace_record.specs.declared.trace_record.TraceRecord.{TraceRecord}
 use Rattle.trace_record.specs.FollowsTrace.{FollowsTrace}

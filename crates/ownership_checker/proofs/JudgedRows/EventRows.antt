@@ -1,8 +1,8 @@
 -- Which rule an event breaks, and what is known behind one that breaks none
-use Rattle.std.proofs.Common.{◌≡◌, ℕ, List, [], ◌∷◌, true, false, inl, inr, Some, None, refl, ap, sym, ◌∙◌, ◌+◌, subst}
+use Rattle.std.proofs.Common.{◌≡◌, ℕ, [], ◌∷◌, true, false, refl, ap, sym, ◌∙◌, ◌+◌, subst}
 use Rattle.std.specs.Prelude.{◌||◌, ◌&&◌, ◌==◌, not, if◌then◌else◌, Bool}
 use Rattle.std.specs.Bool.{OnTrue}
-use Rattle.std.proofs.lemmas.Bool.{and_parts, cases_Bool, false≢true, or_parts, not-false}
+use Rattle.std.proofs.lemmas.Bool.{and_parts, false≢true, or_parts, not-false}
 use Rattle.trb.specs.declared.block.Block.{Block}
 use Rattle.trb.specs.Block.{cycle, kind}
 use Rattle.trb.specs.declared.kind.BlockKind.{BlockKind}

@@ -1,5 +1,5 @@
 -- An accepted trace is harmless beside every run of the controller's model
-use Rattle.std.specs.Prelude.{ℕ, List, All, reverse}
+use Rattle.std.specs.Prelude.{List, All, reverse}
 use Rattle.std.proofs.lemmas.List.Elements.{All-weaker}
 use Rattle.traces.specs.declared.header.Header.{Header}
 use Rattle.traces.specs.declared.row.Row.{Row}

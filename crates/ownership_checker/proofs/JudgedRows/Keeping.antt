@@ -1,24 +1,22 @@
 -- What the checks of rows rest on, of a driver that has kept the rules so far
-use Rattle.std.proofs.Common.{◌≡◌, ◌≢◌, ℕ, zero, suc, length, get_or, ◌+◌, ◌^◌, ◌≤◌, ◌<◌, List, [], ◌∷◌, true, false, Option, Some, None, refl, ap, sym, ◌∙◌, arith, subst, inl, inr}
-use Rattle.std.specs.Prelude.{nat_lt, is_some, slice_get, option_and_then, ◌||◌, ◌/◌, ◌*◌, ◌%◌, Bool, if◌then◌else◌}
-use Rattle.std.specs.List.{All}
+use Rattle.std.proofs.Common.{◌≡◌, ℕ, zero, suc, length, get_or, ◌<◌, List, [], ◌∷◌, true, false, Option, Some, None, refl, ap, sym, ◌∙◌, arith, subst, inl, inr}
+use Rattle.std.specs.Prelude.{is_some, slice_get, option_and_then, ◌/◌, ◌*◌, ◌%◌, Bool, if◌then◌else◌}
 use Rattle.std.proofs.lemmas.Bool.{cases_Bool, or_parts}
 use Rattle.std.proofs.lemmas.Bool.Decides.{nat_tests}
 use Rattle.trb.specs.declared.block.Block.{Block}
 use Rattle.trb.specs.declared.kind.BlockKind.{BlockKind}
 use Rattle.trb.specs.declared.kind.BlockKind.TheVariants as kinds
-use Rattle.trb.specs.Block.{aligned, endpoint, kind, pointer, slot, word}
+use Rattle.trb.specs.Block.{aligned, kind, pointer}
 use Rattle.trb.specs.declared.ring_kind.RingKind.TheVariants.{Evt}
 use Rattle.segments.specs.Places.{place_count}
 use Rattle.contexts.specs.Contexts.{input_context_bytes}
 use Rattle.commands.specs.declared.command.Command.{Command}
-use Rattle.commands.specs.declared.command.Command.TheVariants.{AddressDevice, ConfigureEndpoint, EvaluateContext}
 use Rattle.commands.specs.Command.{command_by_kind, command_of, named_context, option_bit}
 use Rattle.trb.specs.Descriptor.{is_command_left_out}
 use Rattle.traces.specs.declared.header.Header.{Header}
 use Rattle.traces.specs.declared.ring.Ring.{Ring}
 use Rattle.traces.specs.Header.{IsHeader, command_id, command_ring, event_ring, event_shape, event_size, id_or_none, ring_with, shape_or}
-use Rattle.traces.specs.declared.register.Register.TheVariants.{Crcr, Erstsz}
+use Rattle.traces.specs.declared.register.Register.TheVariants.{Crcr}
 use Rattle.ring_knowledge.specs.Known.{Known}
 use Rattle.safety.specs.Keeps.{DriverKeeps, IsDriverRing}
 use Rattle.safety.proofs.RingIds.{none_has_256}

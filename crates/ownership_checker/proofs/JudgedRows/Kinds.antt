@@ -3,14 +3,11 @@ use Rattle.std.proofs.Common.{◌≡◌, ℕ, Bool, true, false, Option, None, S
 use Rattle.std.specs.Prelude.{IfErr, IfOk, OnOk}
 use Rattle.event_ring.specs.EventPlaceValue.{EventState}
 use Rattle.traces.specs.declared.row.Row.{Row}
-use Rattle.traces.specs.declared.row.Row.TheVariants.{Reg}
-use Rattle.traces.specs.declared.register.Register.{Register}
 use Rattle.traces.specs.declared.header.Header.{Header}
 use Rattle.traces.specs.Header.{IsHeader}
 use Rattle.ring_knowledge.specs.Known.{Known}
 use Rattle.ownership_rules.specs.Rules.{broken}
 use Rattle.ownership_rules.specs.declared.refusal.Refusal.TheVariants.{AfterStop}
-use Rattle.ownership_rules.specs.Refusal.{first_of}
 use Rattle.safety.specs.Keeps.{DriverKeeps}
 use Rattle.trace_record.specs.declared.trace_record.TraceRecord.{TraceRecord}
 use Rattle.trace_record.specs.declared.fault.StepFault.{StepFault}
@@ -19,8 +16,8 @@ use Rattle.trace_record.specs.FollowsTrace.{FollowsTrace}
 use Rattle.trace_record.specs.Fresh.{IsWithin}
 use Rattle.trace_record.specs.Premises.{IsSetUp}
 use Rattle.trace_record.specs.Steps.{IfRefused, IsLeast, IsRowStep}
-use Rattle.trace_record.specs.WordPlaces.{IsOwnedSo, IsPlaced}
-use Rattle.trace_record.specs.declared.word_place.WordPlace.{WordPlace}
+use Rattle.trace_record.specs.RowPlaces.{IsOwnedSo, IsPlaced}
+use Rattle.trace_record.specs.declared.row_place.RowPlace.{RowPlace}
 use Rattle.ownership_checker.specs.JudgedRows.Tracking.{IsTracked, IsStepFrom, IsLeastFrom}
 use Rattle.ownership_checker.proofs.JudgedRows.Keeping.{set_up}
 
@@ -29,9 +26,9 @@ pub stopped_refused : (h : Header) (k : Known) (row : Row) → k.stopped ≡ tru
 unfolding broken
 stopped_refused h k row off = rw off refl
 
-module _ (h : Header) (kept : TraceRecord) (memory : ℕ → ℕ) (on : (k : Known) → FollowsTrace h k kept memory → k.stopped ≡ false) (row other : Row) (is : row ≡ other) (place : WordPlace) where
-  -- what is said of a row before the stop, by the place of its word, is said of it as it stands in the trace
-  placed_ok : {X : Type 0} (after : TraceRecord) (o : ℕ → ℕ) (result : Result X StepFault) →
+module _ (h : Header) (kept : TraceRecord) (memory : ℕ → ℕ) (on : (k : Known) → FollowsTrace h k kept memory → k.stopped ≡ false) (row other : Row) (is : row ≡ other) (place : RowPlace) where
+  -- what is said of a row before the stop, by its place, is said of it as it stands in the trace
+  pub placed_ok : {X : Type 0} (after : TraceRecord) (o : ℕ → ℕ) (result : Result X StepFault) →
       OnOk result ((k : Known) → FollowsTrace h k kept memory → DriverKeeps h k → k.stopped ≡ false → IsPlaced h k other place → IsRowStep h k other after o) →
       OnOk result ((k : Known) → IsTracked h k kept memory → IsPlaced h k row place → IsRowStep h k row after o)
   placed_ok after o (Ok n) said = λ k t placed.
@@ -46,6 +43,12 @@ module _ (h : Header) (kept : TraceRecord) (memory : ℕ → ℕ) (on : (k : Kno
       let runs = on k t.follows in
       subst (λ (w : Row). IsLeast h k w c) (sym is) (said k t.follows (t.keeps runs) runs (subst (λ (w : Row). IsPlaced h k w place) is placed))
   placed_fault Memory said = said
+
+  pub placed_bad : {X : Type 0} (result : Result X StepFault) →
+      IfErr result (λ e. IfRefused e (λ c. (k : Known) → FollowsTrace h k kept memory → DriverKeeps h k → k.stopped ≡ false → IsPlaced h k other place → IsLeast h k other c)) →
+      IfErr result (λ e. IfRefused e (λ c. (k : Known) → IsTracked h k kept memory → IsPlaced h k row place → IsLeast h k row c))
+  placed_bad (Ok n) said = said
+  placed_bad (Err e) said = placed_fault e said
 
   -- the same of a write of which it is known whether it is to what the controller owns
   module _ (owned : Bool) (owns : (k : Known) → FollowsTrace h k kept memory → IsPlaced h k row place → IsOwnedSo h k row owned) where

@@ -1,5 +1,5 @@
 -- A pass over the rows of a trace: what was checked so far, and what that says of the whole
-use Rattle.std.proofs.Common.{◌≡◌, ℕ, Bool, ◌+◌, ◌-◌, ◌<◌, ◌≤◌, List, false, [], ◌∷◌, Option, Some, None, refl, ap, sym, ◌∙◌, arith, length, subst, get_or, add-zero}
+use Rattle.std.proofs.Common.{◌≡◌, ℕ, ◌+◌, ◌<◌, ◌≤◌, List, [], ◌∷◌, Option, Some, None, refl, ap, sym, ◌∙◌, arith, length, subst, get_or, add-zero}
 use Rattle.std.specs.Prelude.{reverse, take, drop, option_map}
 use Rattle.std.proofs.lemmas.Grind.{common_steps}
 use Rattle.traces.specs.declared.row.Row.{Row}
@@ -20,8 +20,8 @@ use Rattle.safety.proofs.DriverHistories.{kept_history}
 use Rattle.trace_record.specs.declared.trace_record.TraceRecord.{TraceRecord}
 use Rattle.trace_record.specs.declared.fault.StepFault.{StepFault}
 use Rattle.trace_record.specs.declared.fault.StepFault.TheVariants.{Refused, Memory}
-use Rattle.trace_record.specs.declared.word_place.WordPlace.{WordPlace}
-use Rattle.trace_record.specs.WordPlaces.{IsPlaced}
+use Rattle.trace_record.specs.declared.row_place.RowPlace.{RowPlace}
+use Rattle.trace_record.specs.RowPlaces.{IsPlaced}
 use Rattle.trace_record.specs.FollowsTrace.{FollowsTrace}
 use Rattle.trace_record.specs.Fresh.{IsWithin}
 use Rattle.trace_record.specs.Steps.{IfRefused, IsLeast, IsRowStep}
@@ -87,7 +87,7 @@ tracked_after h headed past row kept after m o t clean f =
     record { follows = f; keeps = λ on. kept_history h headed past row (t.keeps (clean_tests h (known h past) row within).0) within on }
 
 -- what is said of a row by the place of its word, where that is found
-pub by_place : (h : Header) (kept : TraceRecord) (m : ℕ → ℕ) (row : Row) (place : WordPlace) → ((k : Known) → FollowsTrace h k kept m → IsPlaced h k row place) → (e : StepFault) →
+pub by_place : (h : Header) (kept : TraceRecord) (m : ℕ → ℕ) (row : Row) (place : RowPlace) → ((k : Known) → FollowsTrace h k kept m → IsPlaced h k row place) → (e : StepFault) →
     IfRefused e (λ c. (k : Known) → IsTracked h k kept m → IsPlaced h k row place → IsLeast h k row c) →
     IfRefused e (λ c. (k : Known) → IsTracked h k kept m → IsLeast h k row c)
 by_place h kept m row place places (Refused c) said = λ k t. said k t (places k t.follows)

@@ -1,5 +1,5 @@
 -- How far a pass has come over rows that are kept in memory, and what that says of all of them
-use Rattle.std.proofs.Common.{◌≡◌, ℕ, ◌+◌, ◌<◌, ◌≤◌, List, [], ◌∷◌, ◌++◌, ◌∙◌, All, Some, ap, sym, subst, arith, length, get_or, add-zero, refl}
+use Rattle.std.proofs.Common.{◌≡◌, ℕ, ◌+◌, ◌<◌, ◌≤◌, List, [], ◌∷◌, ◌++◌, ◌∙◌, All, Some, ap, sym, subst, arith, length, get_or, add-zero}
 use Rattle.std.specs.Prelude.{drop, reverse, take}
 use Rattle.std.proofs.lemmas.Grind.{common_steps}
 use Rattle.std.proofs.lemmas.List.Elements.{All-weaker}

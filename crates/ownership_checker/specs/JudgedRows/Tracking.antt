@@ -1,5 +1,5 @@
 -- How far the check of a trace has come, in terms of what is known after the rows so far
-use Rattle.std.specs.Prelude.{◌≡◌, ℕ, ◌+◌, ◌≤◌, false, List, length, reverse, take, drop}
+use Rattle.std.specs.Prelude.{◌≡◌, ℕ, ◌+◌, false, List, length, reverse, take, drop}
 use Rattle.traces.specs.declared.header.Header.{Header}
 use Rattle.traces.specs.declared.row.Row.{Row}
 use Rattle.ring_knowledge.specs.Known.{Known, nothing}

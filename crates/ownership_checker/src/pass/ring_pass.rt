@@ -18,7 +18,7 @@ ghost use Rattle.leases.specs.RingLeases.RingLents.{is_of_ring, ring_lents};
 ghost use Rattle.trace_record.specs.FollowsTrace.{FollowsTrace};
 ghost use Rattle.safety.specs.RingChanges.Histories.{FitsFields, header_now, known_now};
 ghost use Rattle.trace_record.specs.Steps.{IfRefused};
-ghost use Rattle.trace_record.specs.WordPlaces.{IsPlaced};
+ghost use Rattle.trace_record.specs.RowPlaces.{IsPlaced};
 ghost use Rattle.ownership_checker.specs.RingPasses.Clean.{IsLeastOfRow};
 ghost use Rattle.ownership_checker.specs.RingPasses.KeptRows.{IsBehind};
 ghost use Rattle.ownership_checker.specs.RingPasses.Passing.{DoNoHarm, IsRingLogged, IsRingPassed};
@@ -32,14 +32,15 @@ use guest_memory::WordMemory;
 use leases::{LeaseLog, RangeIndexes, note_going, note_row};
 use ownership_rules::Refusal;
 use std::alloc::{AllocError, Global};
-use trace_record::{Finder, StepFault, TraceRecord, WordPlace};
+use trace_record::{Finder, RowPlace, StepFault, TraceRecord};
 use traces::{Header, Ring, Row};
 
-/// Where the word of a row lies that writes none.
-const NOWHERE: WordPlace = WordPlace {
+/// The place of a row that writes no word and ends no command.
+const NOWHERE: RowPlace = RowPlace {
     ring: None,
     is_lent: false,
     giving: None,
+    command: None,
 };
 
 /// What is known after the rows so far, the rings that are there, and the log of the leases.
@@ -100,25 +101,29 @@ impl<B: LeaseLog + Drop, M: WordMemory + Drop> RingPass<B, M> {
         match row {
             Row::Write { .. } => {
                 let place = self.record.place(&self.header, &self.finder, row);
-                self.placed_row(number, row, place)
+                self.placed_row(number, row, &place)
             }
-            _ => self.placed_row(number, row, NOWHERE),
+            Row::Read { .. } => {
+                let place = self.record.place(&self.header, &self.finder, row);
+                self.placed_row(number, row, &place)
+            }
+            _ => self.placed_row(number, row, &NOWHERE),
         }
     }
 
-    /// The same of a row whose word lies here, where nothing was withdrawn. It goes inline for writes and for other rows each by itself.
+    /// The same of a row with this place, where nothing was withdrawn. It goes inline for writes, for events and for other rows each by itself.
     #[inline(always)]
-    fn placed_row(&mut self, number: u32, row: &Row, place: WordPlace) -> Result<(), StepFault>
+    fn placed_row(&mut self, number: u32, row: &Row, place: &RowPlace) -> Result<(), StepFault>
         requires unwithdrawn { self.old.has_withdrawn ≡ false }
         requires so_far { (h : Header) × (past : List TraceRow) × IsRingPassed M.words h past self.old × (length past ≤ most_streamed_lines) }
-        ensures passed { OnOk result ((h : Header) (past : List TraceRow) → IsRingPassed M.words h past self.old → IsPlaced self.old.header (known_now h past) row.now place →
+        ensures passed { OnOk result ((h : Header) (past : List TraceRow) → IsRingPassed M.words h past self.old → IsPlaced self.old.header (known_now h past) row.now place.now →
             IsRingPassed M.words h (Plain row.now ∷ past) self.new) }
         ensures logged { OnOk result ((list : List Lease) (h : Header) (first : ℕ) (past : List TraceRow) → IsRingPassed M.words h past self.old →
-            IsPlaced self.old.header (known_now h past) row.now place →
+            IsPlaced self.old.header (known_now h past) row.now place.now →
             number ≡ first + length past → first + length past < without_end →
             IsRingLogged (B.holds list) h first past self.old → IsRingLogged (B.holds list) h first (Plain row.now ∷ past) self.new) }
         ensures refused { IfErr result (λ e. IfRefused e (λ c. (h : Header) (past : List TraceRow) → IsRingPassed M.words h past self.old →
-            IsPlaced self.old.header (known_now h past) row.now place →
+            IsPlaced self.old.header (known_now h past) row.now place.now →
             IsLeastOfRow (header_now h past) (known_now h past) (Plain row.now) c)) }
     {
         note_row(

@@ -15,17 +15,18 @@ ghost use Rattle.ownership_rules.specs.Rules.{broken};
 ghost use Rattle.safety.specs.Keeps.{DriverKeeps};
 ghost use Rattle.trace_record.specs.FollowsTrace.{FollowsTrace};
 ghost use Rattle.trace_record.specs.Fresh.{IsWithin};
-ghost use Rattle.trace_record.specs.Steps.{IfRefused};
-ghost use Rattle.ownership_checker.specs.JudgedRows.Tracking.{IsLeastFrom, IsStepFrom};
+ghost use Rattle.trace_record.specs.RowPlaces.{IsNext, IsPlaced};
+ghost use Rattle.trace_record.specs.Steps.{IfRefused, IsLeast, IsRowStep};
 
+use commands::SaidCommand;
 use event_rows::{count_read, is_left_out, is_no_event, read_completion, read_transfer_event};
 use guest_memory::WordMemory;
 use ownership_rules::Refusal;
-use trace_record::{Finder, StepFault, TraceRecord};
+use trace_record::{Finder, RowPlace, StepFault, TraceRecord};
 use traces::Header;
 use trb::{Block, BlockKind};
 
-/// Checks an event before the stop, and notes it: rules 21 and 23, in this order.
+/// Checks an event before the stop, and notes it: rules 21 and 23, in this order. `place` has the command that ends with it.
 #[inline(always)]
 pub fn check_event<M: WordMemory>(
     header: &Header,
@@ -33,13 +34,16 @@ pub fn check_event<M: WordMemory>(
     kept: &mut TraceRecord,
     memory: &M,
     event: Block,
+    place: &RowPlace,
 ) -> Result<(), StepFault>
     requires headed { IsHeader header.now }
     requires found { IsFinder header.now.rings finder.now }
     requires as_many { length kept.now.rings.items ≡ length header.now.rings }
     requires few_reads { IsWithin kept.now.events most_streamed_lines }
-    ensures ok { OnOk result (IsStepFrom header.now kept.old (M.words memory.now) (Read event) kept.new (M.words memory.now)) }
-    ensures refused { IfErr result (λ e. IfRefused e (IsLeastFrom header.now kept.old (M.words memory.now) (Read event))) }
+    ensures ok { OnOk result ((k : Known) → FollowsTrace header.now k kept.old (M.words memory.now) → DriverKeeps header.now k → k.stopped ≡ false →
+        IsPlaced header.now k (Read event) place.now → IsRowStep header.now k (Read event) kept.new (M.words memory.now)) }
+    ensures refused { IfErr result (λ e. IfRefused e (λ c. (k : Known) → FollowsTrace header.now k kept.old (M.words memory.now) → DriverKeeps header.now k → k.stopped ≡ false →
+        IsPlaced header.now k (Read event) place.now → IsLeast header.now k (Read event) c)) }
     ensures reads { OnOk result ((n : ℕ) → IsWithin kept.old.events n → IsWithin kept.new.events (n + 1)) }
 {
     if is_no_event(kept, event) {
@@ -49,7 +53,7 @@ pub fn check_event<M: WordMemory>(
     if is_left_out(event) {
         return Err(StepFault::Refused(Refusal::NotInProfile));
     }
-    if !note_event(header, finder, kept, memory, event) {
+    if !note_event(header, finder, kept, memory, event, place) {
         return Err(StepFault::Refused(Refusal::ImpossibleEvent));
     }
     count_read(kept, event);
@@ -64,19 +68,27 @@ fn note_event<M: WordMemory>(
     kept: &mut TraceRecord,
     memory: &M,
     event: Block,
+    place: &RowPlace,
 ) -> bool
     requires headed { IsHeader header.now }
     requires found { IsFinder header.now.rings finder.now }
     requires as_many { length kept.now.rings.items ≡ length header.now.rings }
-    ensures possible { (k : Known) → FollowsTrace header.now k kept.old (M.words memory.now) → DriverKeeps header.now k → k.started ≡ true →
+    ensures possible { (k : Known) → FollowsTrace header.now k kept.old (M.words memory.now) → DriverKeeps header.now k → k.started ≡ true → IsPlaced header.now k (Read event) place.now →
         (is_transfer_event (kind event) && not (is_in_profile event)) ≡ false → result ≡ not (is_impossible_by_kind header.now k (kind event) event) }
-    ensures followed { OnTrue result ((k : Known) → FollowsTrace header.now k kept.old (M.words memory.now) → DriverKeeps header.now k → broken header.now k (Read event) ≡ [] →
+    ensures followed { OnTrue result ((k : Known) → FollowsTrace header.now k kept.old (M.words memory.now) → DriverKeeps header.now k → IsPlaced header.now k (Read event) place.now → broken header.now k (Read event) ≡ [] →
         FollowsTrace header.now (event_read header.now k (kind event) event) kept.new (M.words memory.now)) }
     ensures events { kept.new.events ≡ kept.old.events }
 {
     match event.kind() {
         BlockKind::TransferEvent => read_transfer_event(header, finder, kept, event),
-        BlockKind::CommandCompletion => note_completion(header, finder, kept, memory, event),
+        BlockKind::CommandCompletion => note_completion(
+            header,
+            finder,
+            kept,
+            memory,
+            event,
+            place.command,
+        ),
         _ => true,
     }
 }
@@ -88,15 +100,16 @@ fn note_completion<M: WordMemory>(
     kept: &mut TraceRecord,
     memory: &M,
     event: Block,
+    next: Option<SaidCommand>,
 ) -> bool
     requires headed { IsHeader header.now }
     requires found { IsFinder header.now.rings finder.now }
     requires as_many { length kept.now.rings.items ≡ length header.now.rings }
-    ensures possible { (k : Known) → FollowsTrace header.now k kept.old (M.words memory.now) → DriverKeeps header.now k → k.started ≡ true →
+    ensures possible { (k : Known) → FollowsTrace header.now k kept.old (M.words memory.now) → DriverKeeps header.now k → k.started ≡ true → IsNext header.now k next →
         result ≡ not (is_impossible_completion header.now k event) }
-    ensures followed { OnTrue result ((k : Known) → FollowsTrace header.now k kept.old (M.words memory.now) → DriverKeeps header.now k → is_impossible_completion header.now k event ≡ false →
+    ensures followed { OnTrue result ((k : Known) → FollowsTrace header.now k kept.old (M.words memory.now) → DriverKeeps header.now k → IsNext header.now k next → is_impossible_completion header.now k event ≡ false →
         FollowsTrace header.now (completed header.now k event) kept.new (M.words memory.now)) }
     ensures events { kept.new.events ≡ kept.old.events }
 {
-    read_completion(header, finder, kept, memory, event)
+    read_completion(header, finder, kept, memory, event, next)
 }

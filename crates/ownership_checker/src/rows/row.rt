@@ -10,7 +10,7 @@ ghost use Rattle.safety.specs.Keeps.{DriverKeeps};
 ghost use Rattle.trace_record.specs.FollowsTrace.{FollowsTrace};
 ghost use Rattle.trace_record.specs.Fresh.{IsWithin};
 ghost use Rattle.trace_record.specs.Steps.{IfRefused, IsLeast, IsRowStep};
-ghost use Rattle.trace_record.specs.WordPlaces.{IsPlaced, IsPlacedSo};
+ghost use Rattle.trace_record.specs.RowPlaces.{IsPlaced, IsPlacedSo};
 ghost use Rattle.ownership_checker.specs.JudgedRows.Tracking.{IsLeastFrom, IsStepFrom, IsTracked};
 
 use crate::rows::events::check_event;
@@ -18,12 +18,12 @@ use driver_rows::{
     WordWrite, check_declaration, check_register, check_write, is_bad_doorbell, note_plain_write,
     note_write, plain_refusal, ring_doorbell,
 };
-use guest_memory::{Addr, WordMemory};
+use guest_memory::WordMemory;
 use ownership_rules::Refusal;
-use trace_record::{Finder, StepFault, TraceRecord, WordPlace};
+use trace_record::{Finder, RowPlace, StepFault, TraceRecord};
 use traces::{Header, Row};
 
-/// Checks a row, and notes it. Where it writes a word, `place` is where the word lies.
+/// Checks a row, and notes it. `place` is where the word lies that it writes, and the command that it gives or ends.
 #[inline(always)]
 pub fn check_row<M: WordMemory>(
     header: &Header,
@@ -31,16 +31,16 @@ pub fn check_row<M: WordMemory>(
     kept: &mut TraceRecord,
     memory: &mut M,
     row: &Row,
-    place: WordPlace,
+    place: &RowPlace,
 ) -> Result<(), StepFault>
     requires headed { IsHeader header.now }
     requires found { IsFinder header.now.rings finder.now }
     requires as_many { length kept.now.rings.items ≡ length header.now.rings }
     requires few_reads { IsWithin kept.now.events most_streamed_lines }
     ensures ok { OnOk result ((k : Known) → IsTracked header.now k kept.old (M.words memory.old) →
-        IsPlaced header.now k row.now place → IsRowStep header.now k row.now kept.new (M.words memory.new)) }
+        IsPlaced header.now k row.now place.now → IsRowStep header.now k row.now kept.new (M.words memory.new)) }
     ensures refused { IfErr result (λ e. IfRefused e (λ c. (k : Known) → IsTracked header.now k kept.old (M.words memory.old) →
-        IsPlaced header.now k row.now place → IsLeast header.now k row.now c)) }
+        IsPlaced header.now k row.now place.now → IsLeast header.now k row.now c)) }
     ensures reads { OnOk result ((n : ℕ) → IsWithin kept.old.events n → IsWithin kept.new.events (n + 1)) }
 {
     if kept.registers.is_stopped() {
@@ -55,14 +55,19 @@ pub fn check_row<M: WordMemory>(
             blocks.as_slice(),
         ),
         Row::Write { at, word } => {
-            let owned = kept.owns(header, memory, row, place);
-            check_word(header, finder, kept, memory, *at, *word, place, owned)
+            let write = WordWrite {
+                at: *at,
+                word: *word,
+                place,
+                owned: kept.owns(header, memory, row, place),
+            };
+            check_word(header, finder, kept, memory, &write)
         }
         Row::Reg { register, value } => check_register(
             header, finder, kept, memory, *register, *value,
         ),
         Row::Bell { slot, target } => check_doorbell(header, finder, kept, memory, *slot, *target),
-        Row::Read { event } => check_event(header, finder, kept, memory, *event),
+        Row::Read { event } => check_event(header, finder, kept, memory, *event, place),
     }
 }
 
@@ -73,23 +78,20 @@ fn check_word<M: WordMemory>(
     finder: &Finder,
     kept: &mut TraceRecord,
     memory: &mut M,
-    at: Addr,
-    word: u32,
-    place: WordPlace,
-    owned: bool,
+    write: &WordWrite<'_>,
 ) -> Result<(), StepFault>
     requires headed { IsHeader header.now }
     requires found { IsFinder header.now.rings finder.now }
     ensures ok { OnOk result ((k : Known) → FollowsTrace header.now k kept.old (M.words memory.old) → DriverKeeps header.now k → k.stopped ≡ false →
-        IsPlacedSo header.now k at word place → owned ≡ writes_to_owned header.now k at word → IsRowStep header.now k (Write at word) kept.new (M.words memory.new)) }
+        IsPlacedSo header.now k write.now.at write.now.word write.now.place.now → write.now.owned ≡ writes_to_owned header.now k write.now.at write.now.word → IsRowStep header.now k (Write write.now.at write.now.word) kept.new (M.words memory.new)) }
     ensures refused { IfErr result (λ e. IfRefused e (λ c. (k : Known) → FollowsTrace header.now k kept.old (M.words memory.old) → DriverKeeps header.now k → k.stopped ≡ false →
-        IsPlacedSo header.now k at word place → owned ≡ writes_to_owned header.now k at word → IsLeast header.now k (Write at word) c)) }
+        IsPlacedSo header.now k write.now.at write.now.word write.now.place.now → write.now.owned ≡ writes_to_owned header.now k write.now.at write.now.word → IsLeast header.now k (Write write.now.at write.now.word) c)) }
     ensures events { OnOk result (kept.new.events ≡ kept.old.events) }
 {
-    if place.giving.is_some() {
-        return check_giving_word(header, finder, kept, memory, at, word, place, owned);
+    if write.place.giving.is_some() {
+        return check_giving_word(header, finder, kept, memory, write);
     }
-    check_plain_word(header, kept, memory, at, word, place, owned)
+    check_plain_word(header, kept, memory, write)
 }
 
 /// The same of a write that gives nothing.
@@ -98,28 +100,20 @@ fn check_plain_word<M: WordMemory>(
     header: &Header,
     kept: &mut TraceRecord,
     memory: &mut M,
-    at: Addr,
-    word: u32,
-    place: WordPlace,
-    owned: bool,
+    write: &WordWrite<'_>,
 ) -> Result<(), StepFault>
     requires headed { IsHeader header.now }
-    requires plain { place.giving ≡ None }
+    requires plain { write.now.place.now.giving ≡ None }
     ensures ok { OnOk result ((k : Known) → FollowsTrace header.now k kept.old (M.words memory.old) → DriverKeeps header.now k → k.stopped ≡ false →
-        IsPlacedSo header.now k at word place → owned ≡ writes_to_owned header.now k at word → IsRowStep header.now k (Write at word) kept.new (M.words memory.new)) }
+        IsPlacedSo header.now k write.now.at write.now.word write.now.place.now → write.now.owned ≡ writes_to_owned header.now k write.now.at write.now.word → IsRowStep header.now k (Write write.now.at write.now.word) kept.new (M.words memory.new)) }
     ensures refused { IfErr result (λ e. IfRefused e (λ c. (k : Known) → FollowsTrace header.now k kept.old (M.words memory.old) → DriverKeeps header.now k → k.stopped ≡ false →
-        IsPlacedSo header.now k at word place → owned ≡ writes_to_owned header.now k at word → IsLeast header.now k (Write at word) c)) }
+        IsPlacedSo header.now k write.now.at write.now.word write.now.place.now → write.now.owned ≡ writes_to_owned header.now k write.now.at write.now.word → IsLeast header.now k (Write write.now.at write.now.word) c)) }
     ensures events { OnOk result (kept.new.events ≡ kept.old.events) }
 {
-    let plain = WordPlace {
-        ring: place.ring,
-        is_lent: place.is_lent,
-        giving: None,
-    };
-    if let Some(refusal) = plain_refusal(header, plain, owned) {
+    if let Some(refusal) = plain_refusal(header, write.place, write.owned) {
         return Err(StepFault::Refused(refusal));
     }
-    note_plain_write(header, kept, memory, at, word, plain)?;
+    note_plain_write(header, kept, memory, write.at, write.word, write.place)?;
     Ok(())
 }
 
@@ -130,39 +124,23 @@ fn check_giving_word<M: WordMemory>(
     finder: &Finder,
     kept: &mut TraceRecord,
     memory: &mut M,
-    at: Addr,
-    word: u32,
-    place: WordPlace,
-    owned: bool,
+    write: &WordWrite<'_>,
 ) -> Result<(), StepFault>
     requires headed { IsHeader header.now }
     requires found { IsFinder header.now.rings finder.now }
     ensures ok { OnOk result ((k : Known) → FollowsTrace header.now k kept.old (M.words memory.old) → DriverKeeps header.now k → k.stopped ≡ false →
-        IsPlacedSo header.now k at word place → owned ≡ writes_to_owned header.now k at word → IsRowStep header.now k (Write at word) kept.new (M.words memory.new)) }
+        IsPlacedSo header.now k write.now.at write.now.word write.now.place.now → write.now.owned ≡ writes_to_owned header.now k write.now.at write.now.word → IsRowStep header.now k (Write write.now.at write.now.word) kept.new (M.words memory.new)) }
     ensures refused { IfErr result (λ e. IfRefused e (λ c. (k : Known) → FollowsTrace header.now k kept.old (M.words memory.old) → DriverKeeps header.now k → k.stopped ≡ false →
-        IsPlacedSo header.now k at word place → owned ≡ writes_to_owned header.now k at word → IsLeast header.now k (Write at word) c)) }
+        IsPlacedSo header.now k write.now.at write.now.word write.now.place.now → write.now.owned ≡ writes_to_owned header.now k write.now.at write.now.word → IsLeast header.now k (Write write.now.at write.now.word) c)) }
     ensures events { OnOk result (kept.new.events ≡ kept.old.events) }
 {
-    let judged = WordWrite {
-        at,
-        word,
-        place,
-        owned,
-    };
-    match check_write(header, finder, kept, memory, judged) {
+    match check_write(header, finder, kept, memory, write) {
         Ok(None) => {
-            note_plain_write(header, kept, memory, at, word, place)?;
+            note_plain_write(header, kept, memory, write.at, write.word, write.place)?;
             Ok(())
         }
         Ok(Some(command)) => {
-            let given = Some(command);
-            let write = WordWrite {
-                at,
-                word,
-                place,
-                owned,
-            };
-            note_write(header, finder, kept, memory, write, given)?;
+            note_write(header, finder, kept, memory, write, Some(command))?;
             Ok(())
         }
         Err(refusal) => Err(StepFault::Refused(refusal)),

@@ -20,10 +20,9 @@ use crate::row_notes::notes::add_note;
 use crate::row_notes::placing::add_placed;
 use crate::row_notes::rings::{CommandPlace, is_open, next_place};
 use commands::Command;
-use event_rows::next_command;
 use guest_memory::WordMemory;
 use std::alloc::{AllocError, Global};
-use trace_record::{Finder, TraceRecord};
+use trace_record::{Finder, TraceRecord, command_said};
 use traces::{Header, Step};
 use trb::Block;
 
@@ -47,7 +46,7 @@ pub(crate) fn note_completion<M: WordMemory>(
         notes.new.items ≡ notes.old.items ++ map Begun rings.items
         ++ completing_look header.now k (open_stopped k (code event) (command_at header.now k (next_command header.now k))) ∷ Made (Finish event) ∷ []) }
 {
-    let command = next_command(header, finder, kept);
+    let command = command_said(kept.next_command(header, finder));
     let mut rings = Vec::new(alloc);
     add_placed_by(header, finder, kept, memory, command, event, &mut rings)?;
     note_begun(rings.as_slice(), notes)?;

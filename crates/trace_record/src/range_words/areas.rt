@@ -35,6 +35,7 @@ impl Areas {
     }
 
     /// One of the areas has one of these bytes, some of which may lie beyond the address space.
+    #[inline(always)]
     pub fn touches(&self, from: u64, len: u64) -> bool
         ensures { (n : ℕ) (starts : List ℕ) → HoldsAreas n starts self.now → result ≡ list_any (λ a. overlap from len a n) starts }
     {

@@ -1,6 +1,6 @@
 use Rattle.std.proofs.Common.{ap, sym, ◌∙◌}
 use Rattle.std.specs.Prelude.{◌||◌}
-use Rattle.traces.specs.declared.register.Register.TheVariants.{Usbcmd, Crcr, Dcbaap, Config, Erstba, Erstsz}
+use Rattle.traces.specs.declared.register.Register.TheVariants.{Usbcmd, Crcr, Dcbaap, Config, Erstba}
 use Rattle.ownership_rules.specs.Registers.{is_written}
 use Rattle.driver_rows.proofs.RegisterWrites.RegisterTests.{by_version, none_older, or_none, of_crcr, of_dcbaap, of_config, of_size, of_table, of_others}
 use Rattle.driver_rows.proofs.registers.is_bad_register.Goals as goal

@@ -1,5 +1,5 @@
-use Rattle.std.proofs.Common.{◌≡◌, ap, sym, ◌∙◌, subst, refl}
-use Rattle.std.specs.Prelude.{Bool, true, false, Option, None, Some, not, is_none, is_some, ◌||◌, ◌&&◌}
+use Rattle.std.proofs.Common.{◌≡◌, ap, sym, ◌∙◌, refl}
+use Rattle.std.specs.Prelude.{Bool, true, false, Option, None, Some, not, is_none, is_some}
 use Rattle.traces.specs.declared.ring.Ring.{Ring}
 use Rattle.traces.specs.declared.header.Header.{Header}
 use Rattle.traces.specs.Header.{event_ring}

@@ -1,5 +1,5 @@
 use Rattle.std.proofs.Common.{ap, sym, ◌∙◌}
-use Rattle.std.specs.Prelude.{not, ◌||◌, ◌&&◌}
+use Rattle.std.specs.Prelude.{not, ◌||◌}
 use Rattle.traces.specs.declared.register.Register.TheVariants.{Erstsz}
 use Rattle.traces.specs.Versions.{is_three}
 use Rattle.ownership_rules.specs.Registers.{is_written, is_bad_size}

@@ -1,9 +1,7 @@
-use Rattle.std.proofs.Common.{◌≡◌, ap, sym, ◌∙◌, subst}
-use Rattle.std.specs.Prelude.{◌==◌, ◌||◌, ◌/◌, ◌*◌, not, true, unwrap_or}
+use Rattle.std.proofs.Common.{ap, sym, ◌∙◌, subst}
+use Rattle.std.specs.Prelude.{◌==◌, ◌/◌, ◌*◌, not, unwrap_or}
 use Rattle.segments.specs.Places.{address_of}
-use Rattle.traces.specs.Register.{register_or_zero}
-use Rattle.traces.specs.declared.register.Register.TheVariants.{Erstsz, Erdp}
-use Rattle.ownership_rules.specs.Registers.{is_bad_size, is_wrong_size}
+use Rattle.ownership_rules.specs.Registers.{is_wrong_size}
 use Rattle.trace_record.specs.FollowsTrace.{FollowsEvents}
 use Rattle.driver_rows.proofs.RegisterWrites.RegisterTests.{or_ends, or_goes}
 use Rattle.driver_rows.proofs.RegisterWrites.StartRules.{size_wrong, wrong_without}

@@ -1,4 +1,4 @@
-use Rattle.std.proofs.Common.{◌≡◌, ap, sym, ◌∙◌, refl}
+use Rattle.std.proofs.Common.{◌≡◌, sym, ◌∙◌, refl}
 use Rattle.std.specs.Prelude.{Bool, ◌&&◌, not, true, false}
 use Rattle.driver_rows.proofs.registers.may_be_ignored.Goals as goal
 

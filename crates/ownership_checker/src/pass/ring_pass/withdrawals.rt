@@ -26,7 +26,7 @@ ghost use Rattle.ownership_checker.specs.JudgedRows.Tracking.{IsTracked};
 ghost use Rattle.trace_record.specs.FollowsTrace.{FollowsTrace};
 ghost use Rattle.trace_record.specs.Fresh.{IsWithin};
 ghost use Rattle.trace_record.specs.Steps.{IfRefused, IsRowStep};
-ghost use Rattle.trace_record.specs.WordPlaces.{IsPlaced, IsPlacedSo};
+ghost use Rattle.trace_record.specs.RowPlaces.{IsPlaced, IsPlacedSo};
 ghost use Rattle.driver_rows.specs.RingRows.GivenCommands.{GivesCommandAt};
 ghost use Rattle.safety.specs.RingChanges.Histories.{header_now, known_now};
 ghost use Rattle.safety.specs.RingChanges.Withdrawals.{is_left, restored, ring_restored, some_flips};
@@ -44,7 +44,7 @@ use leases::{LeaseLog, note_moving, note_restoring, note_row, note_withdrawing};
 use ownership_rules::Refusal;
 use ring_knowledge::RingGiving;
 use std::alloc::AllocError;
-use trace_record::{StepFault, WordPlace};
+use trace_record::{RowPlace, StepFault};
 use traces::Row;
 
 impl<B: LeaseLog + Drop, M: WordMemory + Drop> RingPass<B, M> {
@@ -122,19 +122,19 @@ impl<B: LeaseLog + Drop, M: WordMemory + Drop> RingPass<B, M> {
             return Err(StepFault::Refused(Refusal::AfterStop));
         }
         let place = self.record.place(&self.header, &self.finder, row);
-        let ring = ring_restored(&self.header, &self.record, row, place);
+        let ring = ring_restored(&self.record, row, &place);
         if is_left(&self.header, &self.finder, &self.record, &self.memory, ring) {
-            return Err(self.refusal_left(row, place));
+            return Err(self.refusal_left(row, &place));
         }
-        self.note_leases(number, row, place, ring)?;
+        self.note_leases(number, row, &place, ring)?;
         restore_ring(&self.header, &self.finder, &mut self.record, ring);
         self.check_restored(row)
     }
 
     /// The least rule that a row breaks that starts or moves a ring which doesn't stand as declared: rule 33 is the last of them.
-    fn refusal_left(&mut self, row: &Row, place: WordPlace) -> StepFault
+    fn refusal_left(&mut self, row: &Row, place: &RowPlace) -> StepFault
         requires so_far { (h : Header) × (past : List TraceRow) × IsRingPassed M.words h past self.old × (length past ≤ most_streamed_lines) }
-        ensures { IfRefused result (λ c. (h : Header) (past : List TraceRow) → IsRingPassed M.words h past self.old → IsPlaced self.old.header (known_now h past) row.now place →
+        ensures { IfRefused result (λ c. (h : Header) (past : List TraceRow) → IsRingPassed M.words h past self.old → IsPlaced self.old.header (known_now h past) row.now place.now →
             (known_now h past).stopped ≡ false → is_left (header_now h past) (known_now h past) (ring_restored (header_now h past) (known_now h past) row.now) ≡ true →
             IsLeastOfRow (header_now h past) (known_now h past) (Plain row.now) c) }
     {
@@ -169,7 +169,7 @@ impl<B: LeaseLog + Drop, M: WordMemory + Drop> RingPass<B, M> {
         ensures reads { OnOk result ((n : ℕ) → IsWithin self.old.record.events n → IsWithin self.new.record.events (n + 1)) }
     {
         let place = self.record.place(&self.header, &self.finder, row);
-        if some_flips(&self.header, &self.record, row, place) {
+        if some_flips(&self.header, &self.record, row, &place) {
             return Err(StepFault::Refused(Refusal::WriteToOwned));
         }
         check_row(
@@ -178,7 +178,7 @@ impl<B: LeaseLog + Drop, M: WordMemory + Drop> RingPass<B, M> {
             &mut self.record,
             &mut self.memory,
             row,
-            place,
+            &place,
         )
     }
 
@@ -187,7 +187,7 @@ impl<B: LeaseLog + Drop, M: WordMemory + Drop> RingPass<B, M> {
         &mut self,
         number: u32,
         row: &Row,
-        place: WordPlace,
+        place: &RowPlace,
         ring: Option<u8>,
     ) -> Result<(), AllocError>
         requires headed { IsHeader self.old.header }
@@ -199,7 +199,7 @@ impl<B: LeaseLog + Drop, M: WordMemory + Drop> RingPass<B, M> {
         ensures memory { self.new.memory ≡ self.old.memory }
         ensures withdrawn { self.new.has_withdrawn ≡ self.old.has_withdrawn }
         ensures logged { OnOk result ((list : List Lease) (h : Header) (first : ℕ) (past : List TraceRow) → IsRingPassed M.words h past self.old →
-            IsPlaced self.old.header (known_now h past) row.now place → ring ≡ ring_restored (header_now h past) (known_now h past) row.now →
+            IsPlaced self.old.header (known_now h past) row.now place.now → ring ≡ ring_restored (header_now h past) (known_now h past) row.now →
             lenient (header_now h past) (restored (header_now h past) (known_now h past) row.now) row.now ≡ [] →
             number ≡ first + length past → first + length past < without_end →
             IsRingLogged (B.holds list) h first past self.old → IsRingLogged (B.holds list) h first (Plain row.now ∷ past) self.new) }
@@ -246,7 +246,7 @@ impl<B: LeaseLog + Drop, M: WordMemory + Drop> RingPass<B, M> {
     }
 
     /// The lease begins of a Set TR Dequeue Pointer that is given, and second leases of the ring with this ID, which it moves (xHCI 4.6.10).
-    fn note_moved(&mut self, number: u32, place: WordPlace, id: u8) -> Result<(), AllocError>
+    fn note_moved(&mut self, number: u32, place: &RowPlace, id: u8) -> Result<(), AllocError>
         requires headed { IsHeader self.old.header }
         requires found { IsFinder self.old.header.rings self.old.finder }
         requires as_many { length self.old.record.rings.items ≡ length self.old.header.rings }
@@ -256,7 +256,7 @@ impl<B: LeaseLog + Drop, M: WordMemory + Drop> RingPass<B, M> {
         ensures memory { self.new.memory ≡ self.old.memory }
         ensures withdrawn { self.new.has_withdrawn ≡ self.old.has_withdrawn }
         ensures moved { OnOk result ((list : List Lease) (k : Known) (memory : ℕ → ℕ) (ts : List Lent) (a w : ℕ) → FollowsTrace self.old.header k self.old.record memory →
-            DriverKeeps self.old.header k → IsPlacedSo self.old.header k a w place → ring_restored self.old.header k (Write a w) ≡ Some id → AreOpen self.old.header k ts →
+            DriverKeeps self.old.header k → IsPlacedSo self.old.header k a w place.now → ring_restored self.old.header k (Write a w) ≡ Some id → AreOpen self.old.header k ts →
             number < without_end → HoldsAll (B.holds list) self.old.header ts self.old.log self.old.ranges →
             HoldsAll (B.holds list) self.old.header (passed_on (open_leases self.old.header k) (open_leases self.old.header (learned self.old.header (restored self.old.header k (Write a w)) (Write a w))) number ts) self.new.log self.new.ranges) }
     {

@@ -1,4 +1,4 @@
-use Rattle.std.proofs.Common.{◌≡◌, ◌||◌, ◌∙◌, Option, Some, ap, sym, true, false}
+use Rattle.std.proofs.Common.{◌≡◌, ◌||◌, ◌∙◌, Some, ap, sym, true, false}
 use Rattle.std.specs.Prelude.{not}
 use Rattle.traces.specs.Header.{ring_having}
 use Rattle.ownership_rules.specs.Moves.{is_kept, is_placed}

@@ -4,14 +4,14 @@ use Rattle.driver_rows.proofs.RingRows.GivenAt.{moved_by_none, moved_by_others, 
 use Rattle.driver_rows.proofs.rings.started.ring_moved.Goals as goal
 
 pub returns-in_default : goal.returns-in_default
-returns-in_default c = λ k memory a w f placed. sym (moved_by_none k _ (sym (c.command_given.ensures k memory a w f placed) ∙ c.in_default.is))
+returns-in_default c = λ h k memory a w f placed. sym (moved_by_none k _ (sym placed.command ∙ sym c.command_said.ensures.same ∙ c.in_default.is))
 
 pub returns-in-SetTrDequeue : goal.returns-in-SetTrDequeue
-returns-in-SetTrDequeue c = λ k memory a w f placed.
+returns-in-SetTrDequeue c = λ h k memory a w f placed.
     c.ring_of.ensures k f.devices
     ∙ sym (moved_by_set k _ c.in-SetTrDequeue.slot c.in-SetTrDequeue.endpoint c.in-SetTrDequeue.dequeue c.in-SetTrDequeue.cycle
-    (sym (c.command_given.ensures k memory a w f placed) ∙ c.in-Some.is ∙ ap (λ x. Some x) c.in-SetTrDequeue.is))
+    (sym placed.command ∙ sym c.command_said.ensures.same ∙ c.in-Some.is ∙ ap (λ x. Some x) c.in-SetTrDequeue.is))
 
 pub returns-in_default-command : goal.returns-in_default-command
-returns-in_default-command c = λ k memory a w f placed.
-    sym (ap (ring_moved k) (sym (c.command_given.ensures k memory a w f placed) ∙ c.in-Some.is) ∙ moved_by_others k c.in-Some.command c.in_default-command.not-SetTrDequeue)
+returns-in_default-command c = λ h k memory a w f placed.
+    sym (ap (ring_moved k) (sym placed.command ∙ sym c.command_said.ensures.same ∙ c.in-Some.is) ∙ moved_by_others k c.in-Some.command c.in_default-command.not-SetTrDequeue)

@@ -1,12 +1,12 @@
 use Rattle.std.proofs.Common.{◌∙◌, ap, subst, sym}
-use Rattle.trace_record.specs.WordPlaces.{IsPlaced}
+use Rattle.trace_record.specs.RowPlaces.{IsPlaced}
 use Rattle.safety.specs.RingChanges.Withdrawals.{some_flips}
 use Rattle.driver_rows.proofs.RingRows.GivenAt.{flips_by_others}
 use Rattle.driver_rows.proofs.rings.started.some_flips.Goals as goal
 
 pub returns-in-Write : goal.returns-in-Write
 returns-in-Write c = λ k memory f placed.
-    c.word_flips.ensures k memory f (subst (λ row. IsPlaced c.args.header.now k row c.args.place) c.in-Write.is placed)
+    c.word_flips.ensures k memory f (subst (λ row. IsPlaced c.args.header.now k row c.args.place.now) c.in-Write.is placed)
     ∙ sym (ap (some_flips c.args.header.now k) c.in-Write.is)
 
 pub returns-in_default : goal.returns-in_default

@@ -1,9 +1,9 @@
-use Rattle.std.proofs.Common.{◌≡◌, ℕ, Option, get_or, sym, ◌∙◌, ap, refl, length, set, subst}
+use Rattle.std.proofs.Common.{ℕ, Option, get_or, sym, ◌∙◌, ap, refl, length, set, subst}
 use Rattle.std.proofs.lemmas.Option.{slice_get_read}
 use Rattle.std.proofs.lemmas.Bool.{ltb-true}
 use Rattle.segments.specs.Places.{touches}
 use Rattle.trace_record.proofs.RingFinder.FoundRings.{ring_here, none_here}
-use Rattle.trace_record.specs.WordPlaces.{IsGivenBy}
+use Rattle.trace_record.specs.RowPlaces.{IsGivenBy}
 use Rattle.driver_rows.proofs.WriteEffects.NotedRings.{noted_nowhere, noted_here}
 use Rattle.driver_rows.proofs.write_effects.rings.note_on_ring.Goals as goal
 
@@ -18,7 +18,7 @@ returns-in-Some-get_mut c = λ k a w f placed.
     let ring = c.in-Some-get.ring.now in
     let here = ring_here h (λ q. touches q.shape a 4) h.rings c.in-Some.number ring (sym placed.ring ∙ c.in-Some.is) refl
     (c.in-Some-get.ensures.lookup.1 ∙ ap (λ xs. get_or xs c.in-Some.number ring) c.as_slice-rings.ensures) in
-    let given = subst (λ (o : Option ℕ). IsGivenBy h k a w o c.args.place.giving) c.in-Some.is placed.given ring here.0 in
+    let given = subst (λ (o : Option ℕ). IsGivenBy h k a w o c.args.place.now.giving) c.in-Some.is placed.given ring here.0 in
     let items = c.args.records.now.items in
     let there = slice_get_read items (length items) c.in-Some.number c.in-Some-get_mut.known.now refl
     (ltb-true c.in-Some.number (length items) (sym c.in-Some-get_mut.ensures.item.0)) c.in-Some-get_mut.ensures.value in

@@ -18,8 +18,8 @@ returns-clause-ok g c =
     from_three c.take_device.result c.take_device.ensures.devices c.take_device.ensures.contexts c.take_device.ensures.soiled
     (λ devices contexts soils k f placed given keeps clean on.
     let h = c.args.header.now in
-    let a = c.args.write.at in
-    let w = c.args.write.word in
+    let a = c.args.write.now.at in
+    let w = c.args.write.now.word in
     let got = c.device_taken-taken.result in
     let is_taken : got ≡ taken h k a w =
     c.device_taken-taken.ensures k f.devices f.registers f.words (entry_fits h c.requires.headed k keeps a w clean c.args.command given) ∙ ap (λ o. option_and_then (taken_device k) o) given in

@@ -8,31 +8,31 @@ use Rattle.driver_rows.proofs.writes.checks.giving_refusal.Goals as goal
 
 pub returns-in-Some-clause-first : goal.returns-in-Some-clause-first
 returns-in-Some-clause-first g c =
-    let is : c.args.write.place.giving ≡ Some (Position c.in-Some-Position.p) = search rules in
+    let is : c.args.write.now.place.now.giving ≡ Some (Position c.in-Some-Position.p) = search rules in
     λ k f d fit r from.
     let ring = c.args.given.now.ring.now in
     let memory = g.M.WordMemory.words c.args.memory.now in
-    first_fails (position_tests ring.shape (k.ring ring.id) memory c.args.write.at c.args.write.word (c.in-Some-Position.p ∷ [])) (place_tests c.args.header.now k ring.id c.args.given.now.command)
+    first_fails (position_tests ring.shape (k.ring ring.id) memory c.args.write.now.at c.args.write.now.word (c.in-Some-Position.p ∷ [])) (place_tests c.args.header.now k ring.id c.args.given.now.command)
     c.in-Some.refusal (sym c.in-Some.is ∙ c.position_refusal.ensures (k.ring ring.id) r (rw is at from))
-    ∙ ap (λ (o : Option RingGiving). first_broken (given_tests c.args.header.now k ring memory c.args.write.at c.args.write.word o c.args.given.now.command)) (sym is)
+    ∙ ap (λ (o : Option RingGiving). first_broken (given_tests c.args.header.now k ring memory c.args.write.now.at c.args.write.now.word o c.args.given.now.command)) (sym is)
 
 pub returns-in_default-clause-first : goal.returns-in_default-clause-first
 returns-in_default-clause-first g c =
-    let is : c.args.write.place.giving ≡ Some (Position c.in-Some-Position.p) = search rules in
+    let is : c.args.write.now.place.now.giving ≡ Some (Position c.in-Some-Position.p) = search rules in
     λ k f d fit r from.
     let ring = c.args.given.now.ring.now in
     let memory = g.M.WordMemory.words c.args.memory.now in
     c.place_refusal.ensures.first k ring.shape f d fit r
-    ∙ none_fails (position_tests ring.shape (k.ring ring.id) memory c.args.write.at c.args.write.word (c.in-Some-Position.p ∷ [])) (place_tests c.args.header.now k ring.id c.args.given.now.command)
+    ∙ none_fails (position_tests ring.shape (k.ring ring.id) memory c.args.write.now.at c.args.write.now.word (c.in-Some-Position.p ∷ [])) (place_tests c.args.header.now k ring.id c.args.given.now.command)
     (sym c.in_default.is ∙ c.position_refusal.ensures (k.ring ring.id) r (rw is at from))
-    ∙ ap (λ (o : Option RingGiving). first_broken (given_tests c.args.header.now k ring memory c.args.write.at c.args.write.word o c.args.given.now.command)) (sym is)
+    ∙ ap (λ (o : Option RingGiving). first_broken (given_tests c.args.header.now k ring memory c.args.write.now.at c.args.write.now.word o c.args.given.now.command)) (sym is)
 
 pub returns-in-Some-Crossing-clause-first : goal.returns-in-Some-Crossing-clause-first
 returns-in-Some-Crossing-clause-first g c =
-    let is : c.args.write.place.giving ≡ Some (Crossing c.in-Some-Crossing.q) = search rules in
+    let is : c.args.write.now.place.now.giving ≡ Some (Crossing c.in-Some-Crossing.q) = search rules in
     λ k f d fit r from.
     let ring = c.args.given.now.ring.now in
     let memory = g.M.WordMemory.words c.args.memory.now in
     c.crossing_refusal.ensures
-    ∙ ap (λ b. first_broken (crossing_tests ring.shape memory c.args.write.at c.args.write.word b (c.in-Some-Crossing.q ∷ []))) (c.awaits_binding-awaits.ensures c.args.header.now k ring.shape memory f r)
-    ∙ ap (λ (o : Option RingGiving). first_broken (given_tests c.args.header.now k ring memory c.args.write.at c.args.write.word o c.args.given.now.command)) (sym is)
+    ∙ ap (λ b. first_broken (crossing_tests ring.shape memory c.args.write.now.at c.args.write.now.word b (c.in-Some-Crossing.q ∷ []))) (c.awaits_binding-awaits.ensures c.args.header.now k ring.shape memory f r)
+    ∙ ap (λ (o : Option RingGiving). first_broken (given_tests c.args.header.now k ring memory c.args.write.now.at c.args.write.now.word o c.args.given.now.command)) (sym is)

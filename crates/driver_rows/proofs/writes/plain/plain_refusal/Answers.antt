@@ -5,7 +5,7 @@ use Rattle.traces.specs.Header.{is_command_kind, is_driver_kind}
 use Rattle.trace_record.proofs.RingFinder.FoundRings.{ring_here, none_here}
 use Rattle.trace_record.proofs.RingFinder.RingsApart.{among_at}
 use Rattle.ring_knowledge.specs.RingRecords.{positions_of, crossings_of}
-use Rattle.trace_record.specs.WordPlaces.{IsGivenBy}
+use Rattle.trace_record.specs.RowPlaces.{IsGivenBy}
 use Rattle.driver_rows.proofs.MemoryWrites.RingWrites.{owned, owned_by_events}
 use Rattle.driver_rows.proofs.MemoryWrites.WriteSteps.{nowhere_allowed, IsTold, allowed}
 use Rattle.driver_rows.proofs.writes.plain.plain_refusal.Goals as goal
@@ -39,7 +39,7 @@ returns-clause-allowed c = λ k t m at word f keeps on plain placed leased.
     let here = ring_here h (λ q. touches q.shape at 4) h.rings c.in-Some.number ring (sym placed.ring ∙ c.in-Some.is) refl
     (c.in-Some-get.ensures.lookup.1 ∙ ap (λ xs. get_or xs c.in-Some.number ring) c.as_slice-rings.ensures) in
     let driver : is_driver_kind ring.shape.kind ≡ true = ap not (sym c.is_event_ring.ensures ∙ c.if-is_event_ring.false) in
-    let given = subst (λ (o : Option ℕ). IsGivenBy h k at word o c.args.place.giving) c.in-Some.is placed.given ring here.0 in
+    let given = subst (λ (o : Option ℕ). IsGivenBy h k at word o c.args.place.now.giving) c.in-Some.is placed.given ring here.0 in
     let told : IsTold h c.requires.headed at word placed.aligned c.in-Some.number ring here.0 driver here.1 None None k = record {
       positions = given.positions driver ∙ ap positions_of plain;
       crossings = given.crossings driver ∙ ap crossings_of plain;

@@ -1,4 +1,4 @@
-use Rattle.event_rows.proofs.CommandCompletions.Words.{◌≡◌, ◌∙◌, ◌∷◌, [], List, Some, ap, refl, subst, sym, after, Reaches, device_context_bytes, input_context_bytes, Command, command_id, shape_of, Known, command_at, next_command, on_ring, unfinished, completed, FollowsUnfinished, HoldsAreas, TraceRecord, FollowsTrace, inputs_of, FollowsPlaces, device_contexts}
+use Rattle.event_rows.proofs.CommandCompletions.Words.{◌≡◌, ◌∙◌, ◌∷◌, [], List, Some, ap, subst, sym, after, Reaches, device_context_bytes, input_context_bytes, Command, command_id, shape_of, Known, command_at, next_command, on_ring, unfinished, completed, FollowsUnfinished, HoldsAreas, TraceRecord, FollowsTrace, inputs_of, FollowsPlaces, device_contexts}
 use Rattle.trace_record.specs.FollowsTrace.{HoldsBound}
 use Rattle.trace_record.specs.declared.ring_set.RingSet.{RingSet}
 use Rattle.trace_record.specs.declared.range_words.areas.Areas.{Areas}

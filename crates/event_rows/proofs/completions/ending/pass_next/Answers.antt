@@ -2,7 +2,7 @@ use Rattle.std.proofs.Common.{◌∙◌, ap, get_or, refl, sym}
 use Rattle.traces.specs.Header.{is_command_kind}
 use Rattle.trace_record.proofs.RingFinder.RingsApart.{among_at}
 use Rattle.trace_record.proofs.RingFinder.FoundRings.{command_found, no_command_ring, ring_here}
-use Rattle.event_rows.proofs.CommandCompletions.CommandRings.{driven, has_commands}
+use Rattle.trace_record.proofs.RingFinder.CommandRings.{driven, has_commands}
 use Rattle.event_rows.proofs.CommandCompletions.Numbered.{passed_with}
 use Rattle.event_rows.proofs.completions.ending.pass_next.Goals as goal
 

@@ -2,7 +2,9 @@ use Rattle.std.proofs.Common.{◌∙◌, ap, get_or, refl, sym}
 use Rattle.traces.specs.Header.{is_command_kind}
 use Rattle.trace_record.proofs.RingFinder.RingsApart.{among_at}
 use Rattle.trace_record.proofs.RingFinder.FoundRings.{command_found, no_command_ring, ring_here}
-use Rattle.event_rows.proofs.CommandCompletions.CommandRings.{command_is, completion_is, driven, has_commands, read_at, set_up_commands}
+use Rattle.trace_record.proofs.RingFinder.CommandRings.{driven, has_commands, read_at}
+use Rattle.trace_record.proofs.GivenCommands.{next_is}
+use Rattle.event_rows.proofs.CommandCompletions.CommandRings.{completion_is, set_up_commands}
 use Rattle.event_rows.proofs.completions.impossible.is_impossible_completion.Goals as goal
 
 pub returns-in_default : goal.returns-in_default
@@ -18,4 +20,4 @@ returns c = λ k m f set_up on named.
     let there = command_found h c.requires.headed ring (among_at h.rings n ring here.0) here.1 in
     let record_at = read_at c.deref.result.now c.args.t.now.rings.items n c.in-Some-get.known.now c.deref.ensures.value c.in-Some-get.ensures.lookup.3.0 c.in-Some-get.ensures.lookup.1 in
     let known = f.rings.each n ring c.in-Some-get.known.now here.0 record_at (driven ring.shape.kind here.1) in
-    c.is_no_completion.ensures (k.ring ring.id) k known f.devices f.registers (named ∙ command_is h c.requires.headed k ring there) ∙ sym (completion_is h c.requires.headed k ring there c.args.block)
+    c.is_no_completion.ensures (k.ring ring.id) k known f.devices f.registers (named ∙ next_is h c.requires.headed k ring there) ∙ sym (completion_is h c.requires.headed k ring there c.args.block)

@@ -1,5 +1,5 @@
 use Rattle.std.proofs.Common.{arith, refl, sym, ◌∙◌}
-use Rattle.event_rows.proofs.CommandCompletions.CommandRings.{read_at}
+use Rattle.trace_record.proofs.RingFinder.CommandRings.{read_at}
 use Rattle.event_rows.proofs.CommandCompletions.Numbered.{held_with, held_without}
 use Rattle.event_rows.proofs.completions.rings.hold_ring.Goals as goal
 

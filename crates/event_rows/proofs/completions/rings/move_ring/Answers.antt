@@ -1,5 +1,5 @@
 use Rattle.std.proofs.Common.{ap, arith, length, refl, sym, ◌∙◌}
-use Rattle.event_rows.proofs.CommandCompletions.CommandRings.{read_at}
+use Rattle.trace_record.proofs.RingFinder.CommandRings.{read_at}
 use Rattle.event_rows.proofs.CommandCompletions.Numbered.{moved_with, moved_without}
 use Rattle.event_rows.proofs.completions.rings.move_ring.Goals as goal
 

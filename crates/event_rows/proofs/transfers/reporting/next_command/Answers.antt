@@ -1,11 +1,8 @@
-use Rattle.std.proofs.Common.{arith, ap, sym, ◌∙◌}
-use Rattle.std.specs.Prelude.{option_and_then, slice_get}
-use Rattle.commands.specs.Command.{command_of}
-use Rattle.event_rows.proofs.TransferEvents.Reports.{read_is}
+use Rattle.std.proofs.Common.{arith, ap, ◌∙◌}
+use Rattle.trace_record.specs.RingCommands.{command_in}
 use Rattle.event_rows.proofs.transfers.reporting.next_command.Goals as goal
 
-pub returns-in-Some : goal.returns-in-Some
-returns-in-Some c = λ shape v f.
-    c.ok.ensures.value ∙ read_is (command_of c.in-Some.block) c.read.result c.read.ensures.command
-    ∙ ap (λ o. option_and_then command_of o)
-    (sym c.in-Some.is ∙ c.declared.ensures.value shape v f (omega (arith, c.floor_number.ensures.value shape v f)) ∙ ap (λ n. slice_get v.queue n) (c.floor_number.ensures.value shape v f))
+pub returns : goal.returns
+returns c = λ shape v f.
+    let stands = c.floor_number-next.ensures.value shape v f in
+    c.command_said.ensures.same ∙ c.declared_command.ensures shape v f (omega (arith, stands)) ∙ ap (command_in v.queue) stands

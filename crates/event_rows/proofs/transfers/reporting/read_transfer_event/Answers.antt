@@ -1,6 +1,6 @@
 use Rattle.std.proofs.Common.{◌≡◌, false, true, ap, sym, ◌∙◌}
 use Rattle.std.specs.Prelude.{not}
-use Rattle.trb.specs.Block.{endpoint, slot}
+use Rattle.trb.specs.Block.{slot}
 use Rattle.commands.specs.States.{is_off}
 use Rattle.ring_knowledge.specs.Rings.{event_at}
 use Rattle.ownership_rules.specs.Events.{can_report_at}

@@ -1,18 +1,18 @@
 use Rattle.std.proofs.Common.{◌≡◌, ◌+◌, ◌∙◌, ◌==◌, ℕ, List, Bool, get_or, refl, sym, subst, ap, arith, Some, None, map}
 use Rattle.leases.proofs.LeaseRows.Words.{code, is_command_kind, command_at, next_command, Lent, ended_where, is_passed, some_end, ring_here, shape_there, among_at, HoldsAll}
-use Rattle.leases.proofs.LeaseRows.GivenHere.{driven}
+use Rattle.trace_record.proofs.RingFinder.CommandRings.{driven}
 use Rattle.leases.proofs.LeaseRows.OtherRows.{among_drivers}
-use Rattle.leases.proofs.LeaseRows.RowWrites.{command_at_is, record_there}
-use Rattle.leases.proofs.LeaseRows.CompletionRows.{command_behind, completion_ends, endpoint_rings, id, next_here, none_behind, shape_is, some_commands}
+use Rattle.leases.proofs.LeaseRows.RowWrites.{record_there}
+use Rattle.leases.proofs.LeaseRows.CompletionRows.{command_behind, completion_ends, endpoint_rings, has_commands, id, next_here, none_behind, shape_is, some_commands}
 use Rattle.leases.proofs.LeaseRows.LentEvents.{entries, floors}
 use Rattle.leases.proofs.rows.completions.note_completion.Goals as goal
 
 pub returns-in_default : goal.returns-in_default
-returns-in_default g c = λ list k ts memory completes next all.
+returns-in_default g c = λ list k ts memory completes ends next all.
     absurd (some_commands c.args.header.now c.requires.headed k ts c.args.event c.args.number c.args.t.now memory next completes (sym c.requires.found.commands ∙ c.in_default.is))
 
 pub returns-in-None : goal.returns-in-None
-returns-in-None g c = λ list k ts memory completes next all.
+returns-in-None g c = λ list k ts memory completes ends next all.
     let h = c.args.header.now in
     let moves = floors h c.requires.headed k ts c.args.event c.args.t.now memory next completes in
     let q = c.in-Some-get.ring.now in
@@ -25,7 +25,7 @@ returns-in-None g c = λ list k ts memory completes next all.
     let p : ℕ = c.floor_number-next.result in
     let at : p ≡ next_command h k = c.floor_number-next.ensures.value q.shape (k.ring q.id) follows ∙ sym (next_here h c.requires.headed k ts c.args.event c.args.number c.args.t.now memory next completes moves q among here.1 drives) in
     let ring = id h c.requires.headed k ts c.args.event c.args.number c.args.t.now memory next completes moves q among here.1 drives in
-    let said = command_at_is h k q p _ ring (c.command_at.ensures q.shape (k.ring q.id) follows (omega (arith, c.floor_number-next.ensures.value q.shape (k.ring q.id) follows))) in
+    let said : command_at h k p ≡ c.command_said.result = ap (command_at h k) at ∙ sym (c.command_said.ensures.same ∙ ends (has_commands h c.requires.headed k ts c.args.event c.args.number c.args.t.now memory next completes)) in
     completion_ends h c.requires.headed k ts c.args.event c.args.number c.args.t.now memory next completes moves q among here.1 drives c.end_passed.new.self c.args.ranges.now p q.id (code c.args.event == 1) None at (sym ring) refl
     (sym (said ∙ c.in-None.is) ∙ ap (command_at h k) at)
     (subst (λ (us : List Lent). HoldsAll (g.B.LeaseLog.holds list) h (map (ended_where (is_passed q.id p (p + 1)) c.args.number) us) c.end_passed.new.self c.args.ranges.now)
@@ -35,8 +35,8 @@ returns-in-None g c = λ list k ts memory completes next all.
       found = some_end h c.args.ranges.now _ c.args.number ts all.found;
     }))
 
-pub returns-in-Some-command_at : goal.returns-in-Some-command_at
-returns-in-Some-command_at g c = λ list k ts memory completes next all.
+pub returns-in-Some-command_said : goal.returns-in-Some-command_said
+returns-in-Some-command_said g c = λ list k ts memory completes ends next all.
     let h = c.args.header.now in
     let moves = floors h c.requires.headed k ts c.args.event c.args.t.now memory next completes in
     let q = c.in-Some-get.ring.now in
@@ -49,14 +49,14 @@ returns-in-Some-command_at g c = λ list k ts memory completes next all.
     let p : ℕ = c.floor_number-next.result in
     let at : p ≡ next_command h k = c.floor_number-next.ensures.value q.shape (k.ring q.id) follows ∙ sym (next_here h c.requires.headed k ts c.args.event c.args.number c.args.t.now memory next completes moves q among here.1 drives) in
     let ring = id h c.requires.headed k ts c.args.event c.args.number c.args.t.now memory next completes moves q among here.1 drives in
-    let said = command_at_is h k q p _ ring (c.command_at.ensures q.shape (k.ring q.id) follows (omega (arith, c.floor_number-next.ensures.value q.shape (k.ring q.id) follows))) in
+    let said : command_at h k p ≡ c.command_said.result = ap (command_at h k) at ∙ sym (c.command_said.ensures.same ∙ ends (has_commands h c.requires.headed k ts c.args.event c.args.number c.args.t.now memory next completes)) in
     let s : Bool = c.code-success.result == 1 in
     let tells : s ≡ (code c.args.event == 1) = ap (λ (x : ℕ). x == 1) c.code-success.ensures in
-    let says = sym (said ∙ c.in-Some-command_at.is) ∙ ap (command_at h k) at in
-    let may = command_behind h c.requires.headed k ts c.args.event c.args.number c.args.t.now memory next completes moves p s (Some c.in-Some-command_at.command) at tells says in
+    let says = sym (said ∙ c.in-Some-command_said.is) ∙ ap (command_at h k) at in
+    let may = command_behind h c.requires.headed k ts c.args.event c.args.number c.args.t.now memory next completes moves p s (Some c.in-Some-command_said.command) at tells says in
     let ended = c.end_command.ensures list k memory ts next.followed (endpoint_rings h c.requires.headed k ts c.args.event c.args.number c.args.t.now memory next completes) (entries h c.requires.headed k ts c.args.event c.args.t.now memory next) may.0 (shape_is h c.requires.headed k ts c.args.event c.args.number c.args.t.now memory next completes moves q among here.1 drives) may.1 may.2 all in
-    completion_ends h c.requires.headed k ts c.args.event c.args.number c.args.t.now memory next completes moves q among here.1 drives c.end_passed-in-Some-command_at.new.self c.args.ranges.now p q.id s (Some c.in-Some-command_at.command) at (sym ring) tells says
+    completion_ends h c.requires.headed k ts c.args.event c.args.number c.args.t.now memory next completes moves q among here.1 drives c.end_passed-in-Some-command_said.new.self c.args.ranges.now p q.id s (Some c.in-Some-command_said.command) at (sym ring) tells says
     (record {
-      held = c.end_passed-in-Some-command_at.ensures list h _ (shape_there h c.requires.headed q among) (omega arith) ended.held;
+      held = c.end_passed-in-Some-command_said.ensures list h _ (shape_there h c.requires.headed q among) (omega arith) ended.held;
       found = some_end h c.args.ranges.now _ c.args.number _ ended.found;
     })

@@ -8,7 +8,7 @@ pub returns-in-Write-clause-step : goal.returns-in-Write-clause-step
 returns-in-Write-clause-step g c =
     on_more c.note_write.result (λ notes list k ts placed clean held.
     subst (λ (r : Row). HoldsAll (g.B.LeaseLog.holds list) c.args.header.now (grown c.args.header.now k r c.args.number ts) c.note_write.new.book c.note_write.new.ranges) (sym c.in-Write.is)
-    (notes list k ts _ _ (subst (λ (r : Row). IsPlaced c.args.header.now k r c.args.place) c.in-Write.is placed)
+    (notes list k ts _ _ (subst (λ (r : Row). IsPlaced c.args.header.now k r c.args.place.now) c.in-Write.is placed)
     (subst (λ (r : Row). IsNextRow c.args.header.now k ts r c.args.t.now (g.M.WordMemory.words c.args.memory.now)) c.in-Write.is clean) held))
     c.note_write.ensures
 
@@ -23,7 +23,7 @@ pub returns-in-Read-clause-step : goal.returns-in-Read-clause-step
 returns-in-Read-clause-step g c = λ list k ts placed clean held.
     let m = g.M.WordMemory.words c.args.memory.now in
     subst (λ (r : Row). HoldsAll (g.B.LeaseLog.holds list) c.args.header.now (grown c.args.header.now k r c.args.number ts) c.note_event.new.book c.args.ranges.now) (sym c.in-Read.is)
-    (c.note_event.ensures list k ts m (subst (λ (r : Row). IsNextRow c.args.header.now k ts r c.args.t.now m) c.in-Read.is clean) held)
+    (c.note_event.ensures list k ts m (subst (λ (r : Row). IsPlaced c.args.header.now k r c.args.place.now) c.in-Read.is placed) (subst (λ (r : Row). IsNextRow c.args.header.now k ts r c.args.t.now m) c.in-Read.is clean) held)
 
 pub returns-in-Read-clause-history : goal.returns-in-Read-clause-history
 returns-in-Read-clause-history g c = λ list first past placed clean held.

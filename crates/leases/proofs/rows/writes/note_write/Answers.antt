@@ -1,10 +1,9 @@
 use Rattle.std.proofs.Common.{◌≡◌, ◌∙◌, ◌∷◌, List, get_or, refl, sym, subst, ap, Some, []}
-use Rattle.ring_knowledge.proofs.GivenWords.{given_at}
 use Rattle.leases.proofs.LeaseRows.Words.{touches, Position, Crossing, Lent, with_begun, Block, Link, others_begin, none_here, ring_here, shape_there, among_at, HoldsAll}
 use Rattle.leases.proofs.LeaseRows.OtherRows.{held_still, on_more}
 use Rattle.leases.proofs.LeaseRows.GivenHere.{in_events, not_touched}
 use Rattle.leases.proofs.LeaseRows.TakenRanges.{begun_twice}
-use Rattle.leases.proofs.LeaseRows.RowWrites.{at_ring, command_at_is, command_context_free, command_fits, command_slot_free, crosses, lent_block, lent_command, lent_link, lent_none, lent_nowhere, lent_undeclared, link_is_free, place_free, record_there, shape_is, is_there}
+use Rattle.leases.proofs.LeaseRows.RowWrites.{at_ring, command_context_free, command_fits, command_slot_free, crosses, given_kind, given_there_is, lent_command, lent_link, lent_none, lent_nowhere, lent_without, link_is_free, place_free, shape_is}
 use Rattle.leases.proofs.rows.writes.note_write.Goals as goal
 
 pub returns-in_default : goal.returns-in_default
@@ -27,74 +26,54 @@ pub returns-in-None : goal.returns-in-None
 returns-in-None g c = λ list k ts a w placed next all.
     let h = c.args.header.now in
     let q = c.in-Some-get.ring.now in
-    let r = c.in-Some-get-2.known.now in
-    let at = at_ring h k c.args.t.now _ next.followed a w c.in-Some.index c.args.place q r placed c.in-Some.is (c.in-Some-get.ensures.lookup.1 ∙ ap (λ xs. get_or xs c.in-Some.index q) c.as_slice-rings.ensures) (sym c.is_event_ring.ensures ∙ c.if-is_event_ring.false) (record_there _ _ _ _ c.as_slice-records.ensures.value c.in-Some-get-2.ensures.lookup.0 c.in-Some-get-2.ensures.lookup.1) in
-    held_still h c.requires k ts c.args.book.now c.args.ranges.now _ c.args.number (lent_none h c.requires k ts a w c.args.number c.args.t.now _ next placed.aligned q at.among at.driver at.has c.args.place.giving at.positions at.crossings c.in-None.is) all
+    let at = at_ring h k c.args.t.now _ next.followed a w c.in-Some.index c.args.place.now q placed c.in-Some.is (c.in-Some-get.ensures.lookup.1 ∙ ap (λ xs. get_or xs c.in-Some.index q) c.as_slice-rings.ensures) (sym c.is_event_ring.ensures ∙ c.if-is_event_ring.false) in
+    held_still h c.requires k ts c.args.book.now c.args.ranges.now _ c.args.number (lent_none h c.requires k ts a w c.args.number c.args.t.now _ next placed.aligned q at.among at.driver at.has c.args.place.now.giving at.positions at.crossings c.in-None.is) all
 
 pub returns-in-Some-Crossing : goal.returns-in-Some-Crossing
 returns-in-Some-Crossing g c = on_more c.begin_link.result (λ begins. λ list k ts a w placed next all.
     let h = c.args.header.now in
     let q = c.in-Some-get.ring.now in
-    let r = c.in-Some-get-2.known.now in
-    let at = at_ring h k c.args.t.now _ next.followed a w c.in-Some.index c.args.place q r placed c.in-Some.is (c.in-Some-get.ensures.lookup.1 ∙ ap (λ xs. get_or xs c.in-Some.index q) c.as_slice-rings.ensures) (sym c.is_event_ring.ensures ∙ c.if-is_event_ring.false) (record_there _ _ _ _ c.as_slice-records.ensures.value c.in-Some-get-2.ensures.lookup.0 c.in-Some-get-2.ensures.lookup.1) in
+    let at = at_ring h k c.args.t.now _ next.followed a w c.in-Some.index c.args.place.now q placed c.in-Some.is (c.in-Some-get.ensures.lookup.1 ∙ ap (λ xs. get_or xs c.in-Some.index q) c.as_slice-rings.ensures) (sym c.is_event_ring.ensures ∙ c.if-is_event_ring.false) in
     let x = c.in-Some-Crossing.crossing in
     let crossed : c.in-Some-Crossing.field-0 ≡ Crossing x = rw c.in-Some-Crossing.is at c.in-Some-Crossing.field-0-is in
     let is = c.in-Some-Crossing.is ∙ ap (λ g. Some g) crossed in
-    subst (λ (us : List Lent). HoldsAll (g.B.LeaseLog.holds list) h us c.begin_link.new.self c.args.ranges.now) (sym (lent_link h c.requires k ts a w c.args.number c.args.t.now _ next placed.aligned q at.among at.driver at.has c.args.place.giving at.positions at.crossings x is))
+    subst (λ (us : List Lent). HoldsAll (g.B.LeaseLog.holds list) h us c.begin_link.new.self c.args.ranges.now) (sym (lent_link h c.requires k ts a w c.args.number c.args.t.now _ next placed.aligned q at.among at.driver at.has c.args.place.now.giving at.positions at.crossings x is))
     (record {
-      held = begins list h ts (shape_there h c.requires q at.among) (crosses h c.requires k ts a w c.args.number c.args.t.now _ next placed.aligned q at.among at.driver at.has c.args.place.giving at.positions at.crossings r at.follows x is) all.held (link_is_free h c.requires k ts a w c.args.number c.args.t.now _ next placed.aligned q at.among at.driver at.has c.args.place.giving at.positions at.crossings r at.follows x is);
+      held = begins list h ts (shape_there h c.requires q at.among) (crosses h c.requires k ts a w c.args.number c.args.t.now _ next placed.aligned q at.among at.driver at.has c.args.place.now.giving at.positions at.crossings at.known at.follows x is) all.held (link_is_free h c.requires k ts a w c.args.number c.args.t.now _ next placed.aligned q at.among at.driver at.has c.args.place.now.giving at.positions at.crossings at.known at.follows x is);
       found = others_begin h c.args.ranges.now c.args.number (Link q.id x) ts (λ g y i. tt) all.found;
     })) c.begin_link.ensures
 
-pub returns-then-not-is_command_ring : goal.returns-then-not-is_command_ring
-returns-then-not-is_command_ring g c = λ list k ts a w placed next all.
+pub returns-in-None-command_said : goal.returns-in-None-command_said
+returns-in-None-command_said g c = λ list k ts a w placed next all.
     let h = c.args.header.now in
     let q = c.in-Some-get.ring.now in
-    let r = c.in-Some-get-2.known.now in
-    let at = at_ring h k c.args.t.now _ next.followed a w c.in-Some.index c.args.place q r placed c.in-Some.is (c.in-Some-get.ensures.lookup.1 ∙ ap (λ xs. get_or xs c.in-Some.index q) c.as_slice-rings.ensures) (sym c.is_event_ring.ensures ∙ c.if-is_event_ring.false) (record_there _ _ _ _ c.as_slice-records.ensures.value c.in-Some-get-2.ensures.lookup.0 c.in-Some-get-2.ensures.lookup.1) in
+    let at = at_ring h k c.args.t.now _ next.followed a w c.in-Some.index c.args.place.now q placed c.in-Some.is (c.in-Some-get.ensures.lookup.1 ∙ ap (λ xs. get_or xs c.in-Some.index q) c.as_slice-rings.ensures) (sym c.is_event_ring.ensures ∙ c.if-is_event_ring.false) in
     let p = c.in-Some-Position.position in
     let stands : c.in-Some-Position.field-0 ≡ Position p = rw c.in-Some-Position.is at c.in-Some-Position.field-0-is in
     let is = c.in-Some-Position.is ∙ ap (λ g. Some g) stands in
-    let other = sym c.is_command_ring.ensures ∙ c.if-not-is_command_ring.true in
-    subst (λ (us : List Lent). HoldsAll (g.B.LeaseLog.holds list) h us c.begin_block.new.self c.args.ranges.now) (sym (lent_block h c.requires k ts a w c.args.number c.args.t.now _ next placed.aligned q at.among at.driver at.has c.args.place.giving at.positions at.crossings p is other))
+    let none = sym placed.command ∙ sym c.command_said.ensures.same ∙ c.in-None-command_said.is in
+    subst (λ (us : List Lent). HoldsAll (g.B.LeaseLog.holds list) h us c.begin_block.new.self c.args.ranges.now) (sym (lent_without h c.requires k ts a w c.args.number c.args.t.now _ next placed.aligned q at.among at.driver at.has c.args.place.now.giving at.positions at.crossings p is none))
     (record {
-      held = c.in_ok-begin_block-in-Some-Position.ensures list h ts (shape_there h c.requires q at.among) all.held (place_free h c.requires k ts a w c.args.number c.args.t.now _ next placed.aligned q at.among at.driver at.has c.args.place.giving at.positions at.crossings p is);
+      held = c.in_ok-begin_block-in-Some-Position.ensures list h ts (shape_there h c.requires q at.among) all.held (place_free h c.requires k ts a w c.args.number c.args.t.now _ next placed.aligned q at.among at.driver at.has c.args.place.now.giving at.positions at.crossings p is);
       found = others_begin h c.args.ranges.now c.args.number (Block q.id p) ts (λ g y i. tt) all.found;
     })
 
-pub returns-in-None-command_at : goal.returns-in-None-command_at
-returns-in-None-command_at g c = λ list k ts a w placed next all.
+pub returns-in-Some-command_said : goal.returns-in-Some-command_said
+returns-in-Some-command_said g c = on_more c.begin_command.result (λ begins. λ list k ts a w placed next all.
     let h = c.args.header.now in
     let q = c.in-Some-get.ring.now in
-    let r = c.in-Some-get-2.known.now in
-    let at = at_ring h k c.args.t.now _ next.followed a w c.in-Some.index c.args.place q r placed c.in-Some.is (c.in-Some-get.ensures.lookup.1 ∙ ap (λ xs. get_or xs c.in-Some.index q) c.as_slice-rings.ensures) (sym c.is_event_ring.ensures ∙ c.if-is_event_ring.false) (record_there _ _ _ _ c.as_slice-records.ensures.value c.in-Some-get-2.ensures.lookup.0 c.in-Some-get-2.ensures.lookup.1) in
+    let at = at_ring h k c.args.t.now _ next.followed a w c.in-Some.index c.args.place.now q placed c.in-Some.is (c.in-Some-get.ensures.lookup.1 ∙ ap (λ xs. get_or xs c.in-Some.index q) c.as_slice-rings.ensures) (sym c.is_event_ring.ensures ∙ c.if-is_event_ring.false) in
     let p = c.in-Some-Position.position in
     let stands : c.in-Some-Position.field-0 ≡ Position p = rw c.in-Some-Position.is at c.in-Some-Position.field-0-is in
     let is = c.in-Some-Position.is ∙ ap (λ g. Some g) stands in
-    let command = sym c.is_command_ring.ensures ∙ c.if-not-is_command_ring.false in
-    let none = command_at_is h k q p _ (is_there h c.requires k ts a w c.args.number c.args.t.now _ next placed.aligned q at.among at.driver at.has c.args.place.giving at.positions at.crossings p is command) (c.command_at.ensures q.shape (k.ring q.id) at.follows (given_at q.shape (k.ring q.id) a w _ p at.positions is)) ∙ c.in-None-command_at.is in
-    subst (λ (us : List Lent). HoldsAll (g.B.LeaseLog.holds list) h us c.begin_block.new.self c.args.ranges.now) (sym (lent_undeclared h c.requires k ts a w c.args.number c.args.t.now _ next placed.aligned q at.among at.driver at.has c.args.place.giving at.positions at.crossings p is command none))
-    (record {
-      held = c.in_ok-begin_block-in-Some-Position.ensures list h ts (shape_there h c.requires q at.among) all.held (place_free h c.requires k ts a w c.args.number c.args.t.now _ next placed.aligned q at.among at.driver at.has c.args.place.giving at.positions at.crossings p is);
-      found = others_begin h c.args.ranges.now c.args.number (Block q.id p) ts (λ g y i. tt) all.found;
-    })
-
-pub returns-in-Some-command_at : goal.returns-in-Some-command_at
-returns-in-Some-command_at g c = on_more c.begin_command.result (λ begins. λ list k ts a w placed next all.
-    let h = c.args.header.now in
-    let q = c.in-Some-get.ring.now in
-    let r = c.in-Some-get-2.known.now in
-    let at = at_ring h k c.args.t.now _ next.followed a w c.in-Some.index c.args.place q r placed c.in-Some.is (c.in-Some-get.ensures.lookup.1 ∙ ap (λ xs. get_or xs c.in-Some.index q) c.as_slice-rings.ensures) (sym c.is_event_ring.ensures ∙ c.if-is_event_ring.false) (record_there _ _ _ _ c.as_slice-records.ensures.value c.in-Some-get-2.ensures.lookup.0 c.in-Some-get-2.ensures.lookup.1) in
-    let p = c.in-Some-Position.position in
-    let stands : c.in-Some-Position.field-0 ≡ Position p = rw c.in-Some-Position.is at c.in-Some-Position.field-0-is in
-    let is = c.in-Some-Position.is ∙ ap (λ g. Some g) stands in
-    let command = sym c.is_command_ring.ensures ∙ c.if-not-is_command_ring.false in
-    let some = command_at_is h k q p _ (is_there h c.requires k ts a w c.args.number c.args.t.now _ next placed.aligned q at.among at.driver at.has c.args.place.giving at.positions at.crossings p is command) (c.command_at.ensures q.shape (k.ring q.id) at.follows (given_at q.shape (k.ring q.id) a w _ p at.positions is)) ∙ c.in-Some-command_at.is in
+    let given = sym placed.command ∙ sym c.command_said.ensures.same ∙ c.in-Some-command_said.is in
+    let command = given_kind h c.requires k ts a w c.args.number c.args.t.now _ next placed.aligned q at.among at.driver at.has c.args.place.now.giving at.positions at.crossings p is c.in-Some-command_said.command given in
+    let some = given_there_is h c.requires k ts a w c.args.number c.args.t.now _ next placed.aligned q at.among at.driver at.has c.args.place.now.giving at.positions at.crossings p is command (Some c.in-Some-command_said.command) given in
     let us : List Lent = with_begun c.args.number ts (Block q.id p ∷ []) in
-    subst (λ (us : List Lent). HoldsAll (g.B.LeaseLog.holds list) h us c.begin_command.new.book c.begin_command.new.ranges) (begun_twice c.args.number ts (Block q.id p ∷ []) _ ∙ sym (lent_command h c.requires k ts a w c.args.number c.args.t.now _ next placed.aligned q at.among at.driver at.has c.args.place.giving at.positions at.crossings p is command c.in-Some-command_at.command some))
-    (begins list k us next.followed (command_fits h c.requires k ts a w c.args.number c.args.t.now _ next placed.aligned q at.among at.driver at.has c.args.place.giving at.positions at.crossings p is command c.in-Some-command_at.command some) (shape_is h c.requires k ts a w c.args.number c.args.t.now _ next placed.aligned q at.among at.driver at.has c.args.place.giving at.positions at.crossings p is command)
-    (command_slot_free h c.requires k ts a w c.args.number c.args.t.now _ next placed.aligned q at.among at.driver at.has c.args.place.giving at.positions at.crossings p is command c.in-Some-command_at.command some) (command_context_free h c.requires k ts a w c.args.number c.args.t.now _ next placed.aligned q at.among at.driver at.has c.args.place.giving at.positions at.crossings p is command)
+    subst (λ (us : List Lent). HoldsAll (g.B.LeaseLog.holds list) h us c.begin_command.new.book c.begin_command.new.ranges) (begun_twice c.args.number ts (Block q.id p ∷ []) _ ∙ sym (lent_command h c.requires k ts a w c.args.number c.args.t.now _ next placed.aligned q at.among at.driver at.has c.args.place.now.giving at.positions at.crossings p is command c.in-Some-command_said.command some))
+    (begins list k us next.followed (command_fits h c.requires k ts a w c.args.number c.args.t.now _ next placed.aligned q at.among at.driver at.has c.args.place.now.giving at.positions at.crossings p is command c.in-Some-command_said.command some) (shape_is h c.requires k ts a w c.args.number c.args.t.now _ next placed.aligned q at.among at.driver at.has c.args.place.now.giving at.positions at.crossings p is command)
+    (command_slot_free h c.requires k ts a w c.args.number c.args.t.now _ next placed.aligned q at.among at.driver at.has c.args.place.now.giving at.positions at.crossings p is command c.in-Some-command_said.command some) (command_context_free h c.requires k ts a w c.args.number c.args.t.now _ next placed.aligned q at.among at.driver at.has c.args.place.now.giving at.positions at.crossings p is command)
     (record {
-      held = c.in_ok-begin_block-in-Some-Position.ensures list h ts (shape_there h c.requires q at.among) all.held (place_free h c.requires k ts a w c.args.number c.args.t.now _ next placed.aligned q at.among at.driver at.has c.args.place.giving at.positions at.crossings p is);
+      held = c.in_ok-begin_block-in-Some-Position.ensures list h ts (shape_there h c.requires q at.among) all.held (place_free h c.requires k ts a w c.args.number c.args.t.now _ next placed.aligned q at.among at.driver at.has c.args.place.now.giving at.positions at.crossings p is);
       found = others_begin h c.args.ranges.now c.args.number (Block q.id p) ts (λ g y i. tt) all.found;
     }))) c.begin_command.ensures

@@ -2,20 +2,28 @@ use Rattle.std.proofs.Common.{◌∙◌, ◌++◌, ◌∷◌, [], ap, map}
 use Rattle.trb.specs.Block.{code}
 use Rattle.replayer.specs.LazySteps.Notes.{completing_look, open_stopped}
 use Rattle.replayer.specs.declared.lazy_steps.note.Note.TheVariants.{Begun}
+use Rattle.event_rows.proofs.CommandCompletions.Ends.{said_well}
 use Rattle.event_rows.proofs.CommandCompletions.Finished.{was_started}
 use Rattle.replayer.proofs.RowNotes.Kept.{some_command}
 use Rattle.replayer.proofs.RowNotes.Lists.{from_none, in_turn}
 use Rattle.replayer.proofs.RowNotes.Notings.{may_place, placed_is}
 use Rattle.replayer.proofs.row_notes.completions.note_completion.Goals as goal
 
+pub add_placed_by-requires : goal.add_placed_by-requires
+add_placed_by-requires g c = record {
+  headed = c.requires.headed;
+  found = c.requires.found;
+  well = said_well c.command_said-command.result c.command_said-command.ensures.said;
+}
+
 pub returns-clause-placed : goal.returns-clause-placed
 returns-clause-placed g c = λ k f d possible.
     let h = c.args.header.now in
     let headed = c.requires.headed in
     let b = c.args.event in
-    let command = c.next_command-command.result in
+    let command = c.command_said-command.result in
     let some = some_command h headed k d (was_started h headed k d b possible) in
-    let here = c.next_command-command.ensures.value k (g.M.WordMemory.words c.args.memory.now) f some in
+    let here = c.command_said-command.ensures.same ∙ c.next_command.ensures k f.rings some in
     from_none c.add_placed_by.new.rings.items c.new-rings.result.items _ _ (c.in_ok-add_placed_by.ensures k f (may_place h k b headed d possible command here)) c.new-rings.ensures.items (placed_is h k b command here)
 
 pub returns-clause-noted : goal.returns-clause-noted
@@ -24,9 +32,9 @@ returns-clause-noted g c = λ k f d possible.
     let headed = c.requires.headed in
     let b = c.args.event in
     let words = g.M.WordMemory.words c.args.memory.now in
-    let command = c.next_command-command.result in
+    let command = c.command_said-command.result in
     let some = some_command h headed k d (was_started h headed k d b possible) in
-    let here = c.next_command-command.ensures.value k words f some in
+    let here = c.command_said-command.ensures.same ∙ c.next_command.ensures k f.rings some in
     let begun = c.in_ok-note_begun.ensures ∙ ap (λ rs. c.args.notes.now.items ++ map Begun rs) c.as_slice.ensures.value in
     let look = c.in_ok-note_look.ensures k words f d some ∙ ap (λ o. c.note_begun.new.notes.items ++ completing_look h k (open_stopped k (code b) o) ∷ []) here in
     in_turn c.args.notes.now.items _ _ _ _ _ _ begun look c.in_ok-add_note.ensures

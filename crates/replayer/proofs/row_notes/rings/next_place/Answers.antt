@@ -4,7 +4,7 @@ use Rattle.traces.specs.declared.ring.Ring.{Ring}
 use Rattle.traces.specs.Header.{command_id}
 use Rattle.ring_knowledge.specs.Rings.{next_command}
 use Rattle.trace_record.proofs.RingFinder.FoundRings.{no_command_ring}
-use Rattle.event_rows.proofs.CommandCompletions.CommandRings.{IsCommandNumber, command_id_is, command_number, has_commands, read_at}
+use Rattle.trace_record.proofs.RingFinder.CommandRings.{IsCommandNumber, command_id_is, command_number, has_commands, read_at}
 use Rattle.replayer.proofs.RowNotes.Kept.{next_there}
 use Rattle.replayer.proofs.row_notes.rings.next_place.Goals as goal
 

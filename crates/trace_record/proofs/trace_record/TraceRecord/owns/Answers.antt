@@ -10,7 +10,7 @@ owned_at h k row at word owned is says = subst (λ (r : Row). IsOwnedSo h k r ow
 pub returns-then-not-is_three : goal.returns-then-not-is_three
 returns-then-not-is_three g c = λ k f placed.
     let h = c.args.header.now in
-    let place = subst (λ (row : Row). IsPlaced h k row c.args.place) c.in-Write.is placed in
+    let place = subst (λ (row : Row). IsPlaced h k row c.args.place.now) c.in-Write.is placed in
     let leased = sym (c.is_leased.ensures h k (g.M.WordMemory.words c.args.memory.now) f place.lent) ∙ c.if-is_leased.true in
     let version : not (is_three h.version) ≡ true = ap not (sym c.is_three.ensures ∙ c.if-not-is_three.true) in
     owned_at h k c.args.row.now c.in-Write.at c.in-Write.word _ c.in-Write.is
@@ -19,7 +19,7 @@ returns-then-not-is_three g c = λ k f placed.
 pub returns-else-not-is_three : goal.returns-else-not-is_three
 returns-else-not-is_three g c = λ k f placed.
     let h = c.args.header.now in
-    let place = subst (λ (row : Row). IsPlaced h k row c.args.place) c.in-Write.is placed in
+    let place = subst (λ (row : Row). IsPlaced h k row c.args.place.now) c.in-Write.is placed in
     let leased = sym (c.is_leased.ensures h k (g.M.WordMemory.words c.args.memory.now) f place.lent) ∙ c.if-is_leased.true in
     let version : not (is_three h.version) ≡ false = ap not (sym c.is_three.ensures ∙ c.if-not-is_three.false) in
     owned_at h k c.args.row.now c.in-Write.at c.in-Write.word _ c.in-Write.is
@@ -28,6 +28,6 @@ returns-else-not-is_three g c = λ k f placed.
 pub returns-else-is_leased : goal.returns-else-is_leased
 returns-else-is_leased g c = λ k f placed.
     let h = c.args.header.now in
-    let place = subst (λ (row : Row). IsPlaced h k row c.args.place) c.in-Write.is placed in
+    let place = subst (λ (row : Row). IsPlaced h k row c.args.place.now) c.in-Write.is placed in
     let free = sym (c.is_leased.ensures h k (g.M.WordMemory.words c.args.memory.now) f place.lent) ∙ c.if-is_leased.false in
     owned_at h k c.args.row.now c.in-Write.at c.in-Write.word _ c.in-Write.is (c.if-is_leased.false ∙ sym (not_owned h k c.in-Write.at c.in-Write.word free))

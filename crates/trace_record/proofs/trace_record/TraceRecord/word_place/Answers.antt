@@ -1,6 +1,8 @@
 use Rattle.trace_record.proofs.Words.{◌≡◌, ◌∙◌, true, get_or, sym, ap, arith, refl, length, not, position, slice_get_read, slice_get_within, touches, is_driver_kind, ring_here, none_here, among_at}
-use Rattle.trace_record.proofs.OneRingHas.{rings_nowhere, rings_in_events, rings_here}
-use Rattle.trace_record.proofs.PlacedWords.{nothing_of_events, given_on}
+use Rattle.ring_knowledge.proofs.GivenWords.{given_from}
+use Rattle.trace_record.proofs.OneRingHas.{inside_is, rings_nowhere, rings_in_events, rings_here}
+use Rattle.trace_record.proofs.GivenCommands.{given_by_ring, none_in_events, none_nowhere}
+use Rattle.trace_record.proofs.PlacedRows.{nothing_of_events, given_on}
 use Rattle.trace_record.proofs.trace_record.TraceRecord.word_place.Goals as goal
 
 pub returns-in_default : goal.returns-in_default
@@ -12,6 +14,8 @@ returns-in_default c = λ k rings.
       ring = sym c.in_default.is ∙ c.ring_at.ensures ∙ ap (λ n. position (λ q. touches q.shape n 4) h.rings) c.get.ensures.same;
       lent = rings_nowhere h c.requires.headed k c.args.at c.get.ensures.aligned (λ q among. ap (λ n. touches q.shape n 4) (sym c.get.ensures.same) ∙ none q among);
       given = refl;
+      command = sym (none_nowhere h c.requires.headed k c.args.at c.args.word c.get.ensures.aligned
+          (λ q among. sym (inside_is h c.requires.headed k c.args.at c.get.ensures.aligned q among) ∙ ap (λ n. touches q.shape n 4) (sym c.get.ensures.same) ∙ none q among));
     }
 
 pub returns-then-is_event_ring : goal.returns-then-is_event_ring
@@ -26,6 +30,8 @@ returns-then-is_event_ring c = λ k rings.
       ring = sym c.in-Some.is ∙ c.ring_at.ensures ∙ ap (λ n. position (λ q. touches q.shape n 4) h.rings) c.get.ensures.same;
       lent = rings_in_events h c.requires.headed k c.args.at c.get.ensures.aligned ring (among_at h.rings c.in-Some.number ring here.0) event touched;
       given = nothing_of_events h k c.args.at c.args.word c.in-Some.number ring here.0 event;
+      command = sym (none_in_events h c.requires.headed k c.args.at c.args.word c.get.ensures.aligned ring (among_at h.rings c.in-Some.number ring here.0)
+          (sym (inside_is h c.requires.headed k c.args.at c.get.ensures.aligned ring (among_at h.rings c.in-Some.number ring here.0)) ∙ touched) event);
     }
 
 pub returns-in-Some-get : goal.returns-in-Some-get
@@ -39,11 +45,15 @@ returns-in-Some-get c = λ k rings.
     let within = slice_get_within h.rings c.in-Some.number ring here.0 in
     let there = slice_get_read items (length items) c.in-Some.number c.in-Some-get.known.now refl (omega (arith, rings.as_many, within)) (c.in-Some-get.ensures.lookup.1 ∙ ap (λ xs. get_or xs c.in-Some.number c.in-Some-get.known.now) c.deref.ensures.value) in
     let follows = rings.each c.in-Some.number ring c.in-Some-get.known.now here.0 there driver in
+    let among = among_at h.rings c.in-Some.number ring here.0 in
+    let gives = c.look-standing.ensures.positions (k.ring ring.id) follows in
     record {
       aligned = c.get.ensures.aligned;
       ring = sym c.in-Some.is ∙ c.ring_at.ensures ∙ ap (λ n. position (λ q. touches q.shape n 4) h.rings) c.get.ensures.same;
       lent = c.look-standing.ensures.lent (k.ring ring.id) follows
           ∙ rings_here h c.requires.headed k c.args.at c.get.ensures.aligned ring (among_at h.rings c.in-Some.number ring here.0) driver touched;
       given = given_on h k c.args.at c.args.word c.in-Some.number ring here.0 driver c.look-standing.result.giving
-          (c.look-standing.ensures.positions (k.ring ring.id) follows) (c.look-standing.ensures.crossings (k.ring ring.id) follows);
+          gives (c.look-standing.ensures.crossings (k.ring ring.id) follows);
+      command = c.given_command.ensures (k.ring ring.id) follows (given_from ring.shape (k.ring ring.id) c.args.at c.args.word c.look-standing.result.giving gives)
+          ∙ sym (given_by_ring h c.requires.headed k c.args.at c.args.word c.get.ensures.aligned ring among (sym (inside_is h c.requires.headed k c.args.at c.get.ensures.aligned ring among) ∙ touched) c.look-standing.result.giving gives);
     }

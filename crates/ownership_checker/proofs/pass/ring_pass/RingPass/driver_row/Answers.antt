@@ -23,3 +23,24 @@ returns-in-Write-clause-refused g c =
     let before = c.args.self.now in
     refused_too c.placed_row.result _ _ (λ r least h past p.
     least h past p (c.place-place.ensures (known_now h past) (words before.memory) p.tracked.follows)) c.placed_row.ensures.refused
+
+pub returns-in-Read-clause-passed : goal.returns-in-Read-clause-passed
+returns-in-Read-clause-passed g c =
+    let words = g.M.WordMemory.words in
+    let before = c.args.self.now in
+    on_more c.placed_row-in-Read.result (λ ok h past p.
+    ok h past p (c.place-place-in-Read.ensures (known_now h past) (words before.memory) p.tracked.follows)) c.placed_row-in-Read.ensures.passed
+
+pub returns-in-Read-clause-logged : goal.returns-in-Read-clause-logged
+returns-in-Read-clause-logged g c =
+    let words = g.M.WordMemory.words in
+    let before = c.args.self.now in
+    on_more c.placed_row-in-Read.result (λ ok list h first past p.
+    ok list h first past p (c.place-place-in-Read.ensures (known_now h past) (words before.memory) p.tracked.follows)) c.placed_row-in-Read.ensures.logged
+
+pub returns-in-Read-clause-refused : goal.returns-in-Read-clause-refused
+returns-in-Read-clause-refused g c =
+    let words = g.M.WordMemory.words in
+    let before = c.args.self.now in
+    refused_too c.placed_row-in-Read.result _ _ (λ r least h past p.
+    least h past p (c.place-place-in-Read.ensures (known_now h past) (words before.memory) p.tracked.follows)) c.placed_row-in-Read.ensures.refused

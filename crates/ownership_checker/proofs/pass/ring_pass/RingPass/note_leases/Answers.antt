@@ -11,7 +11,7 @@ use Rattle.ownership_rules.specs.Rules.{lenient}
 use Rattle.leases.specs.LeaseBooks.Lents.{passed_on}
 use Rattle.leases.specs.LeaseRows.CleanRows.{HoldsAll}
 use Rattle.leases.proofs.LeaseRows.OtherRows.{on_more}
-use Rattle.trace_record.specs.WordPlaces.{IsPlaced}
+use Rattle.trace_record.specs.RowPlaces.{IsPlaced}
 use Rattle.safety.specs.RingChanges.Histories.{header_now, known_now}
 use Rattle.safety.specs.RingChanges.Withdrawals.{restored, ring_restored}
 use Rattle.leases.specs.RingLeases.RingLents.{ring_lents}
@@ -51,7 +51,7 @@ returns-in-Write-clause-logged g c = on_more c.note_moved.result (λ told list h
     behind_logged words Holds other h first past before p room (λ y. learned y (restored y k row) row) (ring_lents h first (Plain row ∷ past)) (plain_now h first past row) c.args.number numbered later.log later.ranges
     (subst (λ (r : Row). HoldsAll Holds before.header (passed_on (open_leases before.header k) (open_leases before.header (learned before.header (restored before.header k r) r)) c.args.number (ring_lents h first past)) later.log later.ranges)
     (sym c.in-Write.is)
-    (told list k (words before.memory) (ring_lents h first past) c.in-Write.at c.in-Write.word p.tracked.follows (p.tracked.keeps on) (subst (λ (r : Row). IsPlaced before.header k r c.args.place) c.in-Write.is placed)
+    (told list k (words before.memory) (ring_lents h first past) c.in-Write.at c.in-Write.word p.tracked.follows (p.tracked.keeps on) (subst (λ (r : Row). IsPlaced before.header k r c.args.place.now) c.in-Write.is placed)
     (subst (λ (r : Row). ring_restored before.header k r ≡ Some c.in-Some.id) c.in-Write.is moves) (opened_before words Holds other h first past before p room) early
     (held_before words Holds other h first past before p room before.log before.ranges held)))) c.note_moved.ensures.moved
 

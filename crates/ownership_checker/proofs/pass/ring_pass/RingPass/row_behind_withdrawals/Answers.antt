@@ -28,7 +28,7 @@ returns-then-is_left-clause-refused g c = told_of c.refusal_left.result _ _ (λ 
     let k = known_now h past in
     let on : k.stopped ≡ false = sym (c.is_stopped.ensures k p.tracked.follows.registers) ∙ c.if-is_stopped.false in
     let placed = c.place-place.ensures k (words before.memory) p.tracked.follows in
-    let ring_is = c.ring_restored-ring.ensures k (words before.memory) p.tracked.follows placed in
+    let ring_is = c.ring_restored-ring.ensures before.header k (words before.memory) p.tracked.follows placed in
     let names = subst (NamesTransfer before.header) (sym ring_is) (names_transfer before.header k (p.tracked.keeps on) row) in
     let left : is_left before.header k (ring_restored before.header k row) ≡ true =
     subst (λ (o : Option ℕ). is_left before.header k o ≡ true) ring_is (sym (c.is_left.ensures k p.tracked.follows names) ∙ c.if-is_left.true) in
@@ -46,7 +46,7 @@ returns-clause-passed g c = on_both c.check_restored.result (λ ok reads h past 
     let on : k.stopped ≡ false = sym (c.is_stopped.ensures k p.tracked.follows.registers) ∙ c.if-is_stopped.false in
     let q = same_still words h past before p noted c.note_leases.ensures.header c.note_leases.ensures.finder c.note_leases.ensures.record c.note_leases.ensures.memory c.note_leases.ensures.withdrawn in
     let placed = c.place-place.ensures k (words before.memory) p.tracked.follows in
-    let ring_was = c.ring_restored-ring.ensures k (words before.memory) p.tracked.follows placed in
+    let ring_was = c.ring_restored-ring.ensures before.header k (words before.memory) p.tracked.follows placed in
     let names_before = subst (NamesTransfer before.header) (sym ring_was) (names_transfer before.header k (p.tracked.keeps on) row) in
     let stands_before : is_left before.header k (ring_restored before.header k row) ≡ false =
     subst (λ (o : Option ℕ). is_left before.header k o ≡ false) ring_was (sym (c.is_left.ensures k p.tracked.follows names_before) ∙ c.if-is_left.false) in
@@ -77,7 +77,7 @@ returns-clause-logged g c = on_more c.check_restored.result (λ ok list h first 
     let on : k.stopped ≡ false = sym (c.is_stopped.ensures k p.tracked.follows.registers) ∙ c.if-is_stopped.false in
     let q = same_still words h past before p noted c.note_leases.ensures.header c.note_leases.ensures.finder c.note_leases.ensures.record c.note_leases.ensures.memory c.note_leases.ensures.withdrawn in
     let placed = c.place-place.ensures k (words before.memory) p.tracked.follows in
-    let ring_was = c.ring_restored-ring.ensures k (words before.memory) p.tracked.follows placed in
+    let ring_was = c.ring_restored-ring.ensures before.header k (words before.memory) p.tracked.follows placed in
     let names_before = subst (NamesTransfer before.header) (sym ring_was) (names_transfer before.header k (p.tracked.keeps on) row) in
     let stands_before : is_left before.header k (ring_restored before.header k row) ≡ false =
     subst (λ (o : Option ℕ). is_left before.header k o ≡ false) ring_was (sym (c.is_left.ensures k p.tracked.follows names_before) ∙ c.if-is_left.false) in
@@ -102,7 +102,7 @@ returns-clause-refused g c = refused_too c.check_restored.result _ _ (λ r least
     let on : k.stopped ≡ false = sym (c.is_stopped.ensures k p.tracked.follows.registers) ∙ c.if-is_stopped.false in
     let q = same_still words h past before p noted c.note_leases.ensures.header c.note_leases.ensures.finder c.note_leases.ensures.record c.note_leases.ensures.memory c.note_leases.ensures.withdrawn in
     let placed = c.place-place.ensures k (words before.memory) p.tracked.follows in
-    let ring_was = c.ring_restored-ring.ensures k (words before.memory) p.tracked.follows placed in
+    let ring_was = c.ring_restored-ring.ensures before.header k (words before.memory) p.tracked.follows placed in
     let names_before = subst (NamesTransfer before.header) (sym ring_was) (names_transfer before.header k (p.tracked.keeps on) row) in
     let stands_before : is_left before.header k (ring_restored before.header k row) ≡ false =
     subst (λ (o : Option ℕ). is_left before.header k o ≡ false) ring_was (sym (c.is_left.ensures k p.tracked.follows names_before) ∙ c.if-is_left.false) in
@@ -125,6 +125,6 @@ check_restored-requires-clause-as_many g c =
     let on : k.stopped ≡ false = sym (c.is_stopped.ensures k p.tracked.follows.registers) ∙ c.if-is_stopped.false in
     let q = same_still words h past before p noted c.note_leases.ensures.header c.note_leases.ensures.finder c.note_leases.ensures.record c.note_leases.ensures.memory c.note_leases.ensures.withdrawn in
     let placed = c.place-place.ensures k (words before.memory) p.tracked.follows in
-    let ring_is = c.ring_restored-ring.ensures k (words before.memory) p.tracked.follows placed ∙ ap (λ (x : Header). ring_restored x k row) (sym c.note_leases.ensures.header) in
+    let ring_is = c.ring_restored-ring.ensures before.header k (words before.memory) p.tracked.follows placed ∙ ap (λ (x : Header). ring_restored x k row) (sym c.note_leases.ensures.header) in
     let names = subst (NamesTransfer noted.header) (sym ring_is) (names_transfer noted.header k (q.tracked.keeps on) row) in
     (c.restore_ring.ensures.restored k (words noted.memory) q.tracked.follows names).rings.as_many

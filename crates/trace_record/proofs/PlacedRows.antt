@@ -1,5 +1,7 @@
--- What the place of a word says
-use Rattle.trace_record.proofs.Words.{◌≡◌, ◌∙◌, ℕ, true, Bool, Option, None, Some, refl, sym, subst, slice_get, positions_given, crossings_given, Ring, Header, Row, Write, is_driver_kind, is_event_kind, RingGiving, Known, positions_of, crossings_of, WordPlace, IsGivenBy, IsGivenOn, IsOwnedSo, IsPlaced}
+-- What the place of a row says
+use Rattle.trace_record.proofs.Words.{◌≡◌, ◌∙◌, ℕ, true, Bool, Option, None, Some, refl, sym, subst, slice_get, positions_given, crossings_given, Ring, Header, Row, Write, is_driver_kind, is_event_kind, RingGiving, Known, positions_of, crossings_of, RowPlace, IsGivenBy, IsGivenOn, IsOwnedSo, IsPlaced}
+use Rattle.trb.specs.declared.block.Block.{Block}
+use Rattle.traces.specs.declared.row.Row.TheVariants.{Read}
 use Rattle.trace_record.proofs.OneRingHas.{no_driver_event}
 
 module _ (h : Header) (k : Known) (at word n : ℕ) (ring : Ring) (here : slice_get h.rings n ≡ Some ring) where
@@ -29,10 +31,11 @@ module _ (h : Header) (k : Known) (at word n : ℕ) (ring : Ring) (here : slice_
     events = λ event. absurd (no_driver_event ring.shape.kind driver event);
   })
 
--- nothing is said of a row that writes no memory
-pub placed_other : (h : Header) (k : Known) (row : Row) (p : WordPlace) → ((at word : ℕ) → row ≡ Write at word → ⊥) → IsPlaced h k row p
-placed_other h k (Write at word) p other = absurd (other at word refl)
-placed_other h k _ p other = tt
+-- nothing is said of a row that neither writes memory nor reads an event
+pub placed_other : (h : Header) (k : Known) (row : Row) (p : RowPlace) → ((at word : ℕ) → row ≡ Write at word → ⊥) → ((event : Block) → row ≡ Read event → ⊥) → IsPlaced h k row p
+placed_other h k (Write at word) p no_write no_event = absurd (no_write at word refl)
+placed_other h k (Read event) p no_write no_event = absurd (no_event event refl)
+placed_other h k _ p no_write no_event = tt
 
 pub owned_other : (h : Header) (k : Known) (row : Row) (owned : Bool) → ((at word : ℕ) → row ≡ Write at word → ⊥) → IsOwnedSo h k row owned
 owned_other h k (Write at word) owned other = absurd (other at word refl)

@@ -1,17 +1,22 @@
--- Where the word of a row lies that writes memory, and whether the controller owns what it writes
-use Rattle.std.specs.Prelude.{◌≡◌, ℕ, ◌%◌, true, Bool, Option, None, Some, position, slice_get}
+-- What a row is about: where the word lies that it writes, the command that it gives or ends, and whether the controller owns what it writes
+use Rattle.std.specs.Prelude.{◌≡◌, ℕ, ◌%◌, true, Bool, Option, None, Some, is_some, position, slice_get}
+use Rattle.trb.specs.Block.{kind}
+use Rattle.trb.specs.declared.kind.BlockKind.TheVariants.{CommandCompletion}
 use Rattle.segments.specs.Places.{touches}
 use Rattle.segments.specs.RingView.{positions_given, crossings_given}
+use Rattle.commands.specs.declared.command.Command.{Command}
 use Rattle.traces.specs.declared.ring.Ring.{Ring}
 use Rattle.traces.specs.declared.header.Header.{Header}
 use Rattle.traces.specs.declared.row.Row.{Row}
-use Rattle.traces.specs.declared.row.Row.TheVariants.{Write}
-use Rattle.traces.specs.Header.{is_driver_kind, is_event_kind}
+use Rattle.traces.specs.declared.row.Row.TheVariants.{Write, Read}
+use Rattle.traces.specs.Header.{command_ring, is_driver_kind, is_event_kind}
 use Rattle.ring_knowledge.specs.declared.ring_record.RingGiving.{RingGiving}
 use Rattle.ring_knowledge.specs.Known.{Known}
 use Rattle.ring_knowledge.specs.RingRecords.{positions_of, crossings_of}
+use Rattle.ring_knowledge.specs.Rings.{command_at, next_command}
+use Rattle.ring_knowledge.specs.Writes.{command_given}
 use Rattle.ownership_rules.specs.Older.{writes_to_owned}
-use Rattle.trace_record.specs.declared.word_place.WordPlace.{WordPlace}
+use Rattle.trace_record.specs.declared.row_place.RowPlace.{RowPlace}
 use Rattle.trace_record.specs.Owned.{rings_have}
 
 -- the write of a word gives this of a ring: of the event ring nothing
@@ -25,16 +30,22 @@ abbrev pub IsGivenBy : Header → Known → ℕ → ℕ → Option ℕ → Optio
 IsGivenBy h k at word None giving = giving ≡ None
 IsGivenBy h k at word (Some n) giving = (ring : Ring) → slice_get h.rings n ≡ Some ring → IsGivenOn k at word ring giving
 
--- the place of a word: its ring, whether a lease of the ring has it, and what its write gives of the ring
-pub record IsPlacedSo (h : Header) (k : Known) (at word : ℕ) (p : WordPlace) : Type 0 where
+-- the place of a word: its ring, whether a lease of the ring has it, what its write gives of the ring, and which command
+pub record IsPlacedSo (h : Header) (k : Known) (at word : ℕ) (p : RowPlace) : Type 0 where
   pub aligned : at % 4 ≡ 0
   pub ring : p.ring ≡ position (λ ring. touches ring.shape at 4) h.rings
   pub lent : p.is_lent ≡ rings_have h k at
   pub given : IsGivenBy h k at word p.ring p.giving
+  pub command : p.command ≡ command_given h k at word
 
--- of a row that writes memory
-abbrev pub IsPlaced : Header → Known → Row → WordPlace → Type 0
+-- the command that is finished next, where there is a command ring
+abbrev pub IsNext : Header → Known → Option Command → Type 0
+IsNext h k command = is_some (command_ring h) ≡ true → command ≡ command_at h k (next_command h k)
+
+-- of a row that writes memory, or that reads the completion of a command
+abbrev pub IsPlaced : Header → Known → Row → RowPlace → Type 0
 IsPlaced h k (Write at word) p = IsPlacedSo h k at word p
+IsPlaced h k (Read event) p = kind event ≡ CommandCompletion → IsNext h k p.command
 IsPlaced h k _ p = Unit {0}
 
 -- whether a row writes to what the controller owns

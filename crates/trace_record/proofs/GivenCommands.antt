@@ -1,0 +1,90 @@
+-- Which command a write gives, by the ring that has the word, and which one is finished next
+use Rattle.trace_record.proofs.Words.{◌≡◌, ◌%◌, ◌∙◌, ℕ, List, Bool, true, false, Option, None, Some, refl, ap, sym, inl, inr, cases_Bool, false≢true, Cmd, Evt, Xfer, RingKind, Shape, floor_number, is_inside, positions_given, due_positions, Ring, Header, IsHeader, is_event_kind, command_id, shape_of, shape_or, Known, positions_of, RingGiving, false_unless, IsAmong, same_or_apart, shape_allowed, shape_there, together}
+use Rattle.std.specs.Prelude.{if◌then◌else◌}
+use Rattle.traces.specs.Header.{command_ring, is_command_kind}
+use Rattle.ring_knowledge.specs.Rings.{command_at, next_command}
+use Rattle.ring_knowledge.specs.Writes.{command_given}
+use Rattle.trace_record.specs.RingCommands.{command_in, command_on}
+use Rattle.trace_record.proofs.RingFinder.FoundRings.{command_found}
+use Rattle.trace_record.proofs.RingFinder.CommandRings.{command_id_is, commands_among, no_ring}
+use Rattle.trace_record.proofs.WordsInside.{gives_no_position}
+
+pub no_command_event : (kind : RingKind) → is_event_kind kind ≡ true → is_command_kind kind ≡ false
+no_command_event Cmd e = absurd (cc)
+no_command_event Evt e = refl
+no_command_event Xfer e = refl
+
+-- a word of another ring isn't in it
+not_in_commands : (h : Header) → IsHeader h → (ring : Ring) → IsAmong ring h.rings → is_command_kind ring.shape.kind ≡ false → (a : ℕ) → is_inside ring.shape a ≡ true →
+    (c : Ring) → command_ring h ≡ Some c → is_inside c.shape a ≡ false
+not_in_commands h headed ring among other a has c there =
+    let found = commands_among h c there in
+    elim (same_or_apart h.rings (together h headed) ring c among found.0) [
+      | inl same ↦ absurd (false≢true (sym other ∙ ap (λ (r : Ring). is_command_kind r.shape.kind) (sym same) ∙ found.1))
+      | inr apart ↦ false_unless (is_inside c.shape a) (λ e. apart.memory a has e)
+    ]
+
+module _ (h : Header) (headed : IsHeader h) (k : Known) where
+  -- the next command stands on the command ring
+  pub next_is : (c : Ring) → command_ring h ≡ Some c → command_at h k (next_command h k) ≡ command_in (k.ring c.id).queue (floor_number (k.ring c.id))
+  unfolding command_at next_command
+  next_is c there = ap (λ i. command_in (k.ring i).queue (floor_number (k.ring i))) (command_id_is h c there)
+
+  module _ (a w : ℕ) where
+    abbrev given_on : Shape → ℕ → List ℕ
+    given_on shape i = positions_given shape (k.ring i) a w
+
+    given_is : command_given h k a w ≡ command_on (k.ring (command_id h)) (given_on (shape_of h (command_id h)) (command_id h))
+    unfolding command_given command_at
+    given_is = refl
+
+    -- of the command ring
+    given_there : (c : Ring) → command_ring h ≡ Some c → command_given h k a w ≡ command_on (k.ring c.id) (positions_given c.shape (k.ring c.id) a w)
+    given_there c there =
+        given_is
+        ∙ ap (λ i. command_on (k.ring i) (given_on (shape_of h i) i)) (command_id_is h c there)
+        ∙ ap (λ s. command_on (k.ring c.id) (given_on s c.id)) (shape_there h headed c (commands_among h c there).0)
+
+    -- where there is none
+    none_there : command_ring h ≡ None → command_given h k a w ≡ None
+    unfolding shape_of positions_given due_positions
+    none_there none =
+        given_is ∙ ap (λ o. command_on (k.ring (command_id h)) (given_on (shape_or Xfer o) (command_id h))) (no_ring h headed none)
+
+    -- outside the command ring none is given
+    pub none_outside : a % 4 ≡ 0 → ((c : Ring) → command_ring h ≡ Some c → is_inside c.shape a ≡ false) → command_given h k a w ≡ None
+    none_outside aligned outside = by (command_ring h) refl
+      where
+        by : (o : Option Ring) → command_ring h ≡ o → command_given h k a w ≡ None
+        by None none = none_there none
+        by (Some c) there =
+            given_there c there
+            ∙ ap (λ ps. command_on (k.ring c.id) ps) (gives_no_position c.shape (shape_allowed h headed c (commands_among h c there).0) a aligned (outside c there) (k.ring c.id) w)
+
+    -- no ring has the word
+    pub none_nowhere : a % 4 ≡ 0 → ((q : Ring) → IsAmong q h.rings → is_inside q.shape a ≡ false) → command_given h k a w ≡ None
+    none_nowhere aligned none = none_outside aligned (λ c there. none c (commands_among h c there).0)
+
+    -- a ring that has the word
+    pub command_is : a % 4 ≡ 0 → (r : Ring) → IsAmong r h.rings → is_inside r.shape a ≡ true →
+        command_given h k a w ≡ (if is_command_kind r.shape.kind then command_on (k.ring r.id) (positions_given r.shape (k.ring r.id) a w) else None)
+    command_is aligned r among has = elim (cases_Bool (is_command_kind r.shape.kind)) [
+      | inl command ↦
+          given_there r (command_found h headed r among command)
+          ∙ ap (λ (b : Bool). if b then command_on (k.ring r.id) (positions_given r.shape (k.ring r.id) a w) else None) (sym command)
+      | inr other ↦
+          none_outside aligned (λ c there. not_in_commands h headed r among other a has c there)
+          ∙ ap (λ (b : Bool). if b then command_on (k.ring r.id) (positions_given r.shape (k.ring r.id) a w) else None) (sym other)
+    ]
+
+    -- the event ring has it
+    pub none_in_events : a % 4 ≡ 0 → (r : Ring) → IsAmong r h.rings → is_inside r.shape a ≡ true → is_event_kind r.shape.kind ≡ true → command_given h k a w ≡ None
+    none_in_events aligned r among has event =
+        command_is aligned r among has
+        ∙ ap (λ (b : Bool). if b then command_on (k.ring r.id) (positions_given r.shape (k.ring r.id) a w) else None) (no_command_event r.shape.kind event)
+
+    -- by what the write gives of the ring
+    pub given_by_ring : a % 4 ≡ 0 → (r : Ring) → IsAmong r h.rings → is_inside r.shape a ≡ true → (giving : Option RingGiving) → positions_given r.shape (k.ring r.id) a w ≡ positions_of giving →
+        command_given h k a w ≡ (if is_command_kind r.shape.kind then command_on (k.ring r.id) (positions_of giving) else None)
+    given_by_ring aligned r among has giving gives =
+        command_is aligned r among has ∙ ap (λ ps. if is_command_kind r.shape.kind then command_on (k.ring r.id) ps else None) gives
