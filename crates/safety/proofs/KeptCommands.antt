@@ -12,7 +12,7 @@ use Rattle.safety.proofs.EndpointHistories.{finish_elsewhere}
 use Rattle.safety.proofs.KeptCommandRing.{command_with}
 use Rattle.safety.proofs.KeptRings.{completion_facts}
 use Rattle.safety.proofs.DriverRings.{endpoints_of}
-use Rattle.safety.proofs.SameDriver.{SameGiven, view_after}
+use Rattle.safety.proofs.SameDriver.{view_after}
 use Rattle.safety.proofs.RowFrames.{register_leaves, written_view}
 use Rattle.safety.proofs.TransferFrames.{transfer_command}
 use Rattle.safety.proofs.CleanRows.{event_facts}
@@ -77,13 +77,6 @@ view_declares shape v blocks good keeps = record {
   commands = λ p d at. declared_then (λ b. is_some (command_of b) ≡ true) v.queue blocks p d keeps.commands good.1 at;
   alone = All-push (λ n. n ≡ 1) v.lengths (length blocks) keeps.alone good.0;
   held = keeps.held;
-}
-
-given_same : (v w : RingView) → SameGiven v w → ((w.held ≡ None) ⊎ ((w.held ≡ Some 0) × (w.floor ≡ Data 0))) → ViewOfCommands v → ViewOfCommands w
-given_same v w same held keeps = record {
-  commands = λ p d at. keeps.commands p d (ap (λ q. slice_get q p) (sym same.queue) ∙ at);
-  alone = subst (λ (ns : List ℕ). All (λ n. n ≡ 1) ns) (sym same.lengths) keeps.alone;
-  held = held;
 }
 
 command_is : (t : RingKind) → is_command_kind t ≡ true → t ≡ Cmd

@@ -1,6 +1,6 @@
 -- In any history the endpoints that have rings have numbers of slots and endpoints
-use Rattle.std.proofs.Common.{◌≡◌, ◌==◌, if◌then◌else◌, ◌∷◌, List, [], Option, None, Some, option_and_then, slice_get, refl}
-use Rattle.safety.proofs.Words.{cond_both, none-some, Block, BlockKind, TransferEvent, CommandCompletion, kind, code, slot, Declares, Command, command_of, changes, Header, Row, Sub, Write, Reg, Bell, Read, command_id, Known, nothing, on_ring, command_at, next_command, written, register_written, rung, transfer_read, succeeded, stop_ended, finished, completed, event_read, learned, known}
+use Rattle.std.proofs.Common.{◌≡◌, ◌==◌, if◌then◌else◌, Option, None, Some, option_and_then, slice_get, refl}
+use Rattle.safety.proofs.Words.{cond_both, none-some, Block, BlockKind, TransferEvent, CommandCompletion, kind, code, slot, Declares, Command, command_of, changes, Header, Row, Sub, Write, Reg, Bell, Read, command_id, Known, on_ring, command_at, next_command, written, register_written, rung, transfer_read, succeeded, stop_ended, finished, completed, event_read, learned}
 use Rattle.safety.proofs.FinishChanges.{AreNumbered}
 use Rattle.safety.proofs.SameRings.{written_same, register_same, rung_same, transfer_same, stop_same}
 use Rattle.safety.proofs.NumberedChanges.{IsNumbered, command_numbered, changes_numbered, same_numbered, all_numbered}
@@ -40,8 +40,3 @@ module _ (h : Header) where
   row_numbered k (Reg r x) all = same_numbered h k (register_written h k r x) (register_same h k r x) all
   row_numbered k (Bell s t) all = same_numbered h k (rung h k s t) (rung_same h k s t) all
   row_numbered k (Read b) all = same_numbered h (event_read h k (kind b) b) (learned h k (Read b)) refl (event_numbered k b (kind b) all)
-
-  pub are_numbered : (past : List Row) → AreNumbered (known h past)
-  unfolding known nothing
-  are_numbered [] = λ s i r at. absurd (none-some r at)
-  are_numbered (row ∷ past) = row_numbered (known h past) row (are_numbered past)

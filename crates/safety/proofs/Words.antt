@@ -34,7 +34,7 @@ unfoldable pub use Rattle.ownership_rules.specs.Moves.{binding_in, binds, binds_
 pub use Rattle.ownership_rules.specs.OpenLeases.{DeviceContext, InputContext, Leased, Range, SegmentTable, SlotEntry, Use}
 unfoldable pub use Rattle.ownership_rules.specs.OpenLeases.{context_ranges, covers, device_ranges, entry_ranges, is_leased, is_the_controllers, lease_bytes, lease_start, open_leases, open_on, open_ranges, range_of_command, range_of_context, range_of_device, range_of_entry, segment_ranges, slots, table_range}
 pub use Rattle.ownership_rules.specs.Refusal.{Test, broken_of}
-unfoldable pub use Rattle.ownership_rules.specs.Registers.{is_bad_crcr, is_bad_erdp, is_bad_register, is_bad_size, is_wrong_start, names_no_place, is_early_start, is_late_reset, is_no_first_block, is_unwritten, is_written, may_pass, register_tests}
+unfoldable pub use Rattle.ownership_rules.specs.Registers.{is_bad_crcr, is_bad_erdp, is_bad_register, is_wrong_start, names_no_place, is_early_start, is_late_reset, is_no_first_block, is_unwritten, may_pass, register_tests}
 unfoldable pub use Rattle.ownership_rules.specs.Rules.{lenient, lenient_tests}
 unfoldable pub use Rattle.ownership_rules.specs.Writes.{changes_owned, holds_of, on_crossing, on_position, some_command, some_crossed, some_given, write_tests}
 pub use Rattle.ownership_rules.specs.declared.refusal.Refusal.{Refusal}
@@ -53,7 +53,7 @@ pub use Rattle.safety.specs.EndpointsKeep.{EndpointsKeep, is_transfer_ring}
 pub use Rattle.safety.specs.Headline.{Headline, IsHarmless}
 pub use Rattle.safety.specs.Invariant.{ArePossible, Ended, Runs, all_read}
 pub use Rattle.safety.specs.Keeps.{CommandKeeps, CommandRingKeeps, CommandRingNamed, DeviceKeeps, DriverKeeps, IsDriverRing, IsTransferRing, IsUnfinished, MovesIf, StatesKeep, Stays, StaysIf, Unstarted}
-pub use Rattle.safety.specs.KeptHistories.{AreDriverRows, IsDriverRow, MayRead, MayReadAll, StillReads, StillReadsAll}
+pub use Rattle.safety.specs.KeptHistories.{IsDriverRow, MayRead, MayReadAll, StillReads}
 pub use Rattle.safety.specs.KeptStep.{CommandsKeep, DevicesKeep, KeptByRestoring, KeptByRows}
 pub use Rattle.safety.specs.Matches.{Agrees, BoundRing, CommandMatches, EndpointRing, FreeRing, IsUnchanged, Matches, Newest, NotStarted, RingMatches, RingState, TakenCommand, UnderWayMatches, Unreported, state_of}
 pub use Rattle.safety.specs.Placings.{AreFree, MayChange, MayChangeAll, MayFinish, MayPoint, MovesOn, StillHolds}
@@ -71,7 +71,7 @@ pub use Rattle.segments.proofs.InsideLemmas.{rings_apart, touches-word}
 pub use Rattle.segments.proofs.MemoryWords.{put_elsewhere, put_here}
 pub use Rattle.segments.proofs.MoveTargets.{between, move_target}
 pub use Rattle.segments.proofs.MovesStay.{is_border-push, move-declares, move-writes, move_more, placement_still}
-pub use Rattle.segments.proofs.Named.{IsAhead, below_is, ceiling_held, ceiling_open, ceiling_within, found_is, named_ahead, start_reached, target_ahead}
+pub use Rattle.segments.proofs.Named.{IsAhead, below_is, ceiling_held, ceiling_open, ceiling_within, found_is, named_ahead, target_ahead}
 pub use Rattle.segments.proofs.NamedSpots.{IsNamed, named_spot-Some, named_spot-is, named_spot-near}
 pub use Rattle.segments.proofs.NewRing.{new_ring_keeps}
 pub use Rattle.segments.proofs.OneGiving.{gives_one, positions_given-one}
@@ -98,7 +98,7 @@ pub use Rattle.segments.specs.ShapeValue.{Shape}
 pub use Rattle.segments.specs.Spots.{IsSpot, after, is_spot, named_spot, number, rank, spot_address, spot_cycle}
 pub use Rattle.segments.specs.declared.spot.Spot.{Spot}
 pub use Rattle.segments.specs.declared.spot.Spot.TheVariants.{Data, Link}
-pub use Rattle.std.proofs.Math.Nat.{mod-eq_of_lt, mod-lt}
+pub use Rattle.std.proofs.Math.Nat.{mod-eq_of_lt}
 pub use Rattle.std.proofs.Math.Path.{fun_ext}
 pub use Rattle.std.proofs.lemmas.Bool.{and_cases, and_from, and_left, and_parts, and_right, cases_Bool, cases_eq, cases_lt, cond-false, cond-true, cond_both, eqb-false, false_from_ne_true, false≢true, lt-leb, not-false, not-true, not_from_false, not_from_true, or_cases, or_from, or_left, or_parts, or_right}
 pub use Rattle.std.proofs.lemmas.List.{drop_all, get_or-append_right, get_or-map, length-map, reverse-append}

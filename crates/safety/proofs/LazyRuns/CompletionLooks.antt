@@ -108,9 +108,6 @@ module _ (h : Header) where
     -- ---- they fit
 
     module _ (w : World) (says : CompletionSays h k b) (pointers : ℕ → Spot) (trace : Traced h past.known pointers w) where
-      agrees : Agrees h k [] w
-      agrees = agrees_now h past.known w trace.runs trace.all_read
-
       opened : CommandsOpen h k
       opened = commands_open h k d says.below
 

@@ -97,11 +97,6 @@ module _ (h : Header) where
       success_floor success =
           ap (λ (l : Known). (l.ring r).floor) (cond-true (is_success c) (passed h k r t) _ success) ∙ ap (λ v. v.floor) (ring_here h k r (Reaches (after (shape_of h r) (number t))))
 
-      pub success_held : is_success c ≡ true → ((transferred h k c s i r t).ring r).held ≡ (k.ring r).held
-      unfolding transferred passed
-      success_held success =
-          ap (λ (l : Known). (l.ring r).held) (cond-true (is_success c) (passed h k r t) _ success) ∙ ap (λ v. v.held) (ring_here h k r (Reaches (after (shape_of h r) (number t))))
-
       -- held, with the floor at a spot
       pub record IsHeldAt (l : Known) (u : Spot) : Type 0 where
         pub floor : (l.ring r).floor ≡ u

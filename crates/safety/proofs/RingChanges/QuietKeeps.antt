@@ -12,9 +12,6 @@ module _ (h : Header) (r : ℕ) (change : RingChange) (quiet : IsQuiet change) (
   abbrev l : Known
   l = on_ring h k r change
 
-  abbrev c : ℕ
-  c = command_id h
-
   same : l.ring (command_id h) ≡ k.ring (command_id h)
   same = command_same h r change quiet other k
 
@@ -90,10 +87,6 @@ module _ (h : Header) (r : ℕ) (change : RingChange) (quiet : IsQuiet change) (
   states : SameStates k l
   unfolding on_ring
   states = record { memory = refl; soiled = refl; device = refl; slot_state = refl; off = λ s i. refl; ring_of = refl; was_bound = refl }
-
-  endpoint_state_is : l.endpoint_state ≡ k.endpoint_state
-  unfolding on_ring
-  endpoint_state_is = refl
 
   stays : (f : Command) → (MovesRestored k f → MovesRestored l f) → RingsStay h k l f
   unfolding on_ring

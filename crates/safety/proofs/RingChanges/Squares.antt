@@ -106,10 +106,6 @@ module _ (h : Header) (is : IsHeader h) (k : Known) (d : DriverKeeps h k) (r : R
   behind_new : (learned h k (Read e)) ≡ record l { ring = cleared r.id l.ring }
   behind_new = sym (ap (λ x. learned h x (Read e)) same) ∙ (read_alike h h.rings (cleared r.id) (Other r.id) rings_old is k d has_others binds_old e may).0
 
-  -- behind the event nothing is known of it still
-  pub still_new : l.ring r.id ≡ new_ring
-  still_new = ap (λ (x : Known). x.ring r.id) behind_new ∙ cleared_here r.id l.ring
-
   -- the event is possible, and learned, with the ring as without it
   pub read_with : lenient (with_ring h r) k (Read e) ≡ []
   unfolding with_ring
