@@ -1,22 +1,14 @@
 -- Where an unfinished command's input context lies: in no ring, and clean
-use Rattle.std.proofs.Common.{◌≡◌, ◌+◌, ◌*◌, ◌/◌, ◌<◌, ◌≤◌, ◌∙◌, ℕ, suc, zero, Bool, true, false, nat_lt, Some, arith, sym, ap, inl, inr, lt-ltb, leb-true, ltb-true}
-use Rattle.safety.proofs.Words.{list_any, range_with_len, cases_eq, false_from_ne_true, false≢true, or_parts, and_parts, and_from, Shape, is_inside, overlap, segment_has, Command, named_context, input_context_bytes, Header, Ring, touches_ring, Known, is_bad_area, is_soiled, is_bad_command, has_bad_context, IsIn, any_of, some_of, IsUnfinished, DriverKeeps}
+use Rattle.std.proofs.Common.{◌≡◌, ◌+◌, ◌*◌, ◌/◌, ◌<◌, ◌≤◌, ◌∙◌, ℕ, true, false, nat_lt, Some, arith, sym, ap, lt-ltb, leb-true, ltb-true}
+use Rattle.safety.proofs.Words.{list_any, false_from_ne_true, false≢true, or_parts, and_parts, and_from, Shape, is_inside, overlap, segment_has, Command, named_context, input_context_bytes, Header, Ring, touches_ring, Known, is_bad_area, is_soiled, is_bad_command, has_bad_context, IsIn, any_of, some_of, IsUnfinished, DriverKeeps}
 use Rattle.segments.specs.Places.{touches}
 use Rattle.safety.proofs.Stored.{IsInNoContext}
-
-none_of_range : (test : ℕ → Bool) (a n : ℕ) → list_any test (range_with_len a n) ≡ false → (i : ℕ) → a ≤ i → i < a + n → test i ≡ false
-none_of_range test a zero none i low high = absurd (omega arith)
-none_of_range test a (suc n) none i low high =
-    let parts = or_parts (test a) (list_any test (range_with_len (a + 1) n)) none in
-    elim (cases_eq a i) [
-      | inl here ↦ ap test (sym here) ∙ parts.0
-      | inr later ↦ none_of_range test (a + 1) n parts.1 i (omega arith) (omega arith)
-    ]
+use Rattle.ring_knowledge.proofs.Ranges.{none_each}
 
 -- a clean area has no soiled word
 pub clean_word : (k : Known) (from len i : ℕ) → is_soiled k from len ≡ false → i < len / 4 → k.soiled (from + 4 * i) ≡ false
 unfolding is_soiled
-clean_word k from len i none l = none_of_range (λ i. k.soiled (from + 4 * i)) 0 (len / 4) none i (omega arith) (omega arith)
+clean_word k from len i none l = none_each (λ i. k.soiled (from + 4 * i)) 0 (len / 4) none i (omega arith) (omega arith)
 
 -- a byte inside a ring's segments is in no area that touches none
 pub byte_apart : (shape : Shape) (from len x : ℕ) → touches shape from len ≡ false → is_inside shape x ≡ true → from ≤ x → x < from + len → ⊥

@@ -1,6 +1,6 @@
 -- A ring that waits for a binding behind an event waited for it before
 use Rattle.std.proofs.Common.{◌≡◌, if◌then◌else◌, ◌∷◌, ◌∙◌, ℕ, Bool, true, false, [], map, refl, sym, ap, inl, inr}
-use Rattle.safety.proofs.Words.{list_any, and_parts, and_from, false≢true, cases_option, cases_Bool, Block, Command, NoOp, EnableSlot, DisableSlot, AddressDevice, ConfigureEndpoint, EvaluateContext, ResetEndpoint, StopEndpoint, SetTrDequeue, ResetDevice, EndpointState, Off, is_off, is_open, added_endpoints, Header, Read, IsHeader, is_ring, Known, unfinished, learned, lenient, Binding, binding_in, binds, ring_bound, binds_ring, is_being_bound, awaits_binding, some_of, any_of, IsUnfinished, DriverKeeps}
+use Rattle.safety.proofs.Words.{list_any, and_parts, and_from, false≢true, cases_option, cases_Bool, Block, Command, NoOp, EnableSlot, DisableSlot, AddressDevice, ConfigureEndpoint, EvaluateContext, ResetEndpoint, StopEndpoint, SetTrDequeue, ResetDevice, is_off, is_open, added_endpoints, Header, Read, IsHeader, is_ring, Known, unfinished, learned, lenient, Binding, binding_in, binds, ring_bound, binds_ring, is_being_bound, awaits_binding, some_of, any_of, IsUnfinished, DriverKeeps}
 use Rattle.safety.proofs.TestsPassed.{clean_tests}
 use Rattle.safety.proofs.DriverHistories.{kept_driver}
 use Rattle.safety.proofs.RowBeneath.{read_on}
@@ -8,10 +8,7 @@ use Rattle.safety.proofs.OpenedBefore.{opened_before}
 use Rattle.safety.proofs.LeasesBehind.{Behind}
 use Rattle.safety.proofs.EventBehind.{event_behind}
 use Rattle.safety.proofs.UnfinishedBehind.{listed_unfinished, listed_before, rings_behind}
-
-is_off_only : (e : EndpointState) → is_off e ≡ true → e ≡ Off
-is_off_only Off off = refl
-is_off_only _ off = absurd (false≢true off)
+use Rattle.safety.proofs.EndpointsOff.{off_is}
 
 module _ (h : Header) (is : IsHeader h) (k : Known) (d : DriverKeeps h k) (e : Block) (may : lenient h k (Read e) ≡ []) where
   abbrev l : Known
@@ -33,7 +30,7 @@ module _ (h : Header) (is : IsHeader h) (k : Known) (d : DriverKeeps h k) (e : B
       elim (cases_option (k.ring_of s 1)) [
         | inl none ↦ ap is_off (d.states.off s 1 none)
         | inr has ↦
-            absurd (behind_keeps.states.on s 1 has.0 (rings_behind h is k d e may p (AddressDevice s bsr n) s 1 u (refl, tt) ∙ has.1) (is_off_only (l.endpoint_state s 1) off))
+            absurd (behind_keeps.states.on s 1 has.0 (rings_behind h is k d e may p (AddressDevice s bsr n) s 1 u (refl, tt) ∙ has.1) (off_is (l.endpoint_state s 1) off))
       ]
 
   binds_before : (p r : ℕ) (c : Command) → IsUnfinished h l p c → binds_ring h l r c ≡ true → binds_ring h k r c ≡ true

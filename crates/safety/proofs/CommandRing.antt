@@ -1,13 +1,9 @@
 -- Where a command may be unfinished the header has a command ring
 use Rattle.std.proofs.Common.{◌≡◌, ℕ, true, Option, Some, None, find, arith, refl, ap, inl, inr}
-use Rattle.safety.proofs.Words.{RingKind, Cmd, Evt, Xfer, Spot, place_count, is_due, due_is, cases_option, Header, Ring, IsHeader, ring_with, shape_of, shape_or, command_ring, command_id, id_or_none, is_command_kind, is_driver_kind, false≢true, IsDriverRing}
+use Rattle.safety.proofs.Words.{Xfer, Spot, place_count, is_due, due_is, cases_option, Header, Ring, IsHeader, ring_with, shape_of, shape_or, command_ring, command_id, id_or_none, is_command_kind, IsDriverRing}
 use Rattle.safety.proofs.RingsOfHeader.{found_passes}
 use Rattle.safety.proofs.RingIds.{found_again, together, none_has_256}
-
-command_driver : (kind : RingKind) → is_command_kind kind ≡ true → is_driver_kind kind ≡ true
-command_driver Cmd c = refl
-command_driver Evt c = absurd (false≢true c)
-command_driver Xfer c = absurd (false≢true c)
+use Rattle.safety.proofs.KeptRegisters.{command_drives}
 
 module _ (h : Header) (is : IsHeader h) where
   no_places : place_count (shape_of h 256) ≡ 0
@@ -24,7 +20,7 @@ module _ (h : Header) (is : IsHeader h) where
       record {
         ring = c;
         found = found_again (λ q. is_command_kind q.shape.kind) h.rings c (together h is) found;
-        kind = command_driver c.shape.kind (found_passes (λ q. is_command_kind q.shape.kind) h.rings c found);
+        kind = command_drives c.shape.kind (found_passes (λ q. is_command_kind q.shape.kind) h.rings c found);
       }
 
   -- a position of the command ring that is due is one of a ring

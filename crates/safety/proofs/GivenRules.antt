@@ -1,16 +1,13 @@
 -- What the rules say of a command that a write gives
 use Rattle.std.proofs.Common.{◌≡◌, ◌==◌, ◌||◌, ◌∙◌, ℕ, not, Bool, true, false, [], Some, arith, refl, sym, ap, inl, inr, eqb-true, ◌≢◌, ◌<◌}
-use Rattle.safety.proofs.Words.{and_cases, or_parts, not-false, false≢true, false_from_ne_true, declared, floor_number, is_move, Command, NoOp, EnableSlot, DisableSlot, AddressDevice, ConfigureEndpoint, EvaluateContext, ResetEndpoint, StopEndpoint, SetTrDequeue, ResetDevice, EndpointState, Off, is_off, Header, Write, IsHeader, shape_of, Known, command_given, binding_in, binds_ring, drops, is_being_bound, is_bad_binding, is_bad_stay, is_bad_move, some_command, write_tests, lenient_tests, lenient, StaysIf, MovesIf, DriverKeeps, none-some}
+use Rattle.safety.proofs.Words.{and_cases, or_parts, not-false, false_from_ne_true, declared, floor_number, is_move, Command, NoOp, EnableSlot, DisableSlot, AddressDevice, ConfigureEndpoint, EvaluateContext, ResetEndpoint, StopEndpoint, SetTrDequeue, ResetDevice, is_off, Header, Write, IsHeader, shape_of, Known, command_given, binding_in, binds_ring, drops, is_being_bound, is_bad_binding, is_bad_stay, is_bad_move, some_command, write_tests, lenient_tests, lenient, StaysIf, MovesIf, DriverKeeps, none-some}
 use Rattle.ownership_rules.specs.Commands as commands
 use Rattle.safety.proofs.TestsPassed.{AllFail, tests_fail}
 use Rattle.safety.proofs.Headers.{transfer_driver}
 use Rattle.safety.proofs.GivenCommands.{GoodBindings, good_bindings, bound_free, content_good, stays, fails_of}
 use Rattle.safety.proofs.RingsKept.{kept_drops}
 use Rattle.safety.proofs.CommandsStay.{OwnKeeps}
-
-is_off_only : (e : EndpointState) → is_off e ≡ true → e ≡ Off
-is_off_only Off off = refl
-is_off_only _ off = absurd (false≢true off)
+use Rattle.safety.proofs.EndpointsOff.{off_is}
 
 module _ (h : Header) (k : Known) where
   pub record GivenFacts (c : Command) : Type 0 where
@@ -48,7 +45,7 @@ module _ (h : Header) (k : Known) where
     unfolding is_bad_move
     stand_rule s n r bsr good at =
         elim (and_cases (not (is_off (k.endpoint_state s 1))) (is_bad_stay h k (k.ring_of s 1) (binding_in h k n 1)) good) [
-          | inl off ↦ absurd (d.states.on s 1 r at (is_off_only (k.endpoint_state s 1) (not-false (is_off (k.endpoint_state s 1)) off)))
+          | inl off ↦ absurd (d.states.on s 1 r at (off_is (k.endpoint_state s 1) (not-false (is_off (k.endpoint_state s 1)) off)))
           | inr stand ↦ ap (λ o. is_bad_stay h k o (binding_in h k n 1)) (sym at) ∙ stand
         ]
 

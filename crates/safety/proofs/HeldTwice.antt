@@ -2,7 +2,7 @@
 use Rattle.std.proofs.Common.{◌∙◌, ℕ, Option, None, Some, arith, refl, ap}
 use Rattle.safety.proofs.Words.{RingView, Known, IsHeldMore, RingHeldMore, HeldMore}
 
-held_same : (o : Option ℕ) → IsHeldMore o o
+pub held_same : (o : Option ℕ) → IsHeldMore o o
 held_same None = tt
 held_same (Some m) = omega arith
 

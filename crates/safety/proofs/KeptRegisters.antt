@@ -10,7 +10,7 @@ command_drives Xfer is = absurd (false≢true is)
 pub written_stays : (values : Register → Option ℕ) (r : Register) (v : ℕ) (q : Register) → is_some (values q) ≡ true → is_some (with_register values r v q) ≡ true
 written_stays values r v q is = cond_both (same_register q r) (Some v) (values q) (λ o. is_some o ≡ true) (λ _. refl) (λ _. is)
 
-some_is : (o : Option ℕ) → is_none o ≡ false → is_some o ≡ true
+pub some_is : (o : Option ℕ) → is_none o ≡ false → is_some o ≡ true
 some_is None e = absurd (false≢true (sym e))
 some_is (Some x) e = refl
 

@@ -16,7 +16,7 @@ fewer more ((c, b) ∷ ts) clean = by (more c) b (fewer more ts) clean
     by false true rest clean = cc clean
     by false false rest clean = rest clean
 
-some_none : (c : Refusal) (cs : List Refusal) → c ∷ cs ≡ [] → ⊥
+pub some_none : (c : Refusal) (cs : List Refusal) → c ∷ cs ≡ [] → ⊥
 some_none c cs e = cc
 
 module _ (h : Header) where

@@ -16,7 +16,7 @@ found_fails test fails (q ∷ rest) r found none =
       | inr later ↦ found_fails test fails rest r (sym (cond-false (test q) (Some q) (find test rest) later) ∙ found) parts.1
     ]
 
-other_ids : (x r : Ring) → clash x r ≡ false → (x.id == r.id) ≡ false
+pub other_ids : (x r : Ring) → clash x r ≡ false → (x.id == r.id) ≡ false
 other_ids x r e =
     let first = or_parts (x.id == r.id || rings_overlap x.shape r.shape || (is_command_kind x.shape.kind && is_command_kind r.shape.kind))
     (is_event_kind x.shape.kind && is_event_kind r.shape.kind) e in

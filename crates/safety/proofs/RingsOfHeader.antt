@@ -59,7 +59,7 @@ shape_found : (h : Header) (r : ℕ) (ring : Ring) → ring_with h r ≡ Some ri
 unfolding shape_of
 shape_found h r ring found = ap (λ o. shape_or Xfer o) found
 
-driver_is : (o : Option Ring) → is_driver_ring o ≡ true → (ring : Ring) × (o ≡ Some ring) × (is_driver_kind ring.shape.kind ≡ true)
+pub driver_is : (o : Option Ring) → is_driver_ring o ≡ true → (ring : Ring) × (o ≡ Some ring) × (is_driver_kind ring.shape.kind ≡ true)
 unfolding is_driver_ring
 driver_is None h = absurd (false≢true h)
 driver_is (Some ring) h = (ring, refl, h)

@@ -6,8 +6,9 @@ use Rattle.safety.proofs.TestsPassed.{each_fails, any_of_map}
 use Rattle.safety.proofs.GivenCommands.{added_above}
 use Rattle.safety.proofs.Placings.{ring_at, ReadyAt, ready_next, map_map, dropped, address_ready, all_ready}
 use Rattle.safety.proofs.StatesParts.{EndpointsStand}
-use Rattle.safety.proofs.StatesPlaced.{MayPlace, off_is}
+use Rattle.safety.proofs.StatesPlaced.{MayPlace}
 use Rattle.safety.proofs.StatesChanges.{RestsThere, FitAll}
+use Rattle.safety.proofs.EndpointsOff.{off_is}
 
 -- a command that can succeed
 pub record Succeeds (slots : ℕ → SlotState) (endpoints : ℕ → ℕ → EndpointState) (config n : ℕ) (c : Command) : Type 0 where

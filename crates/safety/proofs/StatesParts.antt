@@ -30,7 +30,7 @@ pub record SeenStand (h : Header) (k : Known) : Type 0 where
   pub runs : (s i : ℕ) → k.stop_seen s i ≡ true → k.endpoint_state s i ≡ Running
   pub held : (s i r : ℕ) → k.stop_seen s i ≡ true → k.ring_of s i ≡ Some r → (k.ring r).held ≢ None
 
-stop_is : (s i : ℕ) (o : Option Command) → is_stop_of s i o ≡ true → o ≡ Some (StopEndpoint s i)
+pub stop_is : (s i : ℕ) (o : Option Command) → is_stop_of s i o ≡ true → o ≡ Some (StopEndpoint s i)
 stop_is s i (Some (StopEndpoint t j)) is =
     let parts = and_parts _ _ is in
     ap (λ n. Some (StopEndpoint n j)) (sym (eqb-true s t parts.0)) ∙ ap (λ n. Some (StopEndpoint s n)) (sym (eqb-true i j parts.1))

@@ -7,7 +7,7 @@ use Rattle.safety.proofs.TestsPassed.{AllFail, tests_fail, each_fails, any_of_ma
 use Rattle.safety.proofs.RingsOfHeader.{HasRing, has_ring, none_of_ring, shape_allowed}
 use Rattle.safety.proofs.KeptWords.{KeepsCycles, free_keeps_cycles, same_keeps_cycles}
 
-none_of_both : {X : Type 0} (test : X → Bool) (xs ys : List X) → list_any test (xs ++ ys) ≡ false → (list_any test xs ≡ false) × (list_any test ys ≡ false)
+pub none_of_both : {X : Type 0} (test : X → Bool) (xs ys : List X) → list_any test (xs ++ ys) ≡ false → (list_any test xs ≡ false) × (list_any test ys ≡ false)
 none_of_both test xs ys none = or_parts (list_any test xs) (list_any test ys) (sym (list_any-append test xs ys) ∙ none)
 
 module _ (h : Header) (k : Known) (a w r : ℕ) (has : HasRing h r) where

@@ -11,7 +11,7 @@ slot_or : Option Command → ℕ
 slot_or None = 0
 slot_or (Some c) = unwrap_or (named_slot c) 0
 
-slot_low : (b : Block) → slot b < 256
+pub slot_low : (b : Block) → slot b < 256
 slot_low b = mod_below _ 256 (omega arith)
 
 by_kind : (b : Block) (t : BlockKind) → slot_or (command_by_kind t b) < 256

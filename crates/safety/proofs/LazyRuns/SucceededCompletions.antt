@@ -1,6 +1,6 @@
 -- The success of a command, from its changes: the lazy run goes on
 use Rattle.std.proofs.Common.{◌≡◌, ◌+◌, ◌==◌, ◌&&◌, ◌||◌, if◌then◌else◌, ◌∙◌, ℕ, not, true, false, List, [], Option, Some, None, is_some, option_map, unwrap_or, refl, sym, ap, subst}
-use Rattle.safety.proofs.LazyRuns.Words.{or_from, or_parts, cond-false, cond-true, not_from_true, Block, IsBlock, kind, code, slot, is_command_completion, Spot, after, Reaches, Command, EndpointState, changes, command_of, named_context, named_slot, named_endpoint, can_succeed, slot_success, endpoint_success, slot_meant, endpoint_meant, is_slot_enabled, Header, Read, TraceRow, Config, IsHeader, shape_of, command_id, register_or_zero, World, posted, Known, event_read, learned, lenient, on_ring, command_at, next_command, is_bad_area, has_bad_context, CommandKeeps, Agrees, bad_command_context, ring_elsewhere, StatesMatch, ChangeKeeps, LeavesRest, states_match, let_go, completion_kind, seen_after, stop_ended_is, next_unfinished}
+use Rattle.safety.proofs.LazyRuns.Words.{or_from, or_parts, cond-false, cond-true, not_from_true, Block, IsBlock, kind, code, slot, is_command_completion, Spot, after, Reaches, Command, changes, command_of, named_context, named_slot, named_endpoint, can_succeed, slot_success, endpoint_success, slot_meant, endpoint_meant, is_slot_enabled, Header, Read, TraceRow, Config, IsHeader, shape_of, command_id, register_or_zero, World, posted, Known, event_read, learned, lenient, on_ring, command_at, next_command, is_bad_area, has_bad_context, CommandKeeps, Agrees, bad_command_context, ring_elsewhere, StatesMatch, ChangeKeeps, LeavesRest, states_match, let_go, completion_kind, seen_after, stop_ended_is, next_unfinished}
 use Rattle.world_state.specs.World as of_world
 use Rattle.controller_model.specs.Bindings as bindings
 use Rattle.controller_model.specs.Finishes as finishes
@@ -11,10 +11,7 @@ use Rattle.safety.proofs.LazyRuns.CompletionReady.{ReadyToFinish, finish_posted,
 use Rattle.safety.proofs.LazyRuns.CompletionStep.{CompletionLearns, FinishLeaves, completion_step}
 use Rattle.safety.proofs.LazyRuns.Follows.{Carries, Past}
 use Rattle.safety.proofs.LazyRuns.RingsGo.{RingsGo}
-
-same_meant : (f g : ℕ → ℕ → EndpointState) (o : Option (ℕ × ℕ)) → ((s i : ℕ) → f s i ≡ g s i) → endpoint_meant f o ≡ endpoint_meant g o
-same_meant f g None same = refl
-same_meant f g (Some at) same = same at.0 at.1
+use Rattle.safety.proofs.FinishSuccess.{same_meant}
 
 module _ (h : Header) where
   -- ---- it can succeed in the world as in what is known

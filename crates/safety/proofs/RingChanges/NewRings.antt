@@ -1,5 +1,5 @@
 -- A ring that comes: what a driver keeps it keeps still
-use Rattle.std.proofs.Common.{◌≡◌, ◌≢◌, ◌+◌, ◌-◌, ◌*◌, ◌%◌, ◌<◌, ◌≤◌, ◌==◌, ◌&&◌, ◌||◌, ◌++◌, ◌∷◌, ◌∙◌, ℕ, Bool, true, false, List, [], Option, Some, None, find, get_or, is_some, arith, refl, sym, ap, subst, inl, inr, eq-eqb, ne_eqb, add-zero, lt-ltb, nat_lt}
+use Rattle.std.proofs.Common.{◌≡◌, ◌≢◌, ◌+◌, ◌-◌, ◌*◌, ◌%◌, ◌<◌, ◌≤◌, ◌==◌, ◌&&◌, ◌||◌, ◌++◌, ◌∷◌, ◌∙◌, ℕ, Bool, true, false, List, [], Option, Some, None, find, get_or, is_some, arith, refl, sym, ap, subst, inl, inr, eq-eqb, ne_eqb, add-zero, lt-ltb, nat_lt, rules}
 use Rattle.std.specs.Option.{option_or}
 use Rattle.std.proofs.lemmas.List.Folds.{find-append}
 use Rattle.safety.proofs.Words.{list_all, and_from, and_right, clash, is_shape, may_stand_together, Block, World, FreeRing, state_of, Agrees, Data, Evt, Shape, list_any, list_any-append, cases_eq, cases_option, cond-true, cond-false, false≢true, none-some, or_parts, or_from, is_inside, place_count, address_of, cycle_of, link_address, RingKeeps, address_inside, link_address_inside, address_aligned, cycle_of-first, place_count_pos, due_is, Xfer, device_context_bytes, input_context_bytes, Header, Ring, IsHeader, is_command_kind, is_event_kind, is_transfer_kind, ring_with, shape_of, shape_or, command_ring, command_id, event_ring, event_shape, event_size, ring_having, id_of, id_or_none, touches_ring, Known, entry_of, Binding, binds, ring_bound, covers, open_ranges, overlap, IsIn, IsDriverRing, IsTransferRing, DriverKeeps}
@@ -124,11 +124,7 @@ module _ (h : Header) (is : IsHeader h) (k : Known) (d : DriverKeeps h k) (r : R
   driver_still s ring = record { ring = ring.ring; found = found_still (λ q. q.id == s) h.rings r ring.ring ring.found; kind = ring.kind }
 
   transfer_still : (s : ℕ) → IsTransferRing h s → IsAsBefore h (h.rings ++ r ∷ []) k k.ring s
-  transfer_still s ring = record {
-    transfer = record { ring = ring.ring; found = found_still (λ q. q.id == s) h.rings r ring.ring ring.found; kind = ring.kind };
-    shape = shape_same s (another s ring.ring ring.found);
-    view = refl;
-  }
+  transfer_still s ring = search (rules, found_still, shape_same, another)
 
   command_ring_same : command_ring g ≡ command_ring h
   unfolding command_ring
@@ -151,11 +147,7 @@ module _ (h : Header) (is : IsHeader h) (k : Known) (d : DriverKeeps h k) (r : R
   size_same = ap place_count events_same
 
   pub no_command : command_id h ≢ r.id
-  no_command same =
-      elim (cases_option (command_ring h)) [
-        | inl none ↦ let low = coming.low in let id = command_named h is None none in absurd (omega (arith, same, id, low))
-        | inr some ↦ another (command_id h) some.0 (command_with h is some.0 some.1) same
-      ]
+  no_command same = search (rules, cases_option, command_named, another, command_with)
 
   -- ---- it lies apart from all that is under lease
 
