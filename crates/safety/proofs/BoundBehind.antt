@@ -1,6 +1,6 @@
 -- A ring that waits for a binding behind an event waited for it before
 use Rattle.std.proofs.Common.{◌≡◌, if◌then◌else◌, ◌∷◌, ◌∙◌, ℕ, Bool, true, false, [], map, refl, sym, ap, inl, inr}
-use Rattle.safety.proofs.Words.{list_any, and_parts, and_from, false≢true, cases_option, cases_Bool, Block, Command, NoOp, EnableSlot, DisableSlot, AddressDevice, ConfigureEndpoint, EvaluateContext, ResetEndpoint, StopEndpoint, SetTrDequeue, ResetDevice, is_off, is_open, added_endpoints, Header, Read, IsHeader, is_ring, Known, unfinished, learned, lenient, Binding, binding_in, binds, ring_bound, binds_ring, is_being_bound, awaits_binding, some_of, any_of, IsUnfinished, DriverKeeps}
+use Rattle.safety.proofs.Words.{list_any, and_parts, and_from, false≢true, cases_option, cases_Bool, Block, Command, AddressDevice, ConfigureEndpoint, is_off, is_open, added_endpoints, Header, Read, IsHeader, is_ring, Known, unfinished, learned, lenient, Binding, binding_in, binds, ring_bound, binds_ring, is_being_bound, awaits_binding, some_of, any_of, IsUnfinished, DriverKeeps}
 use Rattle.safety.proofs.TestsPassed.{clean_tests}
 use Rattle.safety.proofs.DriverHistories.{kept_driver}
 use Rattle.safety.proofs.RowBeneath.{read_on}
@@ -45,15 +45,7 @@ module _ (h : Header) (is : IsHeader h) (k : Known) (d : DriverKeeps h k) (e : B
       ]
   binds_before p r (ConfigureEndpoint s false n) u bound =
       ap (λ m. let x : Known = record k { memory = m } in list_any (λ b. is_ring r (ring_bound h b)) (map (binding_in h x n) (added_endpoints m n))) (sym b.driver.memory) ∙ bound
-  binds_before p r (ConfigureEndpoint s true n) u bound = absurd (false≢true bound)
-  binds_before p r NoOp u bound = absurd (false≢true bound)
-  binds_before p r EnableSlot u bound = absurd (false≢true bound)
-  binds_before p r (DisableSlot s) u bound = absurd (false≢true bound)
-  binds_before p r (EvaluateContext s n) u bound = absurd (false≢true bound)
-  binds_before p r (ResetEndpoint s i) u bound = absurd (false≢true bound)
-  binds_before p r (StopEndpoint s i) u bound = absurd (false≢true bound)
-  binds_before p r (SetTrDequeue s i q cycle) u bound = absurd (false≢true bound)
-  binds_before p r (ResetDevice s) u bound = absurd (false≢true bound)
+  binds_before p r _ u bound = absurd (false≢true bound)
 
   pub bound_before : (r : ℕ) → is_being_bound h l r ≡ true → is_being_bound h k r ≡ true
   unfolding is_being_bound

@@ -1,7 +1,7 @@
 -- A write that gives a command and an event that isn't read yet: the event stays possible, the command is unfinished behind it, and what
 -- is known is the same both ways but for the numbers at which rings are held
 use Rattle.std.proofs.Common.{◌≡◌, ◌≢◌, ◌⊎◌, ◌∙◌, ℕ, Bool, false, true, [], Option, None, Some, option_and_then, slice_get, arith, refl, sym, ap, subst, inl, inr, rules}
-use Rattle.safety.proofs.Words.{MayCome, or_right, none-some, same_Some, Block, is_inside, RingView, Writes, changed, is_due, gives, positions_given, cases_option, gives_is, address_inside, position_given_is, Command, NoOp, EnableSlot, DisableSlot, AddressDevice, ConfigureEndpoint, EvaluateContext, ResetEndpoint, StopEndpoint, SetTrDequeue, ResetDevice, Header, Write, Read, IsHeader, shape_of, command_id, Known, command_at, with_device, with_word, written, taken_device, device_named, no_device, command_given, learned, lenient, IsHeldMore, HeldMore, IsDriverRing, IsUnfinished, CommandKeeps, DriverKeeps}
+use Rattle.safety.proofs.Words.{MayCome, or_right, none-some, same_Some, Block, is_inside, RingView, Writes, changed, is_due, gives, positions_given, cases_option, gives_is, address_inside, position_given_is, Command, AddressDevice, Header, Write, Read, IsHeader, shape_of, command_id, Known, command_at, with_device, with_word, written, taken_device, device_named, no_device, command_given, learned, lenient, IsHeldMore, HeldMore, IsDriverRing, IsUnfinished, CommandKeeps, DriverKeeps}
 use Rattle.safety.proofs.TestsPassed.{clean_tests}
 use Rattle.safety.proofs.CleanRows.{event_facts}
 use Rattle.safety.proofs.Headers.{ring_shape}
@@ -148,10 +148,10 @@ module _ (h : Header) (is : IsHeader h) (k : Known) (d : DriverKeeps h k) (a w :
 
     device_same : (s x y : ℕ) (o u : Option ℕ) → ((o ≡ None) × (u ≡ None)) ⊎ ((o ≢ None) × (u ≢ None)) → x ≡ y → no_device u s x ≡ no_device o s y
     unfolding no_device
-    device_same s x y None None both same = search (rules, none-some)
-    device_same s x y (Some p) (Some q) both same = search (rules, none-some)
-    device_same s x y None (Some q) both same = search (rules, none-some)
-    device_same s x y (Some p) None both same = search (rules, none-some)
+    device_same s x y None None both same = ap (λ z. Some (s, z)) same
+    device_same s x y (Some p) (Some q) both same = refl
+    device_same s x y None (Some q) both same = elim both [ inl none ↦ absurd (none-some q (sym none.1)) | inr some ↦ absurd (some.0 refl) ]
+    device_same s x y (Some p) None both same = elim both [ inl none ↦ absurd (none-some p (sym none.0)) | inr some ↦ absurd (some.1 refl) ]
 
     pub names_same : (s : ℕ) → device_named l s ≡ device_named k s
     unfolding device_named
@@ -159,16 +159,8 @@ module _ (h : Header) (is : IsHeader h) (k : Known) (d : DriverKeeps h k) (a w :
 
     taken_by : (x : Command) → c ≡ x → taken_device l x ≡ taken_device k x
     unfolding taken_device
-    taken_by (AddressDevice s bsr n) at = search (rules, l, device_same, device_alike, names_same)
-    taken_by NoOp at = search (rules, l, device_same, device_alike, names_same)
-    taken_by EnableSlot at = search (rules, l, device_same, device_alike, names_same)
-    taken_by (DisableSlot s) at = search (rules, l, device_same, device_alike, names_same)
-    taken_by (ConfigureEndpoint s dc n) at = search (rules, l, device_same, device_alike, names_same)
-    taken_by (EvaluateContext s n) at = search (rules, l, device_same, device_alike, names_same)
-    taken_by (ResetEndpoint s i) at = search (rules, l, device_same, device_alike, names_same)
-    taken_by (StopEndpoint s i) at = search (rules, l, device_same, device_alike, names_same)
-    taken_by (SetTrDequeue s i p cycle) at = search (rules, l, device_same, device_alike, names_same)
-    taken_by (ResetDevice s) at = search (rules, l, device_same, device_alike, names_same)
+    taken_by (AddressDevice s bsr n) at = device_same s (device_named l s) (device_named k s) (k.device s) (l.device s) (device_alike s n bsr at) (names_same s)
+    taken_by _ at = refl
 
     taken_same : taken h l a w ≡ taken h k a w
     taken_same =

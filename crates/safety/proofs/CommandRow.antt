@@ -51,17 +51,8 @@ module _ (h : Header) (is : IsHeader h) (k : Known) (d : DriverKeeps h k) (a w :
   -- what is bound is read neither of device contexts nor of soiled words
   binds_same : (f : Command) → binds h l f ≡ binds h x f
   unfolding binds binding_in
-  binds_same (AddressDevice s bsr n) = search (rules, l, x)
-  binds_same (ConfigureEndpoint s false n) = search (rules, l, x)
-  binds_same (ConfigureEndpoint s true n) = search (rules, l, x)
-  binds_same NoOp = search (rules, l, x)
-  binds_same EnableSlot = search (rules, l, x)
-  binds_same (DisableSlot s) = search (rules, l, x)
-  binds_same (EvaluateContext s n) = search (rules, l, x)
-  binds_same (ResetEndpoint s i) = search (rules, l, x)
-  binds_same (StopEndpoint s i) = search (rules, l, x)
-  binds_same (SetTrDequeue s i p cycle) = search (rules, l, x)
-  binds_same (ResetDevice s) = search (rules, l, x)
+  binds_same (AddressDevice s bsr n) = refl
+  binds_same _ = refl
 
   binds_ring_same : (r : ℕ) (f : Command) → binds_ring h l r f ≡ binds_ring h x r f
   unfolding binds_ring
@@ -90,17 +81,8 @@ module _ (h : Header) (is : IsHeader h) (k : Known) (d : DriverKeeps h k) (a w :
 
   drops_same : (f : Command) (s i : ℕ) → drops l f s i ≡ drops x f s i
   unfolding drops
-  drops_same (ConfigureEndpoint s false n) t i = search (rules, l, x)
-  drops_same (ConfigureEndpoint s true n) t i = search (rules, l, x)
-  drops_same (AddressDevice s bsr n) t i = search (rules, l, x)
-  drops_same NoOp t i = search (rules, l, x)
-  drops_same EnableSlot t i = search (rules, l, x)
-  drops_same (DisableSlot s) t i = search (rules, l, x)
-  drops_same (EvaluateContext s n) t i = search (rules, l, x)
-  drops_same (ResetEndpoint s j) t i = search (rules, l, x)
-  drops_same (StopEndpoint s j) t i = search (rules, l, x)
-  drops_same (SetTrDequeue s j p cycle) t i = search (rules, l, x)
-  drops_same (ResetDevice s) t i = search (rules, l, x)
+  drops_same (ConfigureEndpoint s false n) t i = refl
+  drops_same _ t i = refl
 
   -- nor has an endpoint one of them that isn't dropped
   unkept_behind : (r : ℕ) → binds_ring h x r c ≡ true → is_kept h l c r ≡ false

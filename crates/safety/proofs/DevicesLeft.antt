@@ -1,6 +1,6 @@
 -- An event takes no device context: where one is leased behind it, it was
 use Rattle.std.proofs.Common.{◌≡◌, ◌==◌, if◌then◌else◌, ◌∷◌, ℕ, Bool, true, false, List, [], Option, None, Some}
-use Rattle.safety.proofs.Words.{cond_both, none-some, put_pair, Block, BlockKind, TransferEvent, CommandCompletion, kind, code, slot, endpoint, is_success, is_halting, is_trb_error, is_stopping, Spot, target, Command, StopEndpoint, Halted, Error, Stopped, is_off, Change, SlotGoesOn, DeviceLeft, Disables, Places, Stops, Resets, changes, Header, Read, shape_of, ring_having, Known, RingSpot, on_ring, event_at, command_at, next_command, passed, broken_off, stopped_at, transferred, transferred_at, transfer_read, set_to, bound_to, moved_to, moved, pointed, disabled, in_state, held_at_ceiling, changed_by, changed_by_all, succeeded, stop_ended, finished, completed, event_read, learned}
+use Rattle.safety.proofs.Words.{cond_both, none-some, put_pair, Block, BlockKind, TransferEvent, CommandCompletion, kind, code, slot, endpoint, is_success, is_halting, is_trb_error, is_stopping, Spot, target, Command, StopEndpoint, Halted, Error, Stopped, is_off, Change, DeviceLeft, Places, Stops, changes, Header, Read, shape_of, ring_having, Known, RingSpot, on_ring, event_at, command_at, next_command, passed, broken_off, stopped_at, transferred, transferred_at, transfer_read, set_to, bound_to, moved_to, moved, pointed, disabled, in_state, held_at_ceiling, changed_by, changed_by_all, succeeded, stop_ended, finished, completed, event_read, learned}
 
 abbrev pub DevicesLeft : Known → Known → Type 0
 DevicesLeft k l = (s x : ℕ) → l.device s ≡ Some x → k.device s ≡ Some x
@@ -61,12 +61,10 @@ module _ (h : Header) where
 
   change_left : (c : Command) (k : Known) (change : Change) → DevicesLeft k (changed_by h c k change)
   unfolding changed_by disabled in_state
-  change_left c k (SlotGoesOn s) = none_left k
   change_left c k (DeviceLeft s) = λ t x at. put_left (t == s) (k.device t) x at
-  change_left c k (Disables s which) = none_left k
   change_left c k (Places s i p cycle state) = pointed_left k s i p cycle
   change_left c k (Stops s i) = held_left (in_state h k s i Stopped) (k.ring_of s i)
-  change_left c k (Resets s i) = none_left k
+  change_left c k _ = none_left k
 
   changes_left : (c : Command) (k : Known) (all : List Change) → DevicesLeft k (changed_by_all h c k all)
   unfolding changed_by_all

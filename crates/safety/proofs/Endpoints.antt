@@ -114,12 +114,9 @@ module _ (h : Header) where
 
     change_elsewhere : (c : Command) (k : Known) (change : Change) → EndpointsKeep h k → (changed_by h c k change).ring q ≡ k.ring q
     unfolding changed_by disabled in_state
-    change_elsewhere c k (SlotGoesOn s) keeps = refl
-    change_elsewhere c k (DeviceLeft s) keeps = refl
-    change_elsewhere c k (Disables s which) keeps = refl
     change_elsewhere c k (Places s i p cycle state) keeps = pointed_elsewhere k keeps s i p cycle
     change_elsewhere c k (Stops s i) keeps = held_elsewhere (in_state h k s i Stopped) (state_keeps k keeps s i) s i (k.ring_of s i) refl
-    change_elsewhere c k (Resets s i) keeps = refl
+    change_elsewhere c k _ keeps = refl
 
     -- stays as it is
     pub changes_elsewhere : (c : Command) (k : Known) (all : List Change) → EndpointsKeep h k → (changed_by_all h c k all).ring q ≡ k.ring q

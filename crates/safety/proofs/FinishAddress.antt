@@ -82,7 +82,7 @@ module _ (h : Header) (is : IsHeader h) (k : Known) (d : DriverKeeps h k) (s n :
 
   pub slot_moves : MayMove h k s 1 p cycle → MayMove h (completions.changed_by h c k (SlotGoesOn s)) s 1 p cycle
   unfolding completions.changed_by
-  slot_moves m = search (rules, c)
+  slot_moves m = search rules
 
   place_keeps : (u v : World) → StatesMatch h (completions.changed_by h c k (SlotGoesOn s)) u → s < 256 → bindings.changed_by h c u (Places s 1 p cycle Running) ≡ Some v →
       ChangeKeeps h (completions.changed_by h c k (SlotGoesOn s)) (completions.changed_by h c (completions.changed_by h c k (SlotGoesOn s)) (Places s 1 p cycle Running)) u v
@@ -95,7 +95,7 @@ module _ (h : Header) (is : IsHeader h) (k : Known) (d : DriverKeeps h k) (s n :
       ]
 
   list_keeps : (w : World) → StatesMatch h k w → s < 256 → ListKeeps h c k w (SlotGoesOn s ∷ Places s 1 p cycle Running ∷ [])
-  list_keeps w m low = search (rules, c, change_then, slot_keeps, place_keeps, nothing_keeps)
+  list_keeps w m low = search (rules, change_then, slot_keeps, place_keeps, nothing_keeps)
 
   pub address_changes : (m : ℕ) → changes h.context_size k.memory m c ≡ SlotGoesOn s ∷ Places s 1 p cycle Running ∷ []
   unfolding changes

@@ -1,6 +1,6 @@
 -- What a finish is, and what is known behind the completion of a command that had no effect
 use Rattle.std.proofs.Common.{◌≡◌, ◌==◌, ◌&&◌, if◌then◌else◌, ◌∙◌, ℕ, Bool, true, false, not, Option, Some, None, refl, sym, ap, inl, inr, eqb-true}
-use Rattle.safety.proofs.Words.{false≢true, and_parts, cond-false, not-true, false_from_ne_true, none-some, same_Some, put, put_pair, Block, BlockKind, code, kind, pointer, slot, is_command_completion, after, Reaches, Command, NoOp, EnableSlot, DisableSlot, AddressDevice, ConfigureEndpoint, EvaluateContext, ResetEndpoint, StopEndpoint, SetTrDequeue, ResetDevice, command_of, is_stop_of, may_answer_slot, Header, shape_of, command_id, World, UnderWay, can_post, posted, Known, event_read, command_at, next_command, on_ring, is_stopping_now, may_be_taken, was_stop_seen, DriverKeeps}
+use Rattle.safety.proofs.Words.{false≢true, and_parts, cond-false, not-true, false_from_ne_true, none-some, same_Some, put, put_pair, Block, BlockKind, code, kind, pointer, slot, is_command_completion, after, Reaches, Command, StopEndpoint, command_of, is_stop_of, may_answer_slot, Header, shape_of, command_id, World, UnderWay, can_post, posted, Known, event_read, command_at, next_command, on_ring, is_stopping_now, may_be_taken, was_stop_seen, DriverKeeps}
 use Rattle.trb.specs.declared.kind.BlockKind.TheVariants as kinds
 use Rattle.controller_model.specs.Finishes as finishes
 use Rattle.ring_knowledge.specs.Completions as completions
@@ -95,15 +95,7 @@ unfolding was_stop_seen
 stop_of_is k s i (StopEndpoint t j) at =
     let p = and_parts (s == t) (i == j) at in
     ap (λ x. k.stop_seen x j) (sym (eqb-true s t p.0)) ∙ ap (λ x. k.stop_seen s x) (sym (eqb-true i j p.1))
-stop_of_is k s i NoOp at = absurd (false≢true at)
-stop_of_is k s i EnableSlot at = absurd (false≢true at)
-stop_of_is k s i (DisableSlot t) at = absurd (false≢true at)
-stop_of_is k s i (AddressDevice t bsr c) at = absurd (false≢true at)
-stop_of_is k s i (ConfigureEndpoint t dc c) at = absurd (false≢true at)
-stop_of_is k s i (EvaluateContext t c) at = absurd (false≢true at)
-stop_of_is k s i (ResetEndpoint t j) at = absurd (false≢true at)
-stop_of_is k s i (SetTrDequeue t j p c) at = absurd (false≢true at)
-stop_of_is k s i (ResetDevice t) at = absurd (false≢true at)
+stop_of_is k s i _ at = absurd (false≢true at)
 
 pub stopping_of : (h : Header) (k : Known) (s i : ℕ) → is_stopping_now h k s i ≡ true → is_stop_of s i (command_at h k (next_command h k)) ≡ true
 unfolding is_stopping_now
@@ -124,12 +116,4 @@ put_false f a b s i none = either (s == a && i == b) (f s i) none
 
 pub none_after : (k : Known) (c : Command) → ((s i : ℕ) → k.stop_seen s i ≡ false) → (s i : ℕ) → seen_after k c s i ≡ false
 none_after k (StopEndpoint t j) none s i = put_false k.stop_seen t j s i (none s i)
-none_after k NoOp none s i = none s i
-none_after k EnableSlot none s i = none s i
-none_after k (DisableSlot t) none s i = none s i
-none_after k (AddressDevice t bsr c) none s i = none s i
-none_after k (ConfigureEndpoint t dc c) none s i = none s i
-none_after k (EvaluateContext t c) none s i = none s i
-none_after k (ResetEndpoint t j) none s i = none s i
-none_after k (SetTrDequeue t j p c) none s i = none s i
-none_after k (ResetDevice t) none s i = none s i
+none_after k _ none s i = none s i

@@ -137,7 +137,7 @@ module _ (h : Header) where
     finish_on : (k : Known) (b : Block) (o : Option Command) → EndpointsKeep h k → ((c : Command) → o ≡ Some c → code b ≡ 1 → MayChangeAll h c k (changes h.context_size k.memory (slot b) c)) →
         FloorsOn k (finished h k b o)
     unfolding finished succeeded
-    finish_on k b None endpoints may = search (rules, floors_same, ended_on, changes_on, eqb-true)
+    finish_on k b None endpoints may = search (rules, floors_same)
     finish_on k b (Some c) endpoints may = search (rules, floors_same, ended_on, changes_on, eqb-true)
 
     at_floor : (k : Known) → next_command h k ≡ floor_number (k.ring (command_id h))

@@ -1,6 +1,6 @@
 -- An event that may be read moves no floor back
 use Rattle.std.proofs.Common.{◌≡◌, ◌+◌, ◌≤◌, ◌==◌, if◌then◌else◌, ◌∷◌, ◌∙◌, ℕ, Bool, true, List, [], Option, None, Some, arith, refl, sym, ap, subst, inl, inr, eqb-true}
-use Rattle.safety.proofs.Words.{option_map, cond_both, none-some, same_Some, cases_option, put_pair, Block, BlockKind, TransferEvent, CommandCompletion, kind, code, slot, endpoint, pointer, is_command_completion, is_success, is_halting, is_trb_error, is_stopping, Spot, number, after, Reaches, Holds, floor_number, ceiling, named, stopped_number, target, number-after, IsAhead, named_ahead, target_ahead, Command, StopEndpoint, EndpointState, Halted, Error, Stopped, is_off, Change, SlotGoesOn, DeviceLeft, Disables, Places, Stops, Resets, changes, Header, Read, IsHeader, shape_of, command_id, ring_having, Known, RingSpot, on_ring, spot_on, event_at, command_at, next_command, passed, broken_off, stopped_at, transferred, transferred_at, transfer_read, set_to, bound_to, moved_to, moved, pointed, disabled, in_state, held_at_ceiling, changed_by, changed_by_all, succeeded, stop_ended, finished, completed, event_read, learned, lenient, DriverKeeps, EndpointsKeep, MayChange, MayChangeAll}
+use Rattle.safety.proofs.Words.{option_map, cond_both, none-some, same_Some, cases_option, put_pair, Block, BlockKind, TransferEvent, CommandCompletion, kind, code, slot, endpoint, pointer, is_command_completion, is_success, is_halting, is_trb_error, is_stopping, Spot, number, after, Reaches, Holds, floor_number, ceiling, named, stopped_number, target, number-after, IsAhead, named_ahead, target_ahead, Command, StopEndpoint, EndpointState, Halted, Error, Stopped, is_off, Change, Places, Stops, changes, Header, Read, IsHeader, shape_of, command_id, ring_having, Known, RingSpot, on_ring, spot_on, event_at, command_at, next_command, passed, broken_off, stopped_at, transferred, transferred_at, transfer_read, set_to, bound_to, moved_to, moved, pointed, disabled, in_state, held_at_ceiling, changed_by, changed_by_all, succeeded, stop_ended, finished, completed, event_read, learned, lenient, DriverKeeps, EndpointsKeep, MayChange, MayChangeAll}
 use Rattle.safety.proofs.Headers.{transfer_driver}
 use Rattle.safety.proofs.DriverRings.{rings_of, endpoints_of}
 use Rattle.safety.proofs.EndpointHistories.{finish_elsewhere}
@@ -118,12 +118,9 @@ module _ (h : Header) where
 
   change_grows : (c : Command) (k : Known) (change : Change) → MayChange h k change → FloorsGrow k (changed_by h c k change)
   unfolding changed_by disabled in_state
-  change_grows c k (SlotGoesOn s) may = λ r. omega arith
-  change_grows c k (DeviceLeft s) may = λ r. omega arith
-  change_grows c k (Disables s which) may = λ r. omega arith
   change_grows c k (Places s i p cycle state) may = pointed_grows k s i p cycle
   change_grows c k (Stops s i) may = held_grows (in_state h k s i Stopped) (k.ring_of s i)
-  change_grows c k (Resets s i) may = λ r. omega arith
+  change_grows c k _ may = λ r. omega arith
 
   changes_grow : (c : Command) (k : Known) (all : List Change) → MayChangeAll h c k all → FloorsGrow k (changed_by_all h c k all)
   unfolding changed_by_all

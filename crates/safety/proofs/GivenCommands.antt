@@ -1,6 +1,6 @@
 -- What the rules test of a command that a write gives: its bindings and its moves may be made
 use Rattle.std.proofs.Common.{◌≡◌, ◌≤◌, ◌==◌, ◌||◌, ◌+◌, ◌∙◌, ℕ, not, Bool, true, false, map, nat_le, All, Option, Some, suc, zero, arith, sym, ap, subst, inl, inr, get_or, eqb-true, le-leb}
-use Rattle.safety.proofs.Words.{list_any, range_with_len, or_parts, and_from, or_cases, or_left, or_right, not-false, All-nil, All-cons, All-filter, All-get_or, All-weaker, Any-from_list_any, declared, floor_number, is_move, input_drop_flag, input_add_flag, added_endpoints, is_dropped, Command, NoOp, EnableSlot, DisableSlot, AddressDevice, ConfigureEndpoint, EvaluateContext, ResetEndpoint, StopEndpoint, SetTrDequeue, ResetDevice, named_slot, named_endpoint, named_context, is_off, Header, shape_of, is_ring, Known, Binding, binds, ring_bound, binds_ring, is_placed, is_taken, is_kept, is_being_bound, is_bad_place, has_repeats, is_bad_binding, is_bad_stay, holds_of, AreFree}
+use Rattle.safety.proofs.Words.{list_any, range_with_len, or_parts, and_from, or_cases, or_left, or_right, not-false, All-nil, All-cons, All-filter, All-get_or, All-weaker, Any-from_list_any, declared, floor_number, is_move, input_drop_flag, input_add_flag, added_endpoints, is_dropped, Command, ConfigureEndpoint, named_slot, named_endpoint, named_context, is_off, Header, shape_of, is_ring, Known, Binding, binds, ring_bound, binds_ring, is_placed, is_taken, is_kept, is_being_bound, is_bad_place, has_repeats, is_bad_binding, is_bad_stay, holds_of, AreFree}
 use Rattle.ownership_rules.specs.Commands as commands
 use Rattle.safety.proofs.TestsPassed.{each_fails}
 use Rattle.safety.proofs.BoundRings.{ring_is}
@@ -71,16 +71,7 @@ module _ (h : Header) (k : Known) where
   are_free (ConfigureEndpoint s false n) good =
       let each = each_fails (commands.is_bad_added h k s n) (added_endpoints k.memory n) good in
       λ x d inside. free_by s n (get_or (added_endpoints k.memory n) x d) (each x d inside) (added_above k.memory n x d inside)
-  are_free (ConfigureEndpoint s true n) good = tt
-  are_free NoOp good = tt
-  are_free EnableSlot good = tt
-  are_free (DisableSlot s) good = tt
-  are_free (AddressDevice s bsr n) good = tt
-  are_free (EvaluateContext s n) good = tt
-  are_free (ResetEndpoint s i) good = tt
-  are_free (StopEndpoint s i) good = tt
-  are_free (SetTrDequeue s i p cycle) good = tt
-  are_free (ResetDevice s) good = tt
+  are_free _ good = tt
 
   -- where the pointer stands
   pub stays : (b : Binding) (o : Option ℕ) (r : ℕ) → is_bad_stay h k o b ≡ false → o ≡ Some r →

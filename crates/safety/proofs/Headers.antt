@@ -1,6 +1,6 @@
 -- The rings of a header: allowed, and apart from the event ring
 use Rattle.std.proofs.Common.{◌≡◌, ◌==◌, ◌%◌, ◌<◌, ◌≤◌, ◌&&◌, ◌⊎◌, ◌∷◌, ◌∙◌, ℕ, Bool, true, false, not, List, [], nat_lt, Option, Some, None, find, arith, refl, sym, ap, subst, inl, inr, eq-eqb, eqb-true, ltb-true, rules}
-use Rattle.safety.proofs.Words.{list_all, list_any, cases_Bool, false≢true, cond-true, cond-false, and_parts, or_parts, not-true, not_from_true, false_from_ne_true, none-some, same_Some, RingKind, Cmd, Evt, Xfer, Shape, is_inside, place_count, IsShape, is_shape, shape_facts, cases_option, rings_apart, touches-word, Header, Ring, IsHeader, may_stand_together, clash, ring_with, shape_of, shape_or, event_ring, event_shape, event_size, command_ring, command_id, id_or_none, is_command_kind, is_event_kind, is_driver_kind, is_transfer_kind, IsIn, any_of, IsDriverRing, IsTransferRing}
+use Rattle.safety.proofs.Words.{list_all, list_any, cases_Bool, false≢true, cond-true, cond-false, and_parts, or_parts, not-true, not_from_true, false_from_ne_true, none-some, same_Some, RingKind, Evt, Xfer, Shape, is_inside, place_count, IsShape, is_shape, shape_facts, cases_option, rings_apart, touches-word, Header, Ring, IsHeader, may_stand_together, clash, ring_with, shape_of, shape_or, event_ring, event_shape, event_size, command_ring, command_id, id_or_none, is_command_kind, is_event_kind, is_driver_kind, is_transfer_kind, IsIn, any_of, IsDriverRing, IsTransferRing}
 use Rattle.segments.specs.Places.{touches}
 
 -- what a search finds passes, and is one of the list
@@ -44,19 +44,16 @@ pub clash_apart : (r q : Ring) (x : ℕ) → clash r q ≡ false → is_inside r
 clash_apart r q x none a b = search (rules, or_parts, rings_apart)
 
 kinds_apart : (kind : RingKind) → is_transfer_kind kind ≡ true → is_command_kind kind ≡ true → ⊥
-kinds_apart Cmd a b = false≢true a
 kinds_apart Xfer a b = false≢true b
-kinds_apart Evt a b = false≢true a
+kinds_apart _ a b = false≢true a
 
 driver_not_event : (kind : RingKind) → is_driver_kind kind ≡ true → kind ≡ Evt → ⊥
-driver_not_event Cmd h e = cc
-driver_not_event Xfer h e = cc
 driver_not_event Evt h e = false≢true h
+driver_not_event _ h e = cc
 
 transfer_is_driver : (kind : RingKind) → is_transfer_kind kind ≡ true → is_driver_kind kind ≡ true
-transfer_is_driver Cmd h = refl
-transfer_is_driver Xfer h = refl
 transfer_is_driver Evt h = absurd (false≢true h)
+transfer_is_driver _ h = refl
 
 -- the event ring of a header that has one
 pub record EventRing (h : Header) : Type 0 where

@@ -1,6 +1,6 @@
 -- Where rings are held at greater numbers, the same events are possible, and what they lead to is the same but for these numbers
 use Rattle.std.proofs.Common.{◌≡◌, ◌+◌, ◌∷◌, ◌∙◌, ℕ, List, [], length, Bool, find, option_and_then, slice_get, arith, sym, ap, rules}
-use Rattle.safety.proofs.Words.{Block, number, named_spot, RingView, floor_number, named, is_target, spots_between, target, Command, command_of, Change, SlotGoesOn, DeviceLeft, Disables, Places, Stops, Resets, changes, Header, Read, Config, shape_of, command_id, register_or_zero, Known, command_at, next_command, learned, changed_by, IsHeldMore, HeldMore, MoreLaw}
+use Rattle.safety.proofs.Words.{Block, number, named_spot, RingView, floor_number, named, is_target, spots_between, target, Command, command_of, Change, Places, changes, Header, Read, Config, shape_of, command_id, register_or_zero, Known, command_at, next_command, learned, changed_by, IsHeldMore, HeldMore, MoreLaw}
 use Rattle.safety.proofs.SameDriver.{SameDriver, both_drivers, change_same, event_same}
 use Rattle.safety.proofs.Alike.{Alike}
 use Rattle.safety.proofs.AlikeChanges.{TargetIs, TargetsAre, change_alike}
@@ -66,11 +66,7 @@ module _ (h : Header) where
   module _ (P : ℕ → Type 0) where
     target_is : (k l : Known) → Alike P k l → ((r : ℕ) → (l.ring r).queue ≡ (k.ring r).queue) → (change : Change) → TargetIs h k l change
     target_is k l a queues (Places s i p cycle state) = search (rules, target_same)
-    target_is k l a queues (SlotGoesOn s) = search (rules, target_same)
-    target_is k l a queues (DeviceLeft s) = search (rules, target_same)
-    target_is k l a queues (Disables s which) = search (rules, target_same)
-    target_is k l a queues (Stops s i) = search (rules, target_same)
-    target_is k l a queues (Resets s i) = search (rules, target_same)
+    target_is k l a queues _ = search rules
 
     pub targets_are : (c : Command) (k l : Known) → Alike P k l → ((r : ℕ) → (l.ring r).queue ≡ (k.ring r).queue) → (all : List Change) → TargetsAre h c k l all
     targets_are c k l a queues [] = tt

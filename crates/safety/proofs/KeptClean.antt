@@ -1,6 +1,6 @@
 -- No word of a ring is soiled, behind each row
 use Rattle.std.proofs.Common.{◌≡◌, ◌+◌, ◌%◌, ◌==◌, ◌&&◌, ◌∙◌, ℕ, not, Bool, true, false, [], Option, None, Some, is_none, option_and_then, refl, sym, ap, inl, inr, leb-true, ltb-true}
-use Rattle.safety.proofs.Words.{and_parts, and_left, or_from, or_parts, and_cases, false_from_ne_true, false≢true, none-some, same_Some, Block, kind, is_in, is_inside, Command, NoOp, EnableSlot, DisableSlot, AddressDevice, ConfigureEndpoint, EvaluateContext, ResetEndpoint, StopEndpoint, SetTrDequeue, ResetDevice, device_context_bytes, Header, Sub, Write, Reg, Bell, Read, shape_of, touches_ring, Known, device_named, no_device, taken_device, command_given, with_device, with_word, written, learned, is_bad_area, some_command, write_tests, lenient_tests, lenient, IsDriverRing, KeptByRows}
+use Rattle.safety.proofs.Words.{and_parts, and_left, or_from, or_parts, and_cases, false_from_ne_true, false≢true, none-some, same_Some, Block, kind, is_in, is_inside, Command, AddressDevice, device_context_bytes, Header, Sub, Write, Reg, Bell, Read, shape_of, touches_ring, Known, device_named, no_device, taken_device, command_given, with_device, with_word, written, learned, is_bad_area, some_command, write_tests, lenient_tests, lenient, IsDriverRing, KeptByRows}
 use Rattle.ownership_rules.specs.Commands as commands
 use Rattle.safety.proofs.Headers.{found_in, shape_is}
 use Rattle.safety.proofs.TestsPassed.{AllFail, tests_fail}
@@ -27,15 +27,7 @@ unfolding taken_device
 takes_is k (AddressDevice s bsr n) e at =
     let is = none_before (k.device s) s (device_named k s) e at in
     record { bsr = bsr; context = n; command = ap (λ t. AddressDevice t bsr n) is.1; fresh = ap k.device (sym is.1) ∙ is.0; named = ap (device_named k) (sym is.1) ∙ is.2 }
-takes_is k NoOp e at = absurd (none-some e at)
-takes_is k EnableSlot e at = absurd (none-some e at)
-takes_is k (DisableSlot s) e at = absurd (none-some e at)
-takes_is k (ConfigureEndpoint s dc n) e at = absurd (none-some e at)
-takes_is k (EvaluateContext s n) e at = absurd (none-some e at)
-takes_is k (ResetEndpoint s i) e at = absurd (none-some e at)
-takes_is k (StopEndpoint s i) e at = absurd (none-some e at)
-takes_is k (SetTrDequeue s i p cycle) e at = absurd (none-some e at)
-takes_is k (ResetDevice s) e at = absurd (none-some e at)
+takes_is k _ e at = absurd (none-some e at)
 
 given_some : (k : Known) (o : Option Command) (e : ℕ × ℕ) → option_and_then (taken_device k) o ≡ Some e → (c : Command) × (o ≡ Some c) × (taken_device k c ≡ Some e)
 given_some k None e at = absurd (none-some e at)

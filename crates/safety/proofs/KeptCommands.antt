@@ -81,8 +81,7 @@ view_declares shape v blocks good keeps = record {
 
 command_is : (t : RingKind) → is_command_kind t ≡ true → t ≡ Cmd
 command_is Cmd h = refl
-command_is Evt h = absurd (false≢true h)
-command_is Xfer h = absurd (false≢true h)
+command_is _ h = absurd (false≢true h)
 
 module _ (h : Header) where
   pub view_of : (k : Known) → CommandRingKeeps h k → ViewOfCommands (k.ring (command_id h))

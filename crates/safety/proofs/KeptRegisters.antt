@@ -1,11 +1,10 @@
 -- Which registers were written, and with what, is kept by each row
 use Rattle.std.proofs.Common.{◌≡◌, ◌&&◌, ◌||◌, ◌⊎◌, if◌then◌else◌, ◌∷◌, ◌∙◌, ℕ, not, true, false, [], Option, None, Some, is_some, is_none, refl, sym, ap, inl, inr}
-use Rattle.safety.proofs.Words.{list_any, cases_Bool, cond_both, cond-true, cond-false, or_parts, and_cases, not_from_false, false≢true, RingKind, Cmd, Evt, Xfer, Header, Register, Usbcmd, Crcr, Erstsz, Erstba, Erdp, Reg, is_command_kind, is_driver_kind, with_register, same_register, run_bit, reset_bit, Known, run_or_stop, valued, register_written, learned, is_unwritten, is_late_reset, is_early_start, is_wrong_start, is_bad_register}
+use Rattle.safety.proofs.Words.{list_any, cases_Bool, cond_both, cond-true, cond-false, or_parts, and_cases, not_from_false, false≢true, RingKind, Cmd, Header, Register, Usbcmd, Crcr, Erstsz, Erstba, Erdp, Reg, is_command_kind, is_driver_kind, with_register, same_register, run_bit, reset_bit, Known, run_or_stop, valued, register_written, learned, is_unwritten, is_late_reset, is_early_start, is_wrong_start, is_bad_register}
 
 pub command_drives : (kind : RingKind) → is_command_kind kind ≡ true → is_driver_kind kind ≡ true
 command_drives Cmd is = refl
-command_drives Evt is = absurd (false≢true is)
-command_drives Xfer is = absurd (false≢true is)
+command_drives _ is = absurd (false≢true is)
 
 pub written_stays : (values : Register → Option ℕ) (r : Register) (v : ℕ) (q : Register) → is_some (values q) ≡ true → is_some (with_register values r v q) ≡ true
 written_stays values r v q is = cond_both (same_register q r) (Some v) (values q) (λ o. is_some o ≡ true) (λ _. refl) (λ _. is)
@@ -27,7 +26,6 @@ module _ (h : Header) where
   registered_by : (k : Known) (r : Register) (v : ℕ) → (register_written h k r v).register ≡ with_register k.register r v
   unfolding register_written valued
   registered_by k Usbcmd v = run_register (valued k Usbcmd v) v
-  registered_by k Erdp v = refl
   registered_by k r v = refl
 
   -- the last value of each register
@@ -63,7 +61,6 @@ module _ (h : Header) where
         | inl started ↦ inl started
         | inr starts ↦ inr (record { before = starts.0; register = refl; runs = starts.1 })
       ]
-  starts_by k Erdp v on = inl on
   starts_by k r v on = inl on
 
   pub register_starts : (k : Known) (r : Register) (v : ℕ) → (learned h k (Reg r v)).started ≡ true → (k.started ≡ true) ⊎ Starts k r v

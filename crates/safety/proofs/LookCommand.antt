@@ -1,6 +1,6 @@
 -- The controller looks at the command ring: it waits, follows a Link, or takes the next command
 use Rattle.std.proofs.Common.{◌≡◌, ◌≢◌, ◌+◌, ◌==◌, ◌&&◌, ◌||◌, ◌⊎◌, ◌∙◌, ℕ, Bool, true, false, not, List, Option, Some, None, is_some, slice_get, arith, refl, sym, ap, subst, inl, inr, eq-eqb, eqb-true}
-use Rattle.safety.proofs.Words.{false≢true, cond-true, and_cases, or_cases, same_Some, Block, with_cycle, Spot, Data, Link, address_of, cycle_of, is_inside, after, cycle_of_bit, Command, NoOp, EnableSlot, DisableSlot, AddressDevice, ConfigureEndpoint, EvaluateContext, ResetEndpoint, StopEndpoint, SetTrDequeue, ResetDevice, command_of, Header, IsHeader, shape_of, command_id, World, UnderWay, seen_by_look, crossed, taken, taken_on, command_begun, may_scribble, counted, Known, next_command, was_stop_seen, IsDriverRing, IsUnfinished, DriverKeeps, RingState, state_of, RingMatches, CommandMatches, UnderWayMatches, TakenCommand, Agrees}
+use Rattle.safety.proofs.Words.{false≢true, cond-true, and_cases, or_cases, same_Some, Block, with_cycle, Spot, Data, Link, address_of, cycle_of, is_inside, after, cycle_of_bit, Command, AddressDevice, StopEndpoint, command_of, Header, IsHeader, shape_of, command_id, World, UnderWay, seen_by_look, crossed, taken, taken_on, command_begun, may_scribble, counted, Known, next_command, was_stop_seen, IsDriverRing, IsUnfinished, DriverKeeps, RingState, state_of, RingMatches, CommandMatches, UnderWayMatches, TakenCommand, Agrees}
 use Rattle.safety.proofs.SameCommand.{command_of-with_cycle}
 use Rattle.safety.proofs.SafeContext.{AtFloor, at_floor, command_is_ring, command_at_is}
 use Rattle.safety.proofs.OnlyRing.{OnlyRing, matches_command}
@@ -15,36 +15,19 @@ same_spot_number h k n (Some x) u = u
 
 not_seen : (k : Known) (c : Command) → ((s i : ℕ) → k.stop_seen s i ≡ false) → was_stop_seen k c ≡ false
 unfolding was_stop_seen
-not_seen k NoOp none = refl
-not_seen k EnableSlot none = refl
-not_seen k (DisableSlot s) none = refl
-not_seen k (AddressDevice s bsr c) none = refl
-not_seen k (ConfigureEndpoint s dc c) none = refl
-not_seen k (EvaluateContext s c) none = refl
-not_seen k (ResetEndpoint s i) none = refl
 not_seen k (StopEndpoint s i) none = none s i
-not_seen k (SetTrDequeue s i p c) none = refl
-not_seen k (ResetDevice s) none = refl
+not_seen k _ none = refl
 
 -- a command that is taken lets the controller write the device context of an Address Device's slot
 scribbles_more : (h : Header) (w : World) (o : Option Command) (q : ℕ) → may_scribble h o w q ≡ true →
     (w.scribbles q ≡ true) ⊎ ((n : ℕ) × (bsr : Bool) × (o ≡ Some (AddressDevice q bsr n)))
 unfolding may_scribble
-scribbles_more h w None q on = inl on
-scribbles_more h w (Some NoOp) q on = inl on
-scribbles_more h w (Some EnableSlot) q on = inl on
-scribbles_more h w (Some (DisableSlot s)) q on = inl on
 scribbles_more h w (Some (AddressDevice s bsr c)) q on =
     elim (or_cases (w.scribbles q) (q == s) on) [
       | inl old ↦ inl old
       | inr new ↦ inr (c, bsr, ap (λ x. Some (AddressDevice x bsr c)) (sym (eqb-true q s new)))
     ]
-scribbles_more h w (Some (ConfigureEndpoint s dc c)) q on = inl on
-scribbles_more h w (Some (EvaluateContext s c)) q on = inl on
-scribbles_more h w (Some (ResetEndpoint s i)) q on = inl on
-scribbles_more h w (Some (StopEndpoint s i)) q on = inl on
-scribbles_more h w (Some (SetTrDequeue s i p c)) q on = inl on
-scribbles_more h w (Some (ResetDevice s)) q on = inl on
+scribbles_more h w _ q on = inl on
 
 -- the world behind a command that is taken
 begun : Header → World → World
@@ -52,17 +35,8 @@ begun h w = command_begun h (taken_on h (seen_by_look h w (command_id h)) (comma
 
 scribble_same : (h : Header) (w u : World) (o : Option Command) (q : ℕ) → u.scribbles ≡ w.scribbles → may_scribble h o u q ≡ may_scribble h o w q
 unfolding may_scribble
-scribble_same h w u None q same = ap (λ f. f q) same
 scribble_same h w u (Some (AddressDevice s bsr c)) q same = ap (λ f. f q || q == s) same
-scribble_same h w u (Some NoOp) q same = ap (λ f. f q) same
-scribble_same h w u (Some EnableSlot) q same = ap (λ f. f q) same
-scribble_same h w u (Some (DisableSlot s)) q same = ap (λ f. f q) same
-scribble_same h w u (Some (ConfigureEndpoint s dc c)) q same = ap (λ f. f q) same
-scribble_same h w u (Some (EvaluateContext s c)) q same = ap (λ f. f q) same
-scribble_same h w u (Some (ResetEndpoint s i)) q same = ap (λ f. f q) same
-scribble_same h w u (Some (StopEndpoint s i)) q same = ap (λ f. f q) same
-scribble_same h w u (Some (SetTrDequeue s i p c)) q same = ap (λ f. f q) same
-scribble_same h w u (Some (ResetDevice s)) q same = ap (λ f. f q) same
+scribble_same h w u _ q same = ap (λ f. f q) same
 
 taken_scribbles : (h : Header) (w : World) (r : ℕ) (b : Block) → (taken_on h (seen_by_look h w r) r b).scribbles ≡ w.scribbles
 unfolding seen_by_look taken_on

@@ -59,16 +59,14 @@ added_numbered size memory s n added low a (suc len) high = chosen (added a) (ad
 pub changes_numbered : (size : ContextSize) (memory : ℕ → ℕ) (n : ℕ) (c : Command) → IsNumbered c → AllNumbered (changes size memory n c)
 unfolding changes added_endpoints
 changes_numbered size memory n NoOp c = tt
-changes_numbered size memory n EnableSlot c = (tt, tt)
 changes_numbered size memory n (DisableSlot s) c = (tt, (tt, (tt, tt)))
 changes_numbered size memory n (AddressDevice s bsr a) c = (tt, ((c, omega arith), tt))
 changes_numbered size memory n (ConfigureEndpoint s false a) c = (tt, (tt, added_numbered size memory s a (input_add_flag memory a) c 2 30 (omega arith)))
 changes_numbered size memory n (ConfigureEndpoint s true a) c = (tt, (tt, tt))
 changes_numbered size memory n (EvaluateContext s a) c = tt
-changes_numbered size memory n (ResetEndpoint s i) c = (tt, tt)
-changes_numbered size memory n (StopEndpoint s i) c = (tt, tt)
 changes_numbered size memory n (SetTrDequeue s i p cycle) c = (c, tt)
 changes_numbered size memory n (ResetDevice s) c = (tt, (tt, tt))
+changes_numbered size memory n _ c = (tt, tt)
 
 -- ---- what is known behind it
 

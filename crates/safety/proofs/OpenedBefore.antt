@@ -1,6 +1,6 @@
 -- An event opens no ring: one that is open behind it was open before
 use Rattle.std.proofs.Common.{◌≡◌, ◌+◌, ◌==◌, if◌then◌else◌, ◌∷◌, ◌∙◌, ℕ, Bool, true, List, [], Option, None, Some, sym, ap}
-use Rattle.safety.proofs.Words.{cond_both, none-some, put_pair, Block, BlockKind, TransferEvent, CommandCompletion, kind, code, slot, endpoint, is_success, is_halting, is_trb_error, is_stopping, Spot, number, after, Reaches, Holds, ceiling, stopped_number, target, is_open, Command, StopEndpoint, EndpointState, Halted, Error, Stopped, is_off, Change, SlotGoesOn, DeviceLeft, Disables, Places, Stops, Resets, changes, Header, Read, shape_of, command_id, ring_having, Known, RingSpot, on_ring, event_at, command_at, next_command, passed, broken_off, stopped_at, transferred, transferred_at, transfer_read, set_to, bound_to, moved_to, moved, pointed, disabled, in_state, held_at_ceiling, changed_by, changed_by_all, succeeded, stop_ended, finished, completed, event_read, learned}
+use Rattle.safety.proofs.Words.{cond_both, none-some, put_pair, Block, BlockKind, TransferEvent, CommandCompletion, kind, code, slot, endpoint, is_success, is_halting, is_trb_error, is_stopping, Spot, number, after, Reaches, Holds, ceiling, stopped_number, target, is_open, Command, StopEndpoint, EndpointState, Halted, Error, Stopped, is_off, Change, Places, Stops, changes, Header, Read, shape_of, command_id, ring_having, Known, RingSpot, on_ring, event_at, command_at, next_command, passed, broken_off, stopped_at, transferred, transferred_at, transfer_read, set_to, bound_to, moved_to, moved, pointed, disabled, in_state, held_at_ceiling, changed_by, changed_by_all, succeeded, stop_ended, finished, completed, event_read, learned}
 use Rattle.safety.proofs.SameDriver.{view_after}
 use Rattle.safety.proofs.OpenRings.{open_held, held_open}
 
@@ -89,12 +89,9 @@ module _ (h : Header) where
 
   change_opens : (c : Command) (k : Known) (change : Change) → OpensNone k (changed_by h c k change)
   unfolding changed_by disabled in_state
-  change_opens c k (SlotGoesOn s) = λ r none. none
-  change_opens c k (DeviceLeft s) = λ r none. none
-  change_opens c k (Disables s which) = λ r none. none
   change_opens c k (Places s i p cycle state) = pointed_opens k s i p cycle
   change_opens c k (Stops s i) = held_opens (in_state h k s i Stopped) (k.ring_of s i)
-  change_opens c k (Resets s i) = λ r none. none
+  change_opens c k _ = λ r none. none
 
   changes_open : (c : Command) (k : Known) (all : List Change) → OpensNone k (changed_by_all h c k all)
   unfolding changed_by_all

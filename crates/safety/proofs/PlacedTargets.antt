@@ -1,6 +1,6 @@
 -- Where more is declared of rings, an unfinished command places endpoints at the same targets
 use Rattle.std.proofs.Common.{◌≡◌, ◌≤◌, ◌==◌, ◌&&◌, if◌then◌else◌, ◌∷◌, ◌∙◌, ℕ, not, Bool, true, false, List, [], map, All, Some, arith, refl, sym, ap, eq-eqb, subst, get_or, ◌≢◌}
-use Rattle.safety.proofs.Words.{false≢true, or_parts, not-false, All-head, All-tail, declared, floor_number, ceiling, target, is_move, given_count_declared, floor_given, ceiling_within, Command, NoOp, EnableSlot, DisableSlot, AddressDevice, ConfigureEndpoint, EvaluateContext, ResetEndpoint, StopEndpoint, SetTrDequeue, ResetDevice, EndpointState, Off, Running, is_off, is_at_rest, Change, SlotGoesOn, Disables, changes, placed_by_context, added_endpoints, is_dropped, context_pointer, context_cycle, Header, IsHeader, shape_of, ring_having, Known, disabled, changed_by, is_bad_dequeue, is_bad_move, IsDriverRing, DriverKeeps, StillHolds, RingView, binds, has_repeats, is_placement, binding_in, is_among, same_Some, list_any, ring_bound, is_ring, put_pair}
+use Rattle.safety.proofs.Words.{false≢true, or_parts, not-false, All-head, All-tail, declared, floor_number, ceiling, target, is_move, given_count_declared, floor_given, ceiling_within, Command, NoOp, DisableSlot, AddressDevice, ConfigureEndpoint, EvaluateContext, SetTrDequeue, ResetDevice, EndpointState, Off, Running, is_off, is_at_rest, Change, SlotGoesOn, Disables, changes, placed_by_context, added_endpoints, is_dropped, context_pointer, context_cycle, Header, IsHeader, shape_of, ring_having, Known, disabled, changed_by, is_bad_dequeue, is_bad_move, IsDriverRing, DriverKeeps, StillHolds, RingView, binds, has_repeats, is_placement, binding_in, is_among, same_Some, list_any, ring_bound, is_ring, put_pair}
 use Rattle.safety.proofs.Headers.{ring_shape, transfer_driver}
 use Rattle.safety.proofs.AlikeChanges.{TargetsAre}
 use Rattle.safety.proofs.TestsPassed.{each_fails, any_of_map}
@@ -122,7 +122,6 @@ module _ (h : Header) where
     pub placed_targets : (n : ℕ) (c : Command) → StillHolds h k c → TargetsAre h c k l (changes h.context_size k.memory n c)
     unfolding changes
     placed_targets n NoOp still = tt
-    placed_targets n EnableSlot still = (tt, tt)
     placed_targets n (DisableSlot s) still = (tt, (tt, (tt, tt)))
     placed_targets n (AddressDevice s bsr a) still =
         let c : Command = AddressDevice s bsr a in
@@ -165,7 +164,6 @@ module _ (h : Header) where
         )
     placed_targets n (ConfigureEndpoint s true a) still = (tt, (tt, tt))
     placed_targets n (EvaluateContext s a) still = tt
-    placed_targets n (ResetEndpoint s i) still = (tt, tt)
-    placed_targets n (StopEndpoint s i) still = (tt, tt)
     placed_targets n (SetTrDequeue s i p cycle) still = (record { binds = λ off. absurd (rest_on s i p cycle still.moves_on off); moves = λ on r has. dequeue_target s i p cycle still.moves_on r has }, tt)
     placed_targets n (ResetDevice s) still = (tt, (tt, tt))
+    placed_targets n _ still = (tt, tt)

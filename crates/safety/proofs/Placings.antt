@@ -1,6 +1,6 @@
 -- A command of which what was tested still holds places endpoints where it may
 use Rattle.std.proofs.Common.{◌≡◌, ◌≢◌, ◌<◌, ◌≤◌, ◌==◌, ◌&&◌, ◌||◌, if◌then◌else◌, ◌∷◌, ◌∙◌, ℕ, Bool, true, false, List, [], map, length, All, Option, None, Some, arith, refl, sym, ap, get_or, eq-eqb, ne_eqb, inl, subst, inr, rules}
-use Rattle.safety.proofs.Words.{EndpointRestored, IsShape, IsShownTo, Shape, shown_where_restored, list_any, cases_Bool, cases_option, none-some, same_Some, cond-true, cond-false, and_from, and_right, or_parts, or_left, not-false, false≢true, All-head, All-tail, list_any_at, length-map, get_or-map, put_pair, Spot, number, RingView, RingKeeps, Reaches, Holds, is_placement, declared, floor_number, ceiling, target, is_move, is_reached, floor_given, given_count_declared, ceiling_within, move_target, added_endpoints, is_dropped, context_pointer, context_cycle, Command, NoOp, EnableSlot, DisableSlot, AddressDevice, ConfigureEndpoint, EvaluateContext, ResetEndpoint, StopEndpoint, SetTrDequeue, ResetDevice, EndpointState, Off, Running, is_off, is_at_rest, Change, SlotGoesOn, Disables, Places, changes, placed_by_context, Header, IsHeader, shape_of, is_ring, ring_having, Known, on_ring, set_to, bound_to, moved_to, moved, pointed, disabled, in_state, changed_by, Binding, drops, is_placed, is_among, has_repeats, binding_in, binds, ring_bound, binds_ring, is_bad_dequeue, is_bad_move, RingsKeep, EndpointsKeep, MayPoint, MayChangeAll, StillHolds}
+use Rattle.safety.proofs.Words.{EndpointRestored, IsShape, IsShownTo, Shape, shown_where_restored, list_any, cases_Bool, cases_option, none-some, same_Some, cond-true, cond-false, and_from, and_right, or_parts, or_left, not-false, false≢true, All-head, All-tail, list_any_at, length-map, get_or-map, put_pair, Spot, number, RingView, RingKeeps, Reaches, Holds, is_placement, declared, floor_number, ceiling, target, is_move, is_reached, floor_given, given_count_declared, ceiling_within, move_target, added_endpoints, is_dropped, context_pointer, context_cycle, Command, NoOp, DisableSlot, AddressDevice, ConfigureEndpoint, EvaluateContext, SetTrDequeue, ResetDevice, EndpointState, Off, Running, is_off, is_at_rest, Change, SlotGoesOn, Disables, Places, changes, placed_by_context, Header, IsHeader, shape_of, is_ring, ring_having, Known, on_ring, set_to, bound_to, moved_to, moved, pointed, disabled, in_state, changed_by, Binding, drops, is_placed, is_among, has_repeats, binding_in, binds, ring_bound, binds_ring, is_bad_dequeue, is_bad_move, RingsKeep, EndpointsKeep, MayPoint, MayChangeAll, StillHolds}
 use Rattle.safety.specs.RingsKeep.{IsDriverRing}
 use Rattle.safety.proofs.TestsPassed.{each_fails, any_of_map}
 use Rattle.safety.proofs.RingsOfHeader.{shape_allowed}
@@ -303,7 +303,6 @@ module _ (h : Header) (is : IsHeader h) where
   pub still_places : (k : Known) → RingsKeep h k → EndpointsKeep h k → (n : ℕ) (c : Command) → StillHolds h k c → MayChangeAll h c k (changes h.context_size k.memory n c)
   unfolding changes
   still_places k rings endpoints n NoOp still = tt
-  still_places k rings endpoints n EnableSlot still = (tt, tt)
   still_places k rings endpoints n (DisableSlot s) still = (tt, (tt, (tt, tt)))
   still_places k rings endpoints n (AddressDevice s bsr a) still =
       let c : Command = AddressDevice s bsr a in
@@ -318,7 +317,6 @@ module _ (h : Header) (is : IsHeader h) where
   still_places k rings endpoints n (ConfigureEndpoint s false a) still = (tt, (tt, configures k rings s a still))
   still_places k rings endpoints n (ConfigureEndpoint s true a) still = (tt, (tt, tt))
   still_places k rings endpoints n (EvaluateContext s a) still = tt
-  still_places k rings endpoints n (ResetEndpoint s i) still = (tt, tt)
-  still_places k rings endpoints n (StopEndpoint s i) still = (tt, tt)
   still_places k rings endpoints n (SetTrDequeue s i p cycle) still = (dequeue_points k rings endpoints s i p cycle still.moves_on (still.restored s i p cycle refl), tt)
   still_places k rings endpoints n (ResetDevice s) still = (tt, (tt, tt))
+  still_places k rings endpoints n _ still = (tt, tt)

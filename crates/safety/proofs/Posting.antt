@@ -8,12 +8,8 @@ use Rattle.safety.proofs.Areas.{byte_apart, context_lies, ring_untouched}
 -- ---- four words
 
 pub four_of : (l : List ℕ) → length l ≡ 4 → slice_index l 0 ∷ slice_index l 1 ∷ slice_index l 2 ∷ slice_index l 3 ∷ [] ≡ l
-four_of [] h = absurd (omega arith)
-four_of (a ∷ []) h = absurd (omega arith)
-four_of (a ∷ b ∷ []) h = absurd (omega arith)
-four_of (a ∷ b ∷ c ∷ []) h = absurd (omega arith)
 four_of (a ∷ b ∷ c ∷ d ∷ []) h = refl
-four_of (a ∷ b ∷ c ∷ d ∷ e ∷ l) h = absurd (omega arith)
+four_of _ h = absurd (omega arith)
 
 same_word_list : (a b c d e f g h : ℕ) → a ≡ e → b ≡ f → c ≡ g → d ≡ h →
     ◌≡◌ {A = List ℕ} (a ∷ b ∷ c ∷ d ∷ []) (e ∷ f ∷ g ∷ h ∷ [])

@@ -1,6 +1,6 @@
 -- A register write beneath an event that isn't read yet: the two may change places
-use Rattle.std.proofs.Common.{◌≡◌, ◌+◌, ◌-◌, ◌≤◌, ◌==◌, ◌||◌, ◌∷◌, ◌∙◌, ℕ, zero, suc, Bool, true, false, not, [], nat_lt, Some, unwrap_or, arith, refl, sym, ap, subst, inl, inr, rules}
-use Rattle.safety.proofs.Words.{list_any, range_with_len, and_parts, and_from, or_parts, or_cases, or_left, or_right, cond-true, cond-false, not-false, not_from_true, false≢true, Block, kind, cycle, is_event, cycle_of, position_from, erdp_address, Header, Register, Usbcmd, Crcr, Dcbaap, Config, Erstsz, Erstba, Erdp, Reg, Read, event_shape, with_register, same_register, run_bit, reset_bit, Known, run_or_stop, valued, register_written, command_at, next_command, learned, changes, may_pass, is_bad_register, is_bad_erdp, register_tests, is_impossible_by_kind, is_past_room, is_impossible, event_tests, lenient_tests, lenient, broken_of, AfterStop, BadRegister, BadErdp, HeldMore, Square}
+use Rattle.std.proofs.Common.{◌≡◌, ◌+◌, ◌-◌, ◌≤◌, ◌==◌, ◌||◌, ◌∷◌, ◌∙◌, ℕ, zero, suc, Bool, true, false, not, [], nat_lt, Some, unwrap_or, arith, refl, sym, ap, subst, inl, inr, rules, ◌&&◌}
+use Rattle.safety.proofs.Words.{list_any, range_with_len, and_parts, and_from, or_parts, or_cases, or_left, or_right, cond-true, cond-false, not-false, not_from_true, false≢true, Block, kind, cycle, is_event, cycle_of, position_from, erdp_address, Header, Register, Usbcmd, Crcr, Dcbaap, Config, Erstsz, Erstba, Erdp, Reg, Read, event_shape, with_register, same_register, run_bit, reset_bit, Known, run_or_stop, valued, register_written, command_at, next_command, learned, changes, may_pass, is_bad_register, is_bad_erdp, register_tests, is_impossible_by_kind, is_past_room, is_impossible, event_tests, lenient_tests, lenient, broken_of, AfterStop, BadRegister, BadErdp, HeldMore, Square, is_late_reset, is_early_start, is_wrong_start}
 use Rattle.safety.proofs.TestsPassed.{AllFail, clean_tests, tests_fail}
 use Rattle.safety.proofs.ErdpMoves.{erdp_says, erdp_within, reached_is_good}
 use Rattle.safety.proofs.SameDriver.{SameDriver, both_drivers}
@@ -61,25 +61,24 @@ module _ (h : Header) where
   value_is : (k : Known) (r : Register) (v : ℕ) → k.started ≡ true → stops r v ≡ false → learned h k (Reg r v) ≡ with_value k r v
   unfolding learned register_written valued
   value_is k Usbcmd v on goes = run_on (valued k Usbcmd v) v on goes
-  value_is k Erdp v on goes = refl
   value_is k _ v on goes = refl
 
   -- ---- the write is allowed behind the event
 
   register_still : (k l : Known) (r : Register) (v : ℕ) → k.started ≡ true → l.started ≡ true → is_bad_register h k r v ≡ false → is_bad_register h l r v ≡ false
   unfolding is_bad_register
-  register_still k l Usbcmd v on also good = search (rules, false≢true, or_parts)
-  register_still k l Crcr v on also good = search (rules, false≢true, or_parts)
-  register_still k l Dcbaap v on also good = search (rules, false≢true, or_parts)
-  register_still k l Config v on also good = search (rules, false≢true, or_parts)
-  register_still k l Erstsz v on also good = search (rules, false≢true, or_parts)
-  register_still k l Erstba v on also good = search (rules, false≢true, or_parts)
-  register_still k l _ v on also good = search (rules, false≢true, or_parts)
+  register_still k l Usbcmd v on also good = ap (λ b. not b && (is_late_reset l v || is_early_start l v || is_wrong_start h l v)) also
+  register_still k l Crcr v on also good = absurd (false≢true (sym (or_parts k.started _ good).0 ∙ on))
+  register_still k l Dcbaap v on also good = absurd (false≢true (sym good ∙ on))
+  register_still k l Config v on also good = absurd (false≢true (sym good ∙ on))
+  register_still k l Erstsz v on also good = absurd (false≢true (sym (or_parts k.started _ good).0 ∙ on))
+  register_still k l Erstba v on also good = absurd (false≢true (sym (or_parts k.started _ (or_parts _ _ (or_parts _ _ (or_parts _ _ good).0).0).0).0 ∙ on))
+  register_still k l _ v on also good = refl
 
   erdp_still : (k l : Known) (r : Register) (v : ℕ) → k.started ≡ true → l.started ≡ k.started → l.dequeue ≡ k.dequeue → k.reads ≤ l.reads → is_bad_erdp h k r v ≡ false → is_bad_erdp h l r v ≡ false
   unfolding is_bad_erdp may_pass
   erdp_still k l Erdp v on started dequeue reads good = search (rules, erdp_says, false≢true, and_parts, nat_lt, reached_is_good, and_from, any_longer)
-  erdp_still k l _ v on started dequeue reads good = search (rules, erdp_says, false≢true, and_parts, nat_lt, reached_is_good, and_from, any_longer)
+  erdp_still k l _ v on started dequeue reads good = search rules
 
   none_broken : (x y : Bool) → x ≡ false → y ≡ false → broken_of ((BadRegister, x) ∷ (BadErdp, y) ∷ []) ≡ []
   none_broken x y one two = rw (one, two) refl
@@ -100,7 +99,7 @@ module _ (h : Header) where
   -- ---- the two
 
   value_alike : (k : Known) (r : Register) (v : ℕ) → Alike EverySlot k (with_value k r v)
-  value_alike k r v = search (rules, with_value, held_same)
+  value_alike k r v = search (rules, held_same)
 
   value_events : (k : Known) (r : Register) (v : ℕ) → same_register Config r ≡ false → k.dequeue ≤ dequeue_after k.dequeue r v → EventAlike h k (with_value k r v)
   unfolding command_at next_command

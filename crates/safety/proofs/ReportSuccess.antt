@@ -70,7 +70,7 @@ reported_inside h u r n = refl
 -- what is known once the success of the block at a spot is read
 learns_passed : (h : Header) (k : Known) (r n : ℕ) (t : Spot) → LearnsRing k (with_reads (passed h k r t) n) r (record (k.ring r) { floor = after (shape_of h r) (number t) })
 unfolding passed on_ring
-learns_passed h k r n t = search (rules, with_reads, put_at, put_off)
+learns_passed h k r n t = search (rules, put_at, put_off)
 
 pub spot_named : (h : Header) (k : Known) (b : Block) (r : ℕ) (t : Spot) → k.ring_of (slot b) (endpoint b) ≡ Some r → named (shape_of h r) (k.ring r) (pointer b) ≡ Some t →
     event_at h k b ≡ Some (record { ring = r; spot = t })

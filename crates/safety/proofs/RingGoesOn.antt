@@ -1,6 +1,6 @@
 -- A ring of which more is known while its pointer stays: what is said of it in the world stays
 use Rattle.std.proofs.Common.{◌≡◌, ◌≤◌, ◌-◌, ◌||◌, ◌∷◌, ◌∙◌, ℕ, not, Bool, true, false, List, [], map, Option, None, Some, arith, refl, sym, ap, subst}
-use Rattle.safety.proofs.Words.{range_with_len, Shape, Spot, address_of, is_crossing, number, rank, is_border, RingView, floor_number, ceiling, is_way_given, is_step_given, given_count_same, RingEvent, Took, Placed, Newest, RingState, RingMatches, Unreported, BoundRing, IsHeldMore, GivesMore, step_more}
+use Rattle.safety.proofs.Words.{range_with_len, Shape, Spot, address_of, is_crossing, number, rank, is_border, RingView, floor_number, ceiling, is_way_given, is_step_given, given_count_same, RingEvent, Took, Newest, RingState, RingMatches, Unreported, BoundRing, IsHeldMore, GivesMore, step_more}
 use Rattle.safety.proofs.NoWait.{ceiling_open, ceiling_held}
 
 -- the floor is the same, no less is given, and where descriptors begin, they still do
@@ -12,17 +12,15 @@ pub record RingGoesOn (shape : Shape) (v x : RingView) : Type 0 where
   pub held : v.held ≡ None → x.held ≡ None
 
 newest_on : (shape : Shape) (v x : RingView) → RingGoesOn shape v x → (n : ℕ) (events : List RingEvent) → Newest shape v n events → Newest shape x n events
-newest_on shape v x g n [] y = g.borders n y
-newest_on shape v x g n (Placed a ∷ older) y = g.borders n y
 newest_on shape v x g n (Took a b d ∷ older) y = λ on. step_more shape v x g.more n (y on)
+newest_on shape v x g n _ y = g.borders n y
 
 -- wherever the floor is, and wherever the ring is held
 pub newest_still : (shape : Shape) (v : RingView) (f : Spot) (o : Option ℕ) (n : ℕ) (events : List RingEvent) →
     Newest shape v n events → Newest shape (record v { floor = f; held = o }) n events
 unfolding is_step_given is_way_given
 newest_still shape v f o n [] y = y
-newest_still shape v f o n (Placed a ∷ older) y = y
-newest_still shape v f o n (Took a b d ∷ older) y = y
+newest_still shape v f o n _ y = y
 
 way_stays : (shape : Shape) (v x : RingView) → ((q : ℕ) → v.crossed q ≡ true → x.crossed q ≡ true) → (q : ℕ) → is_way_given shape v q ≡ true → is_way_given shape x q ≡ true
 unfolding is_way_given

@@ -61,8 +61,7 @@ module _ (h : Header) (is : IsHeader h) where
 
   two_kinds : (kind : RingKind) → is_command_kind kind ≡ true → is_transfer_kind kind ≡ true → ⊥
   two_kinds Cmd c t = false≢true t
-  two_kinds Evt c t = false≢true c
-  two_kinds Xfer c t = false≢true c
+  two_kinds _ c t = false≢true c
 
   -- no ring has the ID of none
   pub none_has_256 : (q : Ring) → ring_with h 256 ≡ Some q → ⊥

@@ -95,7 +95,7 @@ module _ (h : Header) where
   unfolding register_written valued
   register_leaves_by k Usbcmd x = search (rules, run_leaves, value_leaves)
   register_leaves_by k Erdp x = search (rules, run_leaves, value_leaves)
-  register_leaves_by k r x = search (rules, run_leaves, value_leaves)
+  register_leaves_by k r x = search (rules, value_leaves)
 
   pub register_leaves : (k : Known) (r : Register) (x : ℕ) → RegisterLeaves k (learned h k (Reg r x))
   unfolding learned

@@ -96,8 +96,8 @@ module _ (h : Header) (is : IsHeader h) (k : Known) (unread : List Block) (w : W
   pub endpoint_agrees : (s t : ℕ) (o : Option ℕ) → k.ring_of s t ≡ o → (is_running (k.endpoint_state s t) || is_stopped (k.endpoint_state s t)) ≡ true →
       Agrees h (endpoint_rung h k s t o) unread (counted h (driver.endpoint_bell h w s t o))
   unfolding endpoint_rung driver.endpoint_bell
-  endpoint_agrees s t None at may = search (rules, agrees_counted, late, rung_is, known_states, states_of, bell_is, parts_agree, opened_agrees, endpoint_opened, rung_same)
-  endpoint_agrees s t (Some r) at may = search (rules, agrees_counted, late, rung_is, known_states, states_of, bell_is, parts_agree, opened_agrees, endpoint_opened, rung_same)
+  endpoint_agrees s t None at may = search (rules, agrees_counted, late)
+  endpoint_agrees s t (Some r) at may = search (rules, agrees_counted, rung_is, bell_is, parts_agree, opened_agrees, endpoint_opened, rung_same)
 
   -- ---- the command ring
 

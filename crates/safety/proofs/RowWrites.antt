@@ -142,7 +142,7 @@ module _ (h : Header) (is : IsHeader h) (k : Known) (unread : List Block) (w : W
   -- what is given now was changed before now
   given_now : (at : ℕ) (o : Option ℕ) → a ≡ at + 12 → IsUnchanged h v at o
   unfolding v of_world.stored
-  given_now at None same = search (rules, v, late_stored, late, put_here)
+  given_now at None same = search rules
   given_now at (Some n) same = search (rules, v, late_stored, late, put_here)
 
   contexts : (p : ℕ) (c : Command) → IsUnfinished h m p c → IsUnchanged h v (address_of (shape_of h (command_id h)) p) (named_context c)

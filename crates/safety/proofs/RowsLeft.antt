@@ -1,6 +1,6 @@
 -- The rows still to come are those that no row was made of: no step of the controller touches them, and a row takes the first
-use Rattle.std.proofs.Common.{◌≡◌, ◌+◌, ◌==◌, ◌&&◌, if◌then◌else◌, ◌∷◌, ◌||◌, ◌-◌, ◌∙◌, ℕ, Bool, true, false, not, List, [], Option, Some, None, option_map, option_and_then, is_some, position, length, nat_lt, refl, sym, ap, rules}
-use Rattle.safety.proofs.Words.{list_any, range_with_len, none-some, same_Some, Block, is_set, block_at, code, cycle, endpoint, kind, pointer, slot, word, is_command_completion, is_other_event, is_transfer_event, put_pair, Command, EndpointState, Running, named_context, can_succeed, is_running, is_stopped, Change, SlotGoesOn, DeviceLeft, Disables, Places, Stops, Resets, changes, Header, Row, Sub, Write, Reg, Bell, Read, Register, Usbcmd, Usbsts, Dnctrl, Crcr, Dcbaap, Config, Iman, Imod, Erstsz, Erstba, Erdp, command_id, register_or_zero, World, UnderWay, unreported}
+use Rattle.std.proofs.Common.{◌≡◌, ◌+◌, ◌==◌, ◌&&◌, if◌then◌else◌, ◌∷◌, ◌||◌, ◌-◌, ◌∙◌, ℕ, Bool, true, false, not, List, [], Option, Some, None, option_map, option_and_then, position, refl, sym, ap, rules}
+use Rattle.safety.proofs.Words.{list_any, range_with_len, none-some, same_Some, Block, is_set, block_at, code, cycle, endpoint, kind, pointer, slot, word, is_command_completion, is_other_event, is_transfer_event, put_pair, Command, EndpointState, Running, named_context, can_succeed, is_running, is_stopped, Change, Places, Stops, changes, Header, Row, Reg, Bell, Read, Register, Usbcmd, Config, Erdp, command_id, register_or_zero, World, UnderWay, unreported}
 use Rattle.world_state.specs.World as of_world
 use Rattle.controller_model.specs.DriverRows as driver
 use Rattle.controller_model.specs.Looks as looks
@@ -65,7 +65,7 @@ module _ (h : Header) where
 
   looked_at_left : (w : World) (r : ℕ) (b : Block) → RowsLeft w (looks.looked_at h w r b)
   unfolding looks.looked_at looks.seen_by_look looks.crossed
-  looked_at_left w r b = search (rules, to_if, is_some, either, nowhere, to, taken_left)
+  looked_at_left w r b = search (rules, to_if, either, nowhere, to, taken_left)
 
   pub looked_left : (w : World) (r : ℕ) → RowsLeft w (looks.looked h w r)
   unfolding looks.looked
@@ -85,11 +85,11 @@ module _ (h : Header) where
 
   error_left : (w : World) (s i r a : ℕ) (state : EndpointState) → RowsLeft w (posts.report_error h w s i r a state)
   unfolding posts.report_error posts.with_reported
-  error_left w s i r a state = search (rules, length, only_if, to)
+  error_left w s i r a state = search (rules, only_if, to)
 
   stop_left : (w : World) (s i r a : ℕ) → RowsLeft w (posts.report_stop h w s i r a)
   unfolding posts.report_stop posts.stopped_with posts.with_reported
-  stop_left w s i r a = search (rules, length, either, nowhere, to_if, only_if, to)
+  stop_left w s i r a = search (rules, either, nowhere, to_if, only_if, to)
 
   report_left : (w : World) (c s i r a : ℕ) → RowsLeft w (posts.report_code h w c s i r a)
   unfolding posts.report_code
@@ -122,12 +122,9 @@ module _ (h : Header) where
 
   changed_left : (c : Command) (w : World) (change : Change) → RowsLeft w (bindings.changed_by h c w change)
   unfolding bindings.changed_by bindings.disabled bindings.in_state
-  changed_left c w (SlotGoesOn s) = search (rules, to, placed_left, inactive_left)
-  changed_left c w (DeviceLeft s) = search (rules, to, placed_left, inactive_left)
-  changed_left c w (Disables s which) = search (rules, to, placed_left, inactive_left)
-  changed_left c w (Places s i p cycle state) = search (rules, to, placed_left, inactive_left)
-  changed_left c w (Stops s i) = search (rules, to, placed_left, inactive_left)
-  changed_left c w (Resets s i) = search (rules, to, placed_left, inactive_left)
+  changed_left c w (Places s i p cycle state) = search (rules, placed_left)
+  changed_left c w (Stops s i) = search (rules, to, inactive_left)
+  changed_left c w _ = search (rules, to)
 
   all_left : (c : Command) (l : List Change) (w : World) → RowsLeft w (bindings.changed_by_all h c w l)
   unfolding bindings.changed_by_all
@@ -145,8 +142,8 @@ module _ (h : Header) where
 
   finished_as_left : (w : World) (b : Block) (o : Option UnderWay) → RowsLeft w (finishes.finished_as h w b o)
   unfolding finishes.finished_as finishes.ended_with finishes.ended
-  finished_as_left w b None = search (rules, nowhere, option_map, only_if, either, after, succeeded_left, posted_left, to)
-  finished_as_left w b (Some u) = search (rules, nowhere, option_map, only_if, either, after, succeeded_left, posted_left, to)
+  finished_as_left w b None = search (rules, nowhere)
+  finished_as_left w b (Some u) = search (rules, nowhere, only_if, either, after, succeeded_left, posted_left, to)
 
   pub finished_left : (w : World) (b : Block) → RowsLeft w (finishes.finished h w b)
   unfolding finishes.finished
@@ -165,17 +162,9 @@ module _ (h : Header) where
 
   register_left : (w : World) (r : Register) (v : ℕ) → (driver.register_row h w r v).rows ≡ w.rows
   unfolding driver.register_row driver.with_dequeue driver.valued
-  register_left w Usbcmd v = search (rules, run_left, one_of, kept)
+  register_left w Usbcmd v = search (rules, run_left)
   register_left w Erdp v = search (rules, run_left, one_of, kept)
-  register_left w Usbsts v = search (rules, run_left, one_of, kept)
-  register_left w Dnctrl v = search (rules, run_left, one_of, kept)
-  register_left w Crcr v = search (rules, run_left, one_of, kept)
-  register_left w Dcbaap v = search (rules, run_left, one_of, kept)
-  register_left w Config v = search (rules, run_left, one_of, kept)
-  register_left w Iman v = search (rules, run_left, one_of, kept)
-  register_left w Imod v = search (rules, run_left, one_of, kept)
-  register_left w Erstsz v = search (rules, run_left, one_of, kept)
-  register_left w Erstba v = search (rules, run_left, one_of, kept)
+  register_left w _ v = search rules
 
   bell_on_left : (w : World) (s t : ℕ) (o : Option ℕ) → (driver.endpoint_bell h w s t o).rows ≡ w.rows
   unfolding driver.endpoint_bell driver.activated
@@ -190,8 +179,7 @@ module _ (h : Header) where
 
   pub row_left : (w : World) (row : Row) → RowsLeft w (driver.row_done h w row)
   unfolding driver.row_done driver.declared of_world.stored driver.event_read
-  row_left w (Sub r blocks) = search (rules, to, register_left, bell_left, only_if, nat_lt)
-  row_left w (Write a x) = search (rules, to, register_left, bell_left, only_if, nat_lt)
-  row_left w (Reg r v) = search (rules, to, register_left, bell_left, only_if, nat_lt)
-  row_left w (Bell s t) = search (rules, to, register_left, bell_left, only_if, nat_lt)
-  row_left w (Read e) = search (rules, to, register_left, bell_left, only_if, nat_lt)
+  row_left w (Reg r v) = search (rules, to, register_left)
+  row_left w (Bell s t) = search (rules, to, bell_left)
+  row_left w (Read e) = search (rules, to, only_if)
+  row_left w _ = search (rules, to)

@@ -1,6 +1,6 @@
 -- What events leave as it is: registers, memory, and what is declared and given of each ring
 use Rattle.std.proofs.Common.{◌≡◌, ◌≢◌, ◌∷◌, ◌∙◌, ℕ, Bool, List, [], Option, None, Some, refl, sym, subst, rules}
-use Rattle.safety.proofs.Words.{cond_both, Block, BlockKind, TransferEvent, CommandCompletion, code, slot, endpoint, Spot, number, after, RingView, RingChange, Reaches, Opens, Holds, changed, ceiling, target, Command, StopEndpoint, EndpointState, is_off, Change, SlotGoesOn, DeviceLeft, Disables, Places, Stops, Resets, Header, shape_of, command_id, ring_having, Known, RingSpot, on_ring, event_at, command_at, next_command, passed, broken_off, stopped_at, transferred, transferred_at, transfer_read, set_to, bound_to, moved_to, moved, pointed, disabled, in_state, held_at_ceiling, changed_by, changed_by_all, succeeded, stop_ended, finished, completed, event_read}
+use Rattle.safety.proofs.Words.{cond_both, Block, BlockKind, TransferEvent, CommandCompletion, code, slot, endpoint, Spot, number, after, RingView, RingChange, Reaches, Opens, Holds, changed, ceiling, target, Command, StopEndpoint, EndpointState, is_off, Change, Resets, Header, shape_of, command_id, ring_having, Known, RingSpot, on_ring, event_at, command_at, next_command, passed, broken_off, stopped_at, transferred, transferred_at, transfer_read, set_to, bound_to, moved_to, moved, pointed, disabled, in_state, held_at_ceiling, changed_by, changed_by_all, succeeded, stop_ended, finished, completed, event_read}
 use Rattle.safety.proofs.DriverRows.{ring_here, ring_elsewhere}
 
 -- what is declared and given of a ring
@@ -111,7 +111,7 @@ module _ (h : Header) where
 
   bound_same : (k : Known) (s i : ℕ) (o : Option ℕ) (p : ℕ) (cycle : Bool) → SameDriver k (bound_to h k s i o p cycle)
   unfolding bound_to
-  bound_same k s i None p cycle = search (rules, same_driver, both_drivers, moved_same, same_given)
+  bound_same k s i None p cycle = search (rules, same_driver)
   bound_same k s i (Some r) p cycle = search (rules, same_driver, both_drivers, moved_same, same_given)
 
   pointed_same : (k : Known) (s i p : ℕ) (cycle : Bool) → SameDriver k (pointed h k s i p cycle)
@@ -132,12 +132,8 @@ module _ (h : Header) where
 
   pub change_same : (c : Command) (k : Known) (change : Change) → SameDriver k (changed_by h c k change)
   unfolding changed_by disabled in_state
-  change_same c k (SlotGoesOn s) = search (rules, same_given, both_drivers, pointed_same, state_same, held_same)
-  change_same c k (DeviceLeft s) = search (rules, same_given, both_drivers, pointed_same, state_same, held_same)
-  change_same c k (Disables s which) = search (rules, same_given, both_drivers, pointed_same, state_same, held_same)
-  change_same c k (Places s i p cycle state) = search (rules, same_given, both_drivers, pointed_same, state_same, held_same)
-  change_same c k (Stops s i) = search (rules, same_given, both_drivers, pointed_same, state_same, held_same)
-  change_same c k (Resets s i) = search (rules, same_given, both_drivers, pointed_same, state_same, held_same)
+  change_same c k (Resets s i) = search (rules, state_same)
+  change_same c k _ = search (rules, same_given, both_drivers, pointed_same, state_same, held_same)
 
   pub changes_same : (c : Command) (k : Known) (all : List Change) → SameDriver k (changed_by_all h c k all)
   unfolding changed_by_all
@@ -154,7 +150,7 @@ module _ (h : Header) where
 
   finish_same : (k : Known) (b : Block) (o : Option Command) → SameDriver k (finished h k b o)
   unfolding finished succeeded
-  finish_same k b None = search (rules, same_driver, both_drivers, changes_same, stop_same)
+  finish_same k b None = search (rules, same_driver)
   finish_same k b (Some c) = search (rules, same_driver, both_drivers, changes_same, stop_same)
 
   pub completion_same : (k : Known) (b : Block) → SameDriver k (completed h k b)

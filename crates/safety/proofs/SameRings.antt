@@ -1,6 +1,6 @@
 -- Rows that give no endpoint another ring than it had
 use Rattle.std.proofs.Common.{◌≡◌, ◌==◌, ◌&&◌, ◌||◌, if◌then◌else◌, ℕ, not, Bool, true, Option, None, Some, option_and_then, refl}
-use Rattle.safety.proofs.Words.{cond_both, put_pair, Block, code, slot, endpoint, is_success, is_halting, is_trb_error, is_stopping, Spot, Opens, Command, StopEndpoint, Halted, Error, Header, Register, Erdp, Usbcmd, command_id, run_bit, reset_bit, Known, RingSpot, on_ring, event_at, with_device, with_word, written, command_given, taken_device, run_or_stop, valued, register_written, endpoint_rung, rung, passed, broken_off, stopped_at, transferred, transferred_at, transfer_read, stop_ended}
+use Rattle.safety.proofs.Words.{cond_both, put_pair, Block, code, slot, endpoint, is_success, is_halting, is_trb_error, is_stopping, Spot, Opens, Command, StopEndpoint, Halted, Error, Header, Register, Usbcmd, command_id, run_bit, reset_bit, Known, RingSpot, on_ring, event_at, with_device, with_word, written, command_given, taken_device, run_or_stop, valued, register_written, endpoint_rung, rung, passed, broken_off, stopped_at, transferred, transferred_at, transfer_read, stop_ended}
 
 -- the same endpoints have rings, and the same ones
 abbrev pub SameRings : Known → Known → Type 0
@@ -30,7 +30,6 @@ module _ (h : Header) where
   pub register_same : (k : Known) (r : Register) (x : ℕ) → SameRings k (register_written h k r x)
   unfolding register_written valued
   register_same k Usbcmd x = run_same (valued k Usbcmd x) x
-  register_same k Erdp x = refl
   register_same k r x = refl
 
   endpoint_same : (k : Known) (s t : ℕ) (o : Option ℕ) → SameRings k (endpoint_rung h k s t o)

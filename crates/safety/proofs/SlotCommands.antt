@@ -66,7 +66,6 @@ module _ (h : Header) (k : Known) where
       AllOnly (changed_slot e n) (changed_part e) (OfCommand (changed_slot e n) (changed_part e) e) h e k (changes h.context_size k.memory n e)
   unfolding changes changed_by
   only_own n NoOp moves = tt
-  only_own n EnableSlot moves = ((refl, refl), tt)
   only_own n (DisableSlot s) moves = ((refl, refl), ((refl, refl), ((refl, refl), tt)))
   only_own n (AddressDevice s bsr c) moves = ((refl, refl), ((refl, tt, λ off r at. Binds (address_binds s c r bsr off at)), tt))
   only_own n (ConfigureEndpoint s false c) moves = (
@@ -79,10 +78,9 @@ module _ (h : Header) (k : Known) where
   )
   only_own n (ConfigureEndpoint s true c) moves = ((refl, refl), ((refl, refl), tt))
   only_own n (EvaluateContext s c) moves = tt
-  only_own n (ResetEndpoint s i) moves = ((refl, refl), tt)
-  only_own n (StopEndpoint s i) moves = ((refl, refl), tt)
   only_own n (SetTrDequeue s i p cycle) moves = ((refl, refl, λ off r at. absurd (at_rest_on (k.endpoint_state s i) (set_rests s i p cycle moves) off)), tt)
   only_own n (ResetDevice s) moves = ((refl, refl), ((refl, refl), tt))
+  only_own n _ moves = ((refl, refl), tt)
 
   pub success_others : (n : ℕ) (e : Command) → MovesIf h k e →
       OtherSlots k (succeeded h k n e) (changed_slot e n) (changed_part e) (OfCommand (changed_slot e n) (changed_part e) e)

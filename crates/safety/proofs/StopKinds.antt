@@ -1,6 +1,6 @@
 -- What the report of a stop is, and what is known of the ring and of its Stop Endpoint behind it
 use Rattle.std.proofs.Common.{◌≡◌, ◌+◌, ◌-◌, ◌≤◌, ◌==◌, ◌&&◌, ◌||◌, ◌⊎◌, ℕ, Bool, true, List, length, nat_lt, nat_le, drop, Option, Some, refl, sym, eqb-true, eq-eqb, lt-ltb, le-leb, rules}
-use Rattle.safety.proofs.Words.{false≢true, and_parts, and_from, not-false, cases_lt, or_left, or_right, none-some, same_Some, Block, Spot, Data, Link, Shape, number, RingView, Reaches, Holds, given_count, is_way_given, is_stop_spot, Command, NoOp, EnableSlot, DisableSlot, AddressDevice, ConfigureEndpoint, EvaluateContext, ResetEndpoint, StopEndpoint, SetTrDequeue, ResetDevice, is_stop_of, is_running, Header, World, UnderWay, unreported, is_last, is_stop_under_way, with_stopped, with_reported, stopped_with, report_stop, Known, command_at, next_command, on_ring, was_stop_seen, Stands, EventsStand, state_of, UnderWayMatches, TakenCommand, Matches}
+use Rattle.safety.proofs.Words.{false≢true, and_parts, and_from, not-false, cases_lt, or_left, or_right, none-some, same_Some, Block, Spot, Data, Link, Shape, number, RingView, Reaches, Holds, given_count, is_way_given, is_stop_spot, Command, StopEndpoint, is_stop_of, is_running, Header, World, UnderWay, unreported, is_last, is_stop_under_way, with_stopped, with_reported, stopped_with, report_stop, Known, command_at, next_command, on_ring, was_stop_seen, Stands, EventsStand, state_of, UnderWayMatches, TakenCommand, Matches}
 use Rattle.world_state.specs.World as of_world
 use Rattle.ring_knowledge.specs.Rings as of_rings
 use Rattle.safety.proofs.WithReads.{with_reads}
@@ -57,15 +57,7 @@ stop_seen_is : (k : Known) (s i : ℕ) (c : Command) (seen : ℕ → ℕ → Boo
     was_stop_seen (let m : Known = record k { stop_seen = seen } in m) c ≡ true
 unfolding was_stop_seen
 stop_seen_is k s i (StopEndpoint t j) seen may at = search (rules, and_parts, eqb-true, false≢true)
-stop_seen_is k s i NoOp seen may at = search (rules, and_parts, eqb-true, false≢true)
-stop_seen_is k s i EnableSlot seen may at = search (rules, and_parts, eqb-true, false≢true)
-stop_seen_is k s i (DisableSlot t) seen may at = search (rules, and_parts, eqb-true, false≢true)
-stop_seen_is k s i (AddressDevice t bsr c) seen may at = search (rules, and_parts, eqb-true, false≢true)
-stop_seen_is k s i (ConfigureEndpoint t dc c) seen may at = search (rules, and_parts, eqb-true, false≢true)
-stop_seen_is k s i (EvaluateContext t c) seen may at = search (rules, and_parts, eqb-true, false≢true)
-stop_seen_is k s i (ResetEndpoint t j) seen may at = search (rules, and_parts, eqb-true, false≢true)
-stop_seen_is k s i (SetTrDequeue t j p c) seen may at = search (rules, and_parts, eqb-true, false≢true)
-stop_seen_is k s i (ResetDevice t) seen may at = search (rules, and_parts, eqb-true, false≢true)
+stop_seen_is k s i _ seen may at = search rules
 
 module _ (h : Header) (k : Known) (seen : ℕ → ℕ → Bool) (s i : ℕ) (may : seen s i ≡ true) where
   abbrev pub with_seen : Known

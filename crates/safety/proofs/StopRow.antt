@@ -1,6 +1,6 @@
 -- The driver stops the controller: the run has ended, and its world is safe
 use Rattle.std.proofs.Common.{◌≡◌, ◌&&◌, ◌||◌, ◌∷◌, if◌then◌else◌, ◌∙◌, ℕ, Bool, true, false, not, List, [], Some, refl, sym, ap, subst, inl, inr}
-use Rattle.safety.proofs.Words.{cases_Bool, cond-false, cond-true, false≢true, same_Some, Block, kind, Header, Row, Sub, Write, Reg, Bell, Read, Register, Usbcmd, Usbsts, Dnctrl, Crcr, Dcbaap, Config, Iman, Imod, Erstsz, Erstba, Erdp, IsHeader, run_bit, reset_bit, World, IsSafe, counted, Known, learned, DriverKeeps, Runs, Ended, all_read}
+use Rattle.safety.proofs.Words.{cases_Bool, cond-false, cond-true, false≢true, same_Some, Block, kind, Header, Row, Sub, Write, Reg, Bell, Read, Register, Usbcmd, IsHeader, run_bit, reset_bit, World, IsSafe, counted, Known, learned, DriverKeeps, Runs, Ended, all_read}
 use Rattle.world_state.specs.Harms as of_harms
 use Rattle.controller_model.specs.DriverRows as driver
 use Rattle.ring_knowledge.specs.Registers as registers
@@ -66,16 +66,7 @@ module _ (h : Header) where
   register_stop : (k : Known) (r : Register) (x : ℕ) → k.stopped ≡ false → (registers.register_written h k r x).stopped ≡ true → IsStopRow k (Reg r x)
   unfolding registers.register_written registers.valued
   register_stop k Usbcmd x on stopped = let s = run_stops k x on stopped in record { value = x; row_is = refl; started = s.0; stop = s.1 }
-  register_stop k Usbsts x on stopped = absurd (false≢true (sym on ∙ stopped))
-  register_stop k Dnctrl x on stopped = absurd (false≢true (sym on ∙ stopped))
-  register_stop k Crcr x on stopped = absurd (false≢true (sym on ∙ stopped))
-  register_stop k Dcbaap x on stopped = absurd (false≢true (sym on ∙ stopped))
-  register_stop k Config x on stopped = absurd (false≢true (sym on ∙ stopped))
-  register_stop k Iman x on stopped = absurd (false≢true (sym on ∙ stopped))
-  register_stop k Imod x on stopped = absurd (false≢true (sym on ∙ stopped))
-  register_stop k Erstsz x on stopped = absurd (false≢true (sym on ∙ stopped))
-  register_stop k Erstba x on stopped = absurd (false≢true (sym on ∙ stopped))
-  register_stop k Erdp x on stopped = absurd (false≢true (sym on ∙ stopped))
+  register_stop k _ x on stopped = absurd (false≢true (sym on ∙ stopped))
 
   stop_row : (k : Known) (row : Row) → k.stopped ≡ false → (learned h k row).stopped ≡ true → IsStopRow k row
   unfolding learned

@@ -1,7 +1,7 @@
 -- A Command Completion Event that is possible where an endpoint's ring is held and no unfinished command touches it: it is so where the
 -- ring was woken, and leaves it woken
 use Rattle.std.proofs.Common.{◌≡◌, ◌≢◌, ◌==◌, if◌then◌else◌, ◌∙◌, ℕ, true, false, List, Some, is_some, option_and_then, slice_get, refl, sym, ap, subst, rules}
-use Rattle.safety.proofs.Words.{list_any, and_parts, and_from, or_parts, cond-true, cond-false, Block, code, slot, after, RingView, Reaches, floor_number, Command, NoOp, EnableSlot, DisableSlot, AddressDevice, ConfigureEndpoint, EvaluateContext, ResetEndpoint, StopEndpoint, SetTrDequeue, ResetDevice, command_of, named_endpoint, can_succeed, endpoint_meant, endpoint_success, Change, changes, touches, Header, Config, IsHeader, shape_of, command_id, register_or_zero, Known, on_ring, command_at, next_command, changed_by_all, succeeded, stop_ended, finished, completed, touches_endpoint, was_stop_seen, can_finish}
+use Rattle.safety.proofs.Words.{list_any, and_parts, and_from, or_parts, cond-true, cond-false, Block, code, slot, after, RingView, Reaches, floor_number, Command, ResetEndpoint, StopEndpoint, SetTrDequeue, command_of, named_endpoint, can_succeed, endpoint_meant, endpoint_success, Change, changes, touches, Header, Config, IsHeader, shape_of, command_id, register_or_zero, Known, on_ring, command_at, next_command, changed_by_all, succeeded, stop_ended, finished, completed, touches_endpoint, was_stop_seen, can_finish}
 use Rattle.safety.proofs.AlikeChanges.{both_sides_if}
 use Rattle.safety.proofs.SameDriver.{SameDriver}
 use Rattle.safety.proofs.StatesChanges.{FitAll}
@@ -21,13 +21,7 @@ module _ (h : Header) (r s i : ℕ) (k l : Known) (w : Woken h r (one_of s i) k 
   endpoint_same (ResetEndpoint t j) apart may = search (rules, is_some, flipped, or_parts)
   endpoint_same (StopEndpoint t j) apart may = search (rules, is_some, flipped, or_parts)
   endpoint_same (SetTrDequeue t j p cycle) apart may = search (rules, is_some, flipped, or_parts)
-  endpoint_same NoOp apart may = search (rules, is_some, flipped, or_parts)
-  endpoint_same EnableSlot apart may = search (rules, is_some, flipped, or_parts)
-  endpoint_same (DisableSlot t) apart may = search (rules, is_some, flipped, or_parts)
-  endpoint_same (AddressDevice t bsr a) apart may = search (rules, is_some, flipped, or_parts)
-  endpoint_same (ConfigureEndpoint t dc a) apart may = search (rules, is_some, flipped, or_parts)
-  endpoint_same (EvaluateContext t a) apart may = search (rules, is_some, flipped, or_parts)
-  endpoint_same (ResetDevice t) apart may = search (rules, is_some, flipped, or_parts)
+  endpoint_same _ apart may = search rules
 
   success_same : (n : ℕ) (c : Command) → touches_endpoint h k s i c ≡ false → can_succeed k.slot_state k.endpoint_state (register_or_zero k.register Config) n c ≡ true →
       can_succeed l.slot_state l.endpoint_state (register_or_zero l.register Config) n c ≡ true

@@ -157,12 +157,12 @@ module _ (h : Header) (c : Command) where
         (stops_by s i (k.ring_of s i))) refl
 
     pub change_goes : (change : Change) → IsNoPlacing change → ChangeGoes k w change
-    change_goes (SlotGoesOn s) plain = search (rules, slot_goes, device_goes, disable_goes, stop_goes, reset_goes)
-    change_goes (DeviceLeft s) plain = search (rules, slot_goes, device_goes, disable_goes, stop_goes, reset_goes)
-    change_goes (Disables s which) plain = search (rules, slot_goes, device_goes, disable_goes, stop_goes, reset_goes)
-    change_goes (Places s i p cycle state) plain = search (rules, slot_goes, device_goes, disable_goes, stop_goes, reset_goes)
-    change_goes (Stops s i) plain = search (rules, slot_goes, device_goes, disable_goes, stop_goes, reset_goes)
-    change_goes (Resets s i) plain = search (rules, slot_goes, device_goes, disable_goes, stop_goes, reset_goes)
+    change_goes (SlotGoesOn s) plain = slot_goes s
+    change_goes (DeviceLeft s) plain = device_goes s
+    change_goes (Disables s which) plain = disable_goes s which
+    change_goes (Places s i p cycle state) plain = absurd plain
+    change_goes (Stops s i) plain = stop_goes s i
+    change_goes (Resets s i) plain = reset_goes s i
 
   pub changes_go : (list : List Change) → AreNoPlacings list → (k : Known) (w : World) → StatesMatch h k w → AtFloors h k w → ListGoes k w list
   changes_go [] plain k w m at = no_change_goes k w m at

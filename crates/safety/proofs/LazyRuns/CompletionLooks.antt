@@ -1,6 +1,6 @@
 -- The world directly before the controller finishes a command: the next command is taken, and no more than that
 use Rattle.std.proofs.Common.{◌≡◌, ◌≢◌, ◌⊎◌, ◌+◌, ◌≤◌, ◌==◌, if◌then◌else◌, ◌∷◌, ◌∙◌, ℕ, suc, true, List, [], Option, Some, None, arith, refl, sym, ap, subst, inl, inr, rules}
-use Rattle.safety.proofs.LazyRuns.Words.{flat_map, cases_Bool, cases_eq, cases_lt, cond-true, cond-false, put, Block, kind, code, is_command_completion, Spot, Data, Link, Shape, Holds, IsSpot, number, rank, after, is_open, ceiling, MayReach, crossing_positive, after_reached, number-after, rank_least, rank_most, Command, NoOp, EnableSlot, DisableSlot, AddressDevice, ConfigureEndpoint, EvaluateContext, ResetEndpoint, StopEndpoint, SetTrDequeue, ResetDevice, Stopped, changes, Header, Read, TraceRow, Plain, Step, IsHeader, shape_of, command_id, World, UnderWay, Known, RingSpot, command_at, next_command, event_read, learned, DriverKeeps, Agrees, UnderWayMatches, TakenCommand, ring_here, ring_elsewhere, completion_kind, transfer_not_command, put_at, put_off, next_is, need}
+use Rattle.safety.proofs.LazyRuns.Words.{flat_map, cases_Bool, cases_eq, cases_lt, cond-true, cond-false, put, Block, kind, code, is_command_completion, Spot, Data, Link, Shape, Holds, IsSpot, number, rank, after, is_open, ceiling, MayReach, crossing_positive, after_reached, number-after, rank_least, rank_most, Command, StopEndpoint, Stopped, changes, Header, Read, TraceRow, Plain, Step, IsHeader, shape_of, command_id, World, UnderWay, Known, RingSpot, command_at, next_command, event_read, learned, DriverKeeps, Agrees, UnderWayMatches, TakenCommand, ring_here, ring_elsewhere, completion_kind, transfer_not_command, put_at, put_off, next_is, need}
 use Rattle.ring_knowledge.specs.Completions as completions
 use Rattle.safety.specs.LazyRuns.Lazy as lazy
 use Rattle.safety.proofs.LazyRuns.AllEventsRead.{agrees_now}
@@ -80,17 +80,8 @@ module _ (h : Header) where
 
     stopped_idle : (o : Option Command) → command_at h k (next_command h k) ≡ o → IsIdle k (lazy.stopped_goals h k later b o)
     unfolding lazy.stopped_goals
-    stopped_idle (Some (StopEndpoint s i)) here = search (rules, k, stop_idle)
-    stopped_idle None here = search (rules, k, stop_idle)
-    stopped_idle (Some NoOp) here = search (rules, k, stop_idle)
-    stopped_idle (Some EnableSlot) here = search (rules, k, stop_idle)
-    stopped_idle (Some (DisableSlot s)) here = search (rules, k, stop_idle)
-    stopped_idle (Some (AddressDevice s bsr c)) here = search (rules, k, stop_idle)
-    stopped_idle (Some (ConfigureEndpoint s dc c)) here = search (rules, k, stop_idle)
-    stopped_idle (Some (EvaluateContext s c)) here = search (rules, k, stop_idle)
-    stopped_idle (Some (ResetEndpoint s i)) here = search (rules, k, stop_idle)
-    stopped_idle (Some (SetTrDequeue s i p c)) here = search (rules, k, stop_idle)
-    stopped_idle (Some (ResetDevice s)) here = search (rules, k, stop_idle)
+    stopped_idle (Some (StopEndpoint s i)) here = stop_idle s i here
+    stopped_idle _ here = inl refl
 
     goals_are : lazy.goals h k later (kind b) b ≡ lazy.command_taken h k ∷ lazy.stopped_goals h k later b (command_at h k (next_command h k))
     unfolding lazy.goals

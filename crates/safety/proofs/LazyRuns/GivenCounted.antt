@@ -108,11 +108,11 @@ module _ (h : Header) where
 
     -- a row of the driver gives one position at most, and one that reads an event none
     row_most : IsHeader h → (k : Known) (row : Row) → all_rings (learned h k row) ≤ all_rings k + 1
-    row_most is k (Sub r blocks) = search (rules, none_more, declares_none, write_one, register_none, rung_none, event_none)
-    row_most is k (Write a w) = search (rules, none_more, declares_none, write_one, register_none, rung_none, event_none)
-    row_most is k (Reg r x) = search (rules, none_more, declares_none, write_one, register_none, rung_none, event_none)
-    row_most is k (Bell s t) = search (rules, none_more, declares_none, write_one, register_none, rung_none, event_none)
-    row_most is k (Read b) = search (rules, none_more, declares_none, write_one, register_none, rung_none, event_none)
+    row_most is k (Sub r blocks) = omega (arith, none_more k (learned h k (Sub r blocks)) (declares_none k r blocks))
+    row_most is k (Write a w) = write_one is k a w
+    row_most is k (Reg r x) = omega (arith, none_more k (learned h k (Reg r x)) (register_none k r x))
+    row_most is k (Bell s t) = omega (arith, none_more k (learned h k (Bell s t)) (rung_none k s t))
+    row_most is k (Read b) = omega (arith, none_more k (learned h k (Read b)) (event_none k b))
 
     event_most : (k : Known) (b : Block) → all_rings (learned h k (Read b)) ≤ all_rings k
     event_most k b = none_more k (learned h k (Read b)) (event_none k b)

@@ -40,11 +40,8 @@ module _ (h : Header) where
 
   reports_none : (k : Known) (r : ℕ) (row : Row) → IsDriverRow row → number_reported h k r row ≡ 0
   unfolding number_reported
-  reports_none k r (Sub q blocks) is = search rules
-  reports_none k r (Write a w) is = search rules
-  reports_none k r (Reg q x) is = search rules
-  reports_none k r (Bell s t) is = search rules
-  reports_none k r (Read b) is = search rules
+  reports_none k r (Read b) is = absurd is
+  reports_none k r _ is = refl
 
   needs_none : (k : Known) (r : ℕ) (row : Row) → IsDriverRow row → number_needed h k r (Plain row) ≡ 0
   unfolding number_needed

@@ -1,6 +1,6 @@
 -- What a row of the driver leaves as it was known: floors, and which ring an endpoint has. A ring that it opens is active then
 use Rattle.std.proofs.Common.{◌≡◌, ◌==◌, ◌&&◌, ◌||◌, if◌then◌else◌, ◌∙◌, ℕ, nat_lt, not, true, false, [], Option, Some, None, is_none, refl, sym, ap, subst, inl, inr, rules}
-use Rattle.safety.proofs.LazyRuns.Words.{cases_Bool, cond_both, cond-true, cond-false, or_parts, and_from, not-false, put_pair, RingView, Opens, is_open, Running, is_running, is_stopped, Header, Row, Sub, Write, Reg, Bell, Read, Register, Usbcmd, Erdp, command_id, World, Known, on_ring, run_or_stop, valued, register_written, endpoint_rung, rung, learned, is_bad_bell, lenient, IsDriverRow, BellFacts, bell_facts, put_at, declaration_leaves, write_leaves, register_leaves, bell_leaves, view_after}
+use Rattle.safety.proofs.LazyRuns.Words.{cases_Bool, cond_both, cond-true, cond-false, or_parts, and_from, not-false, put_pair, RingView, Opens, is_open, Running, is_running, is_stopped, Header, Row, Sub, Write, Reg, Bell, Read, Register, Usbcmd, command_id, World, Known, on_ring, run_or_stop, valued, register_written, endpoint_rung, rung, learned, is_bad_bell, lenient, IsDriverRow, BellFacts, bell_facts, put_at, declaration_leaves, write_leaves, register_leaves, bell_leaves, view_after}
 use Rattle.controller_model.specs.DriverRows as driver
 use Rattle.safety.proofs.LazyRuns.RowsLeave.{row_leaves, done}
 
@@ -35,10 +35,7 @@ module _ (h : Header) where
 
   pub row_learns : (k : Known) (row : Row) → IsDriverRow row → RowLearns k (learned h k row)
   row_learns k (Sub r blocks) driver_row = search (rules, declaration_leaves, write_leaves, register_leaves, bell_leaves, bell_floor)
-  row_learns k (Write a x) driver_row = search (rules, declaration_leaves, write_leaves, register_leaves, bell_leaves, bell_floor)
-  row_learns k (Reg r x) driver_row = search (rules, declaration_leaves, write_leaves, register_leaves, bell_leaves, bell_floor)
-  row_learns k (Bell s t) driver_row = search (rules, declaration_leaves, write_leaves, register_leaves, bell_leaves, bell_floor)
-  row_learns k (Read e) driver_row = search (rules, declaration_leaves, write_leaves, register_leaves, bell_leaves, bell_floor)
+  row_learns k _ driver_row = search (rules, declaration_leaves, write_leaves, register_leaves, bell_leaves, bell_floor)
 
   -- ---- the rings that are open
 
@@ -125,7 +122,6 @@ module _ (h : Header) where
   register_starts : (k : Known) (r : Register) (x : ℕ) → k.started ≡ true → (register_written h k r x).started ≡ true
   unfolding register_written valued
   register_starts k Usbcmd x on = run_starts (valued k Usbcmd x) x on
-  register_starts k Erdp x on = on
   register_starts k r x on = on
 
   register_started : (k : Known) (r : Register) (x : ℕ) → k.started ≡ true → (learned h k (Reg r x)).started ≡ true
@@ -134,8 +130,8 @@ module _ (h : Header) where
 
   -- no row takes the start back
   pub row_starts : (k : Known) (row : Row) → IsDriverRow row → k.started ≡ true → (learned h k row).started ≡ true
-  row_starts k (Sub r blocks) driver_row on = search (rules, declaration_leaves, write_leaves, register_started, bell_leaves)
-  row_starts k (Write a x) driver_row on = search (rules, declaration_leaves, write_leaves, register_started, bell_leaves)
-  row_starts k (Reg r x) driver_row on = search (rules, declaration_leaves, write_leaves, register_started, bell_leaves)
-  row_starts k (Bell s t) driver_row on = search (rules, declaration_leaves, write_leaves, register_started, bell_leaves)
-  row_starts k (Read e) driver_row on = search (rules, declaration_leaves, write_leaves, register_started, bell_leaves)
+  row_starts k (Sub r blocks) driver_row on = (declaration_leaves h k r blocks).registers.started ∙ on
+  row_starts k (Write a x) driver_row on = (write_leaves h k a x).registers.started ∙ on
+  row_starts k (Reg r x) driver_row on = register_started k r x on
+  row_starts k (Bell s t) driver_row on = (bell_leaves h k s t).registers.started ∙ on
+  row_starts k (Read e) driver_row on = absurd driver_row

@@ -127,11 +127,8 @@ module _ (h : Header) where
 
   pub row_is_done : (w : World) (row : Row) → IsDriverRow row → driver.row_done h w row ≡ Some (done w row)
   unfolding driver.row_done done
-  row_is_done w (Sub r blocks) driver_row = refl
-  row_is_done w (Write a x) driver_row = refl
-  row_is_done w (Reg r x) driver_row = refl
-  row_is_done w (Bell s t) driver_row = refl
   row_is_done w (Read e) driver_row = absurd driver_row
+  row_is_done w _ driver_row = refl
 
   pub row_leaves : (w : World) (row : Row) → RowLeaves w (done w row)
   unfolding done

@@ -1,7 +1,7 @@
 -- An event says the same where other rings are there, so long as those that endpoints have and commands bind are as they were
 use Rattle.std.proofs.Common.{◌≡◌, ◌+◌, ◌==◌, ◌&&◌, if◌then◌else◌, ◌∷◌, ◌∙◌, ℕ, Bool, true, false, List, [], Option, Some, None, refl, sym, ap, subst}
 use Rattle.guest_memory.specs.Memory.{put, put_pair}
-use Rattle.safety.proofs.Words.{cond_both, none-some, same_Some, option_map, Block, code, slot, endpoint, pointer, is_success, is_halting, is_trb_error, is_stopping, Spot, number, after, RingView, RingChange, Reaches, Holds, changed, ceiling, named, stopped_number, target, Command, EndpointState, Halted, Error, Stopped, is_off, Change, SlotGoesOn, DeviceLeft, Disables, Places, Stops, Resets, Header, Ring, shape_of, command_id, event_shape, event_size, ring_having, Known, RingSpot, on_ring, spot_on, event_at, passed, broken_off, stopped_at, transferred, transferred_at, transfer_read, set_to, bound_to, moved_to, moved, pointed, disabled, in_state, held_at_ceiling, changed_by, changed_by_all}
+use Rattle.safety.proofs.Words.{cond_both, none-some, same_Some, option_map, Block, code, slot, endpoint, pointer, is_success, is_halting, is_trb_error, is_stopping, Spot, number, after, RingView, RingChange, Reaches, Holds, changed, ceiling, named, stopped_number, target, Command, EndpointState, Halted, Error, Stopped, is_off, Change, Disables, Places, Stops, Header, Ring, shape_of, command_id, event_shape, event_size, ring_having, Known, RingSpot, on_ring, spot_on, event_at, passed, broken_off, stopped_at, transferred, transferred_at, transfer_read, set_to, bound_to, moved_to, moved, pointed, disabled, in_state, held_at_ceiling, changed_by, changed_by_all}
 
 module _ (h : Header) (rings : List Ring) (over : (ℕ → RingView) → ℕ → RingView) (Kept : ℕ → Type 0) where
   abbrev g : Header
@@ -158,14 +158,11 @@ module _ (h : Header) (rings : List Ring) (over : (ℕ → RingView) → ℕ →
 
     change_alike : (c : Command) (k : Known) (change : Change) → HasKept k → ChangeAlike k change → changed_by g c (other k) change ≡ other (changed_by h c k change)
     unfolding changed_by disabled in_state
-    change_alike c k (SlotGoesOn s) kept may = refl
-    change_alike c k (DeviceLeft s) kept may = refl
-    change_alike c k (Disables s which) kept may = refl
     change_alike c k (Places s i p cycle state) kept may =
         let m = pointed_alike k s i p cycle kept may in
         λ j. record (m j) { endpoint_state = put_pair (m j).endpoint_state s i state; must_move = put_pair k.must_move s i false }
     change_alike c k (Stops s i) kept may = held_alike (in_state h k s i Stopped) (k.ring_of s i) (kept s i)
-    change_alike c k (Resets s i) kept may = refl
+    change_alike c k _ kept may = refl
 
     -- ---- endpoints have kept rings still
 
@@ -199,13 +196,11 @@ module _ (h : Header) (rings : List Ring) (over : (ℕ → RingView) → ℕ →
 
     change_has : (c : Command) (k : Known) (change : Change) → HasKept k → ChangeAlike k change → HasKept (changed_by h c k change)
     unfolding changed_by disabled in_state
-    change_has c k (SlotGoesOn s) kept may = kept
-    change_has c k (DeviceLeft s) kept may = kept
     change_has c k (Disables s which) kept may = λ t n x at.
         cond_both (t == s && which n) None (k.ring_of t n) (λ q. q ≡ Some x → Kept x) (λ here is. absurd (none-some x is)) (λ apart is. kept t n x is) at
     change_has c k (Places s i p cycle state) kept may = pointed_has k s i p cycle kept may
     change_has c k (Stops s i) kept may = λ t n x at. kept t n x (ap (λ f. f t n) (sym (held_has (in_state h k s i Stopped) (k.ring_of s i))) ∙ at)
-    change_has c k (Resets s i) kept may = kept
+    change_has c k _ kept may = kept
 
     pub changes_alike : (c : Command) (changes : List Change) (k : Known) → HasKept k → ChangesAlike c k changes →
         (changed_by_all g c (other k) changes ≡ other (changed_by_all h c k changes)) × HasKept (changed_by_all h c k changes)

@@ -102,7 +102,7 @@ module _ (h : Header) (is : IsHeader h) (k : Known) (d : DriverKeeps h k) (id : 
   -- ---- an event
 
   rings_same : KeepsRings h h.rings (cleared id) (Other id)
-  rings_same = search (rules, cleared, cleared_apart, cleared_put, no_command)
+  rings_same = search (rules, cleared_apart, cleared_put, no_command)
 
   binds_same : BindsAlike h h.rings (cleared id) (Other id) rings_same k
   binds_same p c u i b l = (refl, not_bound (get_or (binds h k c) i b).pointer)

@@ -1,7 +1,7 @@
 -- A ring that goes: what a driver keeps it keeps still
 use Rattle.std.proofs.Common.{◌≡◌, ◌≢◌, ◌<◌, ◌==◌, ◌&&◌, ◌||◌, ◌∷◌, ◌∙◌, ℕ, not, Bool, true, false, List, [], Option, Some, None, find, filter, get_or, length, nat_lt, arith, refl, sym, ap, subst, inl, inr, eqb-true, eq-eqb, ne_eqb, rules}
 use Rattle.guest_memory.specs.Memory.{put}
-use Rattle.safety.proofs.Words.{list_all, and_from, is_shape, may_stand_together, Block, World, Stands, FreeRing, state_of, Agrees, Cmd, Evt, Xfer, RingKind, same_Some, cases_Bool, cases_eq, list_any, list_any_at, range_with_len, cond-true, cond-false, false≢true, false_from_ne_true, none-some, not-false, not_from_false, not-true, or_parts, is_inside, place_count, RingView, RingKeeps, Command, device_context_bytes, input_context_bytes, Header, Ring, IsHeader, is_command_kind, is_event_kind, is_transfer_kind, is_ring, ring_with, shape_of, shape_or, command_ring, command_id, event_ring, event_shape, event_size, ring_having, id_of, id_or_none, touches_ring, Known, entry_of, Binding, binds, ring_bound, binds_ring, is_being_bound, any_of, from_filter, some_of, IsIn, is_transfer_ring, IsDriverRing, IsTransferRing, IsUnfinished, DriverKeeps}
+use Rattle.safety.proofs.Words.{list_all, and_from, is_shape, may_stand_together, Block, World, Stands, FreeRing, state_of, Agrees, Evt, Xfer, RingKind, same_Some, cases_Bool, cases_eq, list_any, list_any_at, range_with_len, cond-true, cond-false, false≢true, false_from_ne_true, none-some, not-false, not_from_false, not-true, or_parts, is_inside, place_count, RingView, RingKeeps, Command, device_context_bytes, input_context_bytes, Header, Ring, IsHeader, is_command_kind, is_event_kind, is_transfer_kind, is_ring, ring_with, shape_of, shape_or, command_ring, command_id, event_ring, event_shape, event_size, ring_having, id_of, id_or_none, touches_ring, Known, entry_of, Binding, binds, ring_bound, binds_ring, is_being_bound, any_of, from_filter, some_of, IsIn, is_transfer_ring, IsDriverRing, IsTransferRing, IsUnfinished, DriverKeeps}
 use Rattle.segments.specs.Places.{touches}
 use Rattle.segments.specs.RingView.{new_ring}
 use Rattle.safety.proofs.Areas.{context_lies}
@@ -61,14 +61,12 @@ module _ (p keep : Ring → Bool) where
       false≢true (sym none ∙ any_of p rs q.0 (from_filter keep rs q.0 q.1).0 q.2))
 
 transfer_no_command : (kind : RingKind) → is_transfer_kind kind ≡ true → is_command_kind kind ≡ false
-transfer_no_command Cmd t = absurd (false≢true t)
-transfer_no_command Evt t = absurd (false≢true t)
 transfer_no_command Xfer t = refl
+transfer_no_command _ t = absurd (false≢true t)
 
 transfer_no_event : (kind : RingKind) → is_transfer_kind kind ≡ true → is_event_kind kind ≡ false
-transfer_no_event Cmd t = absurd (false≢true t)
-transfer_no_event Evt t = absurd (false≢true t)
 transfer_no_event Xfer t = refl
+transfer_no_event _ t = absurd (false≢true t)
 
 module _ (h : Header) (is : IsHeader h) (k : Known) (d : DriverKeeps h k) (id : ℕ) (good : is_bad_free h k id ≡ false) where
   abbrev keep : Ring → Bool
@@ -133,7 +131,7 @@ module _ (h : Header) (is : IsHeader h) (k : Known) (d : DriverKeeps h k) (id : 
   view_same s other = cond-false (s == id) new_ring (k.ring s) (ne_eqb s id other)
 
   transfer_still : (s : ℕ) → s ≢ id → IsTransferRing h s → IsAsBefore h (filter keep h.rings) k views s
-  transfer_still s other ring = search (rules, filter, views, ring_same, shape_same, view_same)
+  transfer_still s other ring = search (rules, views, ring_same, shape_same, view_same)
 
   command_ring_same : command_ring g ≡ command_ring h
   unfolding command_ring

@@ -1,6 +1,6 @@
 -- What a driver keeps is kept where other rings are there, so long as those that endpoints and commands speak of are as they were
 use Rattle.std.proofs.Common.{◌≡◌, ◌≢◌, ◌≤◌, ◌+◌, ◌%◌, ◌^◌, ◌<◌, ◌&&◌, ◌||◌, ◌⊎◌, ◌∷◌, ◌∙◌, ℕ, not, Bool, true, false, List, [], map, All, Option, Some, None, nat_lt, option_and_then, slice_get, is_none, refl, sym, ap, subst, inl, inr, rules}
-use Rattle.safety.proofs.Words.{device_named, is_soiled, overlap, list_any-append, is_at_rest, drops, context_pointer, context_cycle, base_address, table_bytes, list_any, flat_map, false≢true, or_parts, or_from, cases_option, All-head, All-tail, All-cons, All-nil, RingView, is_inside, ceiling, floor_number, is_move, RingKeeps, Command, NoOp, EnableSlot, DisableSlot, AddressDevice, ConfigureEndpoint, EvaluateContext, ResetEndpoint, StopEndpoint, SetTrDequeue, ResetDevice, command_of, is_stop_of, named_slot, named_endpoint, named_context, device_context_bytes, input_context_bytes, Header, Ring, shape_of, command_id, event_shape, event_size, touches_ring, is_ring, Known, entry_of, command_at, next_command, may_be_taken, is_stopping_now, device_ranges, range_of_device, slots, covers, lease_start, lease_bytes, is_bad_area, Binding, binds, binding_in, ring_bound, binds_ring, has_repeats, is_placed, is_bad_dequeue, is_bad_move, IsDriverRing, IsTransferRing, IsUnfinished, was_stop_seen, CommandRingKeeps, CommandRingNamed, StatesKeep, Unstarted, DeviceKeeps, Stays, StaysIf, MovesIf, CommandKeeps, DriverKeeps}
+use Rattle.safety.proofs.Words.{device_named, is_soiled, overlap, list_any-append, is_at_rest, drops, context_pointer, context_cycle, base_address, table_bytes, list_any, flat_map, false≢true, or_parts, or_from, cases_option, All-head, All-tail, All-cons, All-nil, RingView, is_inside, ceiling, floor_number, is_move, RingKeeps, Command, AddressDevice, ConfigureEndpoint, StopEndpoint, SetTrDequeue, command_of, is_stop_of, named_slot, named_endpoint, named_context, device_context_bytes, input_context_bytes, Header, Ring, shape_of, command_id, event_shape, event_size, touches_ring, is_ring, Known, entry_of, command_at, next_command, may_be_taken, is_stopping_now, device_ranges, range_of_device, slots, covers, lease_start, lease_bytes, is_bad_area, Binding, binds, binding_in, ring_bound, binds_ring, has_repeats, is_placed, is_bad_dequeue, is_bad_move, IsDriverRing, IsTransferRing, IsUnfinished, was_stop_seen, CommandRingKeeps, CommandRingNamed, StatesKeep, Unstarted, DeviceKeeps, Stays, StaysIf, MovesIf, CommandKeeps, DriverKeeps}
 use Rattle.segments.specs.RingKeeps.{IsRestored}
 use Rattle.segments.specs.RingView.{new_ring}
 use Rattle.traces.specs.declared.register.Register.TheVariants.{Dcbaap}
@@ -24,16 +24,8 @@ module _ (h : Header) (rings : List Ring) (k : Known) (views : ℕ → RingView)
 
   pub stop_seen_same : (c : Command) → was_stop_seen l c ≡ was_stop_seen k c
   unfolding was_stop_seen
-  stop_seen_same (StopEndpoint s i) = search (rules, l)
-  stop_seen_same NoOp = search (rules, l)
-  stop_seen_same EnableSlot = search (rules, l)
-  stop_seen_same (DisableSlot s) = search (rules, l)
-  stop_seen_same (AddressDevice s bsr n) = search (rules, l)
-  stop_seen_same (ConfigureEndpoint s dc n) = search (rules, l)
-  stop_seen_same (EvaluateContext s n) = search (rules, l)
-  stop_seen_same (ResetEndpoint s i) = search (rules, l)
-  stop_seen_same (SetTrDequeue s i p cycle) = search (rules, l)
-  stop_seen_same (ResetDevice s) = search (rules, l)
+  stop_seen_same (StopEndpoint s i) = refl
+  stop_seen_same _ = refl
 
   -- ring r is there, with its shape and what was known of it
   pub record IsAsBefore (r : ℕ) : Type 0 where
@@ -150,7 +142,7 @@ module _ (h : Header) (rings : List Ring) (k : Known) (views : ℕ → RingView)
     context_good : (n : Option ℕ) → ((a : ℕ) → n ≡ Some a → touches_ring g a (input_context_bytes h.context_size) ≡ false) → commands.has_bad_context h k n ≡ false →
         commands.has_bad_context g l n ≡ false
     unfolding commands.has_bad_context is_soiled
-    context_good None apart good = search (rules, g, l, or_parts, or_from, area_same)
+    context_good None apart good = search rules
     context_good (Some a) apart good = search (rules, g, l, or_parts, or_from, area_same)
 
     -- an Address Device that is unfinished has its device context
@@ -164,15 +156,7 @@ module _ (h : Header) (rings : List Ring) (k : Known) (views : ℕ → RingView)
           | inr some ↦ ap (λ (a : Option ℕ). is_none a && (is_none (k.register Dcbaap) || commands.has_bad_entry g l s || commands.is_bad_device g l s n (device_named k s))) some.1
         ])
     content_good (ConfigureEndpoint s false n) device good = good
-    content_good (ConfigureEndpoint s true n) device good = refl
-    content_good NoOp device good = refl
-    content_good EnableSlot device good = refl
-    content_good (DisableSlot s) device good = refl
-    content_good (EvaluateContext s n) device good = refl
-    content_good (ResetEndpoint s i) device good = refl
-    content_good (StopEndpoint s i) device good = refl
-    content_good (SetTrDequeue s i p cycle) device good = refl
-    content_good (ResetDevice s) device good = refl
+    content_good _ device good = refl
 
     slot_same : (n : Option ℕ) → commands.names_disabled_slot l n ≡ commands.names_disabled_slot k n
     unfolding commands.names_disabled_slot
@@ -201,17 +185,8 @@ module _ (h : Header) (rings : List Ring) (k : Known) (views : ℕ → RingView)
 
     pub binds_same : (c : Command) → binds g l c ≡ binds h k c
     unfolding binds binding_in
-    binds_same (AddressDevice s bsr n) = search (rules, g, l)
-    binds_same (ConfigureEndpoint s false n) = search (rules, g, l)
-    binds_same (ConfigureEndpoint s true n) = search (rules, g, l)
-    binds_same NoOp = search (rules, g, l)
-    binds_same EnableSlot = search (rules, g, l)
-    binds_same (DisableSlot s) = search (rules, g, l)
-    binds_same (EvaluateContext s n) = search (rules, g, l)
-    binds_same (ResetEndpoint s i) = search (rules, g, l)
-    binds_same (StopEndpoint s i) = search (rules, g, l)
-    binds_same (SetTrDequeue s i p cycle) = search (rules, g, l)
-    binds_same (ResetDevice s) = search (rules, g, l)
+    binds_same (AddressDevice s bsr n) = refl
+    binds_same _ = refl
 
     -- a binding that is placed names a ring, and the same one
     one_placed : (b : Binding) → BindsAsBefore b → is_placed h k (ring_bound h b) b ≡ true → (ring_bound g b ≡ ring_bound h b) × (is_placed g l (ring_bound g b) b ≡ true)
@@ -245,7 +220,7 @@ module _ (h : Header) (rings : List Ring) (k : Known) (views : ℕ → RingView)
 
     dequeue_still : (q : Option ℕ) (p : ℕ) (cycle : Bool) → ((r : ℕ) → q ≡ Some r → IsAsBefore r) → is_bad_dequeue g l q p cycle ≡ is_bad_dequeue h k q p cycle
     unfolding is_bad_dequeue
-    dequeue_still None p cycle before = search (rules, g, l)
+    dequeue_still None p cycle before = search rules
     dequeue_still (Some r) p cycle before = search (rules, g, l)
 
     moves_still : (c : Command) → MovesIf h k c → MovesIf g l c
@@ -253,14 +228,7 @@ module _ (h : Header) (rings : List Ring) (k : Known) (views : ℕ → RingView)
     moves_still (SetTrDequeue s i p cycle) good =
         ap (λ b. not (is_at_rest (k.endpoint_state s i)) || b) (dequeue_still (k.ring_of s i) p cycle (λ r at. o.had s i r at)) ∙ good
     moves_still (AddressDevice s bsr n) good = tt
-    moves_still (ConfigureEndpoint s dc n) good = refl
-    moves_still NoOp good = refl
-    moves_still EnableSlot good = refl
-    moves_still (DisableSlot s) good = refl
-    moves_still (EvaluateContext s n) good = refl
-    moves_still (ResetEndpoint s i) good = refl
-    moves_still (StopEndpoint s i) good = refl
-    moves_still (ResetDevice s) good = refl
+    moves_still _ good = refl
 
     stays_still : (c : Command) → StaysIf h k c → StaysIf g l c
     stays_still (AddressDevice s bsr n) stays = λ r at.
@@ -270,43 +238,17 @@ module _ (h : Header) (rings : List Ring) (k : Known) (views : ℕ → RingView)
           here = (λ j. is_move (b.shape j) (b.view j) (context_pointer h.context_size k.memory n 1) (context_cycle h.context_size k.memory n 1) (floor_number (b.view j)) (floor_number (b.view j))) ∙ old.here;
           nothing = λ p low. ap (λ (v : RingView). v.given p) b.view ∙ old.nothing p (subst (λ (v : RingView). floor_number v ≤ p) b.view low);
         }
-    stays_still NoOp stays = tt
-    stays_still EnableSlot stays = tt
-    stays_still (DisableSlot s) stays = tt
-    stays_still (ConfigureEndpoint s dc n) stays = tt
-    stays_still (EvaluateContext s n) stays = tt
-    stays_still (ResetEndpoint s i) stays = tt
-    stays_still (StopEndpoint s i) stays = tt
-    stays_still (SetTrDequeue s i p cycle) stays = tt
-    stays_still (ResetDevice s) stays = tt
+    stays_still _ stays = tt
 
     drops_same : (c : Command) (s i : ℕ) → drops l c s i ≡ drops k c s i
     unfolding drops
-    drops_same (ConfigureEndpoint t false n) s i = search (rules, l)
-    drops_same (ConfigureEndpoint t true n) s i = search (rules, l)
-    drops_same (AddressDevice t bsr n) s i = search (rules, l)
-    drops_same NoOp s i = search (rules, l)
-    drops_same EnableSlot s i = search (rules, l)
-    drops_same (DisableSlot t) s i = search (rules, l)
-    drops_same (EvaluateContext t n) s i = search (rules, l)
-    drops_same (ResetEndpoint t j) s i = search (rules, l)
-    drops_same (StopEndpoint t j) s i = search (rules, l)
-    drops_same (SetTrDequeue t j p cycle) s i = search (rules, l)
-    drops_same (ResetDevice t) s i = search (rules, l)
+    drops_same (ConfigureEndpoint t false n) s i = refl
+    drops_same _ s i = refl
 
     streams_same : (c : Command) → commands.adds_streams g l c ≡ commands.adds_streams h k c
     unfolding commands.adds_streams commands.streams_in
-    streams_same (AddressDevice s bsr n) = search (rules, g, l)
-    streams_same (ConfigureEndpoint s false n) = search (rules, g, l)
-    streams_same (ConfigureEndpoint s true n) = search (rules, g, l)
-    streams_same NoOp = search (rules, g, l)
-    streams_same EnableSlot = search (rules, g, l)
-    streams_same (DisableSlot s) = search (rules, g, l)
-    streams_same (EvaluateContext s n) = search (rules, g, l)
-    streams_same (ResetEndpoint s i) = search (rules, g, l)
-    streams_same (StopEndpoint s i) = search (rules, g, l)
-    streams_same (SetTrDequeue s i p cycle) = search (rules, g, l)
-    streams_same (ResetDevice s) = search (rules, g, l)
+    streams_same (AddressDevice s bsr n) = refl
+    streams_same _ = refl
 
     command_keeps : (p : ℕ) (c : Command) → IsUnfinished h k p c → CommandKeeps g l p c
     command_keeps p c u =

@@ -102,4 +102,4 @@ module _ (h : Header) (rings : List Ring) (k : Known) (views : ℕ → RingView)
     }
 
     pub other_worlds_agree : (unread : List Block) → Agrees h k unread w → Agrees g l unread v
-    other_worlds_agree unread a = search (rules, g, l, v, stands_still, events_stand_still, matches_still)
+    other_worlds_agree unread a = search (rules, stands_still, events_stand_still, matches_still)

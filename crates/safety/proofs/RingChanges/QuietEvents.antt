@@ -25,7 +25,7 @@ module _ (h : Header) (r : ℕ) (change : RingChange) (quiet : IsQuiet change) w
 
   alike : (k : Known) → Alike EverySlot k (quieted k)
   unfolding on_ring
-  alike k = search (rules, quieted, quiet_alike, quiet_rings)
+  alike k = search (rules, quiet_alike, quiet_rings)
 
   -- ---- what an event reads
 

@@ -78,8 +78,7 @@ module _ (h : Header) (is : IsHeader h) (k : Known) (d : DriverKeeps h k) where
   moved_of : (o : Option Command) (r : ℕ) → ring_moved k o ≡ Some r → OfEndpoint r
   unfolding ring_moved
   moved_of (Some (SetTrDequeue s i p cycle)) r at = record { slot = s; index = i; has = at }
-  moved_of None r at = absurd (none-some r at)
-  moved_of (Some _) r at = absurd (none-some r at)
+  moved_of _ r at = absurd (none-some r at)
 
   restored_of : (row : Row) (r : ℕ) → ring_restored h k row ≡ Some r → OfEndpoint r
   unfolding ring_restored

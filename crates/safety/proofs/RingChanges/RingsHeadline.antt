@@ -40,7 +40,7 @@ module _ (h : Header) (is : IsHeader h) (k : Known) (keeps : DriverKeeps h k) wh
   law = row_runs h is (kept_driver h) (still_rings h) (square_law h) (more_law h)
 
   row_goes : (row : TraceRow) (w v : World) → FitsFields row → Runs h k w → IsKept h k row → row_made h w row ≡ Some v → Holds (header_after h row) (known_after h k row) (steps.counted h v)
-  row_goes (Plain row) w v is_row run kept at = search (rules, row_holds, law, row_keeps, restored_row_runs, row_comes, same_Some, withdraw_runs, comes_runs, goes_runs)
+  row_goes (Plain row) w v is_row run kept at = search (rules, row_holds, law, row_keeps, restored_row_runs, row_comes, same_Some)
   row_goes (Withdraws r p) w v is_row run kept at = search (rules, row_holds, law, row_keeps, restored_row_runs, row_comes, same_Some, withdraw_runs, comes_runs, goes_runs)
   row_goes (Comes b) w v coming run kept at = search (rules, row_holds, law, row_keeps, restored_row_runs, row_comes, same_Some, withdraw_runs, comes_runs, goes_runs)
   row_goes (Goes id) w v is_row run kept at = search (rules, row_holds, law, row_keeps, restored_row_runs, row_comes, same_Some, withdraw_runs, comes_runs, goes_runs)
@@ -76,12 +76,12 @@ running h w u o at = search (rules, none-some, cond-true)
 -- a step of the controller is made before a stop alone
 runs_on : (h : Header) (w u : World) (s : Step) → steps.made h w s ≡ Some u → (s ≡ NextRow → ⊥) → w.stopped ≡ false
 unfolding steps.made
-runs_on h w u NextRow at other = search (rules, running)
-runs_on h w u (Look r) at other = search (rules, running)
-runs_on h w u (Report b) at other = search (rules, running)
-runs_on h w u (Finish b) at other = search (rules, running)
-runs_on h w u (Other b) at other = search (rules, running)
-runs_on h w u (Scribble a x) at other = search (rules, running)
+runs_on h w u NextRow at other = absurd (other refl)
+runs_on h w u (Look r) at other = running h w u (looks.looked h w r) at
+runs_on h w u (Report b) at other = running h w u (posts.reported h w b) at
+runs_on h w u (Finish b) at other = running h w u (finishes.finished h w b) at
+runs_on h w u (Other b) at other = running h w u (posts.other_posted h w b) at
+runs_on h w u (Scribble a x) at other = running h w u (steps.scribbled h w a x) at
 
 -- a row that is kept isn't behind a stop
 row_off : (h : Header) (k : Known) (row : Row) → IsKept h k (Plain row) → k.stopped ≡ false
