@@ -1,6 +1,5 @@
 -- A Command Completion Event that is possible at one of two knowledges that are alike: it is possible at the other, and leaves both alike
-use Rattle.std.proofs.Common.{◌≡◌, ◌==◌, if◌then◌else◌, ℕ, true, false, List, Option, None, Some, arith, refl, sym, ap, subst, ltb-true, lt-ltb, rules}
-use Rattle.safety.proofs.Words.{false≢true, and_parts, and_from, or_parts, or_from, not-false, not_from_true, Block, code, slot, Spot, number, after, Reaches, ceiling, cases_option, Command, StopEndpoint, Change, changes, Header, Config, shape_of, command_id, register_or_zero, Known, on_ring, command_at, next_command, changed_by_all, succeeded, stop_ended, finished, completed, was_stop_seen, can_finish, may_be_taken, is_stopping_now, is_impossible_completion}
+use Rattle.safety.proofs.Words.{◌≡◌, ◌==◌, if◌then◌else◌, ℕ, true, false, List, Option, None, Some, arith, refl, sym, ap, subst, ltb-true, lt-ltb, rules, false≢true, and_parts, and_from, or_parts, or_from, not-false, not_from_true, Block, code, slot, Spot, number, after, Reaches, ceiling, cases_option, Command, StopEndpoint, Change, changes, Header, Config, shape_of, command_id, register_or_zero, Known, on_ring, command_at, next_command, changed_by_all, succeeded, stop_ended, finished, completed, was_stop_seen, can_finish, may_be_taken, is_stopping_now, is_impossible_completion}
 use Rattle.safety.proofs.Alike.{Alike, ceiling_more, reached_alike}
 use Rattle.safety.proofs.AlikeTransfers.{both_sides, seen_put}
 use Rattle.safety.proofs.AlikeChanges.{TargetsAre, changes_alike}

@@ -1,7 +1,6 @@
 -- Behind an event that is read before it, a command that a write gives names a slot and an endpoint that are there, and its contexts lie and
 -- say what they may
-use Rattle.std.proofs.Common.{◌≡◌, ◌==◌, ◌&&◌, ◌||◌, ◌∙◌, ℕ, not, false, [], Option, None, Some, refl}
-use Rattle.safety.proofs.Words.{MayCome, or_parts, or_from, Block, input_add_flag, Command, AddressDevice, ConfigureEndpoint, named_slot, named_endpoint, named_context, Header, Write, Read, IsHeader, Known, command_given, learned, lenient, DriverKeeps}
+use Rattle.safety.proofs.Words.{◌≡◌, ◌==◌, ◌&&◌, ◌||◌, ◌∙◌, ℕ, not, false, [], Option, None, Some, refl, MayCome, or_parts, or_from, Block, input_add_flag, Command, AddressDevice, ConfigureEndpoint, named_slot, named_endpoint, named_context, Header, Write, Read, IsHeader, Known, command_given, learned, lenient, DriverKeeps}
 use Rattle.ownership_rules.specs.Commands as commands
 use Rattle.safety.proofs.GivenBehind.{between, own_between, facts}
 use Rattle.safety.proofs.CommandContext.{context_behind}

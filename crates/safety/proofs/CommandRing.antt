@@ -1,6 +1,5 @@
 -- Where a command may be unfinished the header has a command ring
-use Rattle.std.proofs.Common.{◌≡◌, ℕ, true, Option, Some, None, find, arith, refl, ap, inl, inr}
-use Rattle.safety.proofs.Words.{Xfer, Spot, place_count, is_due, due_is, cases_option, Header, Ring, IsHeader, ring_with, shape_of, shape_or, command_ring, command_id, id_or_none, is_command_kind, IsDriverRing}
+use Rattle.safety.proofs.Words.{◌≡◌, ℕ, true, Option, Some, None, find, arith, refl, rules, Spot, place_count, is_due, due_is, cases_option, Header, Ring, IsHeader, shape_of, command_ring, command_id, id_or_none, is_command_kind, IsDriverRing}
 use Rattle.safety.proofs.RingsOfHeader.{found_passes}
 use Rattle.safety.proofs.RingIds.{found_again, together, none_has_256}
 use Rattle.safety.proofs.KeptRegisters.{command_drives}
@@ -8,11 +7,7 @@ use Rattle.safety.proofs.KeptRegisters.{command_drives}
 module _ (h : Header) (is : IsHeader h) where
   no_places : place_count (shape_of h 256) ≡ 0
   unfolding shape_of
-  no_places =
-      elim (cases_option (ring_with h 256)) [
-        | inl none ↦ ap (λ o. place_count (shape_or Xfer o)) none
-        | inr some ↦ absurd (none_has_256 h is some.0 some.1)
-      ]
+  no_places = search (rules, cases_option, none_has_256)
 
   due_by : (o : Option Ring) → find (λ q. is_command_kind q.shape.kind) h.rings ≡ o → (floor : Spot) (p : ℕ) → is_due (shape_of h (id_or_none o)) floor p ≡ true → IsDriverRing h (id_or_none o)
   due_by None none floor p due = let within = due_is (shape_of h 256) floor p due in absurd (omega (arith, within.0, within.1, no_places))

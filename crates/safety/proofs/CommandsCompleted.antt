@@ -1,6 +1,5 @@
 -- A completion keeps what is kept of the commands that stay unfinished
-use Rattle.std.proofs.Common.{◌≡◌, ◌≢◌, ◌==◌, if◌then◌else◌, ◌∙◌, ℕ, not, true, false, nat_lt, Option, None, Some, is_some, arith, refl, sym, ap, subst, inl, inr, ltb-true}
-use Rattle.safety.proofs.Words.{cases_Bool, cond-true, cond-false, or_parts, and_parts, not-false, false≢true, Block, code, slot, Spot, after, Reaches, ceiling, Command, NoOp, EnableSlot, DisableSlot, AddressDevice, ConfigureEndpoint, EvaluateContext, ResetEndpoint, StopEndpoint, SetTrDequeue, ResetDevice, exclude, SlotState, Disabled, named_slot, may_answer_slot, is_disabled, can_succeed, slot_success, Header, Config, IsHeader, shape_of, command_id, register_or_zero, Known, command_at, next_command, on_ring, succeeded, stop_ended, finished, completed, may_be_taken, can_finish, was_stop_seen, is_impossible_completion, IsDriverRing, IsUnfinished, DriverKeeps, CommandsKeep}
+use Rattle.safety.proofs.Words.{◌≡◌, ◌≢◌, ◌==◌, if◌then◌else◌, ◌∙◌, ℕ, not, true, false, nat_lt, Option, None, Some, is_some, arith, refl, sym, ap, subst, inl, inr, ltb-true, cases_Bool, cond-true, cond-false, or_parts, and_parts, not-false, false≢true, Block, code, slot, Spot, after, Reaches, ceiling, Command, NoOp, EnableSlot, DisableSlot, AddressDevice, ConfigureEndpoint, EvaluateContext, ResetEndpoint, StopEndpoint, SetTrDequeue, ResetDevice, exclude, SlotState, Disabled, named_slot, may_answer_slot, is_disabled, can_succeed, slot_success, Header, Config, IsHeader, shape_of, command_id, register_or_zero, Known, command_at, next_command, on_ring, succeeded, stop_ended, finished, completed, may_be_taken, can_finish, was_stop_seen, is_impossible_completion, IsDriverRing, IsUnfinished, DriverKeeps, CommandsKeep}
 use Rattle.ownership_rules.specs.Commands as commands
 use Rattle.safety.proofs.Headers.{ring_shape}
 use Rattle.safety.proofs.NoWait.{ceiling_given}

@@ -1,6 +1,5 @@
 -- A write keeps what is kept of unfinished commands, and of the command that it gives holds what was tested
-use Rattle.std.proofs.Common.{◌≡◌, ◌≢◌, ◌<◌, ◌∙◌, ℕ, not, Bool, true, false, [], None, Some, arith, refl, sym, ap, subst, inl, inr, eq-eqb, ◌||◌, ◌≤◌, ◌⊎◌, rules}
-use Rattle.safety.proofs.Words.{MovesRestored, command_given, list_any, or_parts, or_from, and_from, not_from_false, false≢true, false_from_ne_true, All-contains, Shape, RingView, Writes, changed, declared, floor_number, gives, positions_given, ceiling, is_not_declared, cases_option, gives_is, position_given, gives_one, move-writes, ceiling_held, Command, AddressDevice, is_off, is_at_rest, is_running, Header, Write, IsHeader, shape_of, command_id, is_ring, Known, unfinished, binds_ring, awaits_binding, is_being_bound, moves_ring, is_being_moved, crossings_given, crossing_given, gives_crossing, given_count, given_count_grows, step_more, GivesMore, is_placement, is_open, is_inside, address_inside, IsTransferRing, cases_Bool, or_cases, write_tests, lenient_tests, lenient, IsDriverRing, IsUnfinished, DriverKeeps, CommandsKeep, exclude}
+use Rattle.safety.proofs.Words.{◌≡◌, ◌≢◌, ◌<◌, ◌∙◌, ℕ, not, Bool, true, false, [], None, Some, arith, refl, sym, ap, subst, inl, inr, eq-eqb, ◌||◌, ◌≤◌, ◌⊎◌, rules, MovesRestored, command_given, list_any, or_parts, or_from, and_from, not_from_false, false≢true, false_from_ne_true, All-contains, Shape, RingView, Writes, changed, declared, floor_number, gives, positions_given, ceiling, is_not_declared, cases_option, gives_is, position_given, gives_one, move-writes, ceiling_held, Command, AddressDevice, is_off, is_at_rest, is_running, Header, Write, IsHeader, shape_of, command_id, is_ring, Known, unfinished, binds_ring, awaits_binding, is_being_bound, moves_ring, is_being_moved, crossings_given, crossing_given, gives_crossing, given_count, given_count_grows, step_more, GivesMore, is_placement, is_open, is_inside, address_inside, IsTransferRing, cases_Bool, or_cases, write_tests, lenient_tests, lenient, IsDriverRing, IsUnfinished, DriverKeeps, CommandsKeep, exclude}
 use Rattle.ownership_rules.specs.Commands as commands
 use Rattle.safety.proofs.TestsPassed.{AllFail, tests_fail}
 use Rattle.safety.proofs.RingsOfHeader.{has_ring}

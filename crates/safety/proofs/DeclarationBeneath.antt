@@ -1,6 +1,5 @@
 -- A declaration beneath an event that isn't read yet: the two may change places
-use Rattle.std.proofs.Common.{◌≡◌, ◌+◌, ◌-◌, ◌≤◌, ◌<◌, ◌++◌, ◌∷◌, ◌∙◌, ℕ, Bool, true, false, List, [], length, Some, option_and_then, slice_get, arith, refl, sym, ap, subst, length-append, ltb-true, ltb-false, le-ltb, rules}
-use Rattle.safety.proofs.Words.{cond-false, none-some, slice_get_within, Block, RingView, Declares, changed, declared, floor_number, place_count, ceiling, has_no_room, cases_option, slice_get-append, Command, command_of, Header, Sub, Read, IsHeader, shape_of, command_id, Known, on_ring, command_at, next_command, learned, declaration_tests, may_be_taken, broken_of, NotDeclared, RingFull, BadDescriptor, NotInProfile, lenient_tests, lenient, DriverKeeps, IsUnfinished, IsHeldMore, HeldMore, Square}
+use Rattle.safety.proofs.Words.{◌≡◌, ◌+◌, ◌-◌, ◌≤◌, ◌<◌, ◌++◌, ◌∷◌, ◌∙◌, ℕ, Bool, true, false, List, [], length, Some, option_and_then, slice_get, arith, refl, sym, ap, subst, length-append, ltb-true, ltb-false, le-ltb, rules, cond-false, none-some, slice_get_within, Block, RingView, Declares, changed, declared, floor_number, place_count, ceiling, has_no_room, cases_option, slice_get-append, Command, command_of, Header, Sub, Read, IsHeader, shape_of, command_id, Known, on_ring, command_at, next_command, learned, declaration_tests, may_be_taken, broken_of, NotDeclared, RingFull, BadDescriptor, NotInProfile, lenient_tests, lenient, DriverKeeps, IsUnfinished, IsHeldMore, HeldMore, Square}
 use Rattle.safety.proofs.TestsPassed.{clean_tests, tests_fail}
 use Rattle.safety.proofs.Headers.{transfer_driver}
 use Rattle.safety.proofs.CleanRows.{EventFacts, event_facts}

@@ -1,6 +1,5 @@
 -- A write keeps what is kept of device contexts under lease, and of the one that it takes holds what was tested
-use Rattle.std.proofs.Common.{◌≡◌, ◌≢◌, ◌+◌, ◌*◌, ◌^◌, ◌<◌, ◌≤◌, ◌==◌, ◌&&◌, ◌⊎◌, ◌∙◌, ℕ, not, true, false, List, [], Contains, nat_le, nat_lt, Option, Some, None, is_some, option_and_then, slice_get, unwrap_or, arith, refl, sym, ap, subst, inl, inr, lt-ltb, le-leb, ne_eqb, rules}
-use Rattle.safety.proofs.Words.{cases_lt, and_left, and_from, or_from, or_left, or_right, false≢true, not_from_false, none-some, same_Some, slice_get_within, get_or_from_slice_get, Block, is_in, is_inside, overlap, positions_given, cases_option, address_inside, gives_is, position_given_is, put_elsewhere, Command, command_of, named_slot, device_context_bytes, Header, Dcbaap, Erstba, Write, IsHeader, shape_of, command_id, touches_ring, Known, command_at, device_named, entry_of, command_given, is_soiled, lenient, IsDriverRing, DeviceKeeps, DriverKeeps, DevicesKeep}
+use Rattle.safety.proofs.Words.{◌≡◌, ◌≢◌, ◌+◌, ◌*◌, ◌^◌, ◌<◌, ◌≤◌, ◌==◌, ◌&&◌, ◌⊎◌, ◌∙◌, ℕ, not, true, false, List, [], Contains, nat_le, nat_lt, Option, Some, None, is_some, option_and_then, slice_get, unwrap_or, arith, refl, sym, ap, subst, inl, inr, lt-ltb, le-leb, ne_eqb, rules, is_in-parts, cases_lt, and_left, and_from, or_from, or_left, or_right, false≢true, not_from_false, none-some, same_Some, slice_get_within, get_or_from_slice_get, Block, is_in, is_inside, overlap, positions_given, cases_option, address_inside, gives_is, position_given_is, put_elsewhere, Command, command_of, named_slot, device_context_bytes, Header, Dcbaap, Erstba, Write, IsHeader, shape_of, command_id, touches_ring, Known, command_at, device_named, entry_of, command_given, is_soiled, lenient, IsDriverRing, DeviceKeeps, DriverKeeps, DevicesKeep}
 use Rattle.safety.proofs.Headers.{ring_shape}
 use Rattle.safety.proofs.CommandRing.{due_has_ring}
 use Rattle.safety.proofs.Areas.{clean_word}
@@ -12,7 +11,6 @@ use Rattle.safety.proofs.WrittenKnown.{command_slot_low, after_write, taken, wri
 use Rattle.safety.proofs.Writing.{not_the_controllers}
 use Rattle.safety.proofs.WriteBeside.{rules_of, word_stays}
 use Rattle.safety.proofs.DeviceFrames.{entry_same}
-use Rattle.segments.proofs.PlaceAtLemmas.{is_in-parts}
 
 named_from : (k l : Known) (s : ℕ) → l.register Dcbaap ≡ k.register Dcbaap → ((x : ℕ) → entry_of k s ≤ x → x < entry_of k s + 8 → l.memory x ≡ k.memory x) → device_named l s ≡ device_named k s
 unfolding device_named entry_of

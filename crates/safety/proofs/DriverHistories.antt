@@ -1,6 +1,5 @@
 -- A clean history keeps what a driver keeps
-use Rattle.std.proofs.Common.{◌≡◌, ◌∷◌, ◌∙◌, false, List, [], ap}
-use Rattle.safety.proofs.Words.{Block, kind, Header, Row, IsHeader, Read, World, Known, learned, known, IsLenient, DriverKeeps, KeptByRestoring, command_id, lenient, ArePossible, Runs, all_read}
+use Rattle.safety.proofs.Words.{◌≡◌, ◌∷◌, ◌∙◌, false, List, [], ap, Block, kind, Header, Row, IsHeader, Read, World, Known, learned, known, IsLenient, DriverKeeps, KeptByRestoring, command_id, lenient, ArePossible, Runs, all_read}
 use Rattle.safety.proofs.SameDriver.{event_same}
 use Rattle.safety.proofs.TestsPassed.{clean_tests}
 use Rattle.safety.proofs.KeptCommandRing.{kept_crcr, kept_crcr_written, kept_sized, kept_erstsz_written}

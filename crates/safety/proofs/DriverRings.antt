@@ -1,6 +1,5 @@
 -- The rings and endpoints of what a driver keeps, as the laws of rings take them
-use Rattle.std.proofs.Common.{◌≡◌, ◌∙◌, ℕ, true, Option, Some, None, refl, ap}
-use Rattle.safety.proofs.Words.{false≢true, Header, Ring, ring_with, is_transfer_kind, Known, is_driver_ring}
+use Rattle.safety.proofs.Words.{◌≡◌, ◌∙◌, ℕ, true, Option, Some, None, refl, ap, false≢true, Header, Ring, ring_with, is_transfer_kind, Known, is_driver_ring}
 use Rattle.safety.specs.Keeps as keeps
 use Rattle.safety.specs.RingsKeep as rings
 use Rattle.safety.specs.EndpointsKeep as endpoints

@@ -1,6 +1,5 @@
 -- How far a written ERDP takes the dequeue pointer
-use Rattle.std.proofs.Common.{◌≡◌, ◌+◌, ◌%◌, ◌<◌, ◌∷◌, List, [], length, slice_index, mod-lt, ◌≤◌, ◌==◌, ◌⊎◌, ◌∙◌, ℕ, suc, zero, Bool, true, false, nat_lt, Option, Some, find, unwrap_or, is_some, arith, sym, ap, inl, inr, rules}
-use Rattle.safety.proofs.Words.{and_cases, not-false, not-true, erdp_address, Header, Erdp, event_shape, Known, is_bad_erdp, may_pass, names_no_place, or_left, or_right, data_places, is_event_place, list_any, range_with_len, cases_Bool, cond-true, cond-false, and_parts, or_cases, false≢true, none-some, same_Some, Shape, place_count, address_of, cases_option, position_from, is_reached_within}
+use Rattle.safety.proofs.Words.{◌≡◌, ◌+◌, ◌%◌, ◌<◌, ◌∷◌, List, [], length, slice_index, mod-lt, ◌≤◌, ◌==◌, ◌⊎◌, ◌∙◌, ℕ, suc, zero, Bool, true, false, nat_lt, Option, Some, find, unwrap_or, is_some, arith, sym, ap, inl, inr, rules, and_cases, not-false, not-true, erdp_address, Header, Erdp, event_shape, Known, is_bad_erdp, may_pass, names_no_place, or_left, or_right, data_places, is_event_place, list_any, range_with_len, cases_Bool, cond-true, cond-false, and_parts, or_cases, false≢true, none-some, same_Some, Shape, place_count, address_of, cases_option, position_from, is_reached_within}
 
 -- what is found in a range lies in it
 found_from : (test : ℕ → Bool) (a n q : ℕ) → find test (range_with_len a n) ≡ Some q → (a ≤ q) × (q < a + n)

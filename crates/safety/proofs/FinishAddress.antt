@@ -1,6 +1,5 @@
 -- The controller finishes an Address Device with success: the run goes on
-use Rattle.std.proofs.Common.{◌≡◌, ◌<◌, ◌≤◌, ◌==◌, ◌∷◌, ◌∙◌, ℕ, Bool, true, false, [], Some, arith, refl, sym, ap, subst, inl, inr, rules}
-use Rattle.safety.proofs.Words.{cases_Bool, cases_lt, false≢true, Block, IsBlock, code, slot, Shape, IsShape, RingView, floor_number, given_count, RingKeeps, cases_option, given_below, step_is, floor_given, given_count_declared, ceiling_within, Command, AddressDevice, Running, command_of, SlotGoesOn, Places, changes, is_off, context_pointer, context_cycle, Header, IsHeader, shape_of, World, UnderWay, counted, Known, next_command, DriverKeeps, CommandKeeps, Stays, Stands, Runs, all_read}
+use Rattle.safety.proofs.Words.{◌≡◌, ◌<◌, ◌≤◌, ◌==◌, ◌∷◌, ◌∙◌, ℕ, Bool, true, false, [], Some, arith, refl, sym, ap, subst, inl, inr, rules, cases_Bool, cases_lt, false≢true, Block, IsBlock, code, slot, Shape, IsShape, RingView, floor_number, given_count, RingKeeps, cases_option, given_below, step_is, floor_given, given_count_declared, ceiling_within, Command, AddressDevice, Running, command_of, SlotGoesOn, Places, changes, is_off, context_pointer, context_cycle, Header, IsHeader, shape_of, World, UnderWay, counted, Known, next_command, DriverKeeps, CommandKeeps, Stays, Stands, Runs, all_read}
 use Rattle.controller_model.specs.Bindings as bindings
 use Rattle.controller_model.specs.Finishes as finishes
 use Rattle.ring_knowledge.specs.Completions as completions

@@ -1,6 +1,5 @@
 -- An event moves no floor back, and concerns no ring but those of the driver
-use Rattle.std.proofs.Common.{◌≡◌, ◌+◌, ◌≤◌, ◌⊎◌, ◌∷◌, ℕ, Bool, List, [], Option, None, Some, arith, refl, ap, inl, eqb-true, rules}
-use Rattle.safety.proofs.Words.{cond_both, Block, pointer, code, slot, endpoint, Spot, number, after, RingView, RingChange, Reaches, Holds, changed, floor_number, ceiling, target, IsAhead, named_ahead, target_ahead, number-after, Command, StopEndpoint, EndpointState, Stopped, is_off, Change, SlotGoesOn, DeviceLeft, Disables, Places, Stops, Resets, changes, Header, IsHeader, shape_of, command_id, ring_having, Known, RingSpot, on_ring, event_at, next_command, passed, broken_off, stopped_at, transferred, transferred_at, transfer_read, set_to, bound_to, moved_to, moved, pointed, disabled, in_state, held_at_ceiling, changed_by, changed_by_all, succeeded, stop_ended, finished, completed, EndpointsKeep, RingsKeep, MayChange, MayChangeAll, MayFinish}
+use Rattle.safety.proofs.Words.{◌≡◌, ◌+◌, ◌≤◌, ◌⊎◌, ◌∷◌, ℕ, Bool, List, [], Option, None, Some, arith, refl, ap, inl, eqb-true, rules, cond_both, Block, pointer, code, slot, endpoint, Spot, number, after, RingView, RingChange, Reaches, Holds, changed, floor_number, ceiling, target, IsAhead, named_ahead, target_ahead, number-after, Command, StopEndpoint, EndpointState, Stopped, is_off, Change, SlotGoesOn, DeviceLeft, Disables, Places, Stops, Resets, changes, Header, IsHeader, shape_of, command_id, ring_having, Known, RingSpot, on_ring, event_at, next_command, passed, broken_off, stopped_at, transferred, transferred_at, transfer_read, set_to, bound_to, moved_to, moved, pointed, disabled, in_state, held_at_ceiling, changed_by, changed_by_all, succeeded, stop_ended, finished, completed, EndpointsKeep, RingsKeep, MayChange, MayChangeAll, MayFinish}
 use Rattle.safety.specs.EndpointsKeep.{IsTransferRing}
 use Rattle.safety.specs.RingsKeep.{IsDriverRing}
 use Rattle.safety.proofs.DriverRows.{ring_here, ring_elsewhere}

@@ -1,6 +1,5 @@
 -- A clean history keeps what the rules keep of each ring
-use Rattle.std.proofs.Common.{◌≡◌, ◌&&◌, ◌||◌, ◌==◌, ◌∷◌, not, true, false, List, [], refl}
-use Rattle.safety.proofs.Words.{or_parts, not-false, Block, BlockKind, TransferEvent, CommandCompletion, kind, cycle, is_transfer_event, is_command_completion, is_event, cycle_of, Header, Row, Sub, Write, Reg, Bell, Read, IsHeader, event_shape, Known, event_read, learned, known, is_in_profile, is_impossible_by_kind, is_past_room, is_impossible, event_tests, lenient_tests, lenient, IsLenient, command_id, IsRestored, MayCome, RingsKeep, RingsKept, EndpointsKeep, MayFinish, MayRead, MayReadAll}
+use Rattle.safety.proofs.Words.{◌≡◌, ◌&&◌, ◌||◌, ◌==◌, ◌∷◌, not, true, false, List, [], refl, or_parts, not-false, Block, BlockKind, TransferEvent, CommandCompletion, kind, cycle, is_transfer_event, is_command_completion, is_event, cycle_of, Header, Row, Sub, Write, Reg, Bell, Read, IsHeader, event_shape, Known, event_read, learned, known, is_in_profile, is_impossible_by_kind, is_past_room, is_impossible, event_tests, lenient_tests, lenient, IsLenient, command_id, IsRestored, MayCome, RingsKeep, RingsKept, EndpointsKeep, MayFinish, MayRead, MayReadAll}
 use Rattle.safety.proofs.TestsPassed.{AllFail, tests_fail}
 use Rattle.safety.proofs.NothingFree.{nothing_free, may_come}
 use Rattle.safety.proofs.DriverRows.{stands, same_keeps, nothing_keeps, declared_keeps, written_keeps, register_keeps, rung_keeps}

@@ -1,6 +1,5 @@
 -- The controller looks at the command ring: it waits, follows a Link, or takes the next command
-use Rattle.std.proofs.Common.{◌≡◌, ◌≢◌, ◌+◌, ◌==◌, ◌&&◌, ◌||◌, ◌⊎◌, ◌∙◌, ℕ, Bool, true, false, not, List, Option, Some, None, is_some, slice_get, arith, refl, sym, ap, subst, inl, inr, eq-eqb, eqb-true}
-use Rattle.safety.proofs.Words.{false≢true, cond-true, and_cases, or_cases, same_Some, Block, with_cycle, Spot, Data, Link, address_of, cycle_of, is_inside, after, cycle_of_bit, Command, AddressDevice, StopEndpoint, command_of, Header, IsHeader, shape_of, command_id, World, UnderWay, seen_by_look, crossed, taken, taken_on, command_begun, may_scribble, counted, Known, next_command, was_stop_seen, IsDriverRing, IsUnfinished, DriverKeeps, RingState, state_of, RingMatches, CommandMatches, UnderWayMatches, TakenCommand, Agrees}
+use Rattle.safety.proofs.Words.{◌≡◌, ◌≢◌, ◌==◌, ◌&&◌, ◌||◌, ◌⊎◌, ◌∙◌, ℕ, Bool, true, false, not, List, Option, Some, None, is_some, slice_get, arith, refl, sym, ap, subst, inl, inr, eq-eqb, eqb-true, rules, false≢true, cond-true, and_cases, or_cases, same_Some, Block, Spot, Data, Link, address_of, is_inside, cycle_of_bit, Command, AddressDevice, StopEndpoint, command_of, Header, IsHeader, shape_of, command_id, World, UnderWay, seen_by_look, crossed, taken, taken_on, command_begun, may_scribble, counted, Known, next_command, was_stop_seen, IsDriverRing, IsUnfinished, DriverKeeps, RingState, state_of, RingMatches, CommandMatches, UnderWayMatches, TakenCommand, Agrees}
 use Rattle.safety.proofs.SameCommand.{command_of-with_cycle}
 use Rattle.safety.proofs.SafeContext.{AtFloor, at_floor, command_is_ring, command_at_is}
 use Rattle.safety.proofs.OnlyRing.{OnlyRing, matches_command}
@@ -68,12 +67,8 @@ only_begins h w = only_begun h w (command_id h) (taken_on h (seen_by_look h w (c
     (w.pointer_of (command_id h)) (seen w (command_id h)) (only_taken h w (command_id h) (seen w (command_id h)))
 
 no_one : (o : Option UnderWay) (c : ℕ) → (c == c && is_some o) ≡ false → o ≡ None
-no_one None c free = refl
-no_one (Some u) c free =
-    elim (and_cases (c == c) true free) [
-      | inl other ↦ absurd (false≢true (sym other ∙ eq-eqb c c refl))
-      | inr none ↦ absurd (false≢true (sym none))
-    ]
+no_one None c free = search rules
+no_one (Some u) c free = search (rules, is_some, and_cases, false≢true, eq-eqb)
 
 module _ (h : Header) (is : IsHeader h) (k : Known) (unread : List Block) (w : World) (d : DriverKeeps h k) (g : Agrees h k unread w) (on : k.started ≡ true) where
   ring : IsDriverRing h (command_id h)
@@ -121,13 +116,7 @@ module _ (h : Header) (is : IsHeader h) (k : Known) (unread : List Block) (w : W
     pointer_here = (subst (λ t. RingMatches (shape_of h (command_id h)) (k.ring (command_id h)) (state_of w (command_id h)) t) x.was c.ring).pointer
 
     taken_command : TakenCommand h k (record { address = w.pointer_of (command_id h); block = seen w (command_id h); has_stopped = false })
-    taken_command = record {
-      address = pointer_here ∙ ap (λ n. address_of (shape_of h (command_id h)) n) here;
-      words = λ b at.
-          let same : x.block.block ≡ b = same_Some x.block.block b (sym x.block.queued ∙ ap (λ n. slice_get (k.ring (command_id h)).queue n) here ∙ at) in
-          x.found ∙ x.block.stands ∙ ap (λ n. with_cycle x.block.block (cycle_of (shape_of h (command_id h)) n)) here ∙ ap (λ e. with_cycle e (cycle_of (shape_of h (command_id h)) (next_command h k))) same;
-      stopped = λ e at. sym (not_seen k e none_before.1);
-    }
+    taken_command = search (rules, seen, pointer_here, here, same_Some, slice_get, ring, not_seen, none_before)
 
     -- it is unfinished, so what its giving asked for still holds
     floor : AtFloor h k
@@ -151,16 +140,9 @@ module _ (h : Header) (is : IsHeader h) (k : Known) (unread : List Block) (w : W
         ]
 
     command_takes : Agrees h k unread (counted h (begun h w))
-    command_takes =
-        command_now (begun h w) (behind_block h w (command_id h) (seen w (command_id h))) (after (shape_of h (command_id h)) x.number) (only_begins h w) x.matches
-        (subst (λ o. UnderWayMatches h k (after (shape_of h (command_id h)) x.number) o) (sym (begun_under_way h w))
-        (number_after (shape_of h (command_id h)) x.number ∙ ap (λ n. n + 1) here, taken_command))
-        may_still (begun_outside h w)
+    command_takes = search (rules, command_now, only_begins, begun_under_way, number_after, here, taken_command, may_still, begun_outside)
 
   pub command_looks : (v : World) → w.is_active (command_id h) ≡ true → LookEnds h w v (command_id h) → Agrees h k unread (counted h v)
-  command_looks v active (inl waits) = subst (λ u. Agrees h k unread (counted h u)) waits.is command_waits
-  command_looks v active (inr (inl link)) =
-      subst (λ u. Agrees h k unread (counted h u)) link.is (command_crosses (cross_done h is k w d g.stands (command_id h) ring c.spot c.ring active link.cycle_is link.link))
-  command_looks v active (inr (inr block)) =
-      subst (λ u. Agrees h k unread (counted h u)) (sym (begun_is h w) ∙ block.is)
-      (command_takes (take_done h is k w d g.stands (command_id h) ring c.spot c.ring active block.cycle_is block.link) (no_one w.under_way (command_id h) block.free))
+  command_looks v active (inl waits) = search (rules, command_waits, command_crosses, cross_done, ring, c, begun_is, command_takes, take_done, no_one)
+  command_looks v active (inr (inl link)) = search (rules, command_waits, command_crosses, cross_done, ring, c, begun_is, command_takes, take_done, no_one)
+  command_looks v active (inr (inr block)) = search (rules, command_waits, command_crosses, cross_done, ring, c, begun_is, command_takes, take_done, no_one)

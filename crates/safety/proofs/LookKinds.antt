@@ -1,6 +1,5 @@
 -- The three ways in which a look ends, and what each changes
-use Rattle.std.proofs.Common.{◌≡◌, ◌≢◌, ◌+◌, ◌-◌, ◌%◌, ◌^◌, ◌==◌, ◌&&◌, ◌⊎◌, if◌then◌else◌, ◌∷◌, ℕ, Bool, true, false, List, Some, None, is_some, refl, inl, inr, cond, eq-eqb, ne_eqb, eqb-true, rules}
-use Rattle.safety.proofs.Words.{cond-true, cond-false, not-false, same_Some, put, Block, is_set, aligned, block_at, cycle, kind, pointer, word, is_link, declared_at, Header, command_id, shape_of, World, RingEvent, Took, next_take, looked, looked_at, seen_by_look, crossed, taken, taken_on, command_begun, RingState, state_of}
+use Rattle.safety.proofs.Words.{◌≡◌, ◌≢◌, ◌+◌, ◌-◌, ◌%◌, ◌^◌, ◌==◌, ◌&&◌, ◌⊎◌, if◌then◌else◌, ◌∷◌, ℕ, Bool, true, false, List, Some, None, is_some, refl, inl, inr, cond, eq-eqb, ne_eqb, eqb-true, rules, cond-true, cond-false, not-false, same_Some, put, Block, is_set, aligned, block_at, cycle, kind, pointer, word, is_link, declared_at, Header, command_id, shape_of, World, RingEvent, Took, next_take, looked, looked_at, seen_by_look, crossed, taken, taken_on, command_begun, RingState, state_of}
 use Rattle.world_state.specs.Takes as of_takes
 use Rattle.safety.proofs.OnlyRing.{OnlyRing}
 

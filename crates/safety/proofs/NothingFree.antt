@@ -1,6 +1,5 @@
 -- No row of a trace makes anything free: so nothing is free behind any history of rows, and each row restores what it has to
-use Rattle.std.proofs.Common.{◌≡◌, ◌==◌, ◌&&◌, ◌||◌, if◌then◌else◌, ◌∷◌, ◌∙◌, ℕ, not, true, List, [], Option, None, Some, option_and_then, refl, sym, ap}
-use Rattle.safety.proofs.Words.{cond_both, no_flips, Block, Declares, Opens, IsRestored, Header, Register, Usbcmd, Row, Sub, Write, Reg, Bell, Read, IsHeader, shape_of, command_id, run_bit, reset_bit, kind, Known, nothing, on_ring, with_device, with_word, written, command_given, taken_device, run_or_stop, valued, register_written, endpoint_rung, rung, learned, known, lenient, MayCome, AreRestored, IsRestoring, EndpointsKeep}
+use Rattle.safety.proofs.Words.{◌≡◌, ◌==◌, ◌∷◌, ◌∙◌, ℕ, List, [], Option, None, Some, option_and_then, refl, sym, ap, rules, cond_both, no_flips, Block, Declares, Opens, IsRestored, Header, Register, Usbcmd, Row, Sub, Write, Reg, Bell, Read, IsHeader, shape_of, command_id, Known, nothing, on_ring, with_device, with_word, written, command_given, taken_device, run_or_stop, valued, register_written, endpoint_rung, rung, learned, known, lenient, MayCome, AreRestored, IsRestoring, EndpointsKeep, kind}
 use Rattle.safety.proofs.RingIds.{transfer_driver}
 use Rattle.safety.proofs.EndpointHistories.{keeps_endpoints}
 use Rattle.safety.proofs.SameDriver.{view_after, on_ring_same, event_same}
@@ -30,12 +29,7 @@ module _ (h : Header) where
 
   run_free : (k : Known) (x : ℕ) → SameFree k (run_or_stop k x)
   unfolding run_or_stop
-  run_free k x =
-      let on : Known = record k { started = true } in
-      let off : Known = record k { stopped = true } in
-      cond_both (not k.started) (if run_bit x && not (reset_bit x) then on else k) (if not (run_bit x) || reset_bit x then off else k) (SameFree k)
-      (λ _. cond_both (run_bit x && not (reset_bit x)) on k (SameFree k) (λ _ r. refl) (λ _ r. refl))
-      (λ _. cond_both (not (run_bit x) || reset_bit x) off k (SameFree k) (λ _ r. refl) (λ _ r. refl))
+  run_free k x = search rules
 
   register_free : (k : Known) (q : Register) (x : ℕ) → SameFree k (register_written h k q x)
   unfolding register_written valued

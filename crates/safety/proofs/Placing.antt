@@ -1,11 +1,9 @@
 -- One endpoint's ring is placed in the world as it is in what is known: both match still
-use Rattle.std.proofs.Common.{◌≡◌, ◌≢◌, ◌<◌, ◌⊎◌, if◌then◌else◌, ◌∙◌, ℕ, Bool, Option, Some, arith, sym, ap, subst, inl, inr, eqb-true, rules}
-use Rattle.safety.proofs.Words.{cases_eq, and_parts, cond-true, cond-false, same_Some, put_pair, Spot, EndpointState, SlotState, Header, shape_of, command_id, World, Known, state_of, RingMatches, Unreported, BoundRing, EndpointRing}
+use Rattle.safety.proofs.Words.{◌≡◌, ◌≢◌, ◌<◌, ◌⊎◌, if◌then◌else◌, ◌∙◌, ℕ, Bool, Option, Some, arith, sym, ap, subst, inl, inr, eqb-true, rules, put_pair_same, cases_eq, and_parts, cond-true, cond-false, same_Some, put_pair, Spot, EndpointState, SlotState, Header, shape_of, command_id, World, Known, state_of, RingMatches, Unreported, BoundRing, EndpointRing}
 use Rattle.safety.proofs.SlotChanges.{same_put_pair}
 use Rattle.safety.proofs.FinishChanges.{known_changed, StatesMatch, LeavesRest, ChangeKeeps}
 use Rattle.safety.proofs.PlacedRing.{set_view, placed_state}
 use Rattle.safety.proofs.PlacedWorld.{placed_world, placed_here, placed_elsewhere}
-use Rattle.controller_model.proofs.EndpointLemmas.{put_pair_same}
 
 -- what is known once ring r of an endpoint was placed at a spot
 pub record PlacedTo (k l : Known) (s i r : ℕ) (t : Spot) (state : EndpointState) : Type 0 where

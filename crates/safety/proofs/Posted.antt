@@ -1,6 +1,5 @@
 -- Behind a post: the event lies behind the unread ones, and nothing else that the driver or the controller did has changed
-use Rattle.std.proofs.Common.{◌≡◌, ◌+◌, ◌<◌, ◌≤◌, ◌⊎◌, ◌∷◌, ◌++◌, ◌∙◌, ℕ, suc, zero, true, List, [], length, Some, slice_get, arith, refl, ap, inl, inr, length-append, rules}
-use Rattle.safety.proofs.Words.{same_Some, none-some, Block, IsBlock, block_at, place_count, address_of, shape_facts, posted_in_order, Header, IsHeader, event_shape, event_size, World, stored_block, can_post, posted, Known, AreInOrder, DriverKeeps, Stands, EventsStand, Matches, Agrees}
+use Rattle.safety.proofs.Words.{◌≡◌, ◌+◌, ◌<◌, ◌≤◌, ◌⊎◌, ◌∷◌, ◌++◌, ◌∙◌, ℕ, suc, zero, true, List, [], length, Some, slice_get, arith, refl, ap, inl, inr, length-append, rules, same_Some, none-some, Block, IsBlock, block_at, place_count, address_of, shape_facts, posted_in_order, Header, IsHeader, event_shape, event_size, World, stored_block, can_post, posted, Known, AreInOrder, DriverKeeps, Stands, EventsStand, Matches, Agrees}
 use Rattle.world_state.specs.World.{event_at}
 use Rattle.world_state.specs.World as of_world
 use Rattle.safety.proofs.Headers.{EventRing, event_ring_is}

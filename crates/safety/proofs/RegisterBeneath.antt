@@ -1,6 +1,5 @@
 -- A register write beneath an event that isn't read yet: the two may change places
-use Rattle.std.proofs.Common.{◌≡◌, ◌+◌, ◌-◌, ◌≤◌, ◌==◌, ◌||◌, ◌∷◌, ◌∙◌, ℕ, zero, suc, Bool, true, false, not, [], nat_lt, Some, unwrap_or, arith, refl, sym, ap, subst, inl, inr, rules, ◌&&◌}
-use Rattle.safety.proofs.Words.{list_any, range_with_len, and_parts, and_from, or_parts, or_cases, or_left, or_right, cond-true, cond-false, not-false, not_from_true, false≢true, Block, kind, cycle, is_event, cycle_of, position_from, erdp_address, Header, Register, Usbcmd, Crcr, Dcbaap, Config, Erstsz, Erstba, Erdp, Reg, Read, event_shape, with_register, same_register, run_bit, reset_bit, Known, run_or_stop, valued, register_written, command_at, next_command, learned, changes, may_pass, is_bad_register, is_bad_erdp, register_tests, is_impossible_by_kind, is_past_room, is_impossible, event_tests, lenient_tests, lenient, broken_of, AfterStop, BadRegister, BadErdp, HeldMore, Square, is_late_reset, is_early_start, is_wrong_start}
+use Rattle.safety.proofs.Words.{◌≡◌, ◌+◌, ◌-◌, ◌≤◌, ◌==◌, ◌||◌, ◌∷◌, ◌∙◌, ℕ, zero, suc, Bool, true, false, not, [], nat_lt, Some, unwrap_or, arith, refl, sym, ap, subst, inl, inr, rules, ◌&&◌, list_any, range_with_len, and_parts, and_from, or_parts, or_cases, or_left, or_right, cond-true, cond-false, not-false, not_from_true, false≢true, Block, kind, cycle, is_event, cycle_of, position_from, erdp_address, Header, Register, Usbcmd, Crcr, Dcbaap, Config, Erstsz, Erstba, Erdp, Reg, Read, event_shape, with_register, same_register, run_bit, reset_bit, Known, run_or_stop, valued, register_written, command_at, next_command, learned, changes, may_pass, is_bad_register, is_bad_erdp, register_tests, is_impossible_by_kind, is_past_room, is_impossible, event_tests, lenient_tests, lenient, broken_of, AfterStop, BadRegister, BadErdp, HeldMore, Square, is_late_reset, is_early_start, is_wrong_start}
 use Rattle.safety.proofs.TestsPassed.{AllFail, clean_tests, tests_fail}
 use Rattle.safety.proofs.ErdpMoves.{erdp_says, erdp_within, reached_is_good}
 use Rattle.safety.proofs.SameDriver.{SameDriver, both_drivers}

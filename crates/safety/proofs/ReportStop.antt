@@ -1,6 +1,5 @@
 -- The controller reports that an endpoint has stopped: the run goes on
-use Rattle.std.proofs.Common.{◌≡◌, ◌≢◌, ◌+◌, ◌-◌, ◌<◌, ◌==◌, ◌&&◌, ◌||◌, ◌∷◌, ◌++◌, ◌∙◌, ℕ, Bool, true, false, not, List, [], length, Option, Some, None, arith, refl, sym, ap, subst, inl, inr, eq-eqb, lt-ltb}
-use Rattle.safety.proofs.Words.{false≢true, and_right, and_from, or_left, cond-false, cond-true, not_from_true, put_pair, Block, IsBlock, code, endpoint, kind, pointer, slot, is_transfer_event, is_command_completion, is_other_event, Spot, Data, Shape, RingView, Reaches, Holds, floor_number, ceiling, given_count, is_stop_spot, named, stopped_number, cycle_of_bit, rank_least, command_of, is_stop_of, is_running, Header, Read, IsHeader, shape_of, command_id, World, UnderWay, is_stop_under_way, with_stopped, posted, report_code, report_stop, reported, counted, Known, learned, command_at, next_command, on_ring, is_in_profile, DriverKeeps, RingState, state_of, BoundRing, RingMatches, Unreported, UnderWayMatches, CommandMatches, Agrees, Runs, all_read}
+use Rattle.safety.proofs.Words.{◌≡◌, ◌≢◌, ◌+◌, ◌-◌, ◌<◌, ◌==◌, ◌&&◌, ◌||◌, ◌∷◌, ◌++◌, ◌∙◌, ℕ, Bool, true, false, not, List, [], length, Option, Some, None, arith, refl, sym, ap, subst, inl, inr, eq-eqb, lt-ltb, false≢true, and_right, and_from, or_left, cond-false, cond-true, not_from_true, put_pair, Block, IsBlock, code, endpoint, kind, pointer, slot, is_transfer_event, is_command_completion, is_other_event, Spot, Data, Shape, RingView, Reaches, Holds, floor_number, ceiling, given_count, is_stop_spot, named, stopped_number, cycle_of_bit, rank_least, command_of, is_stop_of, is_running, Header, Read, IsHeader, shape_of, command_id, World, UnderWay, is_stop_under_way, with_stopped, posted, report_code, report_stop, reported, counted, Known, learned, command_at, next_command, on_ring, is_in_profile, DriverKeeps, RingState, state_of, BoundRing, RingMatches, Unreported, UnderWayMatches, CommandMatches, Agrees, Runs, all_read}
 use Rattle.safety.proofs.Headers.{transfer_driver, transfer_not_command, ring_shape}
 use Rattle.safety.proofs.SameCommand.{command_of-with_cycle}
 use Rattle.safety.proofs.NoWait.{ceiling_given}

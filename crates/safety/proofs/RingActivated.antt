@@ -1,6 +1,5 @@
 -- A ring that is opened, and that the controller may look at
-use Rattle.std.proofs.Common.{◌≡◌, ℕ, Bool, true, List, Option, None, refl, rules}
-use Rattle.safety.proofs.Words.{Spot, RingView, Opens, changed, Header, shape_of, World, RingEvent, Known, on_ring, RingState, state_of, RingMatches, BoundRing}
+use Rattle.safety.proofs.Words.{◌≡◌, ℕ, Bool, true, List, Option, None, refl, rules, Spot, RingView, Opens, changed, Header, shape_of, World, RingEvent, Known, on_ring, RingState, state_of, RingMatches, BoundRing}
 use Rattle.controller_model.specs.DriverRows as driver
 use Rattle.safety.proofs.LookKinds.{put_at, put_off}
 use Rattle.safety.proofs.OnlyRing.{OnlyRing}

@@ -1,6 +1,5 @@
 -- A doorbell where all events are read: what is known agrees with the world
-use Rattle.std.proofs.Common.{◌≡◌, ◌==◌, ◌&&◌, ◌||◌, if◌then◌else◌, ◌∙◌, ℕ, not, nat_lt, true, false, List, [], Option, None, Some, option_and_then, slice_get, arith, refl, sym, ap, subst, inl, inr, rules}
-use Rattle.safety.proofs.Words.{cases_Bool, cond-true, cond-false, and_from, or_parts, or_cases, not-false, false≢true, put_pair, Block, RingView, Opens, changed, Command, EndpointState, Running, is_running, is_stopped, Header, Bell, IsHeader, shape_of, command_id, World, counted, Known, learned, on_ring, command_at, next_command, endpoint_rung, rung, is_bad_bell, lenient, IsDriverRing, IsUnfinished, DriverKeeps, Stands, EventsStand, state_of, RingMatches, BoundRing, UnderWayMatches, CommandMatches, Matches, Agrees}
+use Rattle.safety.proofs.Words.{◌≡◌, ◌==◌, ◌&&◌, ◌||◌, if◌then◌else◌, ◌∙◌, ℕ, not, nat_lt, true, false, List, [], Option, None, Some, option_and_then, slice_get, arith, refl, sym, ap, subst, inl, inr, rules, cases_Bool, cond-true, cond-false, and_from, or_parts, or_cases, not-false, false≢true, put_pair, Block, RingView, Opens, changed, Command, EndpointState, Running, is_running, is_stopped, Header, Bell, IsHeader, shape_of, command_id, World, counted, Known, learned, on_ring, command_at, next_command, endpoint_rung, rung, is_bad_bell, lenient, IsDriverRing, IsUnfinished, DriverKeeps, Stands, EventsStand, state_of, RingMatches, BoundRing, UnderWayMatches, CommandMatches, Matches, Agrees}
 use Rattle.controller_model.specs.DriverRows as driver
 use Rattle.safety.proofs.Headers.{transfer_driver, transfer_not_command, ring_shape}
 use Rattle.safety.proofs.SafeContext.{command_is_ring}

@@ -1,6 +1,5 @@
 -- One slot behind the success of a command that concerns it
-use Rattle.std.proofs.Common.{◌≡◌, ◌≢◌, ◌⊎◌, ◌∙◌, ℕ, Bool, true, false, Option, None, Some, is_some, unwrap_or, refl, sym, inl, inr}
-use Rattle.safety.proofs.Words.{false≢true, none-some, Command, EnableSlot, DisableSlot, AddressDevice, ConfigureEndpoint, ResetDevice, SlotState, Disabled, Enabled, Default, Addressed, Configured, slot_success}
+use Rattle.safety.proofs.Words.{◌≡◌, ◌≢◌, ◌⊎◌, ◌∙◌, ℕ, Bool, true, false, Option, None, Some, is_some, unwrap_or, refl, sym, inl, inr, false≢true, none-some, Command, EnableSlot, DisableSlot, AddressDevice, ConfigureEndpoint, ResetDevice, SlotState, Disabled, Enabled, Default, Addressed, Configured, slot_success}
 use Rattle.safety.proofs.StatesParts.{SlotStands}
 
 -- the state behind it

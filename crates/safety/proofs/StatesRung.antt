@@ -1,6 +1,5 @@
 -- A doorbell keeps what is known of states
-use Rattle.std.proofs.Common.{◌≡◌, ◌≢◌, ◌==◌, ◌&&◌, ◌||◌, ◌∙◌, ℕ, not, nat_lt, true, false, [], Option, None, Some, refl, sym, ap, subst, eq-eqb, rules}
-use Rattle.safety.proofs.Words.{cond_both, cond-false, or_parts, or_cases, or_left, and_from, not-false, false≢true, put_pair, Shape, RingView, Opens, changed, is_step_given, is_way_given, given_count_same, ceiling_open, StopEndpoint, EndpointState, Off, Running, changes, is_running, is_stopped, Header, Bell, IsHeader, shape_of, command_id, Known, on_ring, next_command, endpoint_rung, rung, learned, touches_endpoint, is_touched, is_bad_bell, lenient, StatesKeep, DriverKeeps}
+use Rattle.safety.proofs.Words.{◌≡◌, ◌≢◌, ◌==◌, ◌&&◌, ◌||◌, ◌∙◌, ℕ, not, nat_lt, true, false, [], Option, None, Some, refl, sym, ap, subst, eq-eqb, rules, cond_both, cond-false, or_parts, or_cases, or_left, and_from, not-false, false≢true, put_pair, Shape, RingView, Opens, changed, is_step_given, is_way_given, given_count_same, ceiling_open, StopEndpoint, EndpointState, Off, Running, changes, is_running, is_stopped, Header, Bell, IsHeader, shape_of, command_id, Known, on_ring, next_command, endpoint_rung, rung, learned, touches_endpoint, is_touched, is_bad_bell, lenient, StatesKeep, DriverKeeps}
 use Rattle.safety.proofs.RingIds.{command_not_transfer}
 use Rattle.safety.proofs.DriverRows.{ring_here, ring_elsewhere}
 use Rattle.safety.proofs.EndpointHistories.{row_keeps}

@@ -1,6 +1,5 @@
 -- The success of a command keeps what is kept of slots
-use Rattle.std.proofs.Common.{◌≡◌, ◌≢◌, ◌==◌, ◌&&◌, if◌then◌else◌, ◌∷◌, ◌∙◌, ℕ, nat_le, nat_lt, Bool, true, false, List, [], map, Option, None, Some, refl, sym, ap, subst, inl, inr, eq-eqb, leb-false, ltb-true, rules}
-use Rattle.safety.proofs.Words.{cond-true, cond-false, and_parts, and_from, and_right, none-some, Command, EnableSlot, DisableSlot, AddressDevice, ConfigureEndpoint, SlotState, EndpointState, Off, Running, Change, SlotGoesOn, DeviceLeft, Disables, Places, placed_by_context, is_above_control, added_endpoints, is_dropped, context_pointer, context_cycle, Header, Known, disabled, pointed, changed_by, changed_by_all}
+use Rattle.safety.proofs.Words.{◌≡◌, ◌≢◌, ◌==◌, ◌&&◌, if◌then◌else◌, ◌∷◌, ◌∙◌, ℕ, nat_le, nat_lt, Bool, true, false, List, [], map, Option, None, Some, refl, sym, ap, subst, inl, inr, eq-eqb, leb-false, ltb-true, rules, cond-true, cond-false, and_parts, and_from, and_right, none-some, Command, EnableSlot, DisableSlot, AddressDevice, ConfigureEndpoint, SlotState, EndpointState, Off, Running, Change, SlotGoesOn, DeviceLeft, Disables, Places, placed_by_context, is_above_control, added_endpoints, is_dropped, context_pointer, context_cycle, Header, Known, disabled, pointed, changed_by, changed_by_all}
 use Rattle.safety.proofs.EndpointPut.{at_pair}
 use Rattle.safety.proofs.StatesParts.{EndpointsStand, SlotStands, SlotsStand}
 use Rattle.safety.proofs.StatesPlaced.{IsPlaced, placed_is}

@@ -1,6 +1,5 @@
 -- The change of a Stop Endpoint's success: the endpoint is Stopped, and its ring held at its ceiling and inactive
-use Rattle.std.proofs.Common.{◌≡◌, ◌≢◌, ℕ, false, Option, Some, None, refl, sym, ap, subst, inl, inr, rules}
-use Rattle.safety.proofs.Words.{cases_eq, false≢true, same_Some, put, Spot, Shape, ceiling, is_way_given, Command, Stopped, Stops, Header, shape_of, command_id, World, Known, RingState, state_of, RingMatches, BoundRing, EndpointRing}
+use Rattle.safety.proofs.Words.{◌≡◌, ◌≢◌, ℕ, false, Option, Some, None, refl, sym, ap, subst, inl, inr, rules, cases_eq, false≢true, same_Some, put, Spot, Shape, ceiling, is_way_given, Command, Stopped, Stops, Header, shape_of, command_id, World, Known, RingState, state_of, RingMatches, BoundRing, EndpointRing}
 use Rattle.segments.specs.RingView.{RingView}
 use Rattle.controller_model.specs.Bindings as bindings
 use Rattle.ring_knowledge.specs.Rings as of_rings

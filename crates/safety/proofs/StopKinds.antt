@@ -1,6 +1,5 @@
 -- What the report of a stop is, and what is known of the ring and of its Stop Endpoint behind it
-use Rattle.std.proofs.Common.{◌≡◌, ◌+◌, ◌-◌, ◌≤◌, ◌==◌, ◌&&◌, ◌||◌, ◌⊎◌, ℕ, Bool, true, List, length, nat_lt, nat_le, drop, Option, Some, refl, sym, eqb-true, eq-eqb, lt-ltb, le-leb, rules}
-use Rattle.safety.proofs.Words.{false≢true, and_parts, and_from, not-false, cases_lt, or_left, or_right, none-some, same_Some, Block, Spot, Data, Link, Shape, number, RingView, Reaches, Holds, given_count, is_way_given, is_stop_spot, Command, StopEndpoint, is_stop_of, is_running, Header, World, UnderWay, unreported, is_last, is_stop_under_way, with_stopped, with_reported, stopped_with, report_stop, Known, command_at, next_command, on_ring, was_stop_seen, Stands, EventsStand, state_of, UnderWayMatches, TakenCommand, Matches}
+use Rattle.safety.proofs.Words.{◌≡◌, ◌+◌, ◌-◌, ◌≤◌, ◌==◌, ◌&&◌, ◌||◌, ◌⊎◌, ℕ, Bool, true, List, length, nat_lt, nat_le, drop, Option, Some, refl, sym, eqb-true, eq-eqb, lt-ltb, le-leb, rules, false≢true, and_parts, and_from, not-false, cases_lt, or_left, or_right, none-some, same_Some, Block, Spot, Data, Link, Shape, number, RingView, Reaches, Holds, given_count, is_way_given, is_stop_spot, Command, StopEndpoint, is_stop_of, is_running, Header, World, UnderWay, unreported, is_last, is_stop_under_way, with_stopped, with_reported, stopped_with, report_stop, Known, command_at, next_command, on_ring, was_stop_seen, Stands, EventsStand, state_of, UnderWayMatches, TakenCommand, Matches}
 use Rattle.world_state.specs.World as of_world
 use Rattle.ring_knowledge.specs.Rings as of_rings
 use Rattle.safety.proofs.WithReads.{with_reads}

@@ -1,6 +1,5 @@
 -- When a Stopped event is possible where it will be read, and what reading it adds
-use Rattle.std.proofs.Common.{◌≡◌, ◌≢◌, ◌||◌, ◌∙◌, ℕ, true, false, not, Some, ap}
-use Rattle.safety.proofs.Words.{and_from, and_right, or_from, or_right, cond-true, cond-false, not_from_true, put_pair, Block, code, endpoint, kind, slot, is_transfer_event, is_success, is_halting, is_trb_error, is_stopping, is_transfer_code, Spot, Reaches, Holds, is_stop_spot, stopped_number, Off, is_stop_of, is_off, Header, shape_of, Known, event_read, event_at, command_at, next_command, on_ring, stopped_at, transferred, transferred_at, transfer_read, is_in_profile, is_working, is_stopping_now, may_be_taken, is_impossible_by_kind, is_impossible_transfer, can_report, can_report_at}
+use Rattle.safety.proofs.Words.{◌≡◌, ◌≢◌, ◌||◌, ◌∙◌, ℕ, true, false, not, Some, ap, and_from, and_right, or_from, or_right, cond-true, cond-false, not_from_true, put_pair, Block, code, endpoint, kind, slot, is_transfer_event, is_success, is_halting, is_trb_error, is_stopping, is_transfer_code, Spot, Reaches, Holds, is_stop_spot, stopped_number, Off, is_stop_of, is_off, Header, shape_of, Known, event_read, event_at, command_at, next_command, on_ring, stopped_at, transferred, transferred_at, transfer_read, is_in_profile, is_working, is_stopping_now, may_be_taken, is_impossible_by_kind, is_impossible_transfer, can_report, can_report_at}
 use Rattle.safety.proofs.ReportSuccess.{transfer_kind}
 use Rattle.safety.proofs.StatesPlaced.{on_is}
 

@@ -1,6 +1,5 @@
 -- A Command Completion Event leaves an endpoint that no unfinished command touches
-use Rattle.std.proofs.Common.{◌≡◌, ◌==◌, if◌then◌else◌, ◌∙◌, ℕ, true, false, Option, None, Some, refl, ap}
-use Rattle.safety.proofs.Words.{list_any, cond_both, Block, code, slot, Spot, after, Reaches, ContextSize, Command, NoOp, StopEndpoint, changes, touches, Header, Config, IsHeader, shape_of, command_id, register_or_zero, Known, on_ring, command_at, next_command, succeeded, stop_ended, finished, completed, touches_endpoint, is_touched, can_finish, IsUnfinished, CommandKeeps, DriverKeeps}
+use Rattle.safety.proofs.Words.{◌≡◌, ◌==◌, if◌then◌else◌, ◌∙◌, ℕ, true, false, Option, None, Some, refl, ap, list_any, cond_both, Block, code, slot, Spot, after, Reaches, ContextSize, Command, NoOp, StopEndpoint, changes, touches, Header, Config, IsHeader, shape_of, command_id, register_or_zero, Known, on_ring, command_at, next_command, succeeded, stop_ended, finished, completed, touches_endpoint, is_touched, can_finish, IsUnfinished, CommandKeeps, DriverKeeps}
 use Rattle.safety.proofs.DriverRings.{endpoints_of, rings_of}
 use Rattle.safety.proofs.KeptRings.{CompletionFacts, next_unfinished, command_holds}
 use Rattle.safety.proofs.StatesFit.{success_fits}

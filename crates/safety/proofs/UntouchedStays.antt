@@ -1,6 +1,5 @@
 -- A change that doesn't touch an endpoint leaves its state, which ring it has, and whether that must be moved
-use Rattle.std.proofs.Common.{◌≡◌, ◌==◌, ◌&&◌, ◌∙◌, ℕ, Bool, false, Option, None, Some, refl}
-use Rattle.safety.proofs.Words.{cond_both, cond-false, put_pair, Spot, target, Command, EndpointState, Off, Stopped, Change, Disables, Places, Stops, Resets, touches, is_off, Header, shape_of, ring_having, Known, on_ring, set_to, bound_to, moved_to, moved, pointed, disabled, in_state, held_at_ceiling, changed_by}
+use Rattle.safety.proofs.Words.{◌≡◌, ◌==◌, ◌&&◌, ◌∙◌, ℕ, Bool, false, Option, None, Some, refl, cond_both, cond-false, put_pair, Spot, target, Command, EndpointState, Off, Stopped, Change, Disables, Places, Stops, Resets, touches, is_off, Header, shape_of, ring_having, Known, on_ring, set_to, bound_to, moved_to, moved, pointed, disabled, in_state, held_at_ceiling, changed_by}
 
 pub record EndpointStays (k l : Known) (s i : ℕ) : Type 0 where
   pub state : l.endpoint_state s i ≡ k.endpoint_state s i

@@ -1,7 +1,6 @@
 -- A Command Completion Event that is possible where an endpoint's ring is held and no unfinished command touches it: it is so where the
 -- ring was woken, and leaves it woken
-use Rattle.std.proofs.Common.{◌≡◌, ◌≢◌, ◌==◌, if◌then◌else◌, ◌∙◌, ℕ, true, false, List, Some, is_some, option_and_then, slice_get, refl, sym, ap, subst, rules}
-use Rattle.safety.proofs.Words.{list_any, and_parts, and_from, or_parts, cond-true, cond-false, Block, code, slot, after, RingView, Reaches, floor_number, Command, ResetEndpoint, StopEndpoint, SetTrDequeue, command_of, named_endpoint, can_succeed, endpoint_meant, endpoint_success, Change, changes, touches, Header, Config, IsHeader, shape_of, command_id, register_or_zero, Known, on_ring, command_at, next_command, changed_by_all, succeeded, stop_ended, finished, completed, touches_endpoint, was_stop_seen, can_finish}
+use Rattle.safety.proofs.Words.{◌≡◌, ◌≢◌, ◌==◌, if◌then◌else◌, ◌∙◌, ℕ, true, false, List, Some, is_some, option_and_then, slice_get, refl, sym, ap, subst, rules, list_any, and_parts, and_from, or_parts, cond-true, cond-false, Block, code, slot, after, RingView, Reaches, floor_number, Command, ResetEndpoint, StopEndpoint, SetTrDequeue, command_of, named_endpoint, can_succeed, endpoint_meant, endpoint_success, Change, changes, touches, Header, Config, IsHeader, shape_of, command_id, register_or_zero, Known, on_ring, command_at, next_command, changed_by_all, succeeded, stop_ended, finished, completed, touches_endpoint, was_stop_seen, can_finish}
 use Rattle.safety.proofs.AlikeChanges.{both_sides_if}
 use Rattle.safety.proofs.SameDriver.{SameDriver}
 use Rattle.safety.proofs.StatesChanges.{FitAll}

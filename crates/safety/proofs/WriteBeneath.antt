@@ -1,6 +1,5 @@
 -- A write that gives no command and an event that isn't read yet may change places
-use Rattle.std.proofs.Common.{◌≡◌, ℕ, [], None, refl, sym, subst, inl, inr, rules}
-use Rattle.safety.proofs.Words.{MayCome, none-some, fun_ext, Block, RingView, Writes, changed, Header, Write, Read, IsHeader, shape_of, Known, with_word, command_given, learned, lenient, DriverKeeps, HeldMore, Square}
+use Rattle.safety.proofs.Words.{◌≡◌, ℕ, [], None, refl, sym, subst, inl, inr, rules, MayCome, none-some, fun_ext, Block, RingView, Writes, changed, Header, Write, Read, IsHeader, shape_of, Known, with_word, command_given, learned, lenient, DriverKeeps, HeldMore, Square}
 use Rattle.safety.proofs.CleanRows.{event_facts}
 use Rattle.safety.proofs.Writing.{keeps_cycles}
 use Rattle.safety.proofs.SameDriver.{SameGiven, SameDriver, both_drivers}

@@ -1,6 +1,5 @@
 -- The changes of a command's success, one after the other: each is possible, and the rings go as they should
-use Rattle.std.proofs.Common.{◌≡◌, ◌==◌, ◌&&◌, if◌then◌else◌, ◌∷◌, ◌∙◌, ℕ, not, Bool, false, List, [], Option, Some, None, option_and_then, refl, sym, ap, subst, eq-eqb, rules}
-use Rattle.safety.proofs.LazyRuns.Words.{and_from, and_parts, or_parts, or_from, false≢true, false_from_ne_true, not_from_false, none-some, Spot, is_open, Holds, Command, Stopped, Change, SlotGoesOn, DeviceLeft, Disables, Places, Stops, Resets, Header, command_id, is_ring, World, Known, on_ring, ring_here, ring_elsewhere, StatesMatch, ChangeKeeps, none_keeps, both_keep, IsNoPlacing, AreNoPlacings, change_keeps, cond_is, put_off, none_in_range}
+use Rattle.safety.proofs.LazyRuns.Words.{◌≡◌, ◌==◌, ◌&&◌, if◌then◌else◌, ◌∷◌, ◌∙◌, ℕ, not, Bool, false, List, [], Option, Some, None, option_and_then, refl, sym, ap, subst, eq-eqb, rules, and_from, and_parts, or_parts, or_from, false≢true, false_from_ne_true, not_from_false, none-some, Spot, is_open, Holds, Command, Stopped, Change, SlotGoesOn, DeviceLeft, Disables, Places, Stops, Resets, Header, command_id, is_ring, World, Known, on_ring, ring_here, ring_elsewhere, StatesMatch, ChangeKeeps, none_keeps, both_keep, IsNoPlacing, AreNoPlacings, change_keeps, cond_is, put_off, none_in_range}
 use Rattle.controller_model.specs.Bindings as bindings
 use Rattle.ring_knowledge.specs.Completions as completions
 use Rattle.safety.specs.LazyRuns.Needs as needs

@@ -1,6 +1,5 @@
 -- The world directly before the controller finishes a command: the next command is taken, and no more than that
-use Rattle.std.proofs.Common.{◌≡◌, ◌≢◌, ◌⊎◌, ◌+◌, ◌≤◌, ◌==◌, if◌then◌else◌, ◌∷◌, ◌∙◌, ℕ, suc, true, List, [], Option, Some, None, arith, refl, sym, ap, subst, inl, inr, rules}
-use Rattle.safety.proofs.LazyRuns.Words.{flat_map, cases_Bool, cases_eq, cases_lt, cond-true, cond-false, put, Block, kind, code, is_command_completion, Spot, Data, Link, Shape, Holds, IsSpot, number, rank, after, is_open, ceiling, MayReach, crossing_positive, after_reached, number-after, rank_least, rank_most, Command, StopEndpoint, Stopped, changes, Header, Read, TraceRow, Plain, Step, IsHeader, shape_of, command_id, World, UnderWay, Known, RingSpot, command_at, next_command, event_read, learned, DriverKeeps, Agrees, UnderWayMatches, TakenCommand, ring_here, ring_elsewhere, completion_kind, transfer_not_command, put_at, put_off, next_is, need}
+use Rattle.safety.proofs.LazyRuns.Words.{◌≡◌, ◌≢◌, ◌⊎◌, ◌+◌, ◌≤◌, ◌==◌, if◌then◌else◌, ◌∷◌, ◌∙◌, ℕ, suc, true, List, [], Option, Some, None, arith, refl, sym, ap, subst, inl, inr, rules, flat_map, cases_Bool, cases_eq, cases_lt, cond-true, cond-false, put, Block, kind, code, is_command_completion, Spot, Data, Link, Shape, Holds, IsSpot, number, rank, after, is_open, ceiling, MayReach, crossing_positive, after_reached, number-after, rank_least, rank_most, Command, StopEndpoint, Stopped, changes, Header, Read, TraceRow, Plain, Step, IsHeader, shape_of, command_id, World, UnderWay, Known, RingSpot, command_at, next_command, event_read, learned, DriverKeeps, Agrees, UnderWayMatches, TakenCommand, ring_here, ring_elsewhere, completion_kind, transfer_not_command, put_at, put_off, next_is, need}
 use Rattle.ring_knowledge.specs.Completions as completions
 use Rattle.safety.specs.LazyRuns.Lazy as lazy
 use Rattle.safety.proofs.LazyRuns.AllEventsRead.{agrees_now}

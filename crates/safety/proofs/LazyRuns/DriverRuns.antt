@@ -1,6 +1,5 @@
 -- The lazy run makes no step of the controller for a row of the driver: it goes from one row to the next
-use Rattle.std.proofs.Common.{◌≡◌, ◌∷◌, ◌++◌, ◌∙◌, ℕ, List, [], reverse, Some, option_map, option_and_then, refl, sym, ap, subst}
-use Rattle.safety.proofs.LazyRuns.Words.{Spot, Header, Row, Read, Step, NextRow, TraceRow, Plain, World, Known, IsDriverRow, scene_with, step_made}
+use Rattle.safety.proofs.LazyRuns.Words.{◌≡◌, ◌∷◌, ◌++◌, ◌∙◌, ℕ, List, [], reverse, Some, option_map, option_and_then, refl, sym, ap, subst, Spot, Header, Row, Read, Step, NextRow, TraceRow, Plain, World, Known, IsDriverRow, scene_with, step_made}
 use Rattle.controller_model.specs.DriverRows as driver
 use Rattle.controller_model.specs.Steps as steps
 use Rattle.safety.specs.LazyRuns.Lazy as lazy

@@ -1,6 +1,5 @@
 -- The lazy law by induction over the rows, from the step of a row that reads an event
-use Rattle.std.proofs.Common.{◌≡◌, ◌⊎◌, ◌∷◌, ◌++◌, ◌∙◌, true, false, List, [], All, reverse, Some, option_and_then, refl, sym, ap, subst, inl, inr, append_assoc}
-use Rattle.safety.proofs.LazyRuns.Words.{false≢true, reverse-append, All-cons, All-head, All-nil, All-tail, Header, Row, Sub, Write, Reg, Bell, Read, TraceRow, Comes, Goes, Plain, Withdraws, NextRow, IsHeader, command_id, IsRow, IsDriverRow, World, opening, counted, emptied, with_ring, without_ring, without_descriptor, Known, DriverKeeps, MayCome, scene_reached, step_made, scene_with, AreKept, FitsFields, IsKept, header_after, header_now, known_now, restored, restored_on, ring_restored, clean_tests, IsTimely, lazy_run, pointers_at, pointers_for, steps_for, AreAtFloors, LazyLaw, AllAreRead}
+use Rattle.safety.proofs.LazyRuns.Words.{◌≡◌, ◌⊎◌, ◌∷◌, ◌++◌, ◌∙◌, true, false, List, [], All, reverse, Some, option_and_then, refl, sym, ap, subst, inl, inr, append_assoc, false≢true, reverse-append, All-cons, All-head, All-nil, All-tail, Header, Row, Sub, Write, Reg, Bell, Read, TraceRow, Comes, Goes, Plain, Withdraws, NextRow, IsHeader, command_id, IsRow, IsDriverRow, World, opening, counted, emptied, with_ring, without_ring, without_descriptor, Known, DriverKeeps, MayCome, scene_reached, step_made, scene_with, AreKept, FitsFields, IsKept, header_after, header_now, known_now, restored, restored_on, ring_restored, clean_tests, IsTimely, lazy_run, pointers_at, pointers_for, steps_for, AreAtFloors, LazyLaw, AllAreRead}
 use Rattle.safety.proofs.RingChanges.Restored.{row_comes, row_keeps, stopped_still}
 use Rattle.safety.proofs.RingChanges.RingsHeadline.{Keeps, now_keeps}
 use Rattle.safety.proofs.LazyRuns.AllRead.{all_are_read}

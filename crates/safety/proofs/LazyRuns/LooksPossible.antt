@@ -1,6 +1,5 @@
 -- A look is possible at any active ring but the command ring while a command is under way
-use Rattle.std.proofs.Common.{◌≡◌, ◌∷◌, ◌∙◌, ℕ, false, List, Some, None, option_map, option_and_then, ap}
-use Rattle.safety.proofs.LazyRuns.Words.{cond-false, Header, TraceRow, Step, Look, World, scene_with, step_made}
+use Rattle.safety.proofs.LazyRuns.Words.{◌≡◌, ◌∷◌, ◌∙◌, ℕ, false, List, Some, None, option_map, option_and_then, ap, cond-false, Header, TraceRow, Step, Look, World, scene_with, step_made}
 use Rattle.controller_model.specs.Looks as looks
 use Rattle.controller_model.specs.Steps as steps
 use Rattle.safety.proofs.LazyRuns.Follows.{Leads, Past}

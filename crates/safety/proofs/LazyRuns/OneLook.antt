@@ -1,6 +1,5 @@
 -- One look at what is given: the ring stands at its next spot, and all else stays
-use Rattle.std.proofs.Common.{◌≡◌, ◌≢◌, ◌+◌, ◌<◌, ◌≤◌, ◌==◌, ◌&&◌, if◌then◌else◌, ◌∙◌, ℕ, Bool, true, false, [], Option, Some, None, is_some, arith, refl, sym, ap, subst, inl, inr, ne_eqb, rules}
-use Rattle.safety.proofs.LazyRuns.Words.{cases_Bool, cases_eq, cond-false, and_left, and_right, Block, cycle, kind, is_link, Spot, Data, Link, number, rank, next, after, rank_most, Header, IsHeader, shape_of, command_id, World, UnderWay, counted, Known, next_command, DriverKeeps, RingState, RingMatches, UnderWayMatches, Agrees, state_of, Takeable, Crossable, takeable, crossable, ring_shape, seen, only_crossed, only_taken, only_begun, behind_link, behind_block, TakeDone, CrossDone, take_done, cross_done, block_no_link, link_is, OnlyRing, looked_left, stands_at, block_found}
+use Rattle.safety.proofs.LazyRuns.Words.{◌≡◌, ◌≢◌, ◌+◌, ◌<◌, ◌≤◌, ◌==◌, ◌&&◌, if◌then◌else◌, ◌∙◌, ℕ, Bool, true, false, [], Option, Some, None, is_some, arith, refl, sym, ap, subst, inl, inr, ne_eqb, rules, cases_Bool, cases_eq, cond-false, and_left, and_right, Block, cycle, kind, is_link, Spot, Data, Link, number, rank, next, after, rank_most, Header, IsHeader, shape_of, command_id, World, UnderWay, counted, Known, next_command, DriverKeeps, RingState, RingMatches, UnderWayMatches, Agrees, state_of, Takeable, Crossable, takeable, crossable, ring_shape, seen, only_crossed, only_taken, only_begun, behind_link, behind_block, TakeDone, CrossDone, take_done, cross_done, block_no_link, link_is, OnlyRing, looked_left, stands_at, block_found}
 use Rattle.controller_model.specs.Looks as looks
 use Rattle.safety.proofs.LazyRuns.Follows.{StandsAt}
 use Rattle.safety.proofs.LazyRuns.GivenLooks.{block_taken, link_followed}

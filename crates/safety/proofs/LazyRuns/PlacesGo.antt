@@ -1,6 +1,5 @@
 -- A change that binds or moves a ring is possible, and the ring stands at its floor then
-use Rattle.std.proofs.Common.{◌≡◌, ◌≢◌, ◌<◌, ◌≤◌, ◌==◌, ◌&&◌, if◌then◌else◌, ◌∷◌, ◌∙◌, ℕ, not, Bool, true, false, List, [], find, Option, Some, None, arith, refl, sym, ap, subst, inl, inr, eq-eqb, ne_eqb, rules}
-use Rattle.safety.proofs.LazyRuns.Words.{list_any, range_with_len, cases_eq, and_from, and_parts, cond-true, cond-false, false≢true, false_from_ne_true, not-true, none-some, same_Some, Spot, is_inside, RingView, IsSpot, number, rank, spot_address, is_open, ceiling, cases_option, rank_least, rank_most, Command, EndpointState, Places, is_off, Header, Ring, IsHeader, shape_of, command_id, id_of, is_ring, is_transfer_kind, ring_having, World, Known, IsIn, IsTransferRing, RingState, state_of, BoundRing, StatesMatch, ChangeKeeps, found_in, shape_is, ring_shape, transfer_driver, transfer_not_command, cond_is, MoveSpot, move_spot, transfer_ring, having_transfer, Ready, bound_spot, floor_number, moved_having, spot_inside, ceiling_held, MayBind, MayMove, bind_keeps, move_keeps, binds_placed, moves_placed, placed_state, placed_world, placed_world_is, placed_here, placed_elsewhere, rest_active, rest_still, PlacedTo, none_in_range}
+use Rattle.safety.proofs.LazyRuns.Words.{◌≡◌, ◌≢◌, ◌<◌, ◌≤◌, ◌==◌, ◌&&◌, if◌then◌else◌, ◌∷◌, ◌∙◌, ℕ, not, Bool, true, false, List, [], find, Option, Some, None, arith, refl, sym, ap, subst, inl, inr, eq-eqb, ne_eqb, rules, list_any, range_with_len, cases_eq, and_from, and_parts, cond-true, cond-false, false≢true, false_from_ne_true, not-true, none-some, same_Some, Spot, is_inside, RingView, IsSpot, number, rank, spot_address, is_open, ceiling, cases_option, rank_least, rank_most, Command, EndpointState, Places, is_off, Header, Ring, IsHeader, shape_of, command_id, id_of, is_ring, is_transfer_kind, ring_having, World, Known, IsIn, IsTransferRing, RingState, state_of, BoundRing, StatesMatch, ChangeKeeps, found_in, shape_is, ring_shape, transfer_driver, transfer_not_command, cond_is, MoveSpot, move_spot, transfer_ring, having_transfer, Ready, bound_spot, floor_number, moved_having, spot_inside, ceiling_held, MayBind, MayMove, bind_keeps, move_keeps, binds_placed, moves_placed, placed_state, placed_world, placed_world_is, placed_here, placed_elsewhere, rest_active, rest_still, PlacedTo, none_in_range}
 use Rattle.controller_model.specs.Bindings as bindings
 use Rattle.ring_knowledge.specs.Completions as completions
 use Rattle.safety.specs.LazyRuns.Needs as needs

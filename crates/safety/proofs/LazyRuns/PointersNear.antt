@@ -1,6 +1,5 @@
 -- Behind each row of a clean trace no pointer is past its floor, or past what is needed later; the command ring's by one place
-use Rattle.std.proofs.Common.{◌≡◌, ◌+◌, ◌≤◌, ◌==◌, ◌∷◌, if◌then◌else◌, ℕ, true, List, [], All, max, arith, refl, sym, ap, subst, inl, inr, eq-eqb, rules}
-use Rattle.safety.proofs.LazyRuns.Words.{cases_eq, cond_both, cond-true, All-head, All-tail, put, put_at, put_off, Block, kind, Spot, Data, number, floor_number, Header, Ring, Row, Sub, Write, Reg, Bell, Read, TraceRow, Comes, Goes, Plain, Withdraws, IsHeader, command_id, Known, RingSpot, learned, lenient, IsDriverRow, DriverKeeps, AreKept, FitsFields, IsKept, header_after, header_now, known_after, known_now, forgotten, restored, restored_on, ring_restored, with_ring, without_ring, need, begins_anew, ends_need, number_needed, number_reported, pointers_after, pointers_at, pointers_for, further, brought, goals, floors_grow}
+use Rattle.safety.proofs.LazyRuns.Words.{◌≡◌, ◌+◌, ◌≤◌, ◌==◌, ◌∷◌, if◌then◌else◌, ℕ, true, List, [], All, max, arith, refl, sym, ap, subst, inl, inr, eq-eqb, rules, cases_eq, cond_both, cond-true, All-head, All-tail, put, put_at, put_off, Block, kind, Spot, Data, number, floor_number, Header, Ring, Row, Sub, Write, Reg, Bell, Read, TraceRow, Comes, Goes, Plain, Withdraws, IsHeader, command_id, Known, RingSpot, learned, lenient, IsDriverRow, DriverKeeps, AreKept, FitsFields, IsKept, header_after, header_now, known_after, known_now, forgotten, restored, restored_on, ring_restored, with_ring, without_ring, need, begins_anew, ends_need, number_needed, number_reported, pointers_after, pointers_at, pointers_for, further, brought, goals, floors_grow}
 use Rattle.safety.proofs.RingChanges.RingsHeadline.{Keeps, now_keeps}
 use Rattle.safety.specs.LazyRuns.Needs as needs
 use Rattle.safety.proofs.LazyRuns.Counts.{bit}

@@ -1,6 +1,5 @@
 -- What the schedule follows stays where a ring comes or goes, where a descriptor is withdrawn, and where a ring is restored: no pointer moves
-use Rattle.std.proofs.Common.{◌≡◌, ◌≢◌, ◌==◌, ◌∷◌, ◌∙◌, ℕ, not, Bool, true, false, List, [], find, filter, Option, Some, None, refl, sym, ap, subst, inl, inr, eq-eqb, ne_eqb, rules}
-use Rattle.safety.proofs.LazyRuns.Words.{cases_eq, cond_both, cond-false, cond-true, not_from_false, not_from_true, none-some, put, put_off, Spot, Data, RingView, RingChange, Restores, changed, new_ring, is_open, Header, Ring, Row, IsHeader, shape_of, command_id, ring_with, World, counted, Known, on_ring, DriverKeeps, IsTransferRing, Runs, view_after, IsComing, forgotten, is_bad_free, is_bad_ring, emptied, with_ring, without_ring, without_descriptor, is_bad_withdraw, is_left, restored, restored_on, ring_restored}
+use Rattle.safety.proofs.LazyRuns.Words.{◌≡◌, ◌≢◌, ◌==◌, ◌∷◌, ◌∙◌, ℕ, not, Bool, true, false, List, [], find, filter, Option, Some, None, refl, sym, ap, subst, inl, inr, eq-eqb, ne_eqb, rules, cases_eq, cond_both, cond-false, cond-true, not_from_false, not_from_true, none-some, put, put_off, Spot, Data, RingView, RingChange, Restores, changed, new_ring, is_open, Header, Ring, Row, IsHeader, shape_of, command_id, ring_with, World, counted, Known, on_ring, DriverKeeps, IsTransferRing, Runs, view_after, IsComing, forgotten, is_bad_free, is_bad_ring, emptied, with_ring, without_ring, without_descriptor, is_bad_withdraw, is_left, restored, restored_on, ring_restored}
 use Rattle.segments.specs.RingView as changes
 use Rattle.safety.proofs.RingChanges.GoneRings as gone
 use Rattle.safety.proofs.RingChanges.NewRings as new

@@ -1,6 +1,5 @@
 -- What a row of the driver leaves as it was known: floors, and which ring an endpoint has. A ring that it opens is active then
-use Rattle.std.proofs.Common.{◌≡◌, ◌==◌, ◌&&◌, ◌||◌, if◌then◌else◌, ◌∙◌, ℕ, nat_lt, not, true, false, [], Option, Some, None, is_none, refl, sym, ap, subst, inl, inr, rules}
-use Rattle.safety.proofs.LazyRuns.Words.{cases_Bool, cond_both, cond-true, cond-false, or_parts, and_from, not-false, put_pair, RingView, Opens, is_open, Running, is_running, is_stopped, Header, Row, Sub, Write, Reg, Bell, Read, Register, Usbcmd, command_id, World, Known, on_ring, run_or_stop, valued, register_written, endpoint_rung, rung, learned, is_bad_bell, lenient, IsDriverRow, BellFacts, bell_facts, put_at, declaration_leaves, write_leaves, register_leaves, bell_leaves, view_after}
+use Rattle.safety.proofs.LazyRuns.Words.{◌≡◌, ◌==◌, ◌&&◌, ◌||◌, if◌then◌else◌, ◌∙◌, ℕ, nat_lt, not, true, false, [], Option, Some, None, is_none, refl, sym, ap, subst, inl, inr, rules, cases_Bool, cond_both, cond-true, cond-false, or_parts, and_from, not-false, put_pair, RingView, Opens, is_open, Running, is_running, is_stopped, Header, Row, Sub, Write, Reg, Bell, Read, Register, Usbcmd, command_id, World, Known, on_ring, run_or_stop, valued, register_written, endpoint_rung, rung, learned, is_bad_bell, lenient, IsDriverRow, BellFacts, bell_facts, put_at, declaration_leaves, write_leaves, register_leaves, bell_leaves, view_after}
 use Rattle.controller_model.specs.DriverRows as driver
 use Rattle.safety.proofs.LazyRuns.RowsLeave.{row_leaves, done}
 

@@ -1,10 +1,8 @@
 -- A clean trace has at most three steps for each row, and three more: rows, events posted, and looks, each of which moves a pointer on
-use Rattle.std.proofs.Common.{◌≡◌, ◌≢◌, ◌+◌, ◌*◌, ◌≤◌, ◌==◌, ◌∷◌, ◌∙◌, if◌then◌else◌, ℕ, true, false, List, [], All, length, reverse, Option, Some, None, arith, refl, sym, ap, subst, inl, inr, ne_eqb, length-append, rules}
-use Rattle.safety.proofs.LazyRuns.Words.{none-some, driver_ring, length-reverse, flat_map, cases_Bool, cond_both, false≢true, and_parts, or_from, put_off, Block, kind, slot, completion_kind, Spot, number, rank_most, floor_number, Command, StopEndpoint, Change, Places, changes, is_off, Header, Sub, Write, Reg, Bell, Read, Step, NextRow, IsHeader, command_id, is_ring, ring_having, Known, RingSpot, learned, IsDriverRow, DriverKeeps, transfer_not_command, need, further, brought, goals, looks_to, EndpointsKeep, endpoints_of, transfer_ring, floors_grow, having_transfer, ring_with, is_driver_ring, Row, TraceRow, Comes, Goes, Plain, Withdraws, Data, rank, put, lenient, All-head, All-tail, AreKept, FitsFields, header_now, known_now, restored, restored_on, ring_restored, with_ring, without_ring, pointers_at, pointers_after, pointers_for, steps_before, steps_for, lazy_run}
+use Rattle.safety.proofs.LazyRuns.Words.{◌≡◌, ◌≢◌, ◌+◌, ◌*◌, ◌≤◌, ◌==◌, ◌∷◌, ◌∙◌, if◌then◌else◌, ℕ, true, false, List, [], All, length, reverse, Option, Some, None, arith, refl, sym, ap, subst, inl, inr, ne_eqb, length-append, rules, FewSteps, none-some, driver_ring, length-reverse, flat_map, cases_Bool, cond_both, false≢true, and_parts, or_from, put_off, Block, kind, slot, completion_kind, Spot, number, rank_most, floor_number, Command, StopEndpoint, Change, Places, changes, is_off, Header, Sub, Write, Reg, Bell, Read, Step, NextRow, IsHeader, command_id, is_ring, ring_having, Known, RingSpot, learned, IsDriverRow, DriverKeeps, transfer_not_command, need, further, brought, goals, looks_to, EndpointsKeep, endpoints_of, transfer_ring, floors_grow, having_transfer, ring_with, is_driver_ring, Row, TraceRow, Comes, Goes, Plain, Withdraws, Data, rank, put, lenient, All-head, All-tail, AreKept, FitsFields, header_now, known_now, restored, restored_on, ring_restored, with_ring, without_ring, pointers_at, pointers_after, pointers_for, steps_before, steps_for, lazy_run}
 use Rattle.ring_knowledge.specs.Completions as completions
 use Rattle.safety.proofs.Endpoints.{change_keeps}
 use Rattle.safety.proofs.RingChanges.RingRuns.{no_ring}
-use Rattle.safety.specs.LazyRuns.Law.{FewSteps}
 use Rattle.safety.specs.LazyRuns.Lazy as lazy
 use Rattle.safety.specs.LazyRuns.Needs as needs
 use Rattle.safety.proofs.LazyRuns.Counts.{bit, bit_clear, bit_most}

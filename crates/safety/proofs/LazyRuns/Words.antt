@@ -1,8 +1,8 @@
 -- The words of std, of the crates below and of this crate's own definitions that its proofs cite, passed on by one file
 pub use Rattle.commands.specs.Changes.{Change, DeviceLeft, Disables, Places, Resets, SlotGoesOn, Stops, placed_by_context}
 unfoldable pub use Rattle.commands.specs.Changes.{changes}
-pub use Rattle.commands.specs.Command.{command_of, is_stop_of, may_answer_slot, named_context, named_endpoint, named_slot}
-pub use Rattle.commands.specs.States.{endpoint_meant, endpoint_success, is_off, is_running, is_slot_enabled, is_stopped, slot_meant, slot_success}
+pub use Rattle.commands.specs.Command.{command_of, is_stop_of, may_answer_slot, named_context}
+pub use Rattle.commands.specs.States.{is_off, is_running, is_stopped}
 unfoldable pub use Rattle.commands.specs.States.{can_succeed}
 pub use Rattle.commands.specs.declared.command.Command.{Command}
 pub use Rattle.commands.specs.declared.command.Command.TheVariants.{AddressDevice, ConfigureEndpoint, DisableSlot, EnableSlot, EvaluateContext, NoOp, ResetDevice, ResetEndpoint, SetTrDequeue, StopEndpoint}
@@ -20,14 +20,14 @@ pub use Rattle.event_ring.specs.EventRing.{erdp_address, has_room, is_event_plac
 pub use Rattle.guest_memory.specs.Memory.{put, put_pair}
 pub use Rattle.safety.specs.LazyRuns.LateEvents.{IsTimely, is_late_row, is_report_of_success}
 unfoldable pub use Rattle.safety.specs.LazyRuns.LateEvents.{is_held_ring, is_late}
-pub use Rattle.safety.specs.LazyRuns.Law.{AllAreRead, AreAtFloors, ContainsAll, GoesSoFar, LazyLaw, scene_with}
+pub use Rattle.safety.specs.LazyRuns.Law.{AllAreRead, AreAtFloors, ContainsAll, FewSteps, GoesSoFar, LazyLaw, scene_with}
 unfoldable pub use Rattle.safety.specs.LazyRuns.Lazy.{behind_taken, brought, command_taken, further, goals, lazy_run, looks_to, pointers_after, pointers_at, pointers_for, report_goals, steps_before, steps_for, stop_goal, taken_up_to}
 unfoldable pub use Rattle.safety.specs.LazyRuns.Needs.{begins_anew, ends_need, need, number_behind, number_needed, number_reported}
 pub use Rattle.ownership_rules.proofs.Among.{IsIn}
 unfoldable pub use Rattle.ownership_rules.specs.Areas.{is_bad_area}
 unfoldable pub use Rattle.ownership_rules.specs.Commands.{has_bad_context}
 pub use Rattle.ownership_rules.specs.Declarations.{is_driver_ring}
-unfoldable pub use Rattle.ownership_rules.specs.Doorbells.{is_bad_bell, is_touched}
+unfoldable pub use Rattle.ownership_rules.specs.Doorbells.{is_bad_bell}
 unfoldable pub use Rattle.ownership_rules.specs.Events.{can_finish, can_report, can_report_at, event_tests, is_impossible, is_impossible_by_kind, is_impossible_completion, is_impossible_transfer, is_in_profile, is_past_room, is_stopping_now, is_working, may_be_taken, was_stop_seen}
 unfoldable pub use Rattle.ownership_rules.specs.Moves.{binding_in, has_repeats, is_among, ring_bound}
 unfoldable pub use Rattle.ownership_rules.specs.Rules.{lenient, lenient_tests}
@@ -124,7 +124,6 @@ pub use Rattle.segments.proofs.Search.{cases_option, position-None}
 pub use Rattle.segments.proofs.ShapeFacts.{shape_facts}
 pub use Rattle.segments.proofs.SpotOrder.{data_not_link, next_later, next_least, rank_least, rank_most, same_rank}
 unfoldable pub use Rattle.segments.specs.Ceiling.{ceiling, given_count, is_data_below, is_open, is_stop_spot, named, stopped_number}
-unfoldable pub use Rattle.segments.specs.Moves.{target}
 pub use Rattle.segments.specs.Places.{address_of, cycle_of, is_inside, place_count}
 pub use Rattle.segments.specs.RingKeeps.{MayReach, RingKeeps}
 pub use Rattle.segments.specs.RingView.{Declares, Holds, Opens, Reaches, Restores, RingChange, RingView, Writes, changed, declared, floor_number, gives, new_ring}
@@ -163,3 +162,5 @@ pub use Rattle.trb.specs.declared.kind.BlockKind.TheVariants.{CommandCompletion,
 unfoldable pub use Rattle.world_state.specs.Takes.{next_take, unreported}
 pub use Rattle.world_state.specs.World.{RingEvent, UnderWay, World}
 unfoldable pub use Rattle.world_state.specs.World.{event_at, opening, stored, stored_block}
+pub use Rattle.std.proofs.Common.{All, Bool, List, None, Option, Some, [], ap, append-nil, append_assoc, arith, eq-eqb, eqb-true, false, filter, find, get_or, if◌then◌else◌, inl, inr, is_none, is_some, le-ltb, length, length-append, lt-ltb, ltb-false, ltb-true, map, max, nat_lt, ne_eqb, not, option_and_then, option_map, position, refl, reverse, rules, subst, suc, sym, true, unwrap_or, zero, ℕ, ◌%◌, ◌&&◌, ◌*◌, ◌++◌, ◌+◌, ◌-◌, ◌<◌, ◌==◌, ◌||◌, ◌∙◌, ◌∷◌, ◌≡◌, ◌≢◌, ◌≤◌, ◌⊎◌}
+unfoldable pub use Rattle.segments.specs.Moves.{target}

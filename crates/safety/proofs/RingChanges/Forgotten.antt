@@ -1,14 +1,10 @@
 -- Of an ID that no ring has all may be forgotten
-use Rattle.std.proofs.Common.{◌≡◌, ◌≢◌, ◌<◌, ◌==◌, ◌∙◌, ℕ, List, [], Some, None, get_or, refl, sym, ap, subst, inl, inr, eq-eqb, ne_eqb, rules}
-use Rattle.guest_memory.specs.Memory.{put}
-use Rattle.safety.proofs.Words.{cases_eq, cases_option, cond-true, cond-false, none-some, Block, RingView, RingKeeps, Header, Ring, Read, IsHeader, ring_with, ring_having, shape_of, command_id, command_ring, World, Known, learned, lenient, Binding, binds, ring_bound, IsTransferRing, DriverKeeps, Stands, FreeRing, state_of, Agrees}
-use Rattle.segments.specs.RingView.{new_ring}
+use Rattle.safety.proofs.Words.{◌≡◌, ◌≢◌, ◌<◌, ◌==◌, ◌∙◌, ℕ, List, [], Some, None, get_or, refl, sym, ap, subst, inl, inr, eq-eqb, ne_eqb, rules, put, new_ring, emptied, forgotten, cases_eq, cases_option, cond-true, cond-false, none-some, Block, RingView, RingKeeps, Header, Ring, Read, IsHeader, ring_with, ring_having, shape_of, command_id, command_ring, World, Known, learned, lenient, Binding, binds, ring_bound, IsTransferRing, DriverKeeps, Stands, FreeRing, state_of, Agrees}
 use Rattle.safety.proofs.Areas.{context_lies}
 use Rattle.safety.proofs.DriverRings.{transfer_ring}
 use Rattle.safety.proofs.Headers.{command_named}
 use Rattle.safety.proofs.KeptCommandRing.{command_with}
 use Rattle.safety.proofs.RingIds.{having_transfer}
-use Rattle.safety.specs.RingChanges.Changes.{emptied, forgotten}
 use Rattle.safety.proofs.RingChanges.EventsAlike.{KeepsRings}
 use Rattle.safety.proofs.RingChanges.OtherRings.{BindsAsBefore, IsAsBefore, OtherRings, other_rings_keep}
 use Rattle.safety.proofs.RingChanges.OtherWorlds.{OtherTakes, free_new, other_worlds_agree}

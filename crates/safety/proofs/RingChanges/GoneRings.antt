@@ -1,15 +1,11 @@
 -- A ring that goes: what a driver keeps it keeps still
-use Rattle.std.proofs.Common.{◌≡◌, ◌≢◌, ◌<◌, ◌==◌, ◌&&◌, ◌||◌, ◌∷◌, ◌∙◌, ℕ, not, Bool, true, false, List, [], Option, Some, None, find, filter, get_or, length, nat_lt, arith, refl, sym, ap, subst, inl, inr, eqb-true, eq-eqb, ne_eqb, rules}
-use Rattle.guest_memory.specs.Memory.{put}
-use Rattle.safety.proofs.Words.{list_all, and_from, is_shape, may_stand_together, Block, World, Stands, FreeRing, state_of, Agrees, Evt, Xfer, RingKind, same_Some, cases_Bool, cases_eq, list_any, list_any_at, range_with_len, cond-true, cond-false, false≢true, false_from_ne_true, none-some, not-false, not_from_false, not-true, or_parts, is_inside, place_count, RingView, RingKeeps, Command, device_context_bytes, input_context_bytes, Header, Ring, IsHeader, is_command_kind, is_event_kind, is_transfer_kind, is_ring, ring_with, shape_of, shape_or, command_ring, command_id, event_ring, event_shape, event_size, ring_having, id_of, id_or_none, touches_ring, Known, entry_of, Binding, binds, ring_bound, binds_ring, is_being_bound, any_of, from_filter, some_of, IsIn, is_transfer_ring, IsDriverRing, IsTransferRing, IsUnfinished, DriverKeeps}
+use Rattle.safety.proofs.Words.{◌≡◌, ◌≢◌, ◌<◌, ◌==◌, ◌&&◌, ◌||◌, ◌∷◌, ◌∙◌, ℕ, not, Bool, true, false, List, [], Option, Some, None, find, filter, get_or, length, nat_lt, arith, refl, sym, ap, subst, inl, inr, eqb-true, eq-eqb, ne_eqb, rules, put, new_ring, emptied, forgotten, is_bad_free, is_had, without_ring, list_all, and_from, is_shape, may_stand_together, Block, World, Stands, FreeRing, state_of, Agrees, Evt, Xfer, RingKind, same_Some, cases_Bool, cases_eq, list_any, list_any_at, range_with_len, cond-true, cond-false, false≢true, false_from_ne_true, none-some, not-false, not_from_false, not-true, or_parts, is_inside, place_count, RingView, RingKeeps, Command, device_context_bytes, input_context_bytes, Header, Ring, IsHeader, is_command_kind, is_event_kind, is_transfer_kind, is_ring, ring_with, shape_of, shape_or, command_ring, command_id, event_ring, event_shape, event_size, ring_having, id_of, id_or_none, touches_ring, Known, entry_of, Binding, binds, ring_bound, binds_ring, is_being_bound, any_of, from_filter, some_of, IsIn, is_transfer_ring, IsDriverRing, IsTransferRing, IsUnfinished, DriverKeeps}
 use Rattle.segments.specs.Places.{touches}
-use Rattle.segments.specs.RingView.{new_ring}
 use Rattle.safety.proofs.Areas.{context_lies}
 use Rattle.safety.proofs.DriverRings.{transfer_ring}
 use Rattle.safety.proofs.Headers.{found_in, header_parts, together, transfer_not_command}
 use Rattle.safety.proofs.RingIds.{having_transfer, other_ids}
 use Rattle.safety.proofs.UnfinishedLists.{in_range, unfinished_fails}
-use Rattle.safety.specs.RingChanges.Changes.{emptied, forgotten, is_bad_free, is_had, without_ring}
 use Rattle.safety.proofs.RingChanges.ListedRings.{all_kept, together_kept}
 use Rattle.safety.proofs.RingChanges.OtherWorlds.{OtherTakes, free_new, other_worlds_agree}
 use Rattle.safety.proofs.RingChanges.OtherRings.{OtherRings, IsAsBefore, BindsAsBefore, other_rings_keep}

@@ -1,9 +1,5 @@
 -- What a driver keeps is kept where other rings are there, so long as those that endpoints and commands speak of are as they were
-use Rattle.std.proofs.Common.{◌≡◌, ◌≢◌, ◌≤◌, ◌+◌, ◌%◌, ◌^◌, ◌<◌, ◌&&◌, ◌||◌, ◌⊎◌, ◌∷◌, ◌∙◌, ℕ, not, Bool, true, false, List, [], map, All, Option, Some, None, nat_lt, option_and_then, slice_get, is_none, refl, sym, ap, subst, inl, inr, rules}
-use Rattle.safety.proofs.Words.{device_named, is_soiled, overlap, list_any-append, is_at_rest, drops, context_pointer, context_cycle, base_address, table_bytes, list_any, flat_map, false≢true, or_parts, or_from, cases_option, All-head, All-tail, All-cons, All-nil, RingView, is_inside, ceiling, floor_number, is_move, RingKeeps, Command, AddressDevice, ConfigureEndpoint, StopEndpoint, SetTrDequeue, command_of, is_stop_of, named_slot, named_endpoint, named_context, device_context_bytes, input_context_bytes, Header, Ring, shape_of, command_id, event_shape, event_size, touches_ring, is_ring, Known, entry_of, command_at, next_command, may_be_taken, is_stopping_now, device_ranges, range_of_device, slots, covers, lease_start, lease_bytes, is_bad_area, Binding, binds, binding_in, ring_bound, binds_ring, has_repeats, is_placed, is_bad_dequeue, is_bad_move, IsDriverRing, IsTransferRing, IsUnfinished, was_stop_seen, CommandRingKeeps, CommandRingNamed, StatesKeep, Unstarted, DeviceKeeps, Stays, StaysIf, MovesIf, CommandKeeps, DriverKeeps}
-use Rattle.segments.specs.RingKeeps.{IsRestored}
-use Rattle.segments.specs.RingView.{new_ring}
-use Rattle.traces.specs.declared.register.Register.TheVariants.{Dcbaap}
+use Rattle.safety.proofs.Words.{◌≡◌, ◌≢◌, ◌≤◌, ◌+◌, ◌%◌, ◌^◌, ◌<◌, ◌&&◌, ◌||◌, ◌⊎◌, ◌∷◌, ◌∙◌, ℕ, not, Bool, true, false, List, [], map, All, Option, Some, None, nat_lt, option_and_then, slice_get, is_none, refl, sym, ap, subst, inl, inr, rules, IsRestored, new_ring, Dcbaap, device_named, is_soiled, overlap, list_any-append, is_at_rest, drops, context_pointer, context_cycle, base_address, table_bytes, list_any, flat_map, false≢true, or_parts, or_from, cases_option, All-head, All-tail, All-cons, All-nil, RingView, is_inside, ceiling, floor_number, is_move, RingKeeps, Command, AddressDevice, ConfigureEndpoint, StopEndpoint, SetTrDequeue, command_of, is_stop_of, named_slot, named_endpoint, named_context, device_context_bytes, input_context_bytes, Header, Ring, shape_of, command_id, event_shape, event_size, touches_ring, is_ring, Known, entry_of, command_at, next_command, may_be_taken, is_stopping_now, device_ranges, range_of_device, slots, covers, lease_start, lease_bytes, is_bad_area, Binding, binds, binding_in, ring_bound, binds_ring, has_repeats, is_placed, is_bad_dequeue, is_bad_move, IsDriverRing, IsTransferRing, IsUnfinished, was_stop_seen, CommandRingKeeps, CommandRingNamed, StatesKeep, Unstarted, DeviceKeeps, Stays, StaysIf, MovesIf, CommandKeeps, DriverKeeps}
 use Rattle.ownership_rules.specs.Commands as commands
 
 -- where a list is mapped alike, what passes of it is the same

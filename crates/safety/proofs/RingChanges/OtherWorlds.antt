@@ -1,9 +1,6 @@
 -- A world agrees with what is known still where other rings are there, so long as those that endpoints have are as they were
-use Rattle.std.proofs.Common.{◌≡◌, ◌≢◌, ◌+◌, ◌<◌, ◌∙◌, ℕ, false, List, [], Option, Some, None, option_and_then, slice_get, sym, ap, subst, inl, inr, rules}
-use Rattle.safety.proofs.Words.{Block, block_at, address_of, Spot, floor_number, Shape, RingView, named_context, Header, Ring, shape_of, command_id, AreInOrder, World, RingEvent, UnderWay, Known, command_at, next_command, DriverKeeps, Stands, EventsStand, RingState, state_of, RingMatches, BoundRing, FreeRing, EndpointRing, UnderWayMatches, TakenCommand, IsUnchanged, Matches, Agrees}
-use Rattle.segments.specs.RingView.{new_ring}
+use Rattle.safety.proofs.Words.{◌≡◌, ◌≢◌, ◌+◌, ◌<◌, ◌∙◌, ℕ, false, List, [], Option, Some, None, option_and_then, slice_get, sym, ap, subst, inl, inr, rules, new_ring, next_take, Block, block_at, address_of, Spot, floor_number, Shape, RingView, named_context, Header, Ring, shape_of, command_id, AreInOrder, World, RingEvent, UnderWay, Known, command_at, next_command, DriverKeeps, Stands, EventsStand, RingState, state_of, RingMatches, BoundRing, FreeRing, EndpointRing, UnderWayMatches, TakenCommand, IsUnchanged, Matches, Agrees}
 use Rattle.world_state.specs.Harms as of_harms
-use Rattle.world_state.specs.Takes.{next_take}
 use Rattle.world_state.specs.World.{event_at}
 use Rattle.safety.proofs.RingChanges.OtherRings.{OtherRings, IsAsBefore, stop_seen_same, unfinished_before}
 

@@ -1,7 +1,6 @@
 -- A descriptor that is withdrawn, or a ring that is restored, beneath an event that isn't read yet: the event stays possible, and the order
 -- doesn't matter but for the numbers at which rings are held
-use Rattle.std.proofs.Common.{◌≡◌, ◌≢◌, ◌<◌, ◌∙◌, ℕ, true, [], option_and_then, slice_get, arith, refl, sym, ap, subst, ltb-true, rules}
-use Rattle.safety.proofs.Words.{Block, RingView, RingChange, changed, ceiling, command_of, Header, Read, IsHeader, shape_of, command_id, Known, on_ring, command_at, next_command, learned, may_be_taken, lenient, DriverKeeps, IsUnfinished, IsHeldMore, HeldMore}
+use Rattle.safety.proofs.Words.{◌≡◌, ◌≢◌, ◌<◌, ◌∙◌, ℕ, true, [], option_and_then, slice_get, arith, refl, sym, ap, subst, ltb-true, rules, Block, RingView, RingChange, changed, ceiling, command_of, Header, Read, IsHeader, shape_of, command_id, Known, on_ring, command_at, next_command, learned, may_be_taken, lenient, DriverKeeps, IsUnfinished, IsHeldMore, HeldMore}
 use Rattle.safety.proofs.Headers.{transfer_driver}
 use Rattle.safety.proofs.CleanRows.{event_facts}
 use Rattle.safety.proofs.KeptRings.{next_unfinished, command_holds}

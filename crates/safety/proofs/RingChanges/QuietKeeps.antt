@@ -1,7 +1,6 @@
 -- A descriptor that is withdrawn, or a ring that is restored, keeps what a driver keeps, where the rules of its ring are kept and no
 -- unfinished command moves what is free
-use Rattle.std.proofs.Common.{◌≡◌, ◌≢◌, ◌&&◌, ℕ, nat_lt, option_and_then, slice_get, refl, sym, ap, subst, rules}
-use Rattle.safety.proofs.Words.{RingView, RingChange, RingKeeps, IsRestored, changed, ceiling, floor_number, command_of, is_stop_of, Command, Header, shape_of, command_id, Known, on_ring, command_at, next_command, device_named, entry_of, may_be_taken, is_stopping_now, is_soiled, MovesRestored, IsDriverRing, IsUnfinished, CommandRingKeeps, StatesKeep, Unstarted, DeviceKeeps, DriverKeeps}
+use Rattle.safety.proofs.Words.{◌≡◌, ◌≢◌, ◌&&◌, ℕ, nat_lt, option_and_then, slice_get, refl, sym, ap, subst, rules, RingView, RingChange, RingKeeps, IsRestored, changed, ceiling, floor_number, command_of, is_stop_of, Command, Header, shape_of, command_id, Known, on_ring, command_at, next_command, device_named, entry_of, may_be_taken, is_stopping_now, is_soiled, MovesRestored, IsDriverRing, IsUnfinished, CommandRingKeeps, StatesKeep, Unstarted, DeviceKeeps, DriverKeeps}
 use Rattle.safety.proofs.CommandsSame.{SameStates, RingsStay, same_stay}
 use Rattle.safety.proofs.MovesSame.{unfinished_view}
 use Rattle.safety.proofs.SameDriver.{SameGiven, view_after}

@@ -1,7 +1,6 @@
 -- The headline where rings come and go: behind each step of each run beside rows that break no rule the world is safe
 use Rattle.std.proofs.Common.{◌≡◌, ◌∷◌, ◌++◌, ◌∙◌, false, List, [], Option, Some, All, reverse, option_map, refl, sym, ap, subst, inl, inr, append_assoc, append-nil, rules}
-use Rattle.safety.proofs.Words.{Row, cond-true, false≢true, reverse-append, All-cons, All-head, All-tail, none-some, same_Some, Header, Step, NextRow, Look, Report, Finish, Other, Scribble, IsHeader, IsStep, World, IsSafe, Known, DriverKeeps, Runs}
-use Rattle.world_state.specs.World.{opening}
+use Rattle.safety.proofs.Words.{opening, TraceRow, AreKept, IsKept, FitsFields, RingsHeadline, Scene, header_after, header_now, known_after, known_now, row_made, row_next, scene_reached, step_made, restored, ring_restored, Row, cond-true, false≢true, reverse-append, All-cons, All-head, All-tail, none-some, same_Some, Header, Step, NextRow, Look, Report, Finish, Other, Scribble, IsHeader, IsStep, World, IsSafe, Known, DriverKeeps, Runs}
 use Rattle.controller_model.specs.Finishes as finishes
 use Rattle.controller_model.specs.Looks as looks
 use Rattle.controller_model.specs.Posts as posts
@@ -22,10 +21,7 @@ use Rattle.safety.proofs.Scribble.{scribble_runs}
 use Rattle.safety.proofs.Squares.{square_law}
 use Rattle.safety.proofs.StillRings.{still_rings}
 use Rattle.safety.proofs.TestsPassed.{clean_tests}
-use Rattle.traces.specs.declared.trace_row.TraceRow.{TraceRow}
 use Rattle.traces.specs.declared.trace_row.TraceRow.TheVariants.{Comes, Goes, Plain, Withdraws}
-use Rattle.safety.specs.RingChanges.Histories.{AreKept, IsKept, FitsFields, RingsHeadline, Scene, header_after, header_now, known_after, known_now, row_made, row_next, scene_reached, step_made}
-use Rattle.safety.specs.RingChanges.Withdrawals.{restored, ring_restored}
 use Rattle.safety.proofs.RingChanges.Restored.{row_comes, row_keeps, row_runs as restored_row_runs, stopped_still}
 use Rattle.safety.proofs.RingChanges.Withdrawn.{withdraw_keeps, withdraw_runs}
 use Rattle.safety.proofs.RingChanges.GoneRings.{gone_ring_header, gone_ring_kept}

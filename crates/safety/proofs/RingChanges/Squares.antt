@@ -1,16 +1,11 @@
 -- A ring that comes or goes beneath an event that isn't read yet: the two may change places
-use Rattle.std.proofs.Common.{◌≡◌, ◌≢◌, ◌*◌, ◌==◌, ◌||◌, ◌++◌, ◌∷◌, ◌∙◌, ℕ, not, Bool, true, false, [], Some, filter, get_or, is_some, refl, sym, ap, inl, inr, eq-eqb, ne_eqb, rules}
-use Rattle.guest_memory.specs.Memory.{put}
-use Rattle.safety.proofs.Words.{cases_eq, cases_option, cond-true, cond-false, false≢true, false_from_ne_true, or_from, fun_ext, All-weaker, All-get_or, some_of, range_with_len, list_any, Block, RingView, Header, Read, IsHeader, Ring, ring_with, ring_having, touches_ring, is_in_range_lease, is_soiled, open_ranges, covers, is_ring, is_being_bound, Known, learned, lenient, Binding, binds, ring_bound, is_placed, DriverKeeps, is_transfer_ring}
-use Rattle.segments.specs.declared.segment.Segment.{Segment}
-use Rattle.segments.specs.RingView.{new_ring}
+use Rattle.safety.proofs.Words.{◌≡◌, ◌≢◌, ◌*◌, ◌==◌, ◌||◌, ◌++◌, ◌∷◌, ◌∙◌, ℕ, not, Bool, true, false, [], Some, filter, get_or, is_some, refl, sym, ap, inl, inr, eq-eqb, ne_eqb, rules, put, Segment, new_ring, IsComing, forgotten, is_bad_free, is_bad_ring, is_bad_segment, is_had, shows_first_lap, with_ring, without_ring, cases_eq, cases_option, cond-true, cond-false, false≢true, false_from_ne_true, or_from, fun_ext, All-weaker, All-get_or, some_of, range_with_len, list_any, Block, RingView, Header, Read, IsHeader, Ring, ring_with, ring_having, touches_ring, is_in_range_lease, is_soiled, open_ranges, covers, is_ring, is_being_bound, Known, learned, lenient, Binding, binds, ring_bound, is_placed, DriverKeeps, is_transfer_ring}
 use Rattle.safety.proofs.BoundBehind.{bound_before}
 use Rattle.safety.proofs.BoundRings.{ring_is}
 use Rattle.safety.proofs.DriverRings.{transfer_ring}
 use Rattle.safety.proofs.EventBehind.{event_behind}
 use Rattle.safety.proofs.LeasesBehind.{Behind, none_fewer, ranges_fewer}
 use Rattle.safety.proofs.RingIds.{having_transfer}
-use Rattle.safety.specs.RingChanges.Changes.{IsComing, forgotten, is_bad_free, is_bad_ring, is_bad_segment, is_had, shows_first_lap, with_ring, without_ring}
 use Rattle.safety.proofs.RingChanges.EventsAlike.{HasKept, HavesAlike, KeepsRings}
 use Rattle.safety.proofs.RingChanges.ReadAlike.{BindsAlike, read_alike, read_possible}
 use Rattle.safety.proofs.RingChanges.Segments.{IsGood, each_good}
