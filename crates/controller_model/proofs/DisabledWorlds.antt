@@ -1,15 +1,10 @@
 -- Endpoints are disabled one after another
 use Rattle.controller_model.proofs.Words.{◌≡◌, ◌+◌, ◌<◌, ◌≤◌, ◌==◌, ◌&&◌, ◌||◌, ◌∙◌, if◌then◌else◌, ◌∷◌, ℕ, suc, zero, not, Bool, true, false, List, [], Option, Some, None, refl, sym, ap, inl, inr, arith, nat_lt, eq-eqb, ne_eqb, lt-ltb, le-ltb, list_any, range_with_len, cases_eq, cases_lt, put, Off, is_ring, World, disabled, has_one_of, freed, turned_off}
-use Rattle.controller_model.proofs.HadByAnother.{any_none}
+
 use Rattle.controller_model.proofs.HolderLemmas.{put_pair_twice}
-
-and_true : (b : Bool) → (b && true) ≡ b
-and_true true = refl
-and_true false = refl
-
-or_false : (b : Bool) → (b || false) ≡ b
-or_false true = refl
-or_false false = refl
+use Rattle.controller_model.proofs.LookBranches.{or_false}
+use Rattle.controller_model.proofs.ScribbleLemmas.{none_in_range}
+use Rattle.controller_model.proofs.SafetyLemmas.{and_true}
 
 -- of a range with i, the test holds at most there
 any_at : (m : Bool) (i from n : ℕ) → from ≤ i → i < from + n → list_any (λ j. j == i && m) (range_with_len from n) ≡ m
@@ -18,7 +13,7 @@ any_at m i from (suc n) low high =
     elim (cases_eq from i) [
       | inl same ↦
           (λ k. (eq-eqb from i same k && m) || list_any (λ j. j == i && m) (range_with_len (from + 1) n))
-          ∙ ap (λ b. m || b) (any_none (λ j. j == i && m) (from + 1) n (λ j above below. ap (λ b. b && m) (ne_eqb j i (λ e. omega arith)))) ∙ or_false m
+          ∙ ap (λ b. m || b) (none_in_range (λ j. j == i && m) (from + 1) n (λ j above below. ap (λ b. b && m) (ne_eqb j i (λ e. omega arith)))) ∙ or_false m
       | inr apart ↦
           (λ k. (ne_eqb from i apart k && m) || list_any (λ j. j == i && m) (range_with_len (from + 1) n))
           ∙ any_at m i (from + 1) n (omega arith) (omega arith)
@@ -41,7 +36,7 @@ module _ (w : World) (s i r : ℕ) where
 
   none_of : i ≡ 0 → has_one_of w s (λ j. j == i) r ≡ false
   unfolding has_one_of
-  none_of none = any_none (λ j. j == i && is_ring r (w.ring_of s j)) 1 31 (λ j low high. ap (λ b. b && is_ring r (w.ring_of s j)) (ne_eqb j i (λ e. omega arith)))
+  none_of none = none_in_range (λ j. j == i && is_ring r (w.ring_of s j)) 1 31 (λ j low high. ap (λ b. b && is_ring r (w.ring_of s j)) (ne_eqb j i (λ e. omega arith)))
 
 module _ (w : World) (s i : ℕ) where
   pub disabled_first : i ≡ 0 → disabled w s (λ j. j == i) ≡ turned_off w s i
@@ -138,7 +133,7 @@ unfolding disabled has_one_of
 disabled_none w s = (λ k. record w {
   endpoint_state = λ t i. off (t == s) Off (w.endpoint_state t i) k;
   ring_of = λ t i. off (t == s) None (w.ring_of t i) k;
-  is_active = λ r. (ap (λ b. w.is_active r && not b) (any_none (λ i. false) 1 31 (λ i low high. refl)) ∙ and_true (w.is_active r)) k;
+  is_active = λ r. (ap (λ b. w.is_active r && not b) (none_in_range (λ i. false) 1 31 (λ i low high. refl)) ∙ and_true (w.is_active r)) k;
 })
   where
     off : {A : Type 0} (b : Bool) (a z : A) → (if b && false then a else z) ≡ z

@@ -1,12 +1,12 @@
 -- Beside rows of which none is a ring's, runs and replays are those beside a trace of the driver's rows alone
-use Rattle.controller_model.proofs.Words.{◌≡◌, ◌≢◌, ◌+◌, ◌-◌, ◌==◌, ◌&&◌, ◌||◌, ◌++◌, ◌∙◌, ◌∷◌, if◌then◌else◌, ℕ, not, nat_le, nat_lt, Bool, true, false, List, [], Option, Some, None, is_some, find, length, map, option_and_then, option_map, position, ap, sym, refl, same_Some, list_any, range_with_len, Block, block_at, cycle, kind, pointer, slot, code, endpoint, word, is_link, is_set, put, put_pair, same_words, Command, NoOp, EnableSlot, DisableSlot, AddressDevice, ConfigureEndpoint, EvaluateContext, ResetEndpoint, StopEndpoint, SetTrDequeue, ResetDevice, command_of, named_context, may_answer_slot, Change, changes, can_succeed, is_running, is_stopped, EndpointState, Halted, Error, Stopped, Header, Row, Sub, Write, Reg, Bell, Read, Step, NextRow, Look, Report, Finish, Other, Scribble, Register, Usbcmd, Usbsts, Crcr, Dnctrl, Dcbaap, Config, Iman, Imod, Erstsz, Erstba, Erdp, register_or_zero, run_bit, reset_bit, command_id, event_shape, event_size, is_event_place, ring_having, shape_of, some_ring, World, UnderWay, Placed, opening, stored, stored_block, event_at, takes_of, TakenOutOfOrder, TakenOtherWords, WaitsInsideDescriptor, LooksOutside, PostsOverUnread, InputContextChanged, Harm, harm_of, harms, waits, has_changed_context, has_other_words, is_changed_since, is_context_changed, is_inside_descriptor, is_out_of_order, counted, made, stepped, while_running, is_scribbled, scribbled, looked, looked_at, seen_by_look, crossed, taken, taken_on, declared_next, command_begun, look_shows, shows, can_post, posted, unreported, is_last, is_stop_under_way, with_reported, report_success, report_error, report_stop, report_code, reported, reported_on, stopped_with, other_posted, passes_end, succeeded, ended, ended_with, finished, finished_as, changed_by, changed_by_all, effect, is_had_by_another, placed_on, placed, disabled, inactive, in_state, row_done, next_row, declared, register_row, bell_row, event_read, endpoint_bell, activated, valued, run_or_stop, started_with, with_dequeue, may_scribble, has_one_of, is_success, is_halting, is_trb_error, is_stopping, is_transfer_event, is_other_event, is_command_completion}
+use Rattle.controller_model.proofs.Words.{◌≡◌, ◌≢◌, ◌+◌, ◌-◌, ◌==◌, ◌&&◌, ◌||◌, ◌++◌, ◌∙◌, ◌∷◌, if◌then◌else◌, ℕ, not, nat_le, nat_lt, Bool, true, false, List, [], Option, Some, None, is_some, find, length, map, option_and_then, option_map, position, ap, sym, refl, same_Some, list_any, range_with_len, Block, block_at, cycle, kind, pointer, slot, code, endpoint, word, is_link, is_set, put, put_pair, same_words, Command, NoOp, EnableSlot, DisableSlot, AddressDevice, ConfigureEndpoint, EvaluateContext, ResetEndpoint, StopEndpoint, SetTrDequeue, ResetDevice, command_of, named_context, may_answer_slot, Change, changes, can_succeed, is_running, is_stopped, EndpointState, Halted, Error, Stopped, Header, Row, Reg, Bell, Read, Step, NextRow, Look, Report, Finish, Other, Scribble, Register, Usbcmd, Config, Erdp, register_or_zero, run_bit, reset_bit, command_id, event_shape, event_size, is_event_place, ring_having, shape_of, some_ring, World, UnderWay, Placed, opening, stored, stored_block, event_at, takes_of, TakenOutOfOrder, TakenOtherWords, WaitsInsideDescriptor, LooksOutside, PostsOverUnread, InputContextChanged, Harm, harm_of, harms, waits, has_changed_context, has_other_words, is_changed_since, is_context_changed, is_inside_descriptor, is_out_of_order, counted, made, stepped, while_running, is_scribbled, scribbled, looked, looked_at, seen_by_look, crossed, taken, taken_on, declared_next, command_begun, look_shows, shows, can_post, posted, unreported, is_last, is_stop_under_way, with_reported, report_success, report_error, report_stop, report_code, reported, reported_on, stopped_with, other_posted, passes_end, succeeded, ended, ended_with, finished, finished_as, changed_by, changed_by_all, effect, is_had_by_another, placed_on, placed, disabled, inactive, in_state, row_done, next_row, declared, register_row, bell_row, event_read, endpoint_bell, activated, valued, run_or_stop, started_with, with_dequeue, may_scribble, has_one_of, is_success, is_halting, is_trb_error, is_stopping, is_transfer_event, is_other_event, is_command_completion}
 use Rattle.std.specs.Prelude.{option_to_list}
-use Rattle.commands.specs.Changes.{SlotGoesOn, DeviceLeft, Disables, Places, Stops, Resets}
+use Rattle.commands.specs.Changes.{Places, Stops}
 use Rattle.event_ring.specs.EventRing.{erdp_address}
 use Rattle.traces.specs.declared.trace_row.TraceRow.TheVariants.{Plain}
-use Rattle.controller_model.specs.Scenes.{Scene, scene_ending_from, scene_reached, scene_replayed, scene_seen_by, scene_seen_from, step_made}
+use Rattle.controller_model.specs.Scenes.{Scene, scene_ending_from, scene_replayed, scene_seen_by, scene_seen_from, step_made}
 use Rattle.controller_model.specs.Showing.{replayed, seen_by, seen_from}
-use Rattle.controller_model.specs.Steps.{NoHarm, ending_from, ending_of, judged, reached}
+use Rattle.controller_model.specs.Steps.{NoHarm, ending_from, ending_of, judged}
 
 -- the world with other rows still to come
 abbrev pub beside : List Row → World → World
@@ -153,12 +153,9 @@ module _ (rows : List Row) where
 
     changed_so : (w : World) (c : Command) (change : Change) → option_map (beside rows) (changed_by h c w change) ≡ changed_by h c (beside rows w) change
     unfolding changed_by in_state disabled has_one_of
-    changed_so w c (SlotGoesOn s) = refl
-    changed_so w c (DeviceLeft s) = refl
-    changed_so w c (Disables s which) = refl
     changed_so w c (Places s i p turn state) = placed_on_so w s i p turn state (ring_having h p)
     changed_so w c (Stops s i) = ap (λ v. Some v) (inactive_so (in_state w s i Stopped) (w.ring_of s i))
-    changed_so w c (Resets s i) = refl
+    changed_so w c _ = refl
 
     all_so : (w : World) (c : Command) (changes : List Change) → option_map (beside rows) (changed_by_all h c w changes) ≡ changed_by_all h c (beside rows w) changes
     unfolding changed_by_all
@@ -215,15 +212,7 @@ module _ (rows : List Row) where
     unfolding register_row valued with_dequeue
     register_so w Usbcmd v = run_so (valued w Usbcmd v) v
     register_so w Erdp v = chosen_world (is_event_place (event_shape h) (erdp_address v)) _ (valued w Erdp v)
-    register_so w Usbsts v = refl
-    register_so w Crcr v = refl
-    register_so w Dnctrl v = refl
-    register_so w Dcbaap v = refl
-    register_so w Config v = refl
-    register_so w Iman v = refl
-    register_so w Imod v = refl
-    register_so w Erstsz v = refl
-    register_so w Erstba v = refl
+    register_so w _ v = refl
 
     endpoint_so : (w : World) (s t : ℕ) (o : Option ℕ) → beside rows (endpoint_bell h w s t o) ≡ endpoint_bell h (beside rows w) s t o
     unfolding endpoint_bell activated
@@ -241,11 +230,10 @@ module _ (rows : List Row) where
 
     pub row_so : (w : World) (row : Row) → option_map (beside rows) (row_done h w row) ≡ row_done h (beside rows w) row
     unfolding row_done declared stored event_read event_at
-    row_so w (Sub r blocks) = refl
-    row_so w (Write a n) = refl
     row_so w (Reg r v) = ap (λ u. Some u) (register_so w r v)
     row_so w (Bell s t) = ap (λ u. Some u) (bell_so w s t)
     row_so w (Read e) = chosen (nat_lt w.reads w.posted && same_words (event_at h w w.reads) e) _ None _ None refl refl
+    row_so w _ = refl
 
     -- ---- steps of the controller
 
@@ -319,11 +307,7 @@ plain_harm h w = ap (λ b. least (
 plain_shows : (h : Header) (w : World) (s : Step) → shows h (beside [] w) s ≡ shows h w s
 unfolding shows look_shows
 plain_shows h w NextRow = refl
-plain_shows h w (Look r) = refl
-plain_shows h w (Report b) = refl
-plain_shows h w (Finish b) = refl
-plain_shows h w (Other b) = refl
-plain_shows h w (Scribble a n) = refl
+plain_shows h w _ = refl
 
 -- ---- replays
 
@@ -357,14 +341,3 @@ plain_replayed h rows steps = (λ i. record {
   seen = plain_seen h (Some (opening rows)) steps i;
   ending = plain_ending h 0 (Some (opening rows)) steps i;
 })
-
--- and so are the runs
-pub plain_reached : (h : Header) (rows : List Row) (steps : List Step) → scene_reached h (map (λ row. Plain row) rows) steps ≡ option_map (plain_scene h) (reached h rows steps)
-unfolding reached opening
-plain_reached h rows [] = refl
-plain_reached h rows (s ∷ older) =
-    ap (λ o. option_and_then (λ x. step_made x s) o) (plain_reached h rows older) ∙ each (reached h rows older)
-  where
-    each : (o : Option World) → option_and_then (λ x. step_made x s) (option_map (plain_scene h) o) ≡ option_map (plain_scene h) (option_and_then (λ w. stepped h w s) o)
-    each None = refl
-    each (Some w) = plain_step h w s

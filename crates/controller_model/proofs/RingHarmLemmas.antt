@@ -1,19 +1,12 @@
 -- What a step at one ring does to the rings' harms
-use Rattle.controller_model.proofs.Words.{◌≡◌, ◌≢◌, ◌==◌, ◌&&◌, ◌||◌, ◌∙◌, if◌then◌else◌, ◌∷◌, ◌+◌, ◌%◌, ℕ, is_some, not, Bool, true, false, List, [], Option, Some, None, option_map, ap, sym, subst, refl, inl, inr, IsSome, find, eq-eqb, ne_eqb, arith, nat_lt, list_any, cases_Bool, cases_eq, cond-false, cond-true, Block, block_at, cycle, kind, is_link, Header, Ring, Look, command_id, ring_with, shape_of, some_ring, World, has_other_words, is_inside_descriptor, is_out_of_order, waits, RingHarms, command_begun, crossed, looked, looked_at, seen_by_look, taken, taken_on, counted, made, stepped, while_running, put, bits, same_words, Row, Sub, Write, Read, event_at, stored, declared, event_read, row_done, same_Some, RingHeld, ring_held, ChangesOnly, HasRingHarms}
-use Rattle.traces.specs.declared.trace_row.TraceRow.{TraceRow}
-use Rattle.traces.specs.declared.trace_row.TraceRow.TheVariants.{Plain}
-use Rattle.controller_model.specs.Scenes.{Scene, row_next, step_made}
+use Rattle.controller_model.proofs.Words.{TraceRow, Plain, Scene, row_next, step_made, ◌≡◌, ◌≢◌, ◌==◌, ◌&&◌, ◌||◌, ◌∙◌, if◌then◌else◌, ◌∷◌, ◌+◌, ◌%◌, ℕ, is_some, not, Bool, true, false, List, [], Option, Some, None, option_map, ap, sym, subst, refl, inl, inr, IsSome, find, eq-eqb, ne_eqb, arith, nat_lt, list_any, cases_Bool, cases_eq, cond-false, cond-true, Block, block_at, cycle, kind, is_link, Header, Ring, Look, command_id, ring_with, shape_of, some_ring, World, has_other_words, is_inside_descriptor, is_out_of_order, waits, RingHarms, command_begun, crossed, looked, looked_at, seen_by_look, taken, taken_on, counted, made, stepped, while_running, put, bits, same_words, Row, Sub, Write, Read, event_at, stored, declared, event_read, row_done, same_Some, RingHeld, ring_held, ChangesOnly, HasRingHarms}
 use Rattle.controller_model.proofs.RingLemmas.{put_other}
-use Rattle.controller_model.proofs.LookBranches.{looked_active, looked_inactive, waits as look_waits, crosses, refuses, takes, taken_transfer, taken_command}
+use Rattle.controller_model.proofs.LookBranches.{looked_active, looked_inactive, waits as look_waits, crosses, refuses, takes, taken_transfer, taken_command, or_false}
 use Rattle.controller_model.proofs.RingSteps.{crossed_other, taken_other}
 
 or_again : (a b : Bool) → (a || (a || b)) ≡ (a || b)
 or_again true b = refl
 or_again false b = refl
-
-or_none : (a : Bool) → (a || false) ≡ a
-or_none true = refl
-or_none false = refl
 
 first_false : (a b : Bool) → (a || b) ≡ false → a ≡ false
 first_false true b e = e
@@ -29,7 +22,7 @@ module _ (p q : ℕ → Bool) (r : ℕ) (x : Bool) (others : (n : ℕ) → n ≢
   elsewhere n apart none = others n apart ∙ none
 
   absorbed : (rings : List Ring) → list_any (λ ring. p ring.id) rings ≡ false → (x || list_any (λ ring. q ring.id) rings) ≡ x
-  absorbed [] none = or_none x
+  absorbed [] none = or_false x
   absorbed (y ∷ ys) none =
       let rest = absorbed ys (second_false (p y.id) _ none) in
       elim (cases_eq y.id r) [

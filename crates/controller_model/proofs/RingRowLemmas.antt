@@ -1,10 +1,5 @@
 -- Rings that come and go: what is kept of the others
-use Rattle.controller_model.proofs.Words.{◌≡◌, ◌≢◌, ◌==◌, ◌∷◌, ◌++◌, ◌<◌, ◌≤◌, ◌∙◌, if◌then◌else◌, ℕ, zero, suc, true, false, [], List, Option, Some, None, IsSome, not, find, filter, get_or, length, position, arith, common_steps, ap, sym, subst, refl, inl, inr, cases_eq, cond-true, cond-false, eq-eqb, ne_eqb, slice_get, set, Xfer, Header, Ring, ring_with, shape_or, shape_of, World, RingHeld, ring_held, RingState, FollowsRing, FollowsRings, Keeps, ShowsHarms}
-use Rattle.std.specs.List.{position_or_len, remove}
-use Rattle.std.proofs.lemmas.List.Quantifiers.{position-Some}
-use Rattle.std.proofs.lemmas.List.Sums.{fails_before_first}
-use Rattle.controller_model.specs.RingRows.{emptied, with_ring, without_descriptor, without_ring}
-use Rattle.segments.specs.Descriptors.{length_from, no_ops, split_at}
+use Rattle.controller_model.proofs.Words.{position_or_len, remove, position-Some, fails_before_first, emptied, with_ring, without_descriptor, without_ring, length_from, no_ops, split_at, ◌≡◌, ◌≢◌, ◌==◌, ◌∷◌, ◌++◌, ◌<◌, ◌≤◌, ◌∙◌, if◌then◌else◌, ℕ, zero, suc, true, false, [], List, Option, Some, None, IsSome, not, find, filter, get_or, length, position, arith, common_steps, ap, sym, subst, refl, inl, inr, cases_eq, cond-true, cond-false, eq-eqb, ne_eqb, slice_get, set, Xfer, Header, Ring, ring_with, shape_or, shape_of, World, RingHeld, ring_held, RingState, FollowsRing, FollowsRings, Keeps, ShowsHarms}
 use Rattle.controller_model.proofs.RingLemmas.{put_same, put_other, slice_get-set_same, slice_get-set_other}
 
 -- ---- the rings that are there

@@ -7,7 +7,7 @@ pub any_more : {X : Type 0} (p : X → Bool) (xs : List X) (i : ℕ) (x : X) (a 
 any_more p xs i x a b inside at before here =
     (λ j. before j || here j) ∙ ap (λ y. list_any p (take i xs) || p y) at ∙ sym (list_any_more p xs i x inside)
 
-and_true : (b : Bool) → (b && true) ≡ b
+pub and_true : (b : Bool) → (b && true) ≡ b
 and_true true = refl
 and_true false = refl
 

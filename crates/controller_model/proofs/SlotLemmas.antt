@@ -1,10 +1,7 @@
 -- One slot is changed
-use Rattle.controller_model.proofs.Words.{◌≡◌, ◌<◌, ◌==◌, ◌||◌, ◌∙◌, ℕ, ap, sym, subst, refl, true, false, Bool, List, Some, length, slice_get, get_or, set, inl, inr, eq-eqb, ne_eqb, cases_eq, or-true, put, SlotState, Slot, FollowsSlots}
+use Rattle.controller_model.proofs.Words.{◌≡◌, ◌<◌, ◌==◌, ◌||◌, ◌∙◌, ℕ, ap, sym, subst, true, Bool, List, Some, length, slice_get, get_or, set, inl, inr, eq-eqb, ne_eqb, cases_eq, or-true, put, SlotState, Slot, FollowsSlots}
 use Rattle.controller_model.proofs.RingLemmas.{put_same, put_other, read_at, slice_get-set_same, slice_get-set_other}
-
-or_false : (b : Bool) → (b || false) ≡ b
-or_false true = refl
-or_false false = refl
+use Rattle.controller_model.proofs.LookBranches.{or_false}
 
 pub slots_allow : (slots : List Slot) (state : ℕ → SlotState) (scribbles : ℕ → Bool) (i s : ℕ) (x new : Slot) → i ≡ s → s < length slots → x ≡ get_or slots i x →
     new.state ≡ x.state → new.scribbles ≡ true → FollowsSlots slots state scribbles → FollowsSlots (set slots i new) state (λ t. scribbles t || t == s)

@@ -1,5 +1,5 @@
 -- Which definition a step goes by
-use Rattle.controller_model.proofs.Words.{◌≡◌, ◌≢◌, true, false, Option, Some, None, Ok, Err, option_map, refl, cond-true, cond-false, Header, Step, NextRow, Look, Report, Finish, Other, Scribble, World, Seen, StepFault, NotPossible, Spent, Memory, counted, made, stepped, while_running, IsStep}
+use Rattle.controller_model.proofs.Words.{◌≡◌, ◌≢◌, true, false, Option, Some, None, Ok, Err, option_map, refl, cond-true, cond-false, Header, Step, NextRow, World, Seen, StepFault, NotPossible, Spent, Memory, counted, made, stepped, while_running, IsStep}
 
 module _ (h : Header) (w : World) where
   pub running : (o : Option World) → w.stopped ≡ false → while_running h w o ≡ o
@@ -14,11 +14,7 @@ module _ (h : Header) (w : World) where
   pub made_stopped : (s : Step) → s ≢ NextRow → w.stopped ≡ true → made h w s ≡ None
   unfolding made
   made_stopped NextRow other e = absurd (other refl)
-  made_stopped (Look r) other e = not_running _ e
-  made_stopped (Report b) other e = not_running _ e
-  made_stopped (Finish b) other e = not_running _ e
-  made_stopped (Other b) other e = not_running _ e
-  made_stopped (Scribble a x) other e = not_running _ e
+  made_stopped _ other e = not_running _ e
 
 -- a step that isn't counted yet, and the one that is
 pub step_counted : (h : Header) (w : World) (s : Step) (seen shown : Seen) (P Q : World → Type 0) → ((v : World) → P v → Q (counted h v)) →

@@ -1,10 +1,5 @@
 -- A descriptor that is withdrawn: what is declared by position then
-use Rattle.controller_model.proofs.Words.{◌≡◌, ◌≢◌, ◌+◌, ◌-◌, ◌<◌, ◌≤◌, ◌==◌, ◌||◌, ◌++◌, ◌∷◌, ◌∙◌, ◌⊎◌, ℕ, zero, suc, [], All, Bool, List, Option, Some, None, length, true, false, refl, sym, ap, subst, arith, inl, inr, set, slice_get, slice_get_within, same_Some, option_map, eq-eqb, eqb-true, ne_eqb, or_left, or_right, false≢true, cases_Bool, cases_eq, cases_lt, cond-true, cond-false, Block, DeclaredBlock, declared_at, is_border, Declared, Declarations, Declares, as_declared, blocks_of}
-use Rattle.std.specs.Prelude.{replicate}
-use Rattle.std.proofs.lemmas.List.Elements.{All-head, All-tail}
-use Rattle.segments.specs.Descriptors.{length_from, no_op, no_ops, split_at}
-use Rattle.segments.proofs.Withdrawing.{length-no_ops, split_all}
-use Rattle.controller_model.specs.Declarations.{lone_no_op, withdrawn, withdrawn_from}
+use Rattle.controller_model.proofs.Words.{replicate, All-head, All-tail, length_from, no_op, no_ops, split_at, length-no_ops, split_all, lone_no_op, withdrawn, withdrawn_from, ◌≡◌, ◌≢◌, ◌+◌, ◌-◌, ◌<◌, ◌≤◌, ◌==◌, ◌||◌, ◌++◌, ◌∷◌, ◌∙◌, ◌⊎◌, ℕ, zero, suc, [], All, Bool, List, Option, Some, None, length, true, false, refl, sym, ap, subst, arith, inl, inr, set, slice_get, slice_get_within, same_Some, option_map, eq-eqb, eqb-true, ne_eqb, or_left, or_right, false≢true, cases_Bool, cases_eq, cases_lt, cond-true, cond-false, Block, DeclaredBlock, declared_at, is_border, Declared, Declarations, Declares, as_declared, blocks_of}
 
 -- ---- the blocks
 
