@@ -1,5 +1,6 @@
 -- When a command can succeed
-use Rattle.controller_model.proofs.Words.{◌≡◌, ◌+◌, ◌≤◌, ◌^◌, ◌∙◌, ◌||◌, if◌then◌else◌, ℕ, Bool, true, false, not, Option, Some, None, is_some, ap, refl, nat_lt, option_and_then, ltb-false, cond-true, cond-false, ContextSize, context_cycle, context_pointer, input_context_bytes, Command, AddressDevice, ConfigureEndpoint, SetTrDequeue, Running, Stopped, named_context, changes, can_succeed, Header, Config, ring_having, register_or_zero, World, changed_by, changed_by_all, effect, is_had_by_another, placed_on, passes_end, succeeded, HasRoom, may_get}
+use Rattle.std.proofs.Common.{rules}
+use Rattle.controller_model.proofs.Words.{◌≡◌, ◌+◌, ◌≤◌, ◌^◌, ◌∙◌, ◌||◌, if◌then◌else◌, ℕ, Bool, true, false, not, Option, Some, None, is_some, ap, refl, nat_lt, option_and_then, ltb-false, cond-true, cond-false, ContextSize, context_pointer, input_context_bytes, Command, AddressDevice, ConfigureEndpoint, SetTrDequeue, Stopped, named_context, changes, can_succeed, Header, Config, ring_having, register_or_zero, World, changed_by, changed_by_all, effect, is_had_by_another, placed_on, passes_end, succeeded, HasRoom, may_get}
 use Rattle.controller_model.proofs.BindingLemmas.{may_get_is}
 use Rattle.controller_model.proofs.EffectLemmas.{gone}
 
@@ -20,12 +21,7 @@ module _ (h : Header) (size : ContextSize) (memory : ℕ → ℕ) (n : ℕ) (d :
   pub can_be_addressed : (s c : ℕ) (bsr : Bool) → d ≡ AddressDevice s bsr c →
       is_some (changed_by_all h d w (changes size memory n d)) ≡ may_get w s 1 (ring_having h (context_pointer size memory c 1))
   unfolding changes changed_by_all changed_by
-  can_be_addressed s c bsr is =
-      let o = ring_having h (context_pointer size memory c 1) in
-      can_as (AddressDevice s bsr c) is
-      ∙ one_some (placed_on (gone d w s) s 1 (context_pointer size memory c 1) (context_cycle size memory c 1) Running o)
-      ∙ may_get_is (gone d w s) s 1 (context_pointer size memory c 1) (context_cycle size memory c 1) Running o
-      ∙ may_get_gone d w s s 1 o
+  can_be_addressed s c bsr is = search (rules, is_some, can_as, one_some, gone, may_get_is, may_get_gone)
 
   pub can_be_moved : (s i p : ℕ) (cycle : Bool) → d ≡ SetTrDequeue s i p cycle → is_some (changed_by_all h d w (changes size memory n d)) ≡ may_get w s i (ring_having h p)
   unfolding changes changed_by_all changed_by

@@ -1,5 +1,6 @@
 -- Whether another endpoint has a ring, by the rings of one slot's endpoints and who has it elsewhere
-use Rattle.controller_model.proofs.Words.{◌≡◌, ◌≢◌, ◌∷◌, ◌+◌, ◌<◌, ◌≤◌, ◌==◌, ◌&&◌, ◌||◌, ◌∙◌, ℕ, suc, zero, [], length, set, slice_get, unwrap_or, not, Bool, true, false, List, Option, Some, None, refl, sym, ap, inl, inr, arith, eq-eqb, ne_eqb, list_any, range_with_len, cases_eq, cases_Bool, is_ring, World, Holder, put_pair, EndpointState, is_had_by_another, placed, FollowsHolder, is_holder, Sees, has_own, is_elsewhere, own_ring}
+use Rattle.std.proofs.Common.{rules}
+use Rattle.controller_model.proofs.Words.{◌≡◌, ◌≢◌, ◌∷◌, ◌+◌, ◌<◌, ◌≤◌, ◌==◌, ◌&&◌, ◌||◌, ◌∙◌, ℕ, suc, zero, [], length, set, slice_get, unwrap_or, not, Bool, true, false, List, Option, Some, None, refl, sym, ap, inl, inr, arith, eq-eqb, ne_eqb, list_any, range_with_len, cases_eq, cases_Bool, is_ring, World, Holder, EndpointState, is_had_by_another, placed, FollowsHolder, is_holder, Sees, has_own, is_elsewhere, own_ring}
 use Rattle.controller_model.proofs.RingLemmas.{slice_get-set_other}
 use Rattle.controller_model.proofs.EndpointLemmas.{put_pair_same, put_pair_index}
 use Rattle.controller_model.proofs.HolderLemmas.{put_pair_there}
@@ -80,17 +81,7 @@ slice_get-set_here (z ∷ xs) (suc i) x inside = slice_get-set_here xs i x (omeg
 pub sees_placed : (w v : World) (rings : List (Option ℕ)) (n s i r a : ℕ) (c : Bool) (state : EndpointState) → n ≡ i → i < length rings → Sees rings s w v →
     Sees (set rings n (Some r)) s w (placed v s i r a c state)
 unfolding placed
-sees_placed w v rings n s i r a c state index inside sees = record {
-  own = λ j below. elim (cases_eq j i) [
-    | inl same ↦
-        (λ k. put_pair v.ring_of s i (Some r) s (same k)) ∙ put_pair_same v.ring_of s i (Some r)
-        ∙ sym (ap (λ o. unwrap_or o None) ((λ k. slice_get (set rings (index k) (Some r)) (same k)) ∙ slice_get-set_here rings i (Some r) inside))
-    | inr apart ↦
-        put_pair_index v.ring_of s i s j (Some r) apart ∙ sees.own j below
-        ∙ sym (ap (λ o. unwrap_or o None) (slice_get-set_other rings n j (Some r) (λ e. apart (e ∙ index))))
-  ];
-  others = λ t j apart. put_pair_there v.ring_of s i t j (Some r) (ap (λ b. b && j == i) apart) ∙ sees.others t j apart;
-}
+sees_placed w v rings n s i r a c state index inside sees = search (rules, length, set, put_pair_same, unwrap_or, slice_get, slice_get-set_here, put_pair_index, slice_get-set_other, put_pair_there)
 
 module _ (rings : List (Option ℕ)) (i r : ℕ) where
   pub own_some : (k : ℕ) → 1 ≤ k → k < 32 → (not (k == i) && is_ring r (own_ring rings k)) ≡ true → has_own rings i r ≡ true

@@ -56,7 +56,7 @@ pub use Rattle.segments.proofs.InsideLemmas.{is_inside-word}
 pub use Rattle.segments.proofs.PlaceAtLemmas.{place_at-link_address}
 pub use Rattle.segments.proofs.Positions.{address_of-first}
 pub use Rattle.segments.proofs.Search.{cases_option}
-pub use Rattle.segments.proofs.Words.{All-push, Block, Evt, IsShape, Shape, Xfer, address_of, aligned, and_from, and_parts, block_at, cases_Bool, cases_eq, cases_lt, cond-false, cond-true, cycle, cycle_of, data_places, false_from_ne_true, false≢true, is_crossing, is_inside, is_link, is_set, kind, link_address, link_crossed, list_any, list_any_at, none-some, or_cases, or_left, or_right, place_at, place_count, pointer, put, range_with_len, same_Some, same_words, slice_get-get_or, slice_get_within, word}
+pub use Rattle.segments.proofs.Words.{All-push, Block, Evt, IsShape, Shape, Xfer, address_of, aligned, and_from, and_parts, block_at, cases_Bool, cases_eq, cases_lt, cond-false, cond-true, cycle, cycle_of, data_places, false_from_ne_true, false≢true, is_inside, is_link, is_set, kind, link_address, link_crossed, list_any, list_any_at, none-some, or_cases, or_left, or_right, place_at, place_count, pointer, put, range_with_len, same_Some, same_words, slice_get-get_or, slice_get_within, word}
 unfoldable pub use Rattle.segments.proofs.Words.{is_border}
 pub use Rattle.segments.specs.Descriptors.{DeclaredBlock, no_op}
 unfoldable pub use Rattle.segments.specs.Descriptors.{declared_at, length_from, no_ops, split_at}
@@ -84,7 +84,6 @@ pub use Rattle.traces.specs.declared.step.Step.TheVariants.{Finish, Look, NextRo
 pub use Rattle.trb.specs.Bits.{bits}
 pub use Rattle.trb.specs.Block.{code, endpoint, slot}
 pub use Rattle.trb.specs.CompletionCode.{is_halting, is_stopping, is_success, is_trb_error}
-pub use Rattle.trb.specs.Descriptor.{is_command_left_out}
 pub use Rattle.trb.specs.Kind.{is_command_completion, is_other_event, is_transfer_event}
 pub use Rattle.trb.specs.declared.kind.BlockKind.{BlockKind}
 unfoldable pub use Rattle.world_state.specs.Harms.{harm_of, harms, has_changed_context, has_other_words, is_changed_since, is_context_changed, is_end, is_inside_descriptor, is_out_of_order, is_right_place, waits}
