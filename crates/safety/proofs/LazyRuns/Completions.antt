@@ -23,7 +23,7 @@ module _ (h : Header) (is : IsHeader h) (past : Past h) (later : List TraceRow) 
 
   command_effect : (c : Command) → ready.says.command ≡ c → EffectGoes h past.known ready.world (slot b) c
   command_effect (ConfigureEndpoint s false a) here = search (rules, plain, address_effect, states_then, floors_then, command_numbered, command_there, command_keeps, configure_effect, dequeue_effect)
-  command_effect (ConfigureEndpoint s true a) here = search (rules, plain, address_effect, states_then, floors_then, command_numbered, command_there, command_keeps, configure_effect, dequeue_effect)
+  command_effect (ConfigureEndpoint s true a) here = search (rules, plain)
   command_effect _ here = search (rules, plain, address_effect, states_then, floors_then, command_numbered, command_there, command_keeps, configure_effect, dequeue_effect)
 
 pub completion_law : (h : Header) → EventLawOf h is_command_completion
