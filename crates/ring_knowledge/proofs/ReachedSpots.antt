@@ -1,7 +1,6 @@
 -- A record whose floor has moved on: the marks of what the controller has passed are cleared
 use Rattle.std.proofs.Common.{rules}
 use Rattle.ring_knowledge.proofs.Words.{in_range_all, drop, ◌≡◌, ◌+◌, ◌-◌, ◌%◌, ◌<◌, ◌≤◌, ◌∙◌, ◌&&◌, ◌||◌, ℕ, List, Bool, true, false, Some, ap, sym, arith, inl, inr, length, not, max, cases_lt, cases_Bool, and_parts, false≢true, add-mod_right, Spot, Data, Link, Shape, place_count, link_crossed, is_crossing, number, RingView, Reaches, changed, floor_number, is_way_given, is_reached, are_given, are_ways_given, link_of, place_count_pos, crossed_link, crossing_positive, is_crossing-from, link_crossed-lap, RingRecord, AreCleared, is_noted, FollowsMarks, least_crossing}
-
 use Rattle.ring_knowledge.proofs.Noted.{noted_below, noted_due, noted_past}
 use Rattle.ring_knowledge.proofs.DueNumbers.{same_due, same_due_crossing, link_of-crossed}
 
