@@ -1,7 +1,6 @@
 -- What is kept of rings while endpoints are disabled
 use Rattle.std.proofs.Common.{rules}
 use Rattle.controller_model.proofs.Words.{◌≡◌, ◌<◌, ◌==◌, ◌&&◌, ◌∙◌, if◌then◌else◌, ℕ, not, Bool, true, false, List, Option, Some, None, refl, sym, ap, subst, arith, put_pair, Header, is_ring, World, Holder, RingState, disabled, has_one_of, Kept, Row, Off, Follows, FollowsHolder, FollowsRings, IsEndpoint, ring_held, turned_off}
-
 use Rattle.controller_model.proofs.HolderLemmas.{here, elsewhere, place_of, put_pair_here, put_pair_there, put_pair_map}
 use Rattle.controller_model.proofs.WatchLemmas.{any_alike}
 

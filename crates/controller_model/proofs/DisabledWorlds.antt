@@ -1,7 +1,6 @@
 -- Endpoints are disabled one after another
 use Rattle.std.proofs.Common.{rules}
 use Rattle.controller_model.proofs.Words.{◌≡◌, ◌+◌, ◌<◌, ◌≤◌, ◌==◌, ◌&&◌, ◌||◌, ◌∙◌, if◌then◌else◌, ◌∷◌, ℕ, suc, zero, not, Bool, true, false, List, [], Option, Some, None, refl, ap, inl, inr, arith, nat_lt, eq-eqb, ne_eqb, lt-ltb, le-ltb, list_any, range_with_len, cases_eq, cases_lt, is_ring, World, disabled, has_one_of, freed, turned_off}
-
 use Rattle.controller_model.proofs.HolderLemmas.{put_pair_twice}
 use Rattle.controller_model.proofs.LookBranches.{or_false}
 use Rattle.controller_model.proofs.ScribbleLemmas.{none_in_range}
