@@ -1,5 +1,5 @@
 -- What the doorbell of the host controller does
-use Rattle.controller_model.proofs.Words.{◌≡◌, ◌≢◌, ◌<◌, ◌==◌, ◌&&◌, ◌∙◌, ◌∷◌, ℕ, ap, sym, subst, true, false, Bool, List, [], Some, None, find, is_some, length, inl, inr, arith, eq-eqb, ne_eqb, cases_Bool, cond-true, cond-false, slice_get_within, Ring, Header, command_id, command_ring, ring_with, is_command_kind, id_or_none, World, activated, bell_row, endpoint_bell, RingState, RingHeld, FollowsRing, FollowsRings}
+use Rattle.controller_model.proofs.Words.{◌≡◌, ◌≢◌, ◌<◌, ◌==◌, ◌&&◌, ◌∙◌, ◌∷◌, ℕ, ap, sym, subst, true, false, Bool, List, [], Some, None, find, is_some, length, inl, inr, arith, eq-eqb, ne_eqb, cases_Bool, cond-true, cond-false, slice_get_within, Ring, Header, command_id, command_ring, id_or_none, World, activated, bell_row, endpoint_bell, RingState, RingHeld, FollowsRing, FollowsRings}
 
 -- the world has the same of each ring
 pub follows_same : (h : Header) (before after : ℕ → RingHeld) (rings : List RingState) → length rings ≡ 256 → ((q : ℕ) → q < 256 → after q ≡ before q) →
@@ -28,10 +28,6 @@ found_by_id test (r ∷ rings) x e =
             | inr other ↦ ap (λ o. is_some o) (cond-false (r.id == x.id) (Some r) (find (λ q. q.id == x.id) rings) other) ∙ there
           ]
     ]
-
-pub command_ring_known : (h : Header) (x : Ring) → Some x ≡ command_ring h → is_some (ring_with h x.id) ≡ true
-unfolding command_ring
-command_ring_known h x e = found_by_id (λ r. is_command_kind r.shape.kind) h.rings x (sym e)
 
 pub command_id-some : (h : Header) (x : Ring) → Some x ≡ command_ring h → command_id h ≡ x.id
 unfolding command_id

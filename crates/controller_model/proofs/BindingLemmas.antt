@@ -1,5 +1,6 @@
 -- When an endpoint gets a ring
-use Rattle.controller_model.proofs.Words.{◌≡◌, ◌==◌, ◌&&◌, ◌∙◌, ℕ, Bool, true, false, not, List, Option, Some, None, find, is_some, sym, ap, refl, cond-true, cond-false, EndpointState, is_inside, Ring, Header, id_of, is_transfer_kind, ring_having, ring_with, World, is_had_by_another, placed, placed_on, may_get}
+use Rattle.std.proofs.Common.{rules}
+use Rattle.controller_model.proofs.Words.{◌≡◌, ◌==◌, ◌&&◌, ◌∙◌, ℕ, Bool, true, false, List, Option, Some, None, find, is_some, sym, ap, refl, cond-true, cond-false, EndpointState, is_inside, Ring, Header, id_of, is_transfer_kind, ring_having, ring_with, World, is_had_by_another, placed, placed_on, may_get}
 use Rattle.controller_model.proofs.BellLemmas.{found_by_id}
 
 id_known : (test : Ring → Bool) (rings : List Ring) (r : ℕ) (o : Option Ring) → find test rings ≡ o → id_of o ≡ Some r → is_some (find (λ x. x.id == r) rings) ≡ true
@@ -35,12 +36,8 @@ module _ (w : World) (s i a : ℕ) (c : Bool) (state : EndpointState) where
 
   pub may_get_is : (o : Option ℕ) → is_some (placed_on w s i a c state o) ≡ may_get w s i o
   unfolding placed_on
-  may_get_is None = refl
-  may_get_is (Some r) = by (is_had_by_another w s i r) refl
-    where
-      by : (b : Bool) → is_had_by_another w s i r ≡ b → is_some (placed_on w s i a c state (Some r)) ≡ not (is_had_by_another w s i r)
-      by true has = ap is_some (cond-true (is_had_by_another w s i r) None (Some (placed w s i r a c state)) has) ∙ sym (ap not has)
-      by false has = ap is_some (cond-false (is_had_by_another w s i r) None (Some (placed w s i r a c state)) has) ∙ sym (ap not has)
+  may_get_is None = search (rules, is_some, cond-true, cond-false)
+  may_get_is (Some r) = search (rules, is_some, cond-true, cond-false)
 
   pub placed_free : (r : ℕ) → is_had_by_another w s i r ≡ false → placed_on w s i a c state (Some r) ≡ Some (placed w s i r a c state)
   unfolding placed_on

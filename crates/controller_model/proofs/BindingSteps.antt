@@ -1,5 +1,6 @@
 -- What letting a ring go and getting one do to what the world has of each ring
-use Rattle.controller_model.proofs.Words.{◌≡◌, ◌≢◌, ◌==◌, ◌&&◌, ◌∷◌, ◌∙◌, if◌then◌else◌, ℕ, not, Bool, true, false, Option, Some, None, length, refl, sym, ap, eq-eqb, ne_eqb, cond-true, put, put_pair, EndpointState, is_ring, World, Placed, takes_of, inactive, is_had_by_another, placed, ring_held, released, freed, bound}
+use Rattle.std.proofs.Common.{rules}
+use Rattle.controller_model.proofs.Words.{◌≡◌, ◌≢◌, ◌∷◌, ◌∙◌, if◌then◌else◌, ℕ, Bool, true, false, Option, Some, None, length, refl, sym, ap, eq-eqb, ne_eqb, cond-true, put_pair, EndpointState, is_ring, World, Placed, takes_of, inactive, is_had_by_another, placed, ring_held, released, freed, bound, ◌==◌, ◌&&◌, not}
 use Rattle.controller_model.proofs.RingLemmas.{put_same, put_other}
 use Rattle.controller_model.proofs.HolderLemmas.{put_pair_id, put_pair_twice, put_pair_map}
 use Rattle.controller_model.proofs.HadByAnother.{any_same}
@@ -43,42 +44,16 @@ module _ (w : World) (s i : ℕ) where
     })
 
     pub bound_other : (q : ℕ) → w.ring_of s i ≡ None → q ≢ r → ring_held (bound w s i r a c state) q ≡ ring_held w q
-    bound_other q has apart = (λ k. record (ring_held w q) {
-      is_active = put_other w.is_active r q false apart k;
-      pointer = put_other w.pointer_of r q a apart k;
-      cycle = put_other w.cycle_state r q (if c then 1 else 0) apart k;
-      events = put_other w.events r q (Placed a ∷ w.events r) apart k;
-      reported = put_other w.reported r q (length (takes_of (w.events r))) apart k;
-      had_by = had_same q (Some r) (ap (is_ring q) has ∙ sym (ne_eqb r q (λ e. apart (sym e)))) k;
-    })
+    bound_other q has apart = search (rules, put_other, length, had_same, ne_eqb)
 
     pub placed_is : (o : Option ℕ) → w.ring_of s i ≡ o → placed w s i r a c state ≡ bound (freed w s i o) s i r a c state
     unfolding placed inactive
-    placed_is None has = ap (λ o. record (inactive (inactive w o) (Some r)) {
-      endpoint_state = put_pair w.endpoint_state s i state;
-      ring_of = put_pair w.ring_of s i (Some r);
-      pointer_of = put w.pointer_of r a;
-      cycle_state = put w.cycle_state r (if c then 1 else 0);
-      events = put w.events r (Placed a ∷ w.events r);
-      reported = put w.reported r (length (takes_of (w.events r)));
-    }) has
-    placed_is (Some q) has =
-        ap (λ o. record (inactive (inactive w o) (Some r)) {
-          endpoint_state = put_pair w.endpoint_state s i state;
-          ring_of = put_pair w.ring_of s i (Some r);
-          pointer_of = put w.pointer_of r a;
-          cycle_state = put w.cycle_state r (if c then 1 else 0);
-          events = put w.events r (Placed a ∷ w.events r);
-          reported = put w.reported r (length (takes_of (w.events r)));
-        }) has
-        ∙ (λ k. record (bound (released w s i q) s i r a c state) { ring_of = sym (put_pair_twice w.ring_of s i None (Some r)) k })
+    placed_is None has = search (rules, length, put_pair_twice)
+    placed_is (Some q) has = search (rules, length, put_pair_twice)
 
   pub freed_has : (o : Option ℕ) → w.ring_of s i ≡ o → (freed w s i o).ring_of s i ≡ None
-  freed_has None has = has
-  freed_has (Some q) has = put_pair_own
-    where
-      put_pair_own : put_pair w.ring_of s i None s i ≡ None
-      put_pair_own = cond-true (s == s && i == i) None (w.ring_of s i) (λ k. eq-eqb s s refl k && eq-eqb i i refl k)
+  freed_has None has = search (rules, cond-true, eq-eqb)
+  freed_has (Some q) has = search (rules, cond-true, eq-eqb)
 
   pub freed_had : (o : Option ℕ) (r : ℕ) → is_had_by_another (freed w s i o) s i r ≡ is_had_by_another w s i r
   unfolding is_had_by_another

@@ -1,5 +1,6 @@
 -- A command that a block says is well: its addresses are on 16-byte boundaries, its indices below 32
-use Rattle.controller_model.proofs.Words.{◌≡◌, ◌*◌, ◌/◌, ◌%◌, ◌<◌, ◌^◌, if◌then◌else◌, ℕ, Bool, true, false, Some, None, subst, arith, Block, BlockKind, kind, pointer, word, is_command_left_out, Command, command_by_kind, command_of, IsWell}
+use Rattle.std.proofs.Common.{rules}
+use Rattle.controller_model.proofs.Words.{◌≡◌, ◌*◌, ◌/◌, ◌%◌, ◌<◌, ℕ, Some, None, subst, arith, Block, BlockKind, Command, command_by_kind, command_of, IsWell, ◌^◌, pointer, word}
 use Rattle.trb.specs.declared.kind.BlockKind.TheVariants as kinds
 
 on_boundary : (p : ℕ) → p / 16 * 16 % 16 ≡ 0
@@ -31,8 +32,4 @@ well_by_kind kinds.ResetDevice b c e = well _ c e tt
 well_by_kind _ b c e = none_well c e
 
 pub command_well : (b : Block) (c : Command) → command_of b ≡ Some c → IsWell c
-command_well b c = by (is_command_left_out b)
-  where
-    by : (left_out : Bool) → (if left_out then None else command_by_kind (kind b) b) ≡ Some c → IsWell c
-    by true e = none_well c e
-    by false e = well_by_kind (kind b) b c e
+command_well b c = search (rules, none_well, well_by_kind)

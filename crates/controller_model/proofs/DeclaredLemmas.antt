@@ -1,5 +1,6 @@
 -- What is declared by position once one more descriptor is declared
-use Rattle.controller_model.proofs.Words.{◌≡◌, ◌+◌, ◌-◌, ◌<◌, ◌==◌, ◌||◌, ◌++◌, ◌∷◌, ◌∙◌, ℕ, zero, suc, [], List, Option, Some, None, length, true, false, refl, sym, ap, arith, inl, inr, slice_get, option_map, length-append, append_assoc, subst, take, get_or, eq-eqb, ne_eqb, length-take-le, cases_lt, cases_eq, All-push, slice_get_within, take_at_read, Block, DeclaredBlock, declared_at, is_border, Declared, Declarations, Declares, as_declared, entries, blocks_of}
+use Rattle.std.proofs.Common.{rules}
+use Rattle.controller_model.proofs.Words.{◌≡◌, ◌+◌, ◌-◌, ◌<◌, ◌==◌, ◌++◌, ◌∷◌, ◌∙◌, ℕ, zero, suc, [], List, Some, length, refl, sym, ap, arith, inl, inr, slice_get, option_map, length-append, append_assoc, subst, take, get_or, eq-eqb, ne_eqb, length-take-le, cases_lt, All-push, slice_get_within, take_at_read, Block, declared_at, is_border, Declared, Declarations, Declares, as_declared, entries, blocks_of}
 use Rattle.controller_model.proofs.Borders.{is_border-append, is_border-past, is_border-end}
 
 slice_get-left : {X : Type 0} (xs ys : List X) (p : ℕ) → p < length xs → slice_get (xs ++ ys) p ≡ slice_get xs p
@@ -39,58 +40,19 @@ blocks_of-append (m ∷ lengths) n = omega (arith, blocks_of-append lengths n)
 before : (d : Declarations) (queue bs : List Block) (lengths : List ℕ) (new : List Declared) → 0 < length bs → Declares d queue lengths → (p : ℕ) → p < length queue →
     option_map as_declared (slice_get (d.blocks.items ++ new) p) ≡ declared_at (queue ++ bs) (lengths ++ length bs ∷ []) p
 unfolding declared_at
-before d queue bs lengths new some old p h =
-    let within : p < length d.blocks.items = omega (arith, old.many) in
-    let begins : is_border (lengths ++ length bs ∷ []) 0 p ≡ is_border lengths 0 p = kept lengths (length bs) p (omega (arith, old.whole)) in
-    let ends : is_border (lengths ++ length bs ∷ []) 0 (p + 1) ≡ is_border lengths 0 (p + 1) = kept lengths (length bs) (p + 1) (omega (arith, old.whole)) in
-    rw (slice_get-left d.blocks.items new p within, slice_get-left queue bs p h, begins, ends) (old.at p)
-  where
-    or_no : (b : _) → (b || false) ≡ b
-    or_no true = refl
-    or_no false = refl
-
-    kept : (lengths : List ℕ) (n q : ℕ) → q < blocks_of lengths + n → is_border (lengths ++ n ∷ []) 0 q ≡ is_border lengths 0 q
-    kept lengths n q h =
-        is_border-append lengths 0 n q ∙ ap (λ b. is_border lengths 0 q || b) (ne_eqb (0 + blocks_of lengths + n) q (λ e. omega arith)) ∙ or_no (is_border lengths 0 q)
+before d queue bs lengths new some old p h = search (rules, length, option_map, slice_get, slice_get-left, is_border-append, ne_eqb)
 
 begins_at : (lengths : List ℕ) (n k : ℕ) → k < n → (0 + k == 0) ≡ is_border (lengths ++ n ∷ []) 0 (blocks_of lengths + k)
-begins_at lengths n k h =
-    elim (cases_eq k 0) [
-      | inl first ↦
-          eq-eqb (0 + k) 0 (omega arith) ∙ sym (is_border-append lengths 0 n (blocks_of lengths + k)
-          ∙ ap (λ b. b || 0 + blocks_of lengths + n == blocks_of lengths + k) (is_border-end lengths 0 (blocks_of lengths + k) (omega arith)))
-      | inr later ↦
-          ne_eqb (0 + k) 0 (λ e. later (omega arith)) ∙ sym (is_border-append lengths 0 n (blocks_of lengths + k)
-          ∙ (λ i. is_border-past lengths 0 (blocks_of lengths + k) (omega (arith, later)) i || ne_eqb (0 + blocks_of lengths + n) (blocks_of lengths + k) (λ e. omega arith) i))
-    ]
+begins_at lengths n k h = search (rules, eq-eqb, is_border-append, is_border-end, ne_eqb, is_border-past)
 
 ends_at : (lengths : List ℕ) (n k : ℕ) → k < n → (0 + k == n - 1) ≡ is_border (lengths ++ n ∷ []) 0 (blocks_of lengths + k + 1)
-ends_at lengths n k h =
-    elim (cases_eq (k + 1) n) [
-      | inl last ↦
-          eq-eqb (0 + k) (n - 1) (omega arith) ∙ sym (is_border-append lengths 0 n (blocks_of lengths + k + 1)
-          ∙ (λ i. is_border-past lengths 0 (blocks_of lengths + k + 1) (omega arith) i || eq-eqb (0 + blocks_of lengths + n) (blocks_of lengths + k + 1) (omega arith) i))
-      | inr earlier ↦
-          ne_eqb (0 + k) (n - 1) (λ e. earlier (omega arith)) ∙ sym (is_border-append lengths 0 n (blocks_of lengths + k + 1)
-          ∙ (λ i. is_border-past lengths 0 (blocks_of lengths + k + 1) (omega arith) i || ne_eqb (0 + blocks_of lengths + n) (blocks_of lengths + k + 1) (λ e. earlier (omega arith)) i))
-    ]
+ends_at lengths n k h = search (rules, eq-eqb, is_border-append, is_border-past, ne_eqb)
 
 -- the positions of the new descriptor
 behind : (bs queue : List Block) (lengths : List ℕ) (k : ℕ) → blocks_of lengths ≡ length queue →
     option_map as_declared (slice_get (entries 0 (length bs - 1) bs) k) ≡ declared_at (queue ++ bs) (lengths ++ length bs ∷ []) (length queue + k)
 unfolding declared_at
-behind bs queue lengths k whole =
-    rw (slice_get-entries 0 (length bs - 1) bs k, slice_get-right queue bs k) (each (slice_get bs k) (λ b at. slice_get_within bs k b at))
-  where
-    each : (o : Option Block) → ((b : Block) → o ≡ Some b → k < length bs) →
-        option_map as_declared (option_map (entry (0 + k) (length bs - 1)) o)
-        ≡ option_map (λ b. let d : DeclaredBlock = record { block = b; begins = is_border (lengths ++ length bs ∷ []) 0 (length queue + k); ends = is_border (lengths ++ length bs ∷ []) 0 (length queue + k + 1) } in d) o
-    each None within = refl
-    each (Some b) within =
-        let h : k < length bs = within b refl in
-        let begins = rw whole at (begins_at lengths (length bs) k h) in
-        let ends = rw whole at (ends_at lengths (length bs) k h) in
-        (λ i. Some (record { block = b; begins = begins i; ends = ends i }))
+behind bs queue lengths k whole = search (rules, length, option_map, slice_get, slice_get-entries, slice_get-right, slice_get_within, begins_at, ends_at)
 
 -- the positions of the new descriptor, behind those of the older ones
 behind_old : (old : List Declared) (bs queue : List Block) (lengths : List ℕ) (k : ℕ) → length old ≡ length queue → blocks_of lengths ≡ length queue →
@@ -118,10 +80,4 @@ declares_more d e queue bs lengths some made old = record {
 -- one more block of the new descriptor
 pub entries_push : (old : List Declared) (now : List Declared) (bs : List Block) (i last : ℕ) (b : Block) → i < length bs →
     now ≡ old ++ entries 0 last (take i bs) → now ++ entry i last (get_or bs i b) ∷ [] ≡ old ++ entries 0 last (take (i + 1) bs)
-entries_push old now bs i last b h made =
-    ap (λ xs. xs ++ entry i last (get_or bs i b) ∷ []) made
-    ∙ append_assoc old (entries 0 last (take i bs)) (entry i last (get_or bs i b) ∷ [])
-    ∙ ap (λ xs. old ++ xs) (sym (
-    ap (λ xs. entries 0 last xs) ((take_at_read bs i b h).1)
-    ∙ entries-append 0 last (take i bs) (get_or bs i b ∷ [])
-    ∙ ap (λ n. entries 0 last (take i bs) ++ entry n last (get_or bs i b) ∷ []) (let e : 0 + length (take i bs) ≡ i = omega (arith, length-take-le i bs (omega arith)) in e)))
+entries_push old now bs i last b h made = search (rules, length, take, get_or, append_assoc, take_at_read, entries-append, length-take-le)

@@ -1,19 +1,11 @@
 -- What is kept of rings while endpoints are disabled
+use Rattle.std.proofs.Common.{rules}
 use Rattle.controller_model.proofs.Words.{◌≡◌, ◌<◌, ◌==◌, ◌&&◌, ◌∙◌, if◌then◌else◌, ℕ, not, Bool, true, false, List, Option, Some, None, refl, sym, ap, subst, arith, put_pair, Header, is_ring, World, Holder, RingState, disabled, has_one_of, Kept, Row, Off, Follows, FollowsHolder, FollowsRings, IsEndpoint, ring_held, turned_off}
-use Rattle.controller_model.proofs.HadByAnother.{any_same_in}
 use Rattle.controller_model.proofs.HolderLemmas.{here, elsewhere, place_of, put_pair_here, put_pair_there, put_pair_map}
+use Rattle.controller_model.proofs.WatchLemmas.{any_alike}
 
 holder_still : (had : ℕ → ℕ → Bool) (o : Option Holder) (s i : ℕ) → (IsEndpoint s i → had s i ≡ false) → FollowsHolder had o → FollowsHolder (put_pair had s i false) o
-holder_still had o s i nothing f = record {
-  each = λ t j one. elim (place_of s i t j) [
-    | elsewhere apart ↦ put_pair_there had s i t j false apart ∙ f.each t j one
-    | here same at ↦
-        let P : ℕ → Type 0 = λ n. IsEndpoint n j in
-        let Q : ℕ → Type 0 = λ n. IsEndpoint s n in
-        put_pair_here had s i t j false same at ∙ sym (nothing (subst Q at (subst P same one))) ∙ (λ k. had (sym same k) (sym at k)) ∙ f.each t j one
-  ];
-  is_one = f.is_one;
-}
+holder_still had o s i nothing f = search (rules, place_of, elsewhere, put_pair_there, here, put_pair_here)
 
 -- an endpoint that has no ring is disabled
 pub rings_off : (h : Header) (w : World) (s i : ℕ) (rings : List RingState) → ((r : ℕ) → IsEndpoint s i → is_ring r (w.ring_of s i) ≡ false) →
@@ -51,7 +43,7 @@ disabled_below h rows words before k w s p q same first f = record {
           history = old.history;
           pointer = old.pointer;
           cycle = old.cycle;
-          active = ap (λ b. w.is_active r && not b) (any_same_in _ _ 1 31 (λ i low high. ap (λ b. b && is_ring r (w.ring_of s i)) (sym (same i (omega arith))))) ∙ old.active;
+          active = ap (λ b. w.is_active r && not b) (any_alike _ _ 1 31 (λ i low high. ap (λ b. b && is_ring r (w.ring_of s i)) (sym (same i (omega arith))))) ∙ old.active;
           harms = old.harms;
           holder = record {
             each = λ t j one. ap (λ b. is_ring r (if t == s && b then None else w.ring_of t j)) (sym (same j one.index_below)) ∙ old.holder.each t j one;

@@ -1,15 +1,10 @@
 -- Endpoints are disabled one after another
-use Rattle.controller_model.proofs.Words.{◌≡◌, ◌+◌, ◌<◌, ◌≤◌, ◌==◌, ◌&&◌, ◌||◌, ◌∙◌, if◌then◌else◌, ◌∷◌, ℕ, suc, zero, not, Bool, true, false, List, [], Option, Some, None, refl, sym, ap, inl, inr, arith, nat_lt, eq-eqb, ne_eqb, lt-ltb, le-ltb, list_any, range_with_len, cases_eq, cases_lt, put, Off, is_ring, World, disabled, has_one_of, freed, turned_off}
-use Rattle.controller_model.proofs.HadByAnother.{any_none}
+use Rattle.std.proofs.Common.{rules}
+use Rattle.controller_model.proofs.Words.{◌≡◌, ◌+◌, ◌<◌, ◌≤◌, ◌==◌, ◌&&◌, ◌||◌, ◌∙◌, if◌then◌else◌, ◌∷◌, ℕ, suc, zero, not, Bool, true, false, List, [], Option, Some, None, refl, ap, inl, inr, arith, nat_lt, eq-eqb, ne_eqb, lt-ltb, le-ltb, list_any, range_with_len, cases_eq, cases_lt, is_ring, World, disabled, has_one_of, freed, turned_off}
 use Rattle.controller_model.proofs.HolderLemmas.{put_pair_twice}
-
-and_true : (b : Bool) → (b && true) ≡ b
-and_true true = refl
-and_true false = refl
-
-or_false : (b : Bool) → (b || false) ≡ b
-or_false true = refl
-or_false false = refl
+use Rattle.controller_model.proofs.LookBranches.{or_false}
+use Rattle.controller_model.proofs.ScribbleLemmas.{none_in_range}
+use Rattle.controller_model.proofs.SafetyLemmas.{and_true}
 
 -- of a range with i, the test holds at most there
 any_at : (m : Bool) (i from n : ℕ) → from ≤ i → i < from + n → list_any (λ j. j == i && m) (range_with_len from n) ≡ m
@@ -18,7 +13,7 @@ any_at m i from (suc n) low high =
     elim (cases_eq from i) [
       | inl same ↦
           (λ k. (eq-eqb from i same k && m) || list_any (λ j. j == i && m) (range_with_len (from + 1) n))
-          ∙ ap (λ b. m || b) (any_none (λ j. j == i && m) (from + 1) n (λ j above below. ap (λ b. b && m) (ne_eqb j i (λ e. omega arith)))) ∙ or_false m
+          ∙ ap (λ b. m || b) (none_in_range (λ j. j == i && m) (from + 1) n (λ j above below. ap (λ b. b && m) (ne_eqb j i (λ e. omega arith)))) ∙ or_false m
       | inr apart ↦
           (λ k. (ne_eqb from i apart k && m) || list_any (λ j. j == i && m) (range_with_len (from + 1) n))
           ∙ any_at m i (from + 1) n (omega arith) (omega arith)
@@ -26,14 +21,7 @@ any_at m i from (suc n) low high =
 
 module _ (w : World) (s i r : ℕ) where
   at_i : (g : ℕ → Option ℕ) (xs : List ℕ) → list_any (λ j. j == i && is_ring r (g j)) xs ≡ list_any (λ j. j == i && is_ring r (g i)) xs
-  at_i g xs = ap (λ (p : ℕ → Bool). list_any p xs) (λ k j. by j k)
-    where
-      by : (j : ℕ) → (j == i && is_ring r (g j)) ≡ (j == i && is_ring r (g i))
-      by j =
-          elim (cases_eq j i) [
-            | inl same ↦ ap (λ n. j == i && is_ring r (g n)) same
-            | inr apart ↦ (λ k. ne_eqb j i apart k && is_ring r (g j)) ∙ sym (λ k. ne_eqb j i apart k && is_ring r (g i))
-          ]
+  at_i g xs = search (rules, ne_eqb)
 
   one_of : 0 < i → i < 32 → has_one_of w s (λ j. j == i) r ≡ is_ring r (w.ring_of s i)
   unfolding has_one_of
@@ -41,7 +29,7 @@ module _ (w : World) (s i r : ℕ) where
 
   none_of : i ≡ 0 → has_one_of w s (λ j. j == i) r ≡ false
   unfolding has_one_of
-  none_of none = any_none (λ j. j == i && is_ring r (w.ring_of s j)) 1 31 (λ j low high. ap (λ b. b && is_ring r (w.ring_of s j)) (ne_eqb j i (λ e. omega arith)))
+  none_of none = none_in_range (λ j. j == i && is_ring r (w.ring_of s j)) 1 31 (λ j low high. ap (λ b. b && is_ring r (w.ring_of s j)) (ne_eqb j i (λ e. omega arith)))
 
 module _ (w : World) (s i : ℕ) where
   pub disabled_first : i ≡ 0 → disabled w s (λ j. j == i) ≡ turned_off w s i
@@ -49,33 +37,13 @@ module _ (w : World) (s i : ℕ) where
   disabled_first none = (λ k. record (turned_off w s i) { is_active = λ r. ((λ k. w.is_active r && not (none_of w s i r none k)) ∙ and_true (w.is_active r)) k })
 
   active_after : (r : ℕ) (o : Option ℕ) → w.ring_of s i ≡ o → (w.is_active r && not (is_ring r (w.ring_of s i))) ≡ (freed w s i o).is_active r
-  active_after r None has = ap (λ p. w.is_active r && not (is_ring r p)) has ∙ and_true (w.is_active r)
-  active_after r (Some q) has = ap (λ p. w.is_active r && not (is_ring r p)) has ∙ by
-    where
-      at : (b a : Bool) → (a && not b) ≡ (if b then false else a)
-      at true true = refl
-      at true false = refl
-      at false a = and_true a
-
-      turned : (q == r) ≡ (r == q)
-      turned =
-          elim (cases_eq q r) [
-            | inl same ↦ eq-eqb q r same ∙ sym (eq-eqb r q (sym same))
-            | inr apart ↦ ne_eqb q r apart ∙ sym (ne_eqb r q (λ e. apart (sym e)))
-          ]
-
-      by : (w.is_active r && not (q == r)) ≡ put w.is_active q false r
-      by = at (q == r) (w.is_active r) ∙ ap (λ b. if b then false else w.is_active r) turned
+  active_after r None has = search (rules, and_true, eq-eqb, ne_eqb)
+  active_after r (Some q) has = search (rules, and_true, eq-eqb, ne_eqb)
 
   pub disabled_later : (o : Option ℕ) → w.ring_of s i ≡ o → 0 < i → i < 32 → disabled w s (λ j. j == i) ≡ turned_off (freed w s i o) s i
   unfolding disabled
-  disabled_later None has low high =
-      (λ k. record (turned_off w s i) { is_active = λ r. ((λ k. w.is_active r && not (one_of w s i r low high k)) ∙ active_after r None has) k })
-  disabled_later (Some q) has low high =
-      (λ k. record (turned_off w s i) {
-        is_active = λ r. ((λ k. w.is_active r && not (one_of w s i r low high k)) ∙ active_after r (Some q) has) k;
-        ring_of = sym (put_pair_twice w.ring_of s i None None) k;
-      })
+  disabled_later None has low high = search (rules, one_of, active_after, put_pair_twice)
+  disabled_later (Some q) has low high = search (rules, one_of, active_after, put_pair_twice)
 
 -- the endpoints that one of two tests names
 module _ (w : World) (s : ℕ) (p q : ℕ → Bool) where
@@ -87,22 +55,9 @@ module _ (w : World) (s : ℕ) (p q : ℕ → Bool) where
 
   step : (r : ℕ) (x y : Bool) (o : Option ℕ) (P Q R : Bool) → (not P && not Q) ≡ not R →
       (not (x && is_ring r o || P) && not (y && is_ring r (if x then None else o) || Q)) ≡ not ((x || y) && is_ring r o || R)
-  step r false false o P Q R e = e
-  step r false true o P Q R e = by (is_ring r o)
-    where
-      by : (m : Bool) → (not P && not (m || Q)) ≡ not (m || R)
-      by true = absurd_false (not P)
-        where
-          absurd_false : (b : Bool) → (b && false) ≡ false
-          absurd_false true = refl
-          absurd_false false = refl
-      by false = e
-  step r true y o P Q R e = by (is_ring r o) y
-    where
-      by : (m y : Bool) → (not (m || P) && not (y && false || Q)) ≡ not (m || R)
-      by true y = refl
-      by false true = e
-      by false false = e
+  step r false false o P Q R e = search rules
+  step r false true o P Q R e = search rules
+  step r true y o P Q R e = search rules
 
   rest : (r : ℕ) (xs : List ℕ) →
       (not (list_any (λ i. p i && is_ring r (w.ring_of s i)) xs) && not (list_any (λ i. q i && is_ring r (if p i then None else w.ring_of s i)) xs))
@@ -124,74 +79,28 @@ module _ (w : World) (s : ℕ) (p q : ℕ → Bool) where
 
   pub disabled_twice : disabled (disabled w s p) s q ≡ disabled w s (λ i. p i || q i)
   unfolding disabled
-  disabled_twice = (λ k. record (disabled w s (λ i. p i || q i)) {
-    endpoint_state = λ t i. off (t == s) (p i) (q i) Off (w.endpoint_state t i) k;
-    ring_of = λ t i. off (t == s) (p i) (q i) None (w.ring_of t i) k;
-    is_active = λ r. after r k;
-  })
+  disabled_twice = search (rules, off, after)
 
 pub disabled_same : (w : World) (s : ℕ) (p q : ℕ → Bool) → ((i : ℕ) → p i ≡ q i) → disabled w s p ≡ disabled w s q
 disabled_same w s p q same = ap (λ (t : ℕ → Bool). disabled w s t) (λ k i. same i k)
 
 pub disabled_none : (w : World) (s : ℕ) → disabled w s (λ i. false) ≡ w
 unfolding disabled has_one_of
-disabled_none w s = (λ k. record w {
-  endpoint_state = λ t i. off (t == s) Off (w.endpoint_state t i) k;
-  ring_of = λ t i. off (t == s) None (w.ring_of t i) k;
-  is_active = λ r. (ap (λ b. w.is_active r && not b) (any_none (λ i. false) 1 31 (λ i low high. refl)) ∙ and_true (w.is_active r)) k;
-})
-  where
-    off : {A : Type 0} (b : Bool) (a z : A) → (if b && false then a else z) ≡ z
-    off true a z = refl
-    off false a z = refl
+disabled_none w s = search (rules, off, none_in_range, and_true)
 
 -- the one with this index, where a test names it
 pub only_unnamed : (p : ℕ → Bool) (k : ℕ) → p k ≡ false → (i : ℕ) → (p i && i == k) ≡ false
-only_unnamed p k e i =
-    elim (cases_eq i k) [
-      | inl same ↦ ap (λ n. p n && i == k) same ∙ ap (λ b. b && i == k) e
-      | inr apart ↦ ap (λ b. p i && b) (ne_eqb i k apart) ∙ and_false (p i)
-    ]
-  where
-    and_false : (b : Bool) → (b && false) ≡ false
-    and_false true = refl
-    and_false false = refl
+only_unnamed p k e i = search (rules, ne_eqb)
 
 pub only_named : (p : ℕ → Bool) (k : ℕ) → p k ≡ true → (i : ℕ) → (p i && i == k) ≡ (i == k)
-only_named p k e i =
-    elim (cases_eq i k) [
-      | inl same ↦ ap (λ n. p n && i == k) same ∙ ap (λ b. b && i == k) e
-      | inr apart ↦ ap (λ b. p i && b) (ne_eqb i k apart) ∙ and_false (p i) ∙ sym (ne_eqb i k apart)
-    ]
-  where
-    and_false : (b : Bool) → (b && false) ≡ false
-    and_false true = refl
-    and_false false = refl
+only_named p k e i = search (rules, ne_eqb)
 
 -- those below a number, and the one with it
 pub one_more : (p : ℕ → Bool) (k i : ℕ) → (p i && nat_lt i k || p i && i == k) ≡ (p i && nat_lt i (k + 1))
-one_more p k i = share (p i) (nat_lt i k) (i == k) ∙ ap (λ b. p i && b) reached
-  where
-    share : (a b c : Bool) → (a && b || a && c) ≡ (a && (b || c))
-    share true b c = refl
-    share false b c = refl
-
-    reached : (nat_lt i k || i == k) ≡ nat_lt i (k + 1)
-    reached =
-        elim (cases_lt i k) [
-          | inl below ↦ ap (λ b. b || i == k) (lt-ltb i k below) ∙ sym (lt-ltb i (k + 1) (omega arith))
-          | inr above ↦ ap (λ b. b || i == k) (le-ltb i k above) ∙ elim (cases_eq i k) [
-            | inl same ↦ eq-eqb i k same ∙ sym (lt-ltb i (k + 1) (omega arith))
-            | inr apart ↦ ne_eqb i k apart ∙ sym (le-ltb i (k + 1) (omega (arith, apart)))
-          ]
-        ]
+one_more p k i = search (rules, nat_lt, cases_lt, lt-ltb, le-ltb, eq-eqb, ne_eqb)
 
 pub none_below : (p : ℕ → Bool) (i : ℕ) → (p i && nat_lt i 0) ≡ false
-none_below p i = ap (λ b. p i && b) (le-ltb i 0 (omega arith)) ∙ and_false (p i)
-  where
-    and_false : (b : Bool) → (b && false) ≡ false
-    and_false true = refl
-    and_false false = refl
+none_below p i = search (rules, nat_lt, le-ltb)
 
 pub all_below : (p : ℕ → Bool) (n i : ℕ) → i < n → (p i && nat_lt i n) ≡ p i
 all_below p n i below = ap (λ b. p i && b) (lt-ltb i n below) ∙ and_true (p i)

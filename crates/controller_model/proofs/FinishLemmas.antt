@@ -1,5 +1,6 @@
 -- A finish is a completion that is posted
-use Rattle.controller_model.proofs.Words.{◌≡◌, ◌==◌, ◌&&◌, ◌∙◌, not, Bool, true, false, Option, Some, None, Ok, Err, option_map, ap, sym, subst, refl, cond-true, cond-false, Block, code, kind, pointer, slot, is_command_completion, command_of, may_answer_slot, Header, World, UnderWay, Seen, StepFault, NotPossible, Spent, Memory, can_post, ended, ended_with, finished, finished_as, IsPart, completed, completed_with, IsStep}
+use Rattle.std.proofs.Common.{rules}
+use Rattle.controller_model.proofs.Words.{◌≡◌, ◌==◌, ◌&&◌, ◌∙◌, not, Bool, true, false, Option, Some, None, Ok, Err, option_map, ap, sym, subst, refl, cond-true, cond-false, Block, code, kind, pointer, slot, is_command_completion, command_of, may_answer_slot, Header, World, UnderWay, Seen, StepFault, NotPossible, can_post, ended, ended_with, finished, finished_as, IsPart, completed, completed_with, IsStep}
 use Rattle.controller_model.proofs.ChangeLemmas.{Made}
 use Rattle.controller_model.proofs.ReportPosts.{map_choice}
 
@@ -16,15 +17,7 @@ made_of_part A x (Some w) P made = record { after = w; is = refl; holds = made }
 -- a part of a step that fails, and the step
 pub step_fails : (A : Type 0) (fault : StepFault) (part step : Option World) (f : World → World) (shown : Seen) (P Q : World → Type 0) → step ≡ option_map f part →
     IsPart {A = A} (Err fault) part P → IsStep (Err fault) step shown Q
-step_fails A fault part step f shown P Q same fails =
-    let R : Option World → Type 0 = λ v. IsStep (Err fault) v shown Q in
-    subst R (sym same) (onward fault part fails)
-  where
-    onward : (e : StepFault) (o : Option World) → IsPart {A = A} (Err e) o P → IsStep (Err e) (option_map f o) shown Q
-    onward NotPossible None m = tt
-    onward NotPossible (Some v) m = absurd m
-    onward Memory o m = tt
-    onward Spent o m = absurd m
+step_fails A fault part step f shown P Q same fails = search (rules, option_map)
 
 module _ (h : Header) (w : World) (b : Block) where
   finished_with_is : (u : UnderWay) → ended_with h w b u ≡ option_map (λ v. ended h v b) (completed_with h w b u)

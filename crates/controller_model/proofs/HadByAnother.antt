@@ -1,37 +1,13 @@
 -- Whether another endpoint has a ring, by who is kept as having it
-use Rattle.controller_model.proofs.Words.{◌≡◌, ◌+◌, ◌<◌, ◌≤◌, ◌==◌, ◌&&◌, ◌||◌, ◌∙◌, ℕ, suc, zero, not, Bool, true, false, Option, Some, None, refl, sym, ap, inl, inr, arith, eq-eqb, list_any, range_with_len, cases_lt, cases_Bool, false≢true, or_from, is_ring, World, Holder, is_had_by_another, FollowsHolder, IsEndpoint, is_other}
+use Rattle.controller_model.proofs.Words.{◌≡◌, ◌==◌, ◌&&◌, ◌∙◌, ℕ, not, Bool, true, false, Option, Some, None, refl, sym, ap, inl, inr, arith, eq-eqb, list_any, range_with_len, cases_Bool, false≢true, is_ring, World, Holder, is_had_by_another, FollowsHolder, IsEndpoint, is_other}
 use Rattle.controller_model.proofs.HolderLemmas.{here, elsewhere, place_of}
-
-pub any_none : (test : ℕ → Bool) (from n : ℕ) → ((k : ℕ) → from ≤ k → k < from + n → test k ≡ false) → list_any test (range_with_len from n) ≡ false
-any_none test from zero fails = refl
-any_none test from (suc n) fails =
-    or_from (test from) (list_any test (range_with_len (from + 1) n)) (fails from (omega arith) (omega arith))
-    (any_none test (from + 1) n (λ k low high. fails k (omega arith) (omega arith)))
-
-or_true : (b : Bool) → (b || true) ≡ true
-or_true true = refl
-or_true false = refl
-
-pub any_one : (test : ℕ → Bool) (from n k : ℕ) → from ≤ k → k < from + n → test k ≡ true → list_any test (range_with_len from n) ≡ true
-any_one test from zero k low high passes = absurd (omega arith)
-any_one test from (suc n) k low high passes =
-    elim (cases_lt from k) [
-      | inl before ↦ ap (λ b. test from || b) (any_one test (from + 1) n k (omega arith) (omega arith) passes) ∙ or_true (test from)
-      | inr at ↦
-          let same : from ≡ k = omega arith in
-          ap (λ b. b || list_any test (range_with_len (from + 1) n)) (ap test same ∙ passes)
-    ]
+use Rattle.controller_model.proofs.ScribbleLemmas.{any_in_range, none_in_range}
 
 -- the tests of a range are the same
 pub any_same : (test other : ℕ → Bool) (from n : ℕ) → ((k : ℕ) → test k ≡ other k) → list_any test (range_with_len from n) ≡ list_any other (range_with_len from n)
 any_same test other from n same = ap (λ (p : ℕ → Bool). list_any p (range_with_len from n)) (λ i k. same k i)
 
-pub any_same_in : (test other : ℕ → Bool) (from n : ℕ) → ((k : ℕ) → from ≤ k → k < from + n → test k ≡ other k) → list_any test (range_with_len from n) ≡ list_any other (range_with_len from n)
-any_same_in test other from zero same = refl
-any_same_in test other from (suc n) same =
-    (λ i. same from (omega arith) (omega arith) i || any_same_in test other (from + 1) n (λ k low high. same k (omega arith) (omega arith)) i)
-
-and_false : (b : Bool) → (b && false) ≡ false
+pub and_false : (b : Bool) → (b && false) ≡ false
 and_false true = refl
 and_false false = refl
 
@@ -43,9 +19,9 @@ module _ (w : World) (s i r : ℕ) where
       elim (cases_Bool (is_ring r (w.ring_of t j))) [
         | inr not_so ↦ not_so
         | inl so ↦
-            let inner = any_one (λ j. not (t == s && j == i) && is_ring r (w.ring_of t j)) 1 31 j (omega (arith, one.some_index)) (omega (arith, one.index_below)) (λ k. not (apart k) && so k) in
+            let inner = any_in_range (λ j. not (t == s && j == i) && is_ring r (w.ring_of t j)) 1 31 j (omega (arith, one.some_index)) (omega (arith, one.index_below)) (λ k. not (apart k) && so k) in
             let outer =
-            any_one (λ t. list_any (λ j. not (t == s && j == i) && is_ring r (w.ring_of t j)) (range_with_len 1 31)) 1 255 t (omega (arith, one.some_slot)) (omega (arith, one.slot_below)) inner in
+            any_in_range (λ t. list_any (λ j. not (t == s && j == i) && is_ring r (w.ring_of t j)) (range_with_len 1 31)) 1 255 t (omega (arith, one.some_slot)) (omega (arith, one.slot_below)) inner in
             absurd (false≢true (sym free ∙ outer))
       ]
 
@@ -53,7 +29,7 @@ module _ (w : World) (s i r : ℕ) where
   pub had_by_holder : (o : Option Holder) → FollowsHolder (λ t j. is_ring r (w.ring_of t j)) o → is_other o s i ≡ is_had_by_another w s i r
   unfolding is_had_by_another
   had_by_holder None f =
-      sym (any_none _ 1 255 (λ t low high. any_none _ 1 31 (λ j first last.
+      sym (none_in_range _ 1 255 (λ t low high. none_in_range _ 1 31 (λ j first last.
       ap (λ b. not (t == s && j == i) && b) (f.each t j (record { some_slot = omega arith; slot_below = omega arith; some_index = omega arith; index_below = omega arith }))
       ∙ and_false (not (t == s && j == i)))))
   had_by_holder (Some e) f =
@@ -62,13 +38,13 @@ module _ (w : World) (s i r : ℕ) where
         | elsewhere apart ↦
             let has : is_ring r (w.ring_of e.slot e.index) ≡ true = f.each e.slot e.index one ∙ (λ k. eq-eqb e.slot e.slot refl k && eq-eqb e.index e.index refl k) in
             let inner =
-            any_one (λ j. not (e.slot == s && j == i) && is_ring r (w.ring_of e.slot j)) 1 31 e.index (omega (arith, one.some_index)) (omega (arith, one.index_below)) (λ k. not (apart k) && has k) in
+            any_in_range (λ j. not (e.slot == s && j == i) && is_ring r (w.ring_of e.slot j)) 1 31 e.index (omega (arith, one.some_index)) (omega (arith, one.index_below)) (λ k. not (apart k) && has k) in
             ap not apart
-            ∙ sym (any_one (λ t. list_any (λ j. not (t == s && j == i) && is_ring r (w.ring_of t j)) (range_with_len 1 31)) 1 255 e.slot
+            ∙ sym (any_in_range (λ t. list_any (λ j. not (t == s && j == i) && is_ring r (w.ring_of t j)) (range_with_len 1 31)) 1 255 e.slot
             (omega (arith, one.some_slot)) (omega (arith, one.slot_below)) inner)
         | here same at ↦
             (λ k. not (eq-eqb e.slot s same k && eq-eqb e.index i at k))
-            ∙ sym (any_none _ 1 255 (λ t low high. any_none _ 1 31 (λ j first last.
+            ∙ sym (none_in_range _ 1 255 (λ t low high. none_in_range _ 1 31 (λ j first last.
             let there = f.each t j (record { some_slot = omega arith; slot_below = omega arith; some_index = omega arith; index_below = omega arith }) in
             elim (place_of s i t j) [
               | here is on ↦ (λ k. not (eq-eqb t s is k && eq-eqb j i on k) && is_ring r (w.ring_of t j))

@@ -1,13 +1,10 @@
 -- One more thing that happens on a ring
-use Rattle.controller_model.proofs.Words.{◌≡◌, ◌+◌, ◌-◌, ◌<◌, ◌≤◌, ◌==◌, ◌||◌, ◌++◌, if◌then◌else◌, ◌∷◌, ◌∙◌, ℕ, suc, not, [], List, Option, length, drop, true, false, refl, sym, ap, arith, length-append, inl, inr, eq-eqb, ne_eqb, slice_index_or, drop-append-le, drop_all, false≢true, cases_eq, cond-true, cond-false, Block, Shape, address_of, cycle_of, DeclaredBlock, RingEvent, Took, Placed, takes_of, next_take, was_placed, first_at, is_as_declared, is_right_place, is_out_of_order, has_other_words, is_end, is_inside_descriptor, Header, is_last, History, Keeps, ShowsHarms}
+use Rattle.std.proofs.Common.{rules}
+use Rattle.controller_model.proofs.Words.{◌≡◌, ◌+◌, ◌-◌, ◌<◌, ◌≤◌, ◌==◌, ◌||◌, ◌++◌, if◌then◌else◌, ◌∷◌, ◌∙◌, ℕ, suc, not, [], List, Option, length, drop, true, false, refl, sym, ap, arith, length-append, eq-eqb, ne_eqb, slice_index_or, drop-append-le, drop_all, false≢true, cond-true, cond-false, Block, Shape, address_of, cycle_of, DeclaredBlock, RingEvent, Took, Placed, takes_of, next_take, was_placed, first_at, is_as_declared, is_right_place, is_out_of_order, has_other_words, is_end, is_inside_descriptor, Header, is_last, History, Keeps, ShowsHarms}
 
 -- a bit by a test
 pub as_bit : (shape : Shape) (p : ℕ) → (if cycle_of shape p == 1 then 1 else 0) ≡ cycle_of shape p
-as_bit shape p =
-    elim (cases_eq (cycle_of shape p) 1) [
-      | inl one ↦ cond-true _ 1 0 (eq-eqb (cycle_of shape p) 1 one) ∙ sym one
-      | inr zero ↦ cond-false _ 1 0 (ne_eqb (cycle_of shape p) 1 zero) ∙ (let e : 0 ≡ cycle_of shape p = omega arith in e)
-    ]
+as_bit shape p = search (rules, cond-true, eq-eqb, cond-false, ne_eqb)
 
 drop-more : {X : Type 0} (n : ℕ) (xs ys : List X) → n ≤ length xs → drop n (xs ++ ys) ≡ drop n xs ++ ys
 drop-more n xs ys h = drop-append-le n xs ys h
@@ -22,13 +19,7 @@ pub record Takes (h after : History) (a : ℕ) (d : Option DeclaredBlock) : Type
 pub keeps_took : (shape : Shape) (events : List RingEvent) (reported : ℕ) (h after : History) (a : ℕ) (b : Block) (d : Option DeclaredBlock) →
     Takes h after a d → Keeps shape events reported h → Keeps shape (Took a b d ∷ events) reported after
 unfolding next_take was_placed is_inside_descriptor takes_of
-keeps_took shape events reported h after a b d t k = record {
-  next = ap (λ n. n + 1) k.next ∙ sym t.next;
-  placed = sym t.placed;
-  inside = sym t.inside;
-  unreported = drop-more reported (takes_of events) (a ∷ []) k.few ∙ ap (λ xs. xs ++ a ∷ []) k.unreported ∙ sym t.unreported;
-  few = omega (arith, k.few, length-append (takes_of events) (a ∷ []));
-}
+keeps_took shape events reported h after a b d t k = search (rules, drop-more, length-append)
 
 -- and the harms of its takes
 pub shows_took : (shape : Shape) (events : List RingEvent) (reported : ℕ) (h after : History) (a : ℕ) (b : Block) (d : Option DeclaredBlock) →
@@ -62,13 +53,7 @@ pub keeps_placed : (shape : Shape) (events : List RingEvent) (reported a : ℕ) 
     after.is_inside ≡ false → after.unreported.items ≡ [] →
     Keeps shape events reported h → Keeps shape (Placed a ∷ events) (length (takes_of events)) after
 unfolding next_take was_placed is_inside_descriptor takes_of
-keeps_placed shape events reported a h after next placed inside none k = record {
-  next = ap (λ n. first_at shape a n) k.next ∙ sym next;
-  placed = sym placed;
-  inside = sym inside;
-  unreported = drop_all (length (takes_of events)) (takes_of events) (omega arith) ∙ sym none;
-  few = omega arith;
-}
+keeps_placed shape events reported a h after next placed inside none k = search (rules, length, drop_all)
 
 pub shows_placed : (shape : Shape) (events : List RingEvent) (a : ℕ) (h after : History) → after.out_of_order ≡ h.out_of_order → after.other_words ≡ h.other_words →
     ShowsHarms shape events h → ShowsHarms shape (Placed a ∷ events) after

@@ -1,5 +1,5 @@
 -- Which way a look goes
-use Rattle.controller_model.proofs.Words.{◌≡◌, ◌==◌, ◌||◌, ◌&&◌, ◌∙◌, ◌↔◌, ℕ, not, Bool, true, false, Option, Some, None, Ok, Err, is_some, option_map, ap, sym, subst, refl, Result, cond-true, cond-false, Block, block_at, cycle, kind, is_link, Command, NoOp, EnableSlot, DisableSlot, AddressDevice, ConfigureEndpoint, EvaluateContext, ResetEndpoint, StopEndpoint, SetTrDequeue, ResetDevice, result_ok, Header, command_id, World, Seen, Waited, Crossed, StepFault, NotPossible, looked_at, looked, seen_by_look, crossed, taken, taken_on, command_begun, may_scribble, look_shows, IsStep, addressed, is_it, under_way_of, Pending}
+use Rattle.controller_model.proofs.Words.{◌≡◌, ◌==◌, ◌||◌, ◌&&◌, ◌∙◌, ◌↔◌, ℕ, not, Bool, true, false, Option, Some, None, Ok, Err, is_some, option_map, ap, sym, subst, refl, Result, cond-true, cond-false, Block, block_at, cycle, kind, is_link, Command, AddressDevice, result_ok, Header, command_id, World, Seen, Waited, Crossed, StepFault, NotPossible, looked_at, looked, seen_by_look, crossed, taken, taken_on, command_begun, may_scribble, look_shows, IsStep, addressed, is_it, under_way_of, Pending}
 use Rattle.controller_model.specs.declared.seen.Seen.TheVariants.{Took}
 
 -- a step as the definitions give it
@@ -56,23 +56,14 @@ module _ (h : Header) (w : World) (r : ℕ) (b : Block) where
   unfolding taken
   taken_command command = cond-true (r == command_id h) _ _ command
 
-or_false : (b : Bool) → (b || false) ≡ b
+pub or_false : (b : Bool) → (b || false) ≡ b
 or_false true = refl
 or_false false = refl
 
 pub may_scribble_is : (h : Header) (o : Option Command) (w : World) (t : ℕ) → may_scribble h o w t ≡ (w.scribbles t || is_it t (addressed o))
 unfolding may_scribble
-may_scribble_is h None w t = sym (or_false (w.scribbles t))
 may_scribble_is h (Some (AddressDevice s bsr c)) w t = refl
-may_scribble_is h (Some NoOp) w t = sym (or_false (w.scribbles t))
-may_scribble_is h (Some EnableSlot) w t = sym (or_false (w.scribbles t))
-may_scribble_is h (Some (DisableSlot s)) w t = sym (or_false (w.scribbles t))
-may_scribble_is h (Some (ConfigureEndpoint s dc c)) w t = sym (or_false (w.scribbles t))
-may_scribble_is h (Some (EvaluateContext s c)) w t = sym (or_false (w.scribbles t))
-may_scribble_is h (Some (ResetEndpoint s i)) w t = sym (or_false (w.scribbles t))
-may_scribble_is h (Some (StopEndpoint s i)) w t = sym (or_false (w.scribbles t))
-may_scribble_is h (Some (SetTrDequeue s i p c)) w t = sym (or_false (w.scribbles t))
-may_scribble_is h (Some (ResetDevice s)) w t = sym (or_false (w.scribbles t))
+may_scribble_is h _ w t = sym (or_false (w.scribbles t))
 
 pub read_is : {E : Type 0} (r : Result Command E) (o : Option Command) → ((c : Command) → (r ≡ Ok c) ↔ (o ≡ Some c)) → result_ok r ≡ o
 read_is (Ok x) o f = sym ((f x).0 refl)

@@ -1,5 +1,6 @@
 -- What a look does to what is kept of a ring
-use Rattle.controller_model.proofs.Words.{◌≡◌, ◌∷◌, ◌∙◌, if◌then◌else◌, ℕ, Option, IsSome, ap, sym, subst, Block, DeclaredBlock, declared_at, Header, RingEvent, shape_of, ring_with, Took, next_take, RingState, Declares, Keeps, ShowsHarms, RingHeld, FollowsRing, FollowsHolder, noted_held}
+use Rattle.std.proofs.Common.{rules}
+use Rattle.controller_model.proofs.Words.{◌≡◌, ◌∷◌, ◌∙◌, if◌then◌else◌, ℕ, Option, IsSome, ap, sym, Block, DeclaredBlock, declared_at, Header, RingEvent, shape_of, ring_with, Took, next_take, RingState, Declares, Keeps, ShowsHarms, RingHeld, FollowsRing, FollowsHolder, noted_held}
 
 module _ (h : Header) (r : ℕ) (held : RingHeld) (x : RingState) (f : FollowsRing h r held x) where
   -- what a take says of its position, in the world's terms
@@ -15,16 +16,4 @@ module _ (h : Header) (r : ℕ) (held : RingHeld) (x : RingState) (f : FollowsRi
       (IsSome (ring_with h r) → ShowsHarms (shape_of h r) (Took x.pointer b d ∷ held.events) after.history) →
       Declares after.declared held.queue held.lengths → held.pointer ≡ after.pointer → held.cycle ≡ (if after.cycle then 1 else 0) →
       held.is_active ≡ after.is_active → FollowsHolder held.had_by after.holder → FollowsRing h r (noted_held (shape_of h r) held b) after
-  noted_follows after b d p next told keeps shows declared pointer cycle active holder =
-      let took = took_as b d p next told in
-      let P : RingEvent → Type 0 = λ e. Keeps (shape_of h r) (e ∷ held.events) held.reported after.history in
-      let Q : RingEvent → Type 0 = λ e. ShowsHarms (shape_of h r) (e ∷ held.events) after.history in
-      record {
-        declared = declared;
-        history = subst P took keeps;
-        harms = λ there. subst Q took (shows there);
-        pointer = pointer;
-        cycle = cycle;
-        active = active;
-        holder = holder;
-      }
+  noted_follows after b d p next told keeps shows declared pointer cycle active holder = search (rules, took_as)

@@ -1,5 +1,6 @@
 -- Which positions an address names
-use Rattle.controller_model.proofs.Words.{◌≡◌, ◌+◌, ◌*◌, ◌%◌, ◌<◌, ◌≤◌, ◌==◌, ◌&&◌, ◌∙◌, ◌⊎◌, ℕ, true, Some, None, is_some, sym, ap, arith, inl, inr, eqb-true, cases_lt, false≢true, or_cases, and_parts, Data, Link, Shape, address_of, place_count, is_crossing, link_crossed, link_address, place_at, IsShape, cases_option, same_in_lap, place_at-address_of, place_at-link_address, is_place}
+use Rattle.std.proofs.Common.{rules}
+use Rattle.controller_model.proofs.Words.{◌≡◌, ◌+◌, ◌*◌, ◌%◌, ◌<◌, ◌≤◌, ◌∙◌, ◌⊎◌, ℕ, true, Some, is_some, sym, ap, arith, eqb-true, cases_lt, false≢true, or_cases, and_parts, Data, Link, Shape, address_of, place_count, link_crossed, link_address, place_at, IsShape, cases_option, same_in_lap, place_at-address_of, place_at-link_address, is_place}
 
 -- the first word of a position's block
 pub at_block : (shape : Shape) → IsShape shape → (a p : ℕ) → address_of shape p ≡ a → place_at shape a ≡ Some (Data (p % place_count shape) 0)
@@ -17,24 +18,8 @@ at_crossing shape is a p i crossed same =
 pub names : (shape : Shape) (a p : ℕ) → is_place shape a p ≡ true →
     (address_of shape p ≡ a) ⊎ ((i : ℕ) × (link_crossed shape p ≡ Some i) × (link_address shape p ≡ a))
 unfolding is_place
-names shape a p here =
-    elim (or_cases (address_of shape p == a) (is_crossing shape p && link_address shape p == a) here) [
-      | inl block ↦ inl (eqb-true (address_of shape p) a block)
-      | inr link ↦
-          let parts = and_parts (is_crossing shape p) (link_address shape p == a) link in
-          elim (cases_option (link_crossed shape p)) [
-            | inl none ↦ absurd (no_crossing shape p none parts.0)
-            | inr some ↦ inr (some.0, some.1, eqb-true (link_address shape p) a parts.1)
-          ]
-    ]
-  where
-    no_crossing : (shape : Shape) (p : ℕ) → link_crossed shape p ≡ None → is_crossing shape p ≡ true → ⊥
-    no_crossing shape p none crossing = false≢true (sym (ap (λ o. is_some o) none) ∙ crossing)
+names shape a p here = search (rules, or_cases, eqb-true, and_parts, cases_option, false≢true, is_some)
 
 -- of the positions of a lap from one on, one alone has a remainder
 pub one_in_lap : (n from p q : ℕ) → 0 < n → from ≤ p → p < from + n → from ≤ q → q < from + n → p % n ≡ q % n → p ≡ q
-one_in_lap n from p q some low high low' high' same =
-    elim (cases_lt p q) [
-      | inl lower ↦ same_in_lap n p q some (omega arith) (omega arith) same
-      | inr upper ↦ sym (same_in_lap n q p some upper (omega arith) (sym same))
-    ]
+one_in_lap n from p q some low high low' high' same = search (rules, cases_lt, same_in_lap)

@@ -1,9 +1,5 @@
 -- The rows that are left, and how one of them is made
-use Rattle.controller_model.proofs.Words.{◌≡◌, ◌≢◌, ◌∙◌, ◌∷◌, List, [], slice_get, Option, Some, None, Ok, Err, Result, option_map, ap, sym, subst, refl, Header, Step, NextRow, Look, Report, Finish, Other, Scribble, World, counted, made, stepped, Seen, StepFault, NotPossible, Spent, Memory, IsStep}
-use Rattle.std.specs.Prelude.{OnOk}
-use Rattle.traces.specs.declared.trace_row.TraceRow.{TraceRow}
-use Rattle.controller_model.specs.RingRows.{header_after, row_made}
-use Rattle.controller_model.specs.Scenes.{Scene, row_next, step_made}
+use Rattle.controller_model.proofs.Words.{TraceRow, header_after, row_made, Scene, row_next, step_made, ◌≡◌, ◌≢◌, ◌∙◌, ◌∷◌, List, [], slice_get, Option, Some, None, Ok, Err, Result, option_map, ap, sym, subst, refl, Header, Step, NextRow, Look, Report, Finish, Other, Scribble, World, counted, made, stepped, Seen, StepFault, NotPossible, Spent, Memory, IsStep}
 
 pub nothing_left : {X : Type 0} (xs : List X) → slice_get xs 0 ≡ None → xs ≡ []
 nothing_left [] e = refl
@@ -12,11 +8,6 @@ nothing_left (x ∷ xs) e = absurd (cc)
 pub first_left : {X : Type 0} (xs : List X) (x : X) → slice_get xs 0 ≡ Some x → (rest : List X) × (xs ≡ x ∷ rest)
 first_left [] x e = absurd (cc)
 first_left (y ∷ ys) x e = (ys, cc)
-
--- what holds anyhow holds of a success
-pub on_ok : {A E : Type 0} (r : Result A E) (P : Type 0) → P → OnOk r P
-on_ok (Ok a) P holds = holds
-on_ok (Err e) P holds = tt
 
 -- a step leads to more than a world
 pub step_mapped : {X Y : Type 0} (r : Result Seen StepFault) (o : Option X) (g : X → Y) (shown : Seen) (P : X → Type 0) (Q : Y → Type 0) → ((x : X) → P x → Q (g x)) →

@@ -1,12 +1,13 @@
 -- Beside rows of which none is a ring's, runs and replays are those beside a trace of the driver's rows alone
-use Rattle.controller_model.proofs.Words.{◌≡◌, ◌≢◌, ◌+◌, ◌-◌, ◌==◌, ◌&&◌, ◌||◌, ◌++◌, ◌∙◌, ◌∷◌, if◌then◌else◌, ℕ, not, nat_le, nat_lt, Bool, true, false, List, [], Option, Some, None, is_some, find, length, map, option_and_then, option_map, position, ap, sym, refl, same_Some, list_any, range_with_len, Block, block_at, cycle, kind, pointer, slot, code, endpoint, word, is_link, is_set, put, put_pair, same_words, Command, NoOp, EnableSlot, DisableSlot, AddressDevice, ConfigureEndpoint, EvaluateContext, ResetEndpoint, StopEndpoint, SetTrDequeue, ResetDevice, command_of, named_context, may_answer_slot, Change, changes, can_succeed, is_running, is_stopped, EndpointState, Halted, Error, Stopped, Header, Row, Sub, Write, Reg, Bell, Read, Step, NextRow, Look, Report, Finish, Other, Scribble, Register, Usbcmd, Usbsts, Crcr, Dnctrl, Dcbaap, Config, Iman, Imod, Erstsz, Erstba, Erdp, register_or_zero, run_bit, reset_bit, command_id, event_shape, event_size, is_event_place, ring_having, shape_of, some_ring, World, UnderWay, Placed, opening, stored, stored_block, event_at, takes_of, TakenOutOfOrder, TakenOtherWords, WaitsInsideDescriptor, LooksOutside, PostsOverUnread, InputContextChanged, Harm, harm_of, harms, waits, has_changed_context, has_other_words, is_changed_since, is_context_changed, is_inside_descriptor, is_out_of_order, counted, made, stepped, while_running, is_scribbled, scribbled, looked, looked_at, seen_by_look, crossed, taken, taken_on, declared_next, command_begun, look_shows, shows, can_post, posted, unreported, is_last, is_stop_under_way, with_reported, report_success, report_error, report_stop, report_code, reported, reported_on, stopped_with, other_posted, passes_end, succeeded, ended, ended_with, finished, finished_as, changed_by, changed_by_all, effect, is_had_by_another, placed_on, placed, disabled, inactive, in_state, row_done, next_row, declared, register_row, bell_row, event_read, endpoint_bell, activated, valued, run_or_stop, started_with, with_dequeue, may_scribble, has_one_of, is_success, is_halting, is_trb_error, is_stopping, is_transfer_event, is_other_event, is_command_completion}
+use Rattle.std.proofs.Common.{rules}
+use Rattle.controller_model.proofs.Words.{◌≡◌, ◌≢◌, ◌+◌, ◌==◌, ◌&&◌, ◌||◌, ◌++◌, ◌∙◌, ◌∷◌, if◌then◌else◌, ℕ, not, nat_le, nat_lt, Bool, true, false, List, [], Option, Some, None, is_some, length, map, option_and_then, option_map, position, ap, sym, refl, same_Some, list_any, range_with_len, Block, kind, pointer, slot, code, endpoint, word, is_set, same_words, Command, NoOp, EnableSlot, DisableSlot, AddressDevice, ConfigureEndpoint, EvaluateContext, ResetEndpoint, StopEndpoint, SetTrDequeue, ResetDevice, command_of, named_context, may_answer_slot, Change, changes, can_succeed, is_running, is_stopped, EndpointState, Halted, Error, Stopped, Header, Row, Reg, Bell, Read, Step, NextRow, Look, Report, Finish, Other, Scribble, Register, Usbcmd, Config, Erdp, register_or_zero, command_id, event_shape, is_event_place, ring_having, World, UnderWay, opening, stored, stored_block, event_at, harm_of, harms, waits, has_changed_context, is_changed_since, is_context_changed, counted, made, stepped, while_running, is_scribbled, scribbled, looked, looked_at, seen_by_look, crossed, taken, taken_on, declared_next, command_begun, look_shows, shows, can_post, posted, unreported, is_last, is_stop_under_way, with_reported, report_success, report_error, report_stop, report_code, reported, reported_on, stopped_with, other_posted, passes_end, succeeded, ended, ended_with, finished, finished_as, changed_by, changed_by_all, effect, is_had_by_another, placed_on, placed, disabled, inactive, in_state, row_done, next_row, declared, register_row, bell_row, event_read, endpoint_bell, activated, valued, run_or_stop, started_with, with_dequeue, may_scribble, has_one_of, is_success, is_halting, is_trb_error, is_stopping, is_transfer_event, is_other_event, is_command_completion}
 use Rattle.std.specs.Prelude.{option_to_list}
-use Rattle.commands.specs.Changes.{SlotGoesOn, DeviceLeft, Disables, Places, Stops, Resets}
+use Rattle.commands.specs.Changes.{Places, Stops}
 use Rattle.event_ring.specs.EventRing.{erdp_address}
 use Rattle.traces.specs.declared.trace_row.TraceRow.TheVariants.{Plain}
-use Rattle.controller_model.specs.Scenes.{Scene, scene_ending_from, scene_reached, scene_replayed, scene_seen_by, scene_seen_from, step_made}
+use Rattle.controller_model.specs.Scenes.{Scene, scene_ending_from, scene_replayed, scene_seen_by, scene_seen_from, step_made}
 use Rattle.controller_model.specs.Showing.{replayed, seen_by, seen_from}
-use Rattle.controller_model.specs.Steps.{NoHarm, ending_from, ending_of, judged, reached}
+use Rattle.controller_model.specs.Steps.{NoHarm, ending_from, ending_of, judged}
 
 -- the world with other rows still to come
 abbrev pub beside : List Row → World → World
@@ -77,13 +78,7 @@ module _ (rows : List Row) where
 
     looked_so : (w : World) (r : ℕ) → option_map (beside rows) (looked h w r) ≡ looked h (beside rows w) r
     unfolding looked looked_at seen_by_look crossed
-    looked_so w r =
-        let b = block_at w.memory (w.pointer_of r) in
-        chosen (w.is_active r) (looked_at h w r b) None (looked_at h (beside rows w) r b) None
-        (chosen (not (cycle b == w.cycle_state r)) _ _ _ _ refl
-        (chosen (is_link (kind b)) _ _ _ _ refl
-        (chosen (r == command_id h && is_some w.under_way) None _ None _ refl (ap (λ v. Some v) (taken_so (seen_by_look h w r) r b)))))
-        refl
+    looked_so w r = search (rules, option_map, chosen, is_some, taken_so)
 
     -- ---- reports
 
@@ -135,14 +130,7 @@ module _ (rows : List Row) where
 
     placed_so : (w : World) (s i r a : ℕ) (c : Bool) (state : EndpointState) → beside rows (placed w s i r a c state) ≡ placed (beside rows w) s i r a c state
     unfolding placed inactive
-    placed_so w s i r a c state = (λ k. record (inactive (inactive_so w (w.ring_of s i) k) (Some r)) {
-      endpoint_state = put_pair w.endpoint_state s i state;
-      ring_of = put_pair w.ring_of s i (Some r);
-      pointer_of = put w.pointer_of r a;
-      cycle_state = put w.cycle_state r (if c then 1 else 0);
-      events = put w.events r (Placed a ∷ w.events r);
-      reported = put w.reported r (length (takes_of (w.events r)));
-    })
+    placed_so w s i r a c state = search (rules, inactive_so, length)
 
     placed_on_so : (w : World) (s i a : ℕ) (c : Bool) (state : EndpointState) (o : Option ℕ) →
         option_map (beside rows) (placed_on w s i a c state o) ≡ placed_on (beside rows w) s i a c state o
@@ -153,12 +141,9 @@ module _ (rows : List Row) where
 
     changed_so : (w : World) (c : Command) (change : Change) → option_map (beside rows) (changed_by h c w change) ≡ changed_by h c (beside rows w) change
     unfolding changed_by in_state disabled has_one_of
-    changed_so w c (SlotGoesOn s) = refl
-    changed_so w c (DeviceLeft s) = refl
-    changed_so w c (Disables s which) = refl
     changed_so w c (Places s i p turn state) = placed_on_so w s i p turn state (ring_having h p)
     changed_so w c (Stops s i) = ap (λ v. Some v) (inactive_so (in_state w s i Stopped) (w.ring_of s i))
-    changed_so w c (Resets s i) = refl
+    changed_so w c _ = refl
 
     all_so : (w : World) (c : Command) (changes : List Change) → option_map (beside rows) (changed_by_all h c w changes) ≡ changed_by_all h c (beside rows w) changes
     unfolding changed_by_all
@@ -179,11 +164,7 @@ module _ (rows : List Row) where
 
     ended_with_so : (w : World) (b : Block) (u : UnderWay) → option_map (beside rows) (ended_with h w b u) ≡ ended_with h (beside rows w) b u
     unfolding ended_with
-    ended_with_so w b u =
-        chosen (code b == 1) _ _ _ _
-        (through (λ v. ended h v b) (succeeded h w (slot b) (command_of u.block)) (succeeded h (beside rows w) (slot b) (command_of u.block)) (λ v. ended_so v b)
-        (succeeded_so w (slot b) (command_of u.block)))
-        (chosen u.has_stopped None _ None _ refl (ap (λ v. Some v) (ended_so w b)))
+    ended_with_so w b u = search (rules, option_map, chosen, through, ended_so, succeeded_so)
 
     finished_as_so : (w : World) (b : Block) (o : Option UnderWay) → option_map (beside rows) (finished_as h w b o) ≡ finished_as h (beside rows w) b o
     unfolding finished_as
@@ -202,28 +183,13 @@ module _ (rows : List Row) where
 
     run_so : (w : World) (v : ℕ) → beside rows (run_or_stop h w v) ≡ run_or_stop h (beside rows w) v
     unfolding run_or_stop started_with
-    run_so w v = by w.started
-      where
-        by : (b : Bool) →
-            beside rows (if not b then (if run_bit v && not (reset_bit v) then started_with h w else w) else (if not (run_bit v) || reset_bit v then record w { stopped = true } else w))
-            ≡ (if not b then (if run_bit v && not (reset_bit v) then started_with h (beside rows w) else beside rows w)
-            else (if not (run_bit v) || reset_bit v then record (beside rows w) { stopped = true } else beside rows w))
-        by true = chosen_world (not (run_bit v) || reset_bit v) (record w { stopped = true }) w
-        by false = chosen_world (run_bit v && not (reset_bit v)) (started_with h w) w
+    run_so w v = search (rules, chosen_world)
 
     register_so : (w : World) (r : Register) (v : ℕ) → beside rows (register_row h w r v) ≡ register_row h (beside rows w) r v
     unfolding register_row valued with_dequeue
     register_so w Usbcmd v = run_so (valued w Usbcmd v) v
     register_so w Erdp v = chosen_world (is_event_place (event_shape h) (erdp_address v)) _ (valued w Erdp v)
-    register_so w Usbsts v = refl
-    register_so w Crcr v = refl
-    register_so w Dnctrl v = refl
-    register_so w Dcbaap v = refl
-    register_so w Config v = refl
-    register_so w Iman v = refl
-    register_so w Imod v = refl
-    register_so w Erstsz v = refl
-    register_so w Erstba v = refl
+    register_so w _ v = refl
 
     endpoint_so : (w : World) (s t : ℕ) (o : Option ℕ) → beside rows (endpoint_bell h w s t o) ≡ endpoint_bell h (beside rows w) s t o
     unfolding endpoint_bell activated
@@ -232,20 +198,14 @@ module _ (rows : List Row) where
 
     bell_so : (w : World) (s t : ℕ) → beside rows (bell_row h w s t) ≡ bell_row h (beside rows w) s t
     unfolding bell_row activated
-    bell_so w s t = by (s == 0)
-      where
-        by : (b : Bool) → beside rows (if b then (if t == 0 && w.started then activated h w (command_id h) else w) else endpoint_bell h w s t (w.ring_of s t))
-            ≡ (if b then (if t == 0 && w.started then activated h (beside rows w) (command_id h) else beside rows w) else endpoint_bell h (beside rows w) s t (w.ring_of s t))
-        by true = chosen_world (t == 0 && w.started) _ w
-        by false = endpoint_so w s t (w.ring_of s t)
+    bell_so w s t = search (rules, chosen_world, endpoint_so)
 
     pub row_so : (w : World) (row : Row) → option_map (beside rows) (row_done h w row) ≡ row_done h (beside rows w) row
     unfolding row_done declared stored event_read event_at
-    row_so w (Sub r blocks) = refl
-    row_so w (Write a n) = refl
     row_so w (Reg r v) = ap (λ u. Some u) (register_so w r v)
     row_so w (Bell s t) = ap (λ u. Some u) (bell_so w s t)
     row_so w (Read e) = chosen (nat_lt w.reads w.posted && same_words (event_at h w w.reads) e) _ None _ None refl refl
+    row_so w _ = refl
 
     -- ---- steps of the controller
 
@@ -271,11 +231,8 @@ plain_scene h w = record { header = h; rows = map (λ row. Plain row) w.rows; wo
 onward : (h : Header) (rows : List Row) (o u : Option World) → option_map (beside rows) o ≡ o → option_map (beside []) o ≡ u →
     option_map (λ w. let x : Scene = record { header = h; rows = map (λ row. Plain row) rows; world = counted h w } in x) u ≡ option_map (plain_scene h) (option_map (counted h) o)
 unfolding counted
-onward h rows None u stays e = ap (λ z. option_map (λ w. let x : Scene = record { header = h; rows = map (λ row. Plain row) rows; world = counted h w } in x) z) (sym e)
-onward h rows (Some v) u stays e =
-    let same : rows ≡ v.rows = ap (λ (w : World). w.rows) (same_Some (beside rows v) v stays) in
-    ap (λ z. option_map (λ w. let x : Scene = record { header = h; rows = map (λ row. Plain row) rows; world = counted h w } in x) z) (sym e)
-    ∙ (λ i. Some (record { header = h; rows = map (λ row. Plain row) (same i); world = counted h (beside [] v) }))
+onward h rows None u stays e = search (rules, option_map, map, same_Some)
+onward h rows (Some v) u stays e = search (rules, option_map, map, same_Some)
 
 plain_step : (h : Header) (w : World) (s : Step) → step_made (plain_scene h w) s ≡ option_map (plain_scene h) (stepped h w s)
 unfolding stepped made next_row
@@ -302,28 +259,15 @@ unfolding has_changed_context
 under_way_so h w None = refl
 under_way_so h w (Some u) = context_so h w (w.written (u.address + 12)) (option_and_then named_context (command_of u.block))
 
-abbrev least : List (Harm × Bool) → Option Harm
-least list = option_map (λ t. t.0) (find (λ t. t.1) list)
-
 plain_harm : (h : Header) (w : World) → harm_of h (beside [] w) ≡ harm_of h w
 unfolding harm_of harms waits
-plain_harm h w = ap (λ b. least (
-    (TakenOutOfOrder, some_ring h (λ r. is_out_of_order (shape_of h r) (w.events r)))
-    ∷ (TakenOtherWords, some_ring h (λ r. has_other_words (shape_of h r) (w.events r)))
-    ∷ (WaitsInsideDescriptor, some_ring h (λ r. waits w r && is_inside_descriptor (w.events r)))
-    ∷ (LooksOutside, w.looked_outside)
-    ∷ (PostsOverUnread, nat_lt 0 (event_size h) && nat_le (event_size h) (w.posted - w.reads))
-    ∷ (InputContextChanged, b) ∷ [])) (under_way_so h w w.under_way)
+plain_harm h w = search (rules, nat_lt, nat_le, under_way_so)
 
 -- what a step shows
 plain_shows : (h : Header) (w : World) (s : Step) → shows h (beside [] w) s ≡ shows h w s
 unfolding shows look_shows
 plain_shows h w NextRow = refl
-plain_shows h w (Look r) = refl
-plain_shows h w (Report b) = refl
-plain_shows h w (Finish b) = refl
-plain_shows h w (Other b) = refl
-plain_shows h w (Scribble a n) = refl
+plain_shows h w _ = refl
 
 -- ---- replays
 
@@ -357,14 +301,3 @@ plain_replayed h rows steps = (λ i. record {
   seen = plain_seen h (Some (opening rows)) steps i;
   ending = plain_ending h 0 (Some (opening rows)) steps i;
 })
-
--- and so are the runs
-pub plain_reached : (h : Header) (rows : List Row) (steps : List Step) → scene_reached h (map (λ row. Plain row) rows) steps ≡ option_map (plain_scene h) (reached h rows steps)
-unfolding reached opening
-plain_reached h rows [] = refl
-plain_reached h rows (s ∷ older) =
-    ap (λ o. option_and_then (λ x. step_made x s) o) (plain_reached h rows older) ∙ each (reached h rows older)
-  where
-    each : (o : Option World) → option_and_then (λ x. step_made x s) (option_map (plain_scene h) o) ≡ option_map (plain_scene h) (option_and_then (λ w. stepped h w s) o)
-    each None = refl
-    each (Some w) = plain_step h w s

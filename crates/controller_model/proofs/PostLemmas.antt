@@ -1,5 +1,6 @@
 -- When an event may be posted
-use Rattle.controller_model.proofs.Words.{◌≡◌, ◌≤◌, ◌==◌, ◌&&◌, ◌∙◌, ℕ, Bool, true, false, Some, None, ap, sym, arith, nat_lt, lt-ltb, cond-true, cond-false, Block, cycle, kind, is_other_event, Shape, place_count, cycle_of, has_room, Header, event_ring, event_shape, event_size, shape_or, Evt, World, can_post, posted, other_posted}
+use Rattle.std.proofs.Common.{rules}
+use Rattle.controller_model.proofs.Words.{◌≡◌, ◌≤◌, ◌==◌, ◌&&◌, ℕ, Bool, true, false, Some, None, ap, sym, nat_lt, lt-ltb, cond-true, cond-false, Block, cycle, kind, is_other_event, Shape, place_count, cycle_of, has_room, Header, event_ring, event_shape, event_size, shape_or, Evt, World, can_post, posted, other_posted}
 
 pub no_ring : (h : Header) (w : World) (b : Block) → None ≡ event_ring h → can_post h w b ≡ false
 unfolding can_post event_size event_shape
@@ -11,11 +12,7 @@ pub can_post_is : (h : Header) (w : World) (b : Block) (shape : Shape) (p d : �
     w.started ≡ started → w.posted ≡ p → w.dequeue ≡ d → room ≡ has_room (place_count shape) p d → turn ≡ (cycle b == cycle_of shape p) →
     (started && room && turn) ≡ can_post h w b
 unfolding can_post event_size
-can_post_is h w b shape p d started turn room same some run at deq roomy agrees =
-    let there : true ≡ nat_lt 0 (place_count (event_shape h)) = sym (lt-ltb 0 (place_count shape) (omega arith)) ∙ ap (λ s. nat_lt 0 (place_count s)) same in
-    let fits : room ≡ has_room (place_count (event_shape h)) w.posted w.dequeue = roomy ∙ (λ i. has_room (place_count (same i)) (sym at i) (sym deq i)) in
-    let turned : turn ≡ (cycle b == cycle_of (event_shape h) w.posted) = agrees ∙ (λ i. cycle b == cycle_of (same i) (sym at i)) in
-    (λ i. there i && sym run i && fits i && turned i)
+can_post_is h w b shape p d started turn room same some run at deq roomy agrees = search (rules, nat_lt, lt-ltb)
 
 pub other_not_now : (h : Header) (w : World) (b : Block) → can_post h w b ≡ false → other_posted h w b ≡ None
 unfolding other_posted

@@ -1,19 +1,13 @@
 -- What a written register does
-use Rattle.controller_model.proofs.Words.{◌&&◌, ◌||◌, ◌≡◌, ◌≢◌, ◌%◌, ◌==◌, ◌∙◌, if◌then◌else◌, Bool, true, false, not, ℕ, Option, ap, sym, refl, inl, inr, arith, eq-eqb, ne_eqb, cases_eq, cond-true, cond-false, Register, Usbcmd, Usbsts, Dnctrl, Crcr, Dcbaap, Config, Iman, Imod, Erstsz, Erstba, Erdp, with_register, base_address, ring_cycle_state, run_bit, reset_bit, Header, register_row, run_or_stop, started_with, valued, World, Registers, FollowsRegisters, ring_held, noted, pointed}
+use Rattle.std.proofs.Common.{rules}
+use Rattle.controller_model.proofs.Words.{◌&&◌, ◌||◌, ◌≡◌, ◌≢◌, ◌%◌, ◌==◌, ◌∙◌, if◌then◌else◌, Bool, true, false, not, ℕ, Option, ap, refl, eq-eqb, ne_eqb, cond-true, cond-false, Register, Usbcmd, Crcr, Dcbaap, Config, Erdp, with_register, base_address, ring_cycle_state, run_bit, reset_bit, Header, register_row, run_or_stop, started_with, valued, World, Registers, FollowsRegisters, ring_held, noted, pointed}
 use Rattle.controller_model.proofs.RingLemmas.{put_same, put_other}
 
 pub registers_noted : (k : Registers) (values : Register → Option ℕ) (r : Register) (v : ℕ) → FollowsRegisters k values → FollowsRegisters (noted k r v) (with_register values r v)
-registers_noted k values Usbcmd v f = record { crcr = f.crcr; dcbaap = f.dcbaap; config = f.config }
-registers_noted k values Usbsts v f = record { crcr = f.crcr; dcbaap = f.dcbaap; config = f.config }
-registers_noted k values Dnctrl v f = record { crcr = f.crcr; dcbaap = f.dcbaap; config = f.config }
 registers_noted k values Crcr v f = record { crcr = refl; dcbaap = f.dcbaap; config = f.config }
 registers_noted k values Dcbaap v f = record { crcr = f.crcr; dcbaap = refl; config = f.config }
 registers_noted k values Config v f = record { crcr = f.crcr; dcbaap = f.dcbaap; config = refl }
-registers_noted k values Iman v f = record { crcr = f.crcr; dcbaap = f.dcbaap; config = f.config }
-registers_noted k values Imod v f = record { crcr = f.crcr; dcbaap = f.dcbaap; config = f.config }
-registers_noted k values Erstsz v f = record { crcr = f.crcr; dcbaap = f.dcbaap; config = f.config }
-registers_noted k values Erstba v f = record { crcr = f.crcr; dcbaap = f.dcbaap; config = f.config }
-registers_noted k values Erdp v f = record { crcr = f.crcr; dcbaap = f.dcbaap; config = f.config }
+registers_noted k values _ v f = record { crcr = f.crcr; dcbaap = f.dcbaap; config = f.config }
 
 pub pointed_here : (w : World) (r crcr : ℕ) → ring_held (pointed w r crcr) r ≡ record (ring_held w r) { pointer = base_address crcr; cycle = ring_cycle_state crcr }
 pointed_here w r crcr = (λ i. record (ring_held w r) {
@@ -29,11 +23,7 @@ pointed_other w r crcr q apart = (λ i. record (ring_held w q) {
 
 -- the lowest bit by a test
 pub lowest_bit : (n : ℕ) → n % 2 ≡ (if n % 2 == 1 then 1 else 0)
-lowest_bit n =
-    elim (cases_eq (n % 2) 1) [
-      | inl one ↦ one ∙ sym (cond-true (n % 2 == 1) 1 0 (eq-eqb (n % 2) 1 one))
-      | inr zero ↦ (let e : n % 2 ≡ 0 = omega arith in e) ∙ sym (cond-false (n % 2 == 1) 1 0 (ne_eqb (n % 2) 1 zero))
-    ]
+lowest_bit n = search (rules, cond-true, eq-eqb, cond-false, ne_eqb)
 
 stops_unless_runs : (a b : Bool) → (not a || b) ≡ not (a && not b)
 stops_unless_runs true true = refl
@@ -63,12 +53,4 @@ pub other_register : (h : Header) (w : World) (r : Register) (v : ℕ) → r ≢
 unfolding register_row
 other_register h w Usbcmd v a b = absurd (a refl)
 other_register h w Erdp v a b = absurd (b refl)
-other_register h w Usbsts v a b = refl
-other_register h w Dnctrl v a b = refl
-other_register h w Crcr v a b = refl
-other_register h w Dcbaap v a b = refl
-other_register h w Config v a b = refl
-other_register h w Iman v a b = refl
-other_register h w Imod v a b = refl
-other_register h w Erstsz v a b = refl
-other_register h w Erstba v a b = refl
+other_register h w _ v a b = refl

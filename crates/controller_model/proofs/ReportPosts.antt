@@ -1,5 +1,6 @@
 -- What a Transfer Event says doesn't rest on its own post
-use Rattle.controller_model.proofs.Words.{◌≡◌, ◌+◌, ◌==◌, ◌&&◌, ◌∙◌, if◌then◌else◌, ℕ, not, Bool, true, false, Option, Some, None, position, option_map, ap, refl, cond-true, cond-false, Block, is_set, code, endpoint, kind, pointer, slot, word, is_success, is_halting, is_trb_error, is_stopping, is_transfer_event, EndpointState, Halted, Error, is_running, Header, World, stored, stored_block, unreported, can_post, is_last, is_stop_under_way, posted, report_code, report_error, report_stop, report_success, reported, reported_on, stopped_with, with_reported, told}
+use Rattle.std.proofs.Common.{rules}
+use Rattle.controller_model.proofs.Words.{◌≡◌, ◌+◌, ◌==◌, ◌&&◌, ◌∙◌, if◌then◌else◌, ℕ, not, Bool, true, false, Option, Some, None, position, option_map, ap, refl, cond-true, cond-false, Block, is_set, code, endpoint, kind, pointer, slot, word, is_transfer_event, EndpointState, is_running, Header, World, stored, stored_block, unreported, can_post, is_last, is_stop_under_way, posted, report_code, report_error, report_stop, report_success, reported, reported_on, stopped_with, with_reported, told}
 
 map_twice : {A B C : Type 0} (f : B → C) (g : A → B) (o : Option A) → option_map (λ n. f (g n)) o ≡ option_map f (option_map g o)
 map_twice f g None = refl
@@ -31,11 +32,7 @@ module _ (h : Header) (w : World) (b : Block) (r a : ℕ) where
 
     code_posted : (c : ℕ) → report_code h (posted h w b) c s i r a ≡ option_map (λ v. posted h v b) (report_code h w c s i r a)
     unfolding report_code
-    code_posted c =
-        map_choice (λ v. posted h v b) (is_success c) _ _ _ _ success_posted
-        (map_choice (λ v. posted h v b) (is_halting c) _ _ _ _ (error_posted Halted)
-        (map_choice (λ v. posted h v b) (is_trb_error c) _ _ _ _ (error_posted Error)
-        (map_choice (λ v. posted h v b) (is_stopping c) _ None _ None stop_posted refl)))
+    code_posted c = search (rules, option_map, map_choice, success_posted, error_posted, stop_posted)
 
 module _ (h : Header) (w : World) (b : Block) where
   told_posted : (o : Option ℕ) → reported_on h w b o ≡ option_map (λ v. posted h v b) (told h w b o)

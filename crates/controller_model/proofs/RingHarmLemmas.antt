@@ -1,19 +1,13 @@
 -- What a step at one ring does to the rings' harms
-use Rattle.controller_model.proofs.Words.{◌≡◌, ◌≢◌, ◌==◌, ◌&&◌, ◌||◌, ◌∙◌, if◌then◌else◌, ◌∷◌, ◌+◌, ◌%◌, ℕ, is_some, not, Bool, true, false, List, [], Option, Some, None, option_map, ap, sym, subst, refl, inl, inr, IsSome, find, eq-eqb, ne_eqb, arith, nat_lt, list_any, cases_Bool, cases_eq, cond-false, cond-true, Block, block_at, cycle, kind, is_link, Header, Ring, Look, command_id, ring_with, shape_of, some_ring, World, has_other_words, is_inside_descriptor, is_out_of_order, waits, RingHarms, command_begun, crossed, looked, looked_at, seen_by_look, taken, taken_on, counted, made, stepped, while_running, put, bits, same_words, Row, Sub, Write, Read, event_at, stored, declared, event_read, row_done, same_Some, RingHeld, ring_held, ChangesOnly, HasRingHarms}
-use Rattle.traces.specs.declared.trace_row.TraceRow.{TraceRow}
-use Rattle.traces.specs.declared.trace_row.TraceRow.TheVariants.{Plain}
-use Rattle.controller_model.specs.Scenes.{Scene, row_next, step_made}
+use Rattle.std.proofs.Common.{rules}
+use Rattle.controller_model.proofs.Words.{TraceRow, Plain, Scene, row_next, step_made, ◌≡◌, ◌≢◌, ◌==◌, ◌&&◌, ◌||◌, ◌∙◌, if◌then◌else◌, ◌∷◌, ◌%◌, ℕ, is_some, not, Bool, true, false, List, [], Option, Some, None, option_map, ap, sym, subst, refl, inl, inr, IsSome, find, eq-eqb, ne_eqb, arith, nat_lt, list_any, cases_Bool, cases_eq, cond-false, cond-true, Block, block_at, cycle, Header, Ring, Look, ring_with, shape_of, some_ring, World, has_other_words, is_inside_descriptor, is_out_of_order, waits, RingHarms, command_begun, crossed, looked, looked_at, seen_by_look, taken, taken_on, counted, made, stepped, while_running, put, bits, Row, Sub, Write, Read, stored, declared, event_read, row_done, same_Some, RingHeld, ring_held, ChangesOnly, HasRingHarms}
 use Rattle.controller_model.proofs.RingLemmas.{put_other}
-use Rattle.controller_model.proofs.LookBranches.{looked_active, looked_inactive, waits as look_waits, crosses, refuses, takes, taken_transfer, taken_command}
+use Rattle.controller_model.proofs.LookBranches.{looked_active, looked_inactive, waits as look_waits, crosses, refuses, takes, taken_transfer, taken_command, or_false}
 use Rattle.controller_model.proofs.RingSteps.{crossed_other, taken_other}
 
 or_again : (a b : Bool) → (a || (a || b)) ≡ (a || b)
 or_again true b = refl
 or_again false b = refl
-
-or_none : (a : Bool) → (a || false) ≡ a
-or_none true = refl
-or_none false = refl
 
 first_false : (a b : Bool) → (a || b) ≡ false → a ≡ false
 first_false true b e = e
@@ -29,7 +23,7 @@ module _ (p q : ℕ → Bool) (r : ℕ) (x : Bool) (others : (n : ℕ) → n ≢
   elsewhere n apart none = others n apart ∙ none
 
   absorbed : (rings : List Ring) → list_any (λ ring. p ring.id) rings ≡ false → (x || list_any (λ ring. q ring.id) rings) ≡ x
-  absorbed [] none = or_none x
+  absorbed [] none = or_false x
   absorbed (y ∷ ys) none =
       let rest = absorbed ys (second_false (p y.id) _ none) in
       elim (cases_eq y.id r) [
@@ -72,14 +66,7 @@ pub harms_of_changed : (h : Header) (w v : World) (r : ℕ) (x y : RingHarms) �
     ChangesOnly r w v → IsSome (ring_with h r) → y.out_of_order ≡ is_out_of_order (shape_of h r) (v.events r) → y.other_words ≡ has_other_words (shape_of h r) (v.events r) →
     y.waits_inside ≡ (waits v r && is_inside_descriptor (v.events r)) → HasRingHarms h v y
 unfolding some_ring waits
-harms_of_changed h w v r x y f no_order no_words no_wait only known order words waiting = record {
-  order = any_only (λ q. is_out_of_order (shape_of h q) (w.events q)) (λ q. is_out_of_order (shape_of h q) (v.events q)) r y.out_of_order
-      (λ q apart. ap (λ held. is_out_of_order (shape_of h q) held.events) (only.others q apart)) order h.rings (sym f.order ∙ no_order) known;
-  words = any_only (λ q. has_other_words (shape_of h q) (w.events q)) (λ q. has_other_words (shape_of h q) (v.events q)) r y.other_words
-      (λ q apart. ap (λ held. has_other_words (shape_of h q) held.events) (only.others q apart)) words h.rings (sym f.words ∙ no_words) known;
-  waiting = any_only (λ q. waits_so w.memory (ring_held w q)) (λ q. waits_so v.memory (ring_held v q)) r y.waits_inside
-      (λ q apart i. waits_so (only.memory i) (only.others q apart i)) waiting h.rings (sym f.waiting ∙ no_wait) known;
-}
+harms_of_changed h w v r x y f no_order no_words no_wait only known order words waiting = search (rules, any_only)
 
 -- the harms are the same where that ring isn't there
 pub harms_of_gone : (h : Header) (w v : World) (r : ℕ) (x : RingHarms) → HasRingHarms h w x → ChangesOnly r w v → ring_with h r ≡ None → HasRingHarms h v x
@@ -134,33 +121,10 @@ module _ (h : Header) (w : World) (r : ℕ) (active : w.is_active r ≡ true) wh
   begun_at u a b f = (record { memory = f.0.memory; others = f.0.others }, f.1)
 
   taking_at : (b : Block) → IsAt r w (taken h (seen_by_look h w r) r b)
-  taking_at b =
-      let P : World → Type 0 = IsAt r w in
-      let u = seen_by_look h w r in
-      elim (cases_Bool (r == command_id h)) [
-        | inl command ↦ subst P (sym (taken_command h u r b command)) (begun_at (taken_on h u r b) (u.pointer_of r) b (taking_on_at b))
-        | inr other ↦ subst P (sym (taken_transfer h u r b other)) (taking_on_at b)
-      ]
+  taking_at b = search (rules, taken_command, begun_at, taking_on_at, taken_transfer)
 
   looked_at_is : (b : Block) (v : World) → looked_at h w r b ≡ Some v → IsAt r w v
-  looked_at_is b v e =
-      elim (cases_Bool (cycle b == w.cycle_state r)) [
-        | inr turned ↦ onward (seen_by_look h w r) (look_waits h w r b turned) waiting_at
-        | inl same ↦
-            elim (cases_Bool (is_link (kind b))) [
-              | inl link ↦ onward _ (crosses h w r b same link) (crossing_at b)
-              | inr block ↦
-                  elim (cases_Bool (r == command_id h && is_some w.under_way)) [
-                    | inl busy ↦ let none = refuses h w r b same block busy in absurd (cc)
-                    | inr free ↦ onward _ (takes h w r b same block free) (taking_at b)
-                  ]
-            ]
-      ]
-    where
-      onward : (u : World) → looked_at h w r b ≡ Some u → IsAt r w u → IsAt r w v
-      onward u made f =
-          let same : u ≡ v = cc in
-          subst (IsAt r w) same f
+  looked_at_is b v e = search (rules, look_waits, waiting_at, crosses, crossing_at, is_some, refuses, takes, taking_at)
 
 pub looked_is : (h : Header) (w v : World) (r : ℕ) → looked h w r ≡ Some v → IsAt r w v
 looked_is h w v r e =
@@ -172,11 +136,9 @@ looked_is h w v r e =
 -- a step that is possible was made, and counted
 counts : (h : Header) (P : World → Type 0) → ((u : World) → P u → P (counted h u)) → (stopped : Bool) (o : Option World) (v : World) → ((u : World) → o ≡ Some u → P u) →
     option_map (counted h) (if stopped then None else o) ≡ Some v → P v
-counts h P more true o v each e = absurd (cc)
-counts h P more false None v each e = absurd (cc)
-counts h P more false (Some u) v each e =
-    let same : counted h u ≡ v = cc in
-    subst P same (more u (each u refl))
+counts h P more true o v each e = search (rules, option_map)
+counts h P more false None v each e = search (rules, option_map)
+counts h P more false (Some u) v each e = search (rules, option_map)
 
 counted_at : (h : Header) (r : ℕ) (w u : World) → IsAt r w u → IsAt r w (counted h u)
 unfolding counted
@@ -191,23 +153,12 @@ low_bit x = omega arith
 
 -- a write that keeps a word's lowest bit keeps that of each word
 low_kept : (m : ℕ → ℕ) (a x n : ℕ) → m a % 2 ≡ x % 2 → bits (put m a x n) 0 1 ≡ bits (m n) 0 1
-low_kept m a x n e =
-    elim (cases_eq n a) [
-      | inl same ↦
-          ap (λ y. bits y 0 1) (cond-true (n == a) x (m n) (eq-eqb n a same)) ∙ low_bit x ∙ sym e ∙ sym (low_bit (m a)) ∙ ap (λ k. bits (m k) 0 1) (sym same)
-      | inr apart ↦ ap (λ y. bits y 0 1) (put_other m a n x apart)
-    ]
+low_kept m a x n e = search (rules, cond-true, eq-eqb, low_bit, put_other)
 
 -- and the harms of the rings
 pub stored_harms : (h : Header) (w v : World) (a n : ℕ) (x : RingHarms) → w.memory a % 2 ≡ n % 2 → row_done h w (Write a n) ≡ Some v → HasRingHarms h w x → HasRingHarms h v x
 unfolding row_done stored waits
-stored_harms h w v a n x low e f =
-    let same : stored w a n ≡ v = cc in
-    subst (λ (u : World). HasRingHarms h u x) same (record {
-      order = f.order;
-      words = f.words;
-      waiting = f.waiting ∙ (λ i. some_ring h (λ r. (w.is_active r && not (sym (low_kept w.memory a n (w.pointer_of r + 12) low) i == w.cycle_state r)) && is_inside_descriptor (w.events r)));
-    })
+stored_harms h w v a n x low e f = search (rules, low_kept)
 
 pub declared_harms : (h : Header) (w v : World) (r : ℕ) (blocks : List Block) (x : RingHarms) → row_done h w (Sub r blocks) ≡ Some v → HasRingHarms h w x → HasRingHarms h v x
 unfolding row_done declared waits
@@ -217,14 +168,7 @@ declared_harms h w v r blocks x e f =
 
 pub read_harms : (h : Header) (w v : World) (b : Block) (x : RingHarms) → row_done h w (Read b) ≡ Some v → HasRingHarms h w x → HasRingHarms h v x
 unfolding row_done event_read waits
-read_harms h w v b x e f =
-    let was : Bool = nat_lt w.reads w.posted && same_words (event_at h w w.reads) b in
-    elim (cases_Bool was) [
-      | inl unread ↦
-          let same : record w { reads = w.reads + 1 } ≡ v = cc in
-          subst (λ (u : World). HasRingHarms h u x) same (record { order = f.order; words = f.words; waiting = f.waiting })
-      | inr none ↦ absurd (cc)
-    ]
+read_harms h w v b x e f = search (rules, nat_lt)
 
 counted_harms : (h : Header) (u : World) (x : RingHarms) → HasRingHarms h u x → HasRingHarms h (counted h u) x
 unfolding counted waits

@@ -1,10 +1,6 @@
 -- Rings that come and go: what is kept of the others
-use Rattle.controller_model.proofs.Words.{◌≡◌, ◌≢◌, ◌==◌, ◌∷◌, ◌++◌, ◌<◌, ◌≤◌, ◌∙◌, if◌then◌else◌, ℕ, zero, suc, true, false, [], List, Option, Some, None, IsSome, not, find, filter, get_or, length, position, arith, common_steps, ap, sym, subst, refl, inl, inr, cases_eq, cond-true, cond-false, eq-eqb, ne_eqb, slice_get, set, Xfer, Header, Ring, ring_with, shape_or, shape_of, World, RingHeld, ring_held, RingState, FollowsRing, FollowsRings, Keeps, ShowsHarms}
-use Rattle.std.specs.List.{position_or_len, remove}
-use Rattle.std.proofs.lemmas.List.Quantifiers.{position-Some}
-use Rattle.std.proofs.lemmas.List.Sums.{fails_before_first}
-use Rattle.controller_model.specs.RingRows.{emptied, with_ring, without_descriptor, without_ring}
-use Rattle.segments.specs.Descriptors.{length_from, no_ops, split_at}
+use Rattle.std.proofs.Common.{rules}
+use Rattle.controller_model.proofs.Words.{position_or_len, remove, position-Some, fails_before_first, emptied, with_ring, without_descriptor, without_ring, length_from, no_ops, split_at, ◌≡◌, ◌≢◌, ◌==◌, ◌∷◌, ◌++◌, ◌<◌, ◌≤◌, ◌∙◌, if◌then◌else◌, ℕ, zero, suc, true, false, [], List, Some, None, not, find, filter, get_or, length, position, arith, common_steps, ap, sym, subst, refl, inl, inr, cases_eq, cond-true, cond-false, eq-eqb, ne_eqb, slice_get, set, Header, Ring, ring_with, shape_of, World, RingHeld, ring_held, RingState, FollowsRing, FollowsRings}
 use Rattle.controller_model.proofs.RingLemmas.{put_same, put_other, slice_get-set_same, slice_get-set_other}
 
 -- ---- the rings that are there
@@ -72,18 +68,7 @@ without_is h id rings same = (λ i. record h { rings = same i })
 
 follows_alike : (h g : Header) (q : ℕ) (held : RingHeld) (y : RingState) → ring_with g q ≡ ring_with h q → FollowsRing h q held y → FollowsRing g q held y
 unfolding shape_of
-follows_alike h g q held y same f =
-    let P : Option Ring → Type 0 = λ o. Keeps (shape_or Xfer o) held.events held.reported y.history in
-    let Q : Option Ring → Type 0 = λ o. IsSome o → ShowsHarms (shape_or Xfer o) held.events y.history in
-    record {
-      declared = f.declared;
-      history = subst P (sym same) f.history;
-      harms = subst Q (sym same) f.harms;
-      pointer = f.pointer;
-      cycle = f.cycle;
-      active = f.active;
-      holder = f.holder;
-    }
+follows_alike h g q held y same f = search rules
 
 pub follows_other : (h g : Header) (before after : ℕ → RingHeld) (rings : List RingState) (i r : ℕ) (x : RingState) (now : RingHeld) → i ≡ r →
     ((q : ℕ) → q ≢ r → ring_with g q ≡ ring_with h q) → FollowsRings h before rings → ((q : ℕ) → q ≢ r → after q ≡ before q) → after r ≡ now →
@@ -109,21 +94,11 @@ follows_other h g before after rings i r x now index alike f others made here = 
 
 pub emptied_here : (w : World) (r : ℕ) → ring_held (emptied w r) r ≡ record (ring_held w r) { queue = []; lengths = []; events = []; reported = 0 }
 unfolding emptied
-emptied_here w r = (λ i. record (ring_held w r) {
-  queue = put_same w.queue r [] i;
-  lengths = put_same w.lengths r [] i;
-  events = put_same w.events r [] i;
-  reported = put_same w.reported r 0 i;
-})
+emptied_here w r = search (rules, put_same)
 
 pub emptied_other : (w : World) (r q : ℕ) → q ≢ r → ring_held (emptied w r) q ≡ ring_held w q
 unfolding emptied
-emptied_other w r q apart = (λ i. record (ring_held w q) {
-  queue = put_other w.queue r q [] apart i;
-  lengths = put_other w.lengths r q [] apart i;
-  events = put_other w.events r q [] apart i;
-  reported = put_other w.reported r q 0 apart i;
-})
+emptied_other w r q apart = search (rules, put_other)
 
 pub withdrawn_here : (w : World) (r p : ℕ) → ring_held (without_descriptor w r p) r
     ≡ record (ring_held w r) { queue = no_ops (w.queue r) p (length_from (w.lengths r) 0 p); lengths = split_at (w.lengths r) 0 p }

@@ -1,4 +1,5 @@
 -- What single changes of the world do to what it has of each ring
+use Rattle.std.proofs.Common.{rules}
 use Rattle.controller_model.proofs.Words.{◌≡◌, ◌≢◌, ◌+◌, ◌∷◌, ◌++◌, ◌-◌, ◌%◌, ◌^◌, if◌then◌else◌, ◌∙◌, ℕ, [], Bool, true, List, Some, length, refl, false, ap, put, aligned, pointer, word, is_set, shape_of, declared_at, next_take, declared_next, crossed, taken_on, taken_held, Block, Header, World, Took, declared, activated, inactive, with_reported, ring_held}
 use Rattle.controller_model.proofs.RingLemmas.{put_same, put_other}
 
@@ -59,12 +60,7 @@ crossed_here h w r b = (λ i. record (ring_held w r) { pointer = put_same w.poin
 
 pub crossed_other : (h : Header) (w : World) (r : ℕ) (b : Block) (q : ℕ) → q ≢ r → ring_held (crossed h w r b) q ≡ ring_held w q
 unfolding crossed
-crossed_other h w r b q apart = (λ i. record (ring_held w q) { pointer = put_other w.pointer_of r q (aligned (pointer b)) apart i; cycle = kept i })
-  where
-    kept : (if is_set (word b 3) 1 then put w.cycle_state r (1 - w.cycle_state r) else w.cycle_state) q ≡ w.cycle_state q
-    kept =
-        at_place (is_set (word b 3) 1) (put w.cycle_state r (1 - w.cycle_state r)) w.cycle_state q
-        ∙ same_both (is_set (word b 3) 1) (put w.cycle_state r (1 - w.cycle_state r) q) (w.cycle_state q) (put_other w.cycle_state r q (1 - w.cycle_state r) apart)
+crossed_other h w r b q apart = search (rules, put_other, at_place, same_both)
 
 pub taken_here : (h : Header) (w : World) (r : ℕ) (b : Block) → ring_held (taken_on h w r b) r ≡ taken_held (shape_of h r) (ring_held w r) b
 unfolding taken_on declared_next

@@ -1,5 +1,6 @@
 -- What rows do to what is kept
-use Rattle.controller_model.proofs.Words.{◌≡◌, ◌+◌, ◌<◌, ◌≤◌, ◌^◌, ◌∙◌, ◌==◌, ◌%◌, subst, ℕ, ap, sym, List, arith, ne_eqb, cond-false, Header, Row, World, stored, stored_block, Block, word, Kept, Stamps, held, held_by, held_stored, held_block, Follows}
+use Rattle.std.proofs.Common.{rules}
+use Rattle.controller_model.proofs.Words.{◌≡◌, ◌+◌, ◌<◌, ◌≤◌, ◌^◌, ◌∙◌, ◌==◌, ◌%◌, subst, ℕ, ap, sym, List, arith, ne_eqb, cond-false, Header, Row, World, stored, stored_block, Block, Kept, Stamps, held, held_by, held_stored, held_block, Follows}
 
 -- a word was stored: what memory then holds, and that none is beyond the last address
 pub record Stored (words : ℕ → ℕ) (stamps : Stamps) (w : World) : Type 0 where
@@ -18,14 +19,7 @@ follows_stored h rows words new k stamps w a x step end now made f = record {
 pub follows_stored_block : (h : Header) (rows : List Row) (words new : ℕ → ℕ) (k : Kept) (stamps : Stamps) (w : World) (a step : ℕ) (b : Block) → a < 2 ^ 64 → a % 16 ≡ 0 →
     step ≡ k.progress.steps + 1 → held new stamps ≡ held_block (held words k.stamps) a b step → Follows h rows words k w → Stored new stamps (stored_block w a b)
 unfolding stored stored_block
-follows_stored_block h rows words new k stamps w a step b end aligned now made f = record {
-  held = (λ i. held_block (f.held i) a b (f.progress.steps i + 1)) ∙ ap (λ n. held_block (held words k.stamps) a b n) (sym now) ∙ sym made;
-  beyond = λ q far.
-      ap (λ y. y.memory q) made
-      ∙ cond-false (q == a + 12) (word b 3) _ (ne_eqb q (a + 12) (λ e. omega arith)) ∙ cond-false (q == a + 8) (word b 2) _ (ne_eqb q (a + 8) (λ e. omega arith))
-      ∙ cond-false (q == a + 4) (word b 1) _ (ne_eqb q (a + 4) (λ e. omega arith)) ∙ cond-false (q == a) (word b 0) (words q) (ne_eqb q a (λ e. omega arith))
-      ∙ f.beyond q far;
-}
+follows_stored_block h rows words new k stamps w a step b end aligned now made f = search (rules, cond-false, ne_eqb)
 
 -- what stands for a world stands for an equal one
 pub follows_along : (h : Header) (rows : List Row) (words : ℕ → ℕ) (k : Kept) (u v : World) → u ≡ v → Follows h rows words k v → Follows h rows words k u

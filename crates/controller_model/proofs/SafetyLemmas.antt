@@ -1,5 +1,6 @@
 -- Which harms a world has
-use Rattle.controller_model.proofs.Words.{◌≡◌, ◌≢◌, IsSome, Ring, inl, inr, cases_eq, eq-eqb, ne_eqb, cond-true, cond-false, subst, ◌+◌, ◌-◌, ◌*◌, ◌/◌, ◌==◌, ◌&&◌, ◌||◌, ◌<◌, ◌≤◌, ◌∙◌, ◌∷◌, ℕ, zero, suc, List, get_or, length, take, Bool, true, false, not, Option, Some, None, find, option_map, ap, sym, refl, arith, [], nat_lt, nat_le, option_and_then, lt-ltb, list_any, range_with_len, list_any_more, Block, Evt, block_at, cycle, Shape, place_count, Command, command_of, named_context, input_context_bytes, Header, event_ring, event_shape, event_size, shape_of, shape_or, some_ring, World, Harm, TakenOutOfOrder, TakenOtherWords, WaitsInsideDescriptor, LooksOutside, PostsOverUnread, InputContextChanged, harm_of, harms, waits, is_inside_descriptor, is_out_of_order, has_other_words, has_changed_context, is_context_changed, is_changed_since, RingState, Pending, FollowsRing, ring_held, under_way_of}
+use Rattle.std.proofs.Common.{rules}
+use Rattle.controller_model.proofs.Words.{◌≡◌, ◌≢◌, IsSome, Ring, eq-eqb, ne_eqb, cond-true, cond-false, ◌+◌, ◌-◌, ◌*◌, ◌/◌, ◌==◌, ◌&&◌, ◌||◌, ◌<◌, ◌≤◌, ◌∙◌, ◌∷◌, ℕ, zero, suc, List, get_or, length, take, Bool, true, false, not, Option, Some, None, find, option_map, ap, sym, refl, arith, [], nat_lt, nat_le, option_and_then, lt-ltb, list_any, range_with_len, list_any_more, Block, Evt, block_at, cycle, Shape, place_count, Command, command_of, named_context, input_context_bytes, Header, event_ring, event_shape, event_size, shape_of, shape_or, some_ring, World, Harm, TakenOutOfOrder, TakenOtherWords, WaitsInsideDescriptor, LooksOutside, PostsOverUnread, InputContextChanged, harm_of, harms, waits, is_inside_descriptor, is_out_of_order, has_other_words, has_changed_context, is_context_changed, is_changed_since, RingState, Pending, FollowsRing, ring_held, under_way_of}
 
 -- one more element of a list, as at a step of a loop
 pub any_more : {X : Type 0} (p : X → Bool) (xs : List X) (i : ℕ) (x : X) (a b : Bool) → i < length xs → x ≡ get_or xs i x → a ≡ list_any p (take i xs) → b ≡ p x →
@@ -7,7 +8,7 @@ pub any_more : {X : Type 0} (p : X → Bool) (xs : List X) (i : ℕ) (x : X) (a 
 any_more p xs i x a b inside at before here =
     (λ j. before j || here j) ∙ ap (λ y. list_any p (take i xs) || p y) at ∙ sym (list_any_more p xs i x inside)
 
-and_true : (b : Bool) → (b && true) ≡ b
+pub and_true : (b : Bool) → (b && true) ≡ b
 and_true true = refl
 and_true false = refl
 
@@ -19,11 +20,7 @@ module _ (h : Header) (r : ℕ) (w : World) (x : RingState) (f : FollowsRing h r
   pub waits_so : (words : ℕ → ℕ) (b : Block) (agrees : Bool) → words ≡ w.memory → x.is_active ≡ true → x.history.is_inside ≡ true → b ≡ block_at words x.pointer →
       agrees ≡ (cycle b == w.cycle_state r) → not agrees ≡ (waits w r && is_inside_descriptor (w.events r))
   unfolding waits
-  waits_so words b agrees same active inside block turn =
-      let there : b ≡ block_at w.memory (w.pointer_of r) = block ∙ (λ i. block_at (same i) (sym f.pointer i)) in
-      let shows : not agrees ≡ not (cycle (block_at w.memory (w.pointer_of r)) == w.cycle_state r) = ap not (turn ∙ ap (λ y. cycle y == w.cycle_state r) there) in
-      shows ∙ sym (and_true (not (cycle (block_at w.memory (w.pointer_of r)) == w.cycle_state r)))
-      ∙ (λ i. (sym (f.active ∙ active) i && not (cycle (block_at w.memory (w.pointer_of r)) == w.cycle_state r)) && sym (f.history.inside ∙ inside) i)
+  waits_so words b agrees same active inside block turn = search (rules, and_true)
 
 pub posts_nowhere : (h : Header) (w : World) → None ≡ event_ring h → false ≡ (nat_lt 0 (event_size h) && nat_le (event_size h) (w.posted - w.reads))
 unfolding event_size event_shape
@@ -99,12 +96,7 @@ take_past (x ∷ xs) (suc n) l = ap (λ ys. x ∷ ys) (take_past xs n (omega ari
 
 -- a ring that a list has is found by its ID
 found_first : (x y : Ring) (ys : List Ring) → (y.id ≢ x.id → IsSome (find (λ r. r.id == x.id) ys)) → IsSome (find (λ r. r.id == x.id) (y ∷ ys))
-found_first x y ys later =
-    let P : Option Ring → Type 0 = λ o. IsSome o in
-    elim (cases_eq y.id x.id) [
-      | inl same ↦ subst P (sym (cond-true (y.id == x.id) (Some y) (find (λ r. r.id == x.id) ys) (eq-eqb y.id x.id same))) refl
-      | inr apart ↦ subst P (sym (cond-false (y.id == x.id) (Some y) (find (λ r. r.id == x.id) ys) (ne_eqb y.id x.id apart))) (later apart)
-    ]
+found_first x y ys later = search (rules, find, cond-true, eq-eqb, cond-false, ne_eqb)
 
 pub listed : (rings : List Ring) (i : ℕ) (x : Ring) → i < length rings → x ≡ get_or rings i x → IsSome (find (λ r. r.id == x.id) rings)
 listed [] i x inside at = absurd (omega arith)

@@ -1,7 +1,7 @@
 -- Whether a number of a range passes a test, and when the controller may write a word
 use Rattle.controller_model.proofs.Words.{◌≡◌, ◌+◌, ◌<◌, ◌≤◌, ◌||◌, ◌∙◌, ℕ, zero, suc, Bool, true, false, Some, None, ap, refl, arith, inl, inr, list_any, range_with_len, cases_lt, cond-true, cond-false, Header, World, stored, scribbled, is_scribbled}
 
-or_true : (b : Bool) → (b || true) ≡ true
+pub or_true : (b : Bool) → (b || true) ≡ true
 or_true true = refl
 or_true false = refl
 

@@ -1,5 +1,6 @@
 -- Which definition a step goes by
-use Rattle.controller_model.proofs.Words.{◌≡◌, ◌≢◌, true, false, Option, Some, None, Ok, Err, option_map, refl, cond-true, cond-false, Header, Step, NextRow, Look, Report, Finish, Other, Scribble, World, Seen, StepFault, NotPossible, Spent, Memory, counted, made, stepped, while_running, IsStep}
+use Rattle.std.proofs.Common.{rules}
+use Rattle.controller_model.proofs.Words.{◌≡◌, ◌≢◌, true, false, Option, Some, None, Ok, Err, option_map, refl, cond-true, cond-false, Header, Step, NextRow, World, Seen, StepFault, counted, made, stepped, while_running, IsStep}
 
 module _ (h : Header) (w : World) where
   pub running : (o : Option World) → w.stopped ≡ false → while_running h w o ≡ o
@@ -14,32 +15,18 @@ module _ (h : Header) (w : World) where
   pub made_stopped : (s : Step) → s ≢ NextRow → w.stopped ≡ true → made h w s ≡ None
   unfolding made
   made_stopped NextRow other e = absurd (other refl)
-  made_stopped (Look r) other e = not_running _ e
-  made_stopped (Report b) other e = not_running _ e
-  made_stopped (Finish b) other e = not_running _ e
-  made_stopped (Other b) other e = not_running _ e
-  made_stopped (Scribble a x) other e = not_running _ e
+  made_stopped _ other e = not_running _ e
 
 -- a step that isn't counted yet, and the one that is
 pub step_counted : (h : Header) (w : World) (s : Step) (seen shown : Seen) (P Q : World → Type 0) → ((v : World) → P v → Q (counted h v)) →
     IsStep (Ok seen) (made h w s) shown P → IsStep (Ok seen) (stepped h w s) shown Q
 unfolding stepped
-step_counted h w s seen shown P Q more made_so = onward (made h w s) made_so
-  where
-    onward : (o : Option World) → IsStep (Ok seen) o shown P → IsStep (Ok seen) (option_map (counted h) o) shown Q
-    onward None m = absurd m
-    onward (Some v) m = (m.0, more v m.1)
+step_counted h w s seen shown P Q more made_so = search (rules, option_map)
 
 pub step_uncounted : (h : Header) (w : World) (s : Step) (fault : StepFault) (shown : Seen) (P Q : World → Type 0) →
     IsStep (Err fault) (made h w s) shown P → IsStep (Err fault) (stepped h w s) shown Q
 unfolding stepped
-step_uncounted h w s fault shown P Q made_so = onward fault (made h w s) made_so
-  where
-    onward : (e : StepFault) (o : Option World) → IsStep (Err e) o shown P → IsStep (Err e) (option_map (counted h) o) shown Q
-    onward NotPossible None m = tt
-    onward NotPossible (Some v) m = absurd m
-    onward Memory o m = tt
-    onward Spent o m = absurd m
+step_uncounted h w s fault shown P Q made_so = search (rules, option_map)
 
 -- of what a step leads to something else holds
 pub step_more : {X : Type 0} (o : Option X) (seen shown : Seen) (P Q : X → Type 0) → ((v : X) → o ≡ Some v → P v → Q v) → IsStep (Ok seen) o shown P → IsStep (Ok seen) o shown Q

@@ -1,5 +1,6 @@
 -- When a command can succeed
-use Rattle.controller_model.proofs.Words.{◌≡◌, ◌+◌, ◌≤◌, ◌^◌, ◌∙◌, ◌||◌, if◌then◌else◌, ℕ, Bool, true, false, not, Option, Some, None, is_some, ap, refl, nat_lt, option_and_then, ltb-false, cond-true, cond-false, ContextSize, context_cycle, context_pointer, input_context_bytes, Command, NoOp, EnableSlot, DisableSlot, AddressDevice, ConfigureEndpoint, EvaluateContext, ResetEndpoint, StopEndpoint, SetTrDequeue, ResetDevice, Running, Stopped, named_context, changes, can_succeed, Header, Config, ring_having, register_or_zero, World, changed_by, changed_by_all, effect, is_had_by_another, placed_on, passes_end, succeeded, HasRoom, may_get}
+use Rattle.std.proofs.Common.{rules}
+use Rattle.controller_model.proofs.Words.{◌≡◌, ◌+◌, ◌≤◌, ◌^◌, ◌∙◌, ◌||◌, if◌then◌else◌, ℕ, Bool, true, false, not, Option, Some, None, is_some, ap, refl, nat_lt, option_and_then, ltb-false, cond-true, cond-false, ContextSize, context_pointer, input_context_bytes, Command, AddressDevice, ConfigureEndpoint, SetTrDequeue, Stopped, named_context, changes, can_succeed, Header, Config, ring_having, register_or_zero, World, changed_by, changed_by_all, effect, is_had_by_another, placed_on, passes_end, succeeded, HasRoom, may_get}
 use Rattle.controller_model.proofs.BindingLemmas.{may_get_is}
 use Rattle.controller_model.proofs.EffectLemmas.{gone}
 
@@ -20,12 +21,7 @@ module _ (h : Header) (size : ContextSize) (memory : ℕ → ℕ) (n : ℕ) (d :
   pub can_be_addressed : (s c : ℕ) (bsr : Bool) → d ≡ AddressDevice s bsr c →
       is_some (changed_by_all h d w (changes size memory n d)) ≡ may_get w s 1 (ring_having h (context_pointer size memory c 1))
   unfolding changes changed_by_all changed_by
-  can_be_addressed s c bsr is =
-      let o = ring_having h (context_pointer size memory c 1) in
-      can_as (AddressDevice s bsr c) is
-      ∙ one_some (placed_on (gone d w s) s 1 (context_pointer size memory c 1) (context_cycle size memory c 1) Running o)
-      ∙ may_get_is (gone d w s) s 1 (context_pointer size memory c 1) (context_cycle size memory c 1) Running o
-      ∙ may_get_gone d w s s 1 o
+  can_be_addressed s c bsr is = search (rules, is_some, can_as, one_some, gone, may_get_is, may_get_gone)
 
   pub can_be_moved : (s i p : ℕ) (cycle : Bool) → d ≡ SetTrDequeue s i p cycle → is_some (changed_by_all h d w (changes size memory n d)) ≡ may_get w s i (ring_having h p)
   unfolding changes changed_by_all changed_by
@@ -44,13 +40,7 @@ module _ (h : Header) (size : ContextSize) (memory : ℕ → ℕ) (n : ℕ) (w :
   can_always (AddressDevice s bsr c) addresses configures moves = absurd (addresses s bsr c refl)
   can_always (ConfigureEndpoint s dc c) addresses configures moves = absurd (configures s dc c refl)
   can_always (SetTrDequeue s i p cycle) addresses configures moves = absurd (moves s i p cycle refl)
-  can_always NoOp addresses configures moves = refl
-  can_always EnableSlot addresses configures moves = refl
-  can_always (DisableSlot s) addresses configures moves = refl
-  can_always (EvaluateContext s c) addresses configures moves = refl
-  can_always (ResetEndpoint s i) addresses configures moves = refl
-  can_always (StopEndpoint s i) addresses configures moves = refl
-  can_always (ResetDevice s) addresses configures moves = refl
+  can_always _ addresses configures moves = refl
 
 -- what is read ends at or below 2^64, where the test of its end says so
 not_past : (a : ℕ) → nat_lt (2 ^ 64) a ≡ false → a ≤ 2 ^ 64
@@ -60,15 +50,7 @@ pub has_room : (h : Header) (c : Command) → passes_end h (named_context c) ≡
 unfolding passes_end
 has_room h (AddressDevice s bsr c) e = not_past (c + input_context_bytes h.context_size) e
 has_room h (ConfigureEndpoint s false c) e = not_past (c + input_context_bytes h.context_size) e
-has_room h (ConfigureEndpoint s true c) e = tt
-has_room h NoOp e = tt
-has_room h EnableSlot e = tt
-has_room h (DisableSlot s) e = tt
-has_room h (EvaluateContext s c) e = tt
-has_room h (ResetEndpoint s i) e = tt
-has_room h (StopEndpoint s i) e = tt
-has_room h (SetTrDequeue s i p cycle) e = tt
-has_room h (ResetDevice s) e = tt
+has_room h _ e = tt
 
 module _ (h : Header) (w : World) (n : ℕ) (c : Command) where
   past : Bool

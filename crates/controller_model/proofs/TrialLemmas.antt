@@ -1,17 +1,12 @@
 -- Whether another endpoint has a ring, by the rings of one slot's endpoints and who has it elsewhere
-use Rattle.controller_model.proofs.Words.{◌≡◌, ◌≢◌, ◌∷◌, ◌+◌, ◌<◌, ◌≤◌, ◌==◌, ◌&&◌, ◌||◌, ◌∙◌, ℕ, suc, zero, [], length, set, slice_get, unwrap_or, not, Bool, true, false, List, Option, Some, None, refl, sym, ap, inl, inr, arith, eq-eqb, ne_eqb, list_any, range_with_len, cases_eq, cases_Bool, is_ring, World, Holder, put_pair, EndpointState, is_had_by_another, placed, FollowsHolder, is_holder, Sees, has_own, is_elsewhere, own_ring}
+use Rattle.std.proofs.Common.{rules}
+use Rattle.controller_model.proofs.Words.{◌≡◌, ◌≢◌, ◌∷◌, ◌+◌, ◌<◌, ◌≤◌, ◌==◌, ◌&&◌, ◌||◌, ◌∙◌, ℕ, suc, zero, [], length, set, slice_get, unwrap_or, not, Bool, true, false, List, Option, Some, None, refl, sym, ap, inl, inr, arith, eq-eqb, ne_eqb, list_any, range_with_len, cases_eq, cases_Bool, is_ring, World, Holder, EndpointState, is_had_by_another, placed, FollowsHolder, is_holder, Sees, has_own, is_elsewhere, own_ring}
 use Rattle.controller_model.proofs.RingLemmas.{slice_get-set_other}
 use Rattle.controller_model.proofs.EndpointLemmas.{put_pair_same, put_pair_index}
 use Rattle.controller_model.proofs.HolderLemmas.{put_pair_there}
-use Rattle.controller_model.proofs.HadByAnother.{any_none, any_one, any_same_in}
-
-and_false : (b : Bool) → (b && false) ≡ false
-and_false true = refl
-and_false false = refl
-
-or_true : (b : Bool) → (b || true) ≡ true
-or_true true = refl
-or_true false = refl
+use Rattle.controller_model.proofs.ScribbleLemmas.{any_in_range, none_in_range}
+use Rattle.controller_model.proofs.HadByAnother.{and_false}
+use Rattle.controller_model.proofs.WatchLemmas.{any_alike}
 
 module _ (w v : World) (rings : List (Option ℕ)) (s i r : ℕ) (sees : Sees rings s w v) where
   row_of : ℕ → Bool
@@ -20,7 +15,7 @@ module _ (w v : World) (rings : List (Option ℕ)) (s i r : ℕ) (sees : Sees ri
   row_own : (t : ℕ) → t ≡ s → row_of t ≡ has_own rings i r
   unfolding row_of
   row_own t same =
-      any_same_in _ _ 1 31 (λ j low high.
+      any_alike _ _ 1 31 (λ j low high.
       (λ k. not (eq-eqb t s same k && j == i) && is_ring r (v.ring_of (same k) j)) ∙ ap (λ o. not (j == i) && is_ring r o) (sees.own j (omega arith)))
 
   row_other : (t j : ℕ) → t ≢ s → is_ring r (v.ring_of t j) ≡ is_ring r (w.ring_of t j)
@@ -35,8 +30,8 @@ module _ (w v : World) (rings : List (Option ℕ)) (s i r : ℕ) (sees : Sees ri
   elsewhere_has e f apart =
       let one = f.is_one e refl in
       let has : is_ring r (w.ring_of e.slot e.index) ≡ true = f.each e.slot e.index one ∙ (λ k. eq-eqb e.slot e.slot refl k && eq-eqb e.index e.index refl k) in
-      all_rows ∙ any_one row_of 1 255 e.slot (omega (arith, one.some_slot)) (omega (arith, one.slot_below))
-      (any_one (λ j. not (e.slot == s && j == i) && is_ring r (v.ring_of e.slot j)) 1 31 e.index (omega (arith, one.some_index)) (omega (arith, one.index_below))
+      all_rows ∙ any_in_range row_of 1 255 e.slot (omega (arith, one.some_slot)) (omega (arith, one.slot_below))
+      (any_in_range (λ j. not (e.slot == s && j == i) && is_ring r (v.ring_of e.slot j)) 1 31 e.index (omega (arith, one.some_index)) (omega (arith, one.index_below))
       ((λ k. not (ne_eqb e.slot s apart k && e.index == i) && row_other e.slot e.index apart k) ∙ has))
 
   -- nobody elsewhere has it
@@ -46,13 +41,13 @@ module _ (w v : World) (rings : List (Option ℕ)) (s i r : ℕ) (sees : Sees ri
   by_own o f nobody below =
       elim (cases_eq s 0) [
         | inl none ↦
-            all_rows ∙ any_none row_of 1 255 (λ t low high. others t low high (λ e. omega arith)) ∙ sym (ap (λ b. not b && has_own rings i r) (eq-eqb s 0 none))
+            all_rows ∙ none_in_range row_of 1 255 (λ t low high. others t low high (λ e. omega arith)) ∙ sym (ap (λ b. not b && has_own rings i r) (eq-eqb s 0 none))
         | inr some ↦ elim (cases_Bool (has_own rings i r)) [
           | inl so ↦
-              all_rows ∙ any_one row_of 1 255 s (omega (arith, some)) (omega arith) (row_own s refl ∙ so) ∙ sym (λ k. not (ne_eqb s 0 some k) && so k)
+              all_rows ∙ any_in_range row_of 1 255 s (omega (arith, some)) (omega arith) (row_own s refl ∙ so) ∙ sym (λ k. not (ne_eqb s 0 some k) && so k)
           | inr not_so ↦
               all_rows
-              ∙ any_none row_of 1 255 (λ t low high. elim (cases_eq t s) [
+              ∙ none_in_range row_of 1 255 (λ t low high. elim (cases_eq t s) [
                 | inl same ↦ row_own t same ∙ not_so
                 | inr apart ↦ others t low high apart
               ]) ∙ sym (λ k. not (ne_eqb s 0 some k) && not_so k)
@@ -61,7 +56,7 @@ module _ (w v : World) (rings : List (Option ℕ)) (s i r : ℕ) (sees : Sees ri
     where
       others : (t : ℕ) → 1 ≤ t → t < 1 + 255 → t ≢ s → row_of t ≡ false
       others t low high apart =
-          any_none (λ j. not (t == s && j == i) && is_ring r (v.ring_of t j)) 1 31 (λ j first last.
+          none_in_range (λ j. not (t == s && j == i) && is_ring r (v.ring_of t j)) 1 31 (λ j first last.
           ap (λ b. not (t == s && j == i) && b) (row_other t j apart
           ∙ f.each t j (record { some_slot = omega arith; slot_below = omega arith; some_index = omega arith; index_below = omega arith }) ∙ nobody t j apart)
           ∙ and_false (not (t == s && j == i)))
@@ -86,24 +81,14 @@ slice_get-set_here (z ∷ xs) (suc i) x inside = slice_get-set_here xs i x (omeg
 pub sees_placed : (w v : World) (rings : List (Option ℕ)) (n s i r a : ℕ) (c : Bool) (state : EndpointState) → n ≡ i → i < length rings → Sees rings s w v →
     Sees (set rings n (Some r)) s w (placed v s i r a c state)
 unfolding placed
-sees_placed w v rings n s i r a c state index inside sees = record {
-  own = λ j below. elim (cases_eq j i) [
-    | inl same ↦
-        (λ k. put_pair v.ring_of s i (Some r) s (same k)) ∙ put_pair_same v.ring_of s i (Some r)
-        ∙ sym (ap (λ o. unwrap_or o None) ((λ k. slice_get (set rings (index k) (Some r)) (same k)) ∙ slice_get-set_here rings i (Some r) inside))
-    | inr apart ↦
-        put_pair_index v.ring_of s i s j (Some r) apart ∙ sees.own j below
-        ∙ sym (ap (λ o. unwrap_or o None) (slice_get-set_other rings n j (Some r) (λ e. apart (e ∙ index))))
-  ];
-  others = λ t j apart. put_pair_there v.ring_of s i t j (Some r) (ap (λ b. b && j == i) apart) ∙ sees.others t j apart;
-}
+sees_placed w v rings n s i r a c state index inside sees = search (rules, length, set, put_pair_same, unwrap_or, slice_get, slice_get-set_here, put_pair_index, slice_get-set_other, put_pair_there)
 
 module _ (rings : List (Option ℕ)) (i r : ℕ) where
   pub own_some : (k : ℕ) → 1 ≤ k → k < 32 → (not (k == i) && is_ring r (own_ring rings k)) ≡ true → has_own rings i r ≡ true
-  own_some k low high so = any_one (λ j. not (j == i) && is_ring r (own_ring rings j)) 1 31 k low (omega arith) so
+  own_some k low high so = any_in_range (λ j. not (j == i) && is_ring r (own_ring rings j)) 1 31 k low (omega arith) so
 
   pub own_none : ((k : ℕ) → 1 ≤ k → k < 32 → (not (k == i) && is_ring r (own_ring rings k)) ≡ false) → has_own rings i r ≡ false
-  own_none none = any_none (λ j. not (j == i) && is_ring r (own_ring rings j)) 1 31 (λ k low high. none k low (omega arith))
+  own_none none = none_in_range (λ j. not (j == i) && is_ring r (own_ring rings j)) 1 31 (λ k low high. none k low (omega arith))
 
 pub own_here : (rings : List (Option ℕ)) (n j : ℕ) (x : Option ℕ) → n ≡ j → j < length rings → own_ring (set rings n x) j ≡ x
 own_here rings n j x index inside = ap (λ o. unwrap_or o None) ((λ k. slice_get (set rings (index k) x) j) ∙ slice_get-set_here rings j x inside)

@@ -1,5 +1,6 @@
 -- Words that are watched: what a write of another word leaves
-use Rattle.controller_model.proofs.Words.{◌≡◌, ◌≢◌, ◌+◌, ◌-◌, ◌*◌, ◌/◌, ◌<◌, ◌≤◌, ◌==◌, ◌&&◌, ◌||◌, ◌∙◌, if◌then◌else◌, ℕ, zero, suc, Bool, true, false, nat_le, nat_lt, ap, refl, sym, arith, inl, inr, le-ltb, eq-eqb, ne_eqb, le-leb, lt-ltb, list_any, range_with_len, cases_Bool, cond-true, cond-false, false≢true, and_from, or_left, or_right, put, is_changed_behind, may_touch}
+use Rattle.std.proofs.Common.{rules}
+use Rattle.controller_model.proofs.Words.{◌≡◌, ◌≢◌, ◌+◌, ◌-◌, ◌*◌, ◌/◌, ◌<◌, ◌≤◌, ◌==◌, ◌&&◌, ◌||◌, ◌∙◌, if◌then◌else◌, ℕ, zero, suc, Bool, true, false, nat_le, nat_lt, ap, refl, sym, arith, le-ltb, eq-eqb, ne_eqb, le-leb, lt-ltb, list_any, range_with_len, cond-true, cond-false, false≢true, and_from, or_left, or_right, put, is_changed_behind, may_touch}
 use Rattle.controller_model.proofs.ScribbleLemmas.{none_in_range}
 
 -- tests that agree on a range find the same there
@@ -28,28 +29,9 @@ module _ (block first words at : ℕ) (is_changed : Bool) (untouched : may_touch
   pub still_watched : (changed written changed' written' : ℕ → ℕ) (step : ℕ) →
       ((a : ℕ) → changed' a ≡ (if is_changed then put changed at step a else changed a)) → ((a : ℕ) → written' a ≡ put written at step a) →
       is_changed_behind changed written block first words ≡ is_changed_behind changed' written' block first words
-  still_watched changed written changed' written' step changes writes =
-      any_alike (λ i. nat_lt (written (block + 12)) (changed (first + 4 * i))) (λ i. nat_lt (written' (block + 12)) (changed' (first + 4 * i))) 0 words
-      (λ i l h. ap (λ s. nat_lt s (changed (first + 4 * i))) (sym (writes (block + 12) ∙ put_elsewhere written at step (block + 12) control_apart))
-      ∙ ap (λ s. nat_lt (written' (block + 12)) s) (sym (changes (first + 4 * i) ∙ kept i (omega arith))))
-    where
-      kept : (i : ℕ) → i < words → (if is_changed then put changed at step (first + 4 * i) else changed (first + 4 * i)) ≡ changed (first + 4 * i)
-      kept i l = elim (cases_Bool is_changed) [
-        | inl on ↦
-            cond-true is_changed (put changed at step (first + 4 * i)) (changed (first + 4 * i)) on
-            ∙ put_elsewhere changed at step (first + 4 * i) (word_apart i l on)
-        | inr off ↦ cond-false is_changed (put changed at step (first + 4 * i)) (changed (first + 4 * i)) off
-      ]
+  still_watched changed written changed' written' step changes writes = search (rules, any_alike, nat_lt, put_elsewhere, control_apart, cond-true, word_apart, cond-false)
 
 -- where no word was changed later than in a step, none was changed behind a block that was written in that step or later
 pub none_later : (changed written : ℕ → ℕ) (last block first words : ℕ) → ((a : ℕ) → changed a ≤ last) → last ≤ written (block + 12) →
     is_changed_behind changed written block first words ≡ false
-none_later changed written last block first words latest late =
-    none_in_range (λ i. nat_lt (written (block + 12)) (changed (first + 4 * i))) 0 words
-    (λ i l h. not_later (written (block + 12)) (changed (first + 4 * i)) (below i))
-  where
-    below : (i : ℕ) → changed (first + 4 * i) ≤ written (block + 12)
-    below i = let there = latest (first + 4 * i) in omega arith
-
-    not_later : (a b : ℕ) → b ≤ a → nat_lt a b ≡ false
-    not_later a b l = le-ltb a b l
+none_later changed written last block first words latest late = search (rules, none_in_range, nat_lt, le-ltb)

@@ -1,10 +1,6 @@
 -- A descriptor that is withdrawn: what is declared by position then
-use Rattle.controller_model.proofs.Words.{◌≡◌, ◌≢◌, ◌+◌, ◌-◌, ◌<◌, ◌≤◌, ◌==◌, ◌||◌, ◌++◌, ◌∷◌, ◌∙◌, ◌⊎◌, ℕ, zero, suc, [], All, Bool, List, Option, Some, None, length, true, false, refl, sym, ap, subst, arith, inl, inr, set, slice_get, slice_get_within, same_Some, option_map, eq-eqb, eqb-true, ne_eqb, or_left, or_right, false≢true, cases_Bool, cases_eq, cases_lt, cond-true, cond-false, Block, DeclaredBlock, declared_at, is_border, Declared, Declarations, Declares, as_declared, blocks_of}
-use Rattle.std.specs.Prelude.{replicate}
-use Rattle.std.proofs.lemmas.List.Elements.{All-head, All-tail}
-use Rattle.segments.specs.Descriptors.{length_from, no_op, no_ops, split_at}
-use Rattle.segments.proofs.Withdrawing.{length-no_ops, split_all}
-use Rattle.controller_model.specs.Declarations.{lone_no_op, withdrawn, withdrawn_from}
+use Rattle.std.proofs.Common.{rules}
+use Rattle.controller_model.proofs.Words.{replicate, All-head, All-tail, length_from, no_op, no_ops, split_at, length-no_ops, split_all, lone_no_op, withdrawn, withdrawn_from, ◌≡◌, ◌≢◌, ◌+◌, ◌-◌, ◌<◌, ◌≤◌, ◌==◌, ◌||◌, ◌++◌, ◌∷◌, ◌∙◌, ◌⊎◌, ℕ, zero, suc, [], All, Bool, List, Option, Some, None, length, true, false, refl, sym, ap, subst, arith, inl, inr, set, slice_get, slice_get_within, same_Some, option_map, eq-eqb, eqb-true, ne_eqb, or_left, or_right, false≢true, cases_Bool, cases_eq, cases_lt, cond-true, cond-false, Block, DeclaredBlock, declared_at, is_border, Declared, Declarations, Declares, as_declared, blocks_of}
 
 -- ---- the blocks
 
@@ -164,26 +160,11 @@ record IsDescriptor (lengths : List ℕ) (s p : ℕ) : Type 0 where
 
 begins_first : (n : ℕ) (rest : List ℕ) (s p : ℕ) → 0 < n → s ≡ p → IsDescriptor (n ∷ rest) s p
 unfolding is_border length_from
-begins_first n rest s p positive here =
-    let is : length_from (n ∷ rest) s p ≡ n = cond-true (s == p) n (length_from rest (s + n) p) (eq-eqb s p here) in
-    let end : p + length_from (n ∷ rest) s p ≡ s + n = omega (arith, is, here) in
-    record {
-      some = omega (arith, is, positive);
-      within = omega (arith, end);
-      ends = ap (λ q. is_border (n ∷ rest) s q) end ∙ or_right (s == s + n) (is_border rest (s + n) (s + n)) (border_start rest (s + n));
-      whole = λ q above below. (λ i. ne_eqb s q (λ e. omega (arith, here)) i || border_below rest (s + n) q (omega (arith, end)) i);
-    }
+begins_first n rest s p positive here = search (rules, cond-true, eq-eqb, or_right, border_start, ne_eqb, border_below)
 
 begins_later : (n : ℕ) (rest : List ℕ) (s p : ℕ) → s ≢ p → s + n ≤ p → IsDescriptor rest (s + n) p → IsDescriptor (n ∷ rest) s p
 unfolding is_border length_from
-begins_later n rest s p apart from found =
-    let is : length_from (n ∷ rest) s p ≡ length_from rest (s + n) p = cond-false (s == p) n (length_from rest (s + n) p) (ne_eqb s p apart) in
-    record {
-      some = omega (arith, is, found.some);
-      within = omega (arith, is, found.within);
-      ends = ap (λ m. is_border (n ∷ rest) s (p + m)) is ∙ or_right (s == p + length_from rest (s + n) p) (is_border rest (s + n) (p + length_from rest (s + n) p)) found.ends;
-      whole = λ q above below. (λ i. ne_eqb s q (λ same. apart (omega (arith, from, above))) i || found.whole q above (omega (arith, is)) i);
-    }
+begins_later n rest s p apart from found = search (rules, cond-false, ne_eqb, or_right)
 
 begins_one : (lengths : List ℕ) (s p : ℕ) → All (λ n. 0 < n) lengths → is_border lengths s p ≡ true → p < s + blocks_of lengths → IsDescriptor lengths s p
 unfolding is_border
@@ -319,27 +300,10 @@ module _ (d : Declarations) (queue : List Block) (lengths : List ℕ) (p : ℕ) 
     fits = omega (arith, found.within, old.whole)
 
     end : IsEnd d.blocks.items p (p + count - 1)
-    end = record {
-      from = omega (arith, found.some);
-      inside = omega (arith, found.some, fits, old.many);
-      before = λ q y low high here. (told q y here).1 ∙ found.whole (q + 1) (omega arith) (omega arith);
-      here = λ q y same here. (told q y here).1 ∙ ap (λ n. is_border lengths 0 n) (let next : q + 1 ≡ p + count = omega (arith, same, found.some) in next) ∙ found.ends;
-    }
+    end = search (rules, found, fits, told)
 
     borders : (q : ℕ) → (q ≤ p) ⊎ (p + count ≤ q) → is_border (split_at lengths 0 p) 0 q ≡ is_border lengths 0 q
-    borders q out =
-        elim (cases_lt q p) [
-          | inl low ↦ split_elsewhere lengths 0 p q (inl low)
-          | inr from ↦
-              elim (cases_eq q p) [
-                | inl first ↦ split_within lengths 0 p q found.some from (omega (arith, first)) ∙ sym (ap (λ n. is_border lengths 0 n) first ∙ border)
-                | inr behind ↦
-                    elim (cases_eq q (p + count)) [
-                      | inl last ↦ split_within lengths 0 p q found.some from (omega (arith, last)) ∙ sym (ap (λ n. is_border lengths 0 n) last ∙ found.ends)
-                      | inr past ↦ split_elsewhere lengths 0 p q (inr (elim out [ inl low ↦ absurd (behind (omega arith)) | inr high ↦ omega (arith, past) ]))
-                    ]
-              ]
-        ]
+    borders q out = search (rules, cases_lt, split_elsewhere, split_within, found, border)
 
     same_at : (q : ℕ) → (q < p) ⊎ (p + count ≤ q) → option_map as_declared (slice_get e.blocks.items q) ≡ declared_at (no_ops queue p count) (split_at lengths 0 p) q
     unfolding declared_at
@@ -362,15 +326,4 @@ module _ (d : Declarations) (queue : List Block) (lengths : List ℕ) (p : ℕ) 
         ∙ (λ i. option_map (λ b. let y : DeclaredBlock = record { block = b; begins = sym begins_so i; ends = sym ends_so i } in y) (sym (no_ops_here queue p count q fits low high) i))
 
     pub withdraws_one : Declares e (no_ops queue p count) (split_at lengths 0 p)
-    withdraws_one = record {
-      at = λ q. elim (cases_lt q p) [
-        | inl low ↦ same_at q (inl low)
-        | inr from ↦ elim (cases_lt q (p + count)) [
-          | inl below ↦ here_at q from below
-          | inr past ↦ same_at q (inr past)
-        ]
-      ];
-      many = ap length made ∙ length-withdrawn_from d.blocks.items p ∙ old.many ∙ sym (length-no_ops queue p count);
-      whole = blocks_split lengths 0 p ∙ old.whole ∙ sym (length-no_ops queue p count);
-      some = split_all lengths 0 p old.some;
-    }
+    withdraws_one = search (rules, cases_lt, same_at, here_at, length, length-withdrawn_from, length-no_ops, blocks_split, split_all)

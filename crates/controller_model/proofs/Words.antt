@@ -15,7 +15,7 @@ pub use Rattle.contexts.specs.declared.size.ContextSize.{ContextSize}
 pub use Rattle.contexts.specs.declared.size.ContextSize.TheVariants.{Bytes32}
 unfoldable pub use Rattle.controller_model.specs.Bindings.{changed_by, changed_by_all, disabled, effect, has_one_of, in_state, inactive, is_had_by_another, placed, placed_on}
 pub use Rattle.controller_model.specs.Completions.{IsPart, completed, completed_with}
-pub use Rattle.controller_model.specs.Declarations.{Declares, as_declared, blocks_of, entries}
+pub use Rattle.controller_model.specs.Declarations.{Declares, as_declared, blocks_of, entries, lone_no_op, withdrawn, withdrawn_from}
 unfoldable pub use Rattle.controller_model.specs.DriverRows.{activated, bell_row, declared, endpoint_bell, event_read, next_row, register_row, row_done, run_or_stop, started_with, valued, with_dequeue}
 unfoldable pub use Rattle.controller_model.specs.Finishes.{ended, ended_with, finished, finished_as, passes_end, succeeded}
 pub use Rattle.controller_model.specs.Following.{Follows, FollowsEndpoints, FollowsHolder, FollowsRegisters, FollowsRing, FollowsRings, FollowsSlots, GoesOn, HasRoom, IsChange, IsEndpoint, IsStep, IsWell, KeepsRun, RingHeld, addressed, bound, freed, is_endpoint, is_holder, is_it, is_other, may_get, named_by, noted, noted_held, places_from, pointed, released, ring_held, taken_held, told, turned_off, under_way_of}
@@ -24,7 +24,7 @@ pub use Rattle.controller_model.specs.Histories.{Keeps, ShowsHarms}
 unfoldable pub use Rattle.controller_model.specs.Looks.{command_begun, crossed, looked, looked_at, may_scribble, seen_by_look, taken, taken_on}
 unfoldable pub use Rattle.controller_model.specs.OnLiterals.{model_on_literals}
 unfoldable pub use Rattle.controller_model.specs.Posts.{can_post, is_last, is_stop_under_way, other_posted, posted, report_code, report_error, report_stop, report_success, reported, reported_on, stopped_with, with_reported, with_stopped}
-pub use Rattle.controller_model.specs.RingHarms.{ChangesOnly, HasRingHarms, IsFollowed}
+pub use Rattle.controller_model.specs.RingHarms.{ChangesOnly, FollowsScene, HasRingHarms, IsFollowed}
 pub use Rattle.controller_model.specs.Showing.{replayed}
 unfoldable pub use Rattle.controller_model.specs.Showing.{look_shows, shows}
 unfoldable pub use Rattle.controller_model.specs.Steps.{counted, is_scribbled, made, scribbled, stepped, while_running}
@@ -56,10 +56,10 @@ pub use Rattle.segments.proofs.InsideLemmas.{is_inside-word}
 pub use Rattle.segments.proofs.PlaceAtLemmas.{place_at-link_address}
 pub use Rattle.segments.proofs.Positions.{address_of-first}
 pub use Rattle.segments.proofs.Search.{cases_option}
-pub use Rattle.segments.proofs.Words.{All-push, Block, Evt, IsShape, Shape, Xfer, address_of, aligned, and_from, and_parts, block_at, cases_Bool, cases_eq, cases_lt, cond-false, cond-true, cycle, cycle_of, data_places, false_from_ne_true, false≢true, is_crossing, is_inside, is_link, is_set, kind, link_address, link_crossed, link_target, list_any, list_any_at, none-some, or_cases, or_left, or_right, place_at, place_count, pointer, put, range_with_len, same_Some, same_words, slice_get-get_or, slice_get_within, word}
+pub use Rattle.segments.proofs.Words.{All-push, Block, Evt, IsShape, Shape, Xfer, address_of, aligned, and_from, and_parts, block_at, cases_Bool, cases_eq, cases_lt, cond-false, cond-true, cycle, cycle_of, data_places, false_from_ne_true, false≢true, is_inside, is_link, is_set, kind, link_address, link_crossed, list_any, list_any_at, none-some, or_cases, or_left, or_right, place_at, place_count, pointer, put, range_with_len, same_Some, same_words, slice_get-get_or, slice_get_within, word}
 unfoldable pub use Rattle.segments.proofs.Words.{is_border}
-pub use Rattle.segments.specs.Descriptors.{DeclaredBlock}
-unfoldable pub use Rattle.segments.specs.Descriptors.{declared_at}
+pub use Rattle.segments.specs.Descriptors.{DeclaredBlock, no_op}
+unfoldable pub use Rattle.segments.specs.Descriptors.{declared_at, length_from, no_ops, split_at}
 pub use Rattle.std.proofs.Common.{All, Bool, Err, IfSome, IsSome, List, None, Ok, Option, Result, Some, [], add-zero, ap, append_assoc, arith, drop, drop-drop, eq-eqb, eqb-true, false, filter, find, get_or, if◌then◌else◌, inl, inr, is_some, le-leb, le-ltb, length, length-append, length-take-le, lt-ltb, ltb-false, map, nat_le, nat_lt, ne_eqb, not, option_and_then, option_map, position, refl, set, slice_get, slice_index, slice_index_or, subst, suc, sym, take, true, unwrap_or, zero, ℕ, ◌%◌, ◌&&◌, ◌*◌, ◌++◌, ◌+◌, ◌-◌, ◌/◌, ◌<◌, ◌==◌, ◌^◌, ◌||◌, ◌↔◌, ◌∙◌, ◌∷◌, ◌≡◌, ◌≢◌, ◌≤◌, ◌⊎◌}
 pub use Rattle.std.proofs.Math.Bool.{or-true, or_assoc}
 pub use Rattle.std.proofs.Math.ListN.{length-set}
@@ -68,15 +68,14 @@ pub use Rattle.std.proofs.lemmas.Grind.{common_steps, take_at_read}
 pub use Rattle.std.proofs.lemmas.List.{drop-append-le, drop_all, take_all}
 pub use Rattle.std.proofs.lemmas.List.Folds.{list_any_more}
 pub use Rattle.std.proofs.lemmas.Nat.{mod-mul-add}
-pub use Rattle.std.proofs.lemmas.Option.{slice_get_past}
 pub use Rattle.std.proofs.lemmas.Result.{err_from_is_err_and}
 pub use Rattle.std.specs.Result.{result_ok}
-pub use Rattle.traces.specs.Header.{id_of, id_or_none, is_command_kind, is_ring, is_transfer_kind, ring_with, shape_or}
+pub use Rattle.traces.specs.Header.{id_of, id_or_none, is_ring, is_transfer_kind, ring_with, shape_or}
 unfoldable pub use Rattle.traces.specs.Header.{command_id, command_ring, event_ring, event_shape, event_size, ring_having, shape_of, some_ring}
 pub use Rattle.traces.specs.Register.{base_address, register_or_zero, reset_bit, ring_cycle_state, run_bit, with_register}
 pub use Rattle.traces.specs.declared.header.Header.{Header, Header as HeaderValue}
 pub use Rattle.traces.specs.declared.register.Register.{Register}
-pub use Rattle.traces.specs.declared.register.Register.TheVariants.{Config, Crcr, Dcbaap, Dnctrl, Erdp, Erstba, Erstsz, Iman, Imod, Usbcmd, Usbsts}
+pub use Rattle.traces.specs.declared.register.Register.TheVariants.{Config, Crcr, Dcbaap, Erdp, Erstba, Erstsz, Usbcmd}
 pub use Rattle.traces.specs.declared.ring.Ring.{Ring}
 pub use Rattle.traces.specs.declared.row.Row.{Row, Row as RowValue}
 pub use Rattle.traces.specs.declared.row.Row.TheVariants.{Bell, Read, Reg, Sub, Write}
@@ -85,7 +84,6 @@ pub use Rattle.traces.specs.declared.step.Step.TheVariants.{Finish, Look, NextRo
 pub use Rattle.trb.specs.Bits.{bits}
 pub use Rattle.trb.specs.Block.{code, endpoint, slot}
 pub use Rattle.trb.specs.CompletionCode.{is_halting, is_stopping, is_success, is_trb_error}
-pub use Rattle.trb.specs.Descriptor.{is_command_left_out}
 pub use Rattle.trb.specs.Kind.{is_command_completion, is_other_event, is_transfer_event}
 pub use Rattle.trb.specs.declared.kind.BlockKind.{BlockKind}
 unfoldable pub use Rattle.world_state.specs.Harms.{harm_of, harms, has_changed_context, has_other_words, is_changed_since, is_context_changed, is_end, is_inside_descriptor, is_out_of_order, is_right_place, waits}
@@ -94,3 +92,18 @@ pub use Rattle.world_state.specs.World.{Placed, RingEvent, Took, UnderWay, World
 unfoldable pub use Rattle.world_state.specs.World.{event_at, opening, stored, stored_block}
 pub use Rattle.world_state.specs.declared.harm.Harm.{Harm}
 pub use Rattle.world_state.specs.declared.harm.Harm.TheVariants.{InputContextChanged, LooksOutside, PostsOverUnread, TakenOtherWords, TakenOutOfOrder, WaitsInsideDescriptor}
+pub use Rattle.std.specs.Prelude.{replicate}
+pub use Rattle.traces.specs.declared.trace_row.TraceRow.TheVariants.{Plain}
+pub use Rattle.controller_model.specs.Scenes.{Scene, row_next, step_made}
+pub use Rattle.traces.specs.declared.version.Version.TheVariants.{One}
+pub use Rattle.std.specs.List.{position_or_len, remove}
+pub use Rattle.std.proofs.lemmas.List.Quantifiers.{position-Some}
+pub use Rattle.std.proofs.lemmas.List.Sums.{fails_before_first}
+pub use Rattle.controller_model.specs.RingRows.{header_after, row_made}
+unfoldable pub use Rattle.controller_model.specs.RingRows.{emptied, with_ring, without_descriptor, without_ring}
+pub use Rattle.traces.specs.declared.trace_row.TraceRow.{TraceRow}
+pub use Rattle.std.proofs.lemmas.List.Elements.{All-head, All-tail}
+pub use Rattle.segments.proofs.Withdrawing.{length-no_ops, split_all}
+pub use Rattle.std.specs.Option.{option_copied}
+pub use Rattle.segments.specs.Places.{link_target}
+pub use Rattle.std.proofs.lemmas.List.Edits.{length-remove}

@@ -1,5 +1,6 @@
 -- Marks that are cleared in turn
-use Rattle.ring_knowledge.proofs.Words.{◌≡◌, ◌+◌, ◌%◌, ◌≤◌, ◌∷◌, ◌∙◌, ℕ, suc, zero, subst, List, [], Bool, false, refl, ap, sym, arith, inl, inr, get_or, set, get_or-set_other, length-set, cases_lt, cases_eq, AreCleared}
+use Rattle.std.proofs.Common.{rules}
+use Rattle.ring_knowledge.proofs.Words.{◌≡◌, ◌+◌, ◌%◌, ◌≤◌, ◌∷◌, ℕ, suc, zero, subst, List, [], Bool, false, refl, arith, get_or, set, get_or-set_other, length-set, cases_lt, AreCleared}
 
 -- a cleared mark
 cleared_at : (marks : List Bool) (j : ℕ) → get_or (set marks j false) j false ≡ false
@@ -9,11 +10,7 @@ cleared_at (m ∷ marks) (suc j) = cleared_at marks j
 
 -- one that was clear stays so
 clear_still : (marks : List Bool) (j i : ℕ) → get_or marks i false ≡ false → get_or (set marks j false) i false ≡ false
-clear_still marks j i clear =
-    elim (cases_eq i j) [
-      | inl same ↦ ap (λ n. get_or (set marks j false) n false) same ∙ cleared_at marks j
-      | inr other ↦ get_or-set_other marks j i false false other ∙ clear
-    ]
+clear_still marks j i clear = search (rules, get_or, set, cleared_at, get_or-set_other)
 
 module _ (R : ℕ → ℕ → Type 0) (old : List Bool) (from : ℕ) where
   -- none at first
@@ -22,30 +19,11 @@ module _ (R : ℕ → ℕ → Type 0) (old : List Bool) (from : ℕ) where
 
   -- the mark of one number more
   pub one_cleared : (marks : List Bool) (k j : ℕ) → AreCleared R old marks from k → from ≤ k → R k j → ((i : ℕ) → R k i → i ≡ j) → AreCleared R old (set marks j false) from (k + 1)
-  one_cleared marks k j so_far low has only = record {
-    as_many = length-set marks j false ∙ so_far.as_many;
-    cleared = λ n i l u h. elim (cases_lt n k) [
-      | inl before ↦ clear_still marks j i (so_far.cleared n i l before h)
-      | inr now ↦
-          let same : n ≡ k = omega arith in
-          let here : i ≡ j = only i (rw same at h) in
-          ap (λ m. get_or (set marks j false) m false) here ∙ cleared_at marks j
-    ];
-    kept = λ i never.
-        get_or-set_other marks j i false false (λ same. never k low (omega arith) (rw (sym same) at has))
-        ∙ so_far.kept i (λ n l u h. never n l (omega arith) h);
-  }
+  one_cleared marks k j so_far low has only = search (rules, set, length-set, cases_lt, clear_still, get_or, cleared_at, get_or-set_other)
 
   -- a number without a mark
   pub none_here : (marks : List Bool) (k : ℕ) → AreCleared R old marks from k → ((i : ℕ) → R k i → ⊥) → AreCleared R old marks from (k + 1)
-  none_here marks k so_far never = record {
-    as_many = so_far.as_many;
-    cleared = λ n i l u h. elim (cases_lt n k) [
-      | inl before ↦ so_far.cleared n i l before h
-      | inr now ↦ let same : n ≡ k = omega arith in absurd (never i (rw same at h))
-    ];
-    kept = λ i unmarked. so_far.kept i (λ n l u h. unmarked n l (omega arith) h);
-  }
+  none_here marks k so_far never = search (rules, cases_lt)
 
 -- the same with equal numbers
 pub same_places : (old new : List Bool) (count count' from from' to to' : ℕ) → count ≡ count' → from ≡ from' → to ≡ to' →

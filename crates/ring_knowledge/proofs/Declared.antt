@@ -1,8 +1,6 @@
 -- A block as it is declared
-use Rattle.ring_knowledge.proofs.Words.{◌≡◌, ◌<◌, ◌==◌, ℕ, if◌then◌else◌, arith, nat_tests, Shape, cycle_of, true, Some, None, ap, sym, Block, is_declared_as}
+use Rattle.ring_knowledge.proofs.Words.{cycle_of_bit, same_words, with_cycle, ◌≡◌, ◌<◌, ◌==◌, ℕ, if◌then◌else◌, arith, nat_tests, Shape, cycle_of, true, Some, None, ap, sym, Block, is_declared_as}
 use Rattle.std.specs.Prelude.{Option}
-use Rattle.segments.proofs.Positions.{cycle_of_bit}
-use Rattle.trb.specs.Block.{same_words, with_cycle}
 
 pub nothing_declared : (b : Block) (cycle : ℕ) (o : Option Block) → o ≡ None → true ≡ is_declared_as b cycle o
 unfolding is_declared_as

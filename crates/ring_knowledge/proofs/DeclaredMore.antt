@@ -1,23 +1,10 @@
 -- A record with one descriptor more follows what is declared with it
+use Rattle.std.proofs.Common.{rules}
 use Rattle.ring_knowledge.proofs.Forgotten.{drop_append}
-use Rattle.ring_knowledge.proofs.Words.{drop, ◌≡◌, ◌+◌, ◌-◌, ◌<◌, ◌≤◌, ◌∷◌, ◌++◌, ◌∙◌, ◌==◌, ℕ, suc, zero, List, [], true, false, refl, ap, sym, arith, length, set, inl, inr, length-append, not, sum, slice_index, replicate, nat_le, take, ltb-false, lt-ltb, le-ltb, le-leb, sum_by-cons, cases_eq, cases_lt, lt-leb, nat_tests, common_steps, Block, Shape, place_count, place_count_pos, RingView, Declares, changed, declared, floor_number, length_from, has_no_room, RingRecord, ArePositive, FollowsMarks, contains, nat_cmp}
+use Rattle.ring_knowledge.proofs.Words.{length_from-push, drop, ◌≡◌, ◌+◌, ◌-◌, ◌<◌, ◌≤◌, ◌∷◌, ◌++◌, ◌∙◌, ◌==◌, ℕ, suc, zero, List, [], true, false, refl, ap, sym, arith, length, set, length-append, not, sum, slice_index, replicate, nat_le, take, ltb-false, lt-ltb, le-ltb, le-leb, sum_by-cons, cases_lt, lt-leb, nat_tests, common_steps, Block, Shape, place_count, place_count_pos, RingView, Declares, changed, declared, floor_number, length_from, has_no_room, RingRecord, ArePositive, FollowsMarks, contains, nat_cmp}
 
 pub sum-cons : (d : ℕ) (ds : List ℕ) → sum (d ∷ ds) ≡ d + sum ds
 sum-cons d ds = sum_by-cons (λ x. x) d ds
-
--- one descriptor more: the others begin where they began
-earlier : (ds : List ℕ) (n start p : ℕ) → p < start + sum ds → length_from (ds ++ n ∷ []) start p ≡ length_from ds start p
-unfolding length_from
-earlier [] n start p h =
-    let other : (start == p) ≡ false = grind (arith, nat_tests, h) in
-    rw other refl
-earlier (d ∷ ds) n start p h =
-    let all = sum-cons d ds in
-    let rest : p < start + d + sum ds → length_from (ds ++ n ∷ []) (start + d) p ≡ length_from ds (start + d) p = λ below. earlier ds n (start + d) p below in
-    elim (cases_eq start p) [
-      | inl same ↦ let here : (start == p) ≡ true = grind (arith, nat_tests, same) in rw here refl
-      | inr other ↦ let there : (start == p) ≡ false = grind (arith, nat_tests, other) in rw there (rest (omega arith))
-    ]
 
 -- it begins behind them
 at_end : (ds : List ℕ) (n start p : ℕ) → ArePositive ds → p ≡ start + sum ds → length_from (ds ++ n ∷ []) start p ≡ n
@@ -81,23 +68,7 @@ module _ (shape : Shape) (v : RingView) (r : RingRecord) (follows : FollowsMarks
 
   begins_now : (ls : List ℕ) → 0 < length blocks → ls ≡ r.lengths.items ++ (length blocks ∷ replicate (length blocks - 1) 0) → (p : ℕ) → r.forgotten ≤ p →
       length_from (v.lengths ++ length blocks ∷ []) 0 p ≡ slice_index ls (p - r.forgotten)
-  begins_now ls some e p kept =
-      let whole : sum v.lengths ≡ r.forgotten + length r.blocks.items = follows.whole ∙ follows.count in
-      let as_many = follows.as_many in
-      let split : (r.lengths.items ++ (length blocks ∷ replicate (length blocks - 1) 0)) ≡ ls = sym e in
-      elim (cases_lt p (sum v.lengths)) [
-        | inl before ↦
-            earlier v.lengths (length blocks) 0 p (omega arith) ∙ follows.begins p kept
-            ∙ sym (index_before r.lengths.items (length blocks ∷ replicate (length blocks - 1) 0) (p - r.forgotten) (omega arith)) ∙ ap (λ xs. slice_index xs (p - r.forgotten)) split
-        | inr from ↦ elim (cases_eq p (sum v.lengths)) [
-          | inl at ↦
-              at_end v.lengths (length blocks) 0 p follows.positive (omega arith)
-              ∙ sym (index_at r.lengths.items (replicate (length blocks - 1) 0) (length blocks) (p - r.forgotten) (omega arith)) ∙ ap (λ xs. slice_index xs (p - r.forgotten)) split
-          | inr other ↦
-              past_end v.lengths (length blocks) 0 p (omega arith)
-              ∙ sym (index_past r.lengths.items (length blocks) (length blocks - 1) (p - r.forgotten) (omega arith)) ∙ ap (λ xs. slice_index xs (p - r.forgotten)) split
-        ]
-      ]
+  begins_now ls some e p kept = search (rules, length, replicate, slice_index, sum, cases_lt, length_from-push, index_before, at_end, index_at, past_end, index_past)
 
   -- the record with the blocks and their length
   pub declared_marks : has_no_room shape v (length blocks) ≡ false → 0 < length blocks → (n : RingRecord) → n.blocks.items ≡ r.blocks.items ++ blocks
@@ -152,11 +123,4 @@ lengths_grown ls ms start len n same all some e =
 pub room_test : (shape : Shape) (v : RingView) (r : RingRecord) → FollowsMarks shape v r → (count len most : ℕ) → len ≡ declared v →
     most ≡ place_count shape - 1 + floor_number v - len → nat_le count most ≡ not (has_no_room shape v count)
 unfolding has_no_room
-room_test shape v r follows count len most len_is most_is =
-    let many : declared v ≡ len = sym len_is in
-    let some = place_count_pos shape follows.allowed in
-    let room = follows.room in
-    elim (cases_lt (place_count shape - 1 + floor_number v) (declared v + count)) [
-      | inl full ↦ lt-leb count most (omega arith) ∙ sym (ap not (lt-ltb (place_count shape - 1 + floor_number v) (declared v + count) full))
-      | inr fits ↦ le-leb count most (omega arith) ∙ sym (ap not (le-ltb (place_count shape - 1 + floor_number v) (declared v + count) fits))
-    ]
+room_test shape v r follows count len most len_is most_is = search (rules, nat_le, place_count_pos, cases_lt, lt-leb, lt-ltb, le-leb, le-ltb)

@@ -1,5 +1,6 @@
 -- The number that is due at a place, and the crossing that is due at a Link
-use Rattle.ring_knowledge.proofs.Words.{◌≡◌, ◌+◌, ◌-◌, ◌*◌, ◌/◌, ◌%◌, ◌<◌, ◌≤◌, ℕ, refl, sym, arith, inl, inr, length, slice_index, Some, max, cases_lt, mod-mul-add, mod-lt, div-add-mod', Shape, IsShape, place_count, links, ends, link_crossed, link_of, same_in_lap, Crosses, crosses-from, end_in_lap, same_crossing}
+use Rattle.std.proofs.Common.{rules}
+use Rattle.ring_knowledge.proofs.Words.{◌≡◌, ◌+◌, ◌-◌, ◌*◌, ◌/◌, ◌%◌, ◌<◌, ◌≤◌, ℕ, refl, arith, inl, inr, length, slice_index, Some, max, cases_lt, mod-mul-add, mod-lt, div-add-mod', Shape, IsShape, place_count, links, ends, link_crossed, link_of, same_in_lap, crosses-from, end_in_lap, same_crossing}
 
 -- the least number from another one on with a remainder, on this side of the next multiple and behind it
 pub rest_here : (least count rest : ℕ) → rest < count → least % count ≤ rest → (least + (rest - least % count)) % count ≡ rest
@@ -28,11 +29,7 @@ due_number least count rest below =
 
 -- there is one such number
 pub same_due : (least count n m : ℕ) → 0 < count → least ≤ n → n < least + count → least ≤ m → m < least + count → n % count ≡ m % count → n ≡ m
-same_due least count n m pos low high low' high' same =
-    elim (cases_lt n m) [
-      | inl lower ↦ same_in_lap count n m pos (omega arith) (omega arith) same
-      | inr upper ↦ sym (same_in_lap count m n pos upper (omega arith) (sym same))
-    ]
+same_due least count n m pos low high low' high' same = search (rules, cases_lt, same_in_lap)
 
 -- the Link on the way to a position
 pub link_of-crossed : (shape : Shape) (q j : ℕ) → link_crossed shape q ≡ Some j → link_of shape q ≡ j
@@ -42,11 +39,7 @@ link_of-crossed shape q j over = rw over refl
 module _ (shape : Shape) (allowed : IsShape shape) where
   -- one behind a number with the remainder of the place before a Link: a crossing over this Link
   pub crossing_behind : (j p : ℕ) → j < length (links shape) → p % place_count shape + 1 ≡ slice_index (ends shape) j → link_crossed shape (p + 1) ≡ Some j
-  crossing_behind j p link end =
-      let one : p + 1 - 1 ≡ p = omega arith in
-      let at : slice_index (ends shape) j ≡ (p + 1 - 1) % place_count shape + 1 = rw one (sym end) in
-      let over : Crosses shape (p + 1) j = record { positive = omega arith; link = link; end = at } in
-      crosses-from shape allowed (p + 1) j over
+  crossing_behind j p link end = search (rules, length, slice_index, crosses-from)
 
   -- the crossing over a Link that is due from a number on
   pub due_crossing : (least j : ℕ) → j < length (links shape) → (q : ℕ) × (max least 1 ≤ q) × (q < max least 1 + place_count shape) × (link_crossed shape q ≡ Some j)
@@ -60,8 +53,4 @@ module _ (shape : Shape) (allowed : IsShape shape) where
   -- there is one such crossing
   pub same_due_crossing : (least j q r : ℕ) → least ≤ q → q < least + place_count shape → least ≤ r → r < least + place_count shape →
       link_crossed shape q ≡ Some j → link_crossed shape r ≡ Some j → q ≡ r
-  same_due_crossing least j q r low high low' high' over over' =
-      elim (cases_lt q r) [
-        | inl lower ↦ same_crossing shape allowed q r j (omega arith) (omega arith) over over'
-        | inr upper ↦ sym (same_crossing shape allowed r q j upper (omega arith) over' over)
-      ]
+  same_due_crossing least j q r low high low' high' over over' = search (rules, cases_lt, same_crossing)

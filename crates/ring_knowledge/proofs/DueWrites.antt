@@ -1,9 +1,10 @@
 -- What a write would give of a ring, by the place of its address: xHCI 4.9.2
+use Rattle.std.proofs.Common.{rules}
 use Rattle.ring_knowledge.proofs.Words.{◌≡◌, ◌≢◌, ◌+◌, ◌-◌, ◌*◌, ◌%◌, ◌<◌, ◌≤◌, ◌∙◌, ◌==◌, ◌&&◌, ◌||◌, ℕ, Bool, true, false, Some, None, refl, ap, sym, arith, inl, inr, max, nat_lt, nat_le, lt-ltb, le-ltb, le-leb, eq-eqb, ne_eqb, eqb-true, ltb-true, leb-true, cases_lt, cases_eq, and_parts, or_cases, and_from, Place, AtData, AtLink, Spot, Shape, IsShape, place_count, address_of, cycle_of, link_crossed, is_crossing, link_address, place_at, number, is_due, is_crossing_due, gives, gives_crossing, place_count_pos, address_of-mod, place_at-Data, place_at-Link, place_at-address_of, place_at-link_address, crossed_link, crossing_positive, is_crossing-from, link_address_is, is_the}
 use Rattle.ring_knowledge.proofs.Noted.{false_unless}
 use Rattle.ring_knowledge.proofs.DueNumbers.{same_due, same_due_crossing}
 
-none_some : (x : Place) → None ≡ Some x → ⊥
+pub none_some : (x : Place) → None ≡ Some x → ⊥
 none_some x e = cc
 
 data_is : (i v j w : ℕ) → Some (AtData i v) ≡ Some (AtData j w) → (i ≡ j) × (v ≡ w)
@@ -114,20 +115,10 @@ module _ (shape : Shape) (allowed : IsShape shape) (floor : Spot) where
     -- nor does the control word with the other cycle
     pub gives-other_cycle : (q : ℕ) → number floor ≤ q → q < number floor + place_count shape → q % place_count shape ≡ i → w % 2 ≢ cycle_of shape q →
         (p : ℕ) → gives shape floor p a w ≡ false
-    gives-other_cycle q low high here other p =
-        false_unless (gives shape floor p a w) (λ h.
-        let g : Gives p a w = gives-true p a w h in
-        let place_is = data_is i v (p % place_count shape) 3 (sym at ∙ g.word_at) in
-        let same : p ≡ q = same_due (number floor) (place_count shape) p q (place_count_pos shape allowed) g.from g.within low high (sym place_is.0 ∙ sym here) in
-        other (g.cycle_is ∙ ap (λ n. cycle_of shape n) same))
+    gives-other_cycle q low high here other p = search (rules, false_unless, gives-true, data_is, same_due, place_count_pos)
 
     pub no_crossing_of_data : (q : ℕ) → gives_crossing shape floor q a w ≡ false
-    no_crossing_of_data q =
-        false_unless (gives_crossing shape floor q a w) (λ h.
-        let found = gives_crossing-true q a w h in
-        let j : ℕ = found.0 in
-        let g : GivesCrossing q j a w = found.1 in
-        data_no_link i v j 3 (sym at ∙ g.word_at))
+    no_crossing_of_data q = search (rules, false_unless, found, gives_crossing-true, data_no_link)
 
   -- a word of the Link of segment j
   module _ (a w j v : ℕ) (at : place_at shape a ≡ Some (AtLink j v)) where
@@ -165,12 +156,7 @@ module _ (shape : Shape) (allowed : IsShape shape) (floor : Spot) where
             ]
 
     pub gives_crossing-other_word : v ≢ 3 → (q : ℕ) → gives_crossing shape floor q a w ≡ false
-    gives_crossing-other_word other q =
-        false_unless (gives_crossing shape floor q a w) (λ h.
-        let found = gives_crossing-true q a w h in
-        let i : ℕ = found.0 in
-        let g : GivesCrossing q i a w = found.1 in
-        other (link_is j v i 3 (sym at ∙ g.word_at)).1)
+    gives_crossing-other_word other q = search (rules, false_unless, found, gives_crossing-true, link_is)
 
     pub gives_crossing-other_cycle : (q : ℕ) → max (number floor) 1 ≤ q → q < max (number floor) 1 + place_count shape → link_crossed shape q ≡ Some j →
         w % 2 ≢ cycle_of shape (q - 1) → (r : ℕ) → gives_crossing shape floor r a w ≡ false
@@ -193,9 +179,4 @@ module _ (shape : Shape) (allowed : IsShape shape) (floor : Spot) where
         false_unless (gives shape floor p a w) (λ h. let g : Gives p a w = gives-true p a w h in none_some (AtData (p % place_count shape) 3) (sym at ∙ g.word_at))
 
     pub no_crossing_elsewhere : (q : ℕ) → gives_crossing shape floor q a w ≡ false
-    no_crossing_elsewhere q =
-        false_unless (gives_crossing shape floor q a w) (λ h.
-        let found = gives_crossing-true q a w h in
-        let j : ℕ = found.0 in
-        let g : GivesCrossing q j a w = found.1 in
-        none_some (AtLink j 3) (sym at ∙ g.word_at))
+    no_crossing_elsewhere q = search (rules, false_unless, found, gives_crossing-true, none_some)

@@ -4,7 +4,7 @@ use Rattle.ring_knowledge.proofs.Noted.{false_unless}
 use Rattle.ring_knowledge.proofs.Ranges.{any_filtered, any_none, any_only}
 use Rattle.ring_knowledge.proofs.DueNumbers.{IsDue, same_due}
 
-data_is : (i v j w : ℕ) → Some (AtData i v) ≡ Some (AtData j w) → i ≡ j
+pub data_is : (i v j w : ℕ) → Some (AtData i v) ≡ Some (AtData j w) → i ≡ j
 data_is i v j w e = cc
 
 module _ (shape : Shape) (v : RingView) (r : RingRecord) (follows : FollowsMarks shape v r) (a w : ℕ) where

@@ -1,18 +1,8 @@
 -- The free positions of a ring that a record follows, as its set has them
-use Rattle.ring_knowledge.proofs.Words.{◌-◌, ◌≤◌, leb-true, ◌≡◌, ◌≢◌, ◌+◌, ◌<◌, ◌∷◌, ◌∙◌, ◌&&◌, ◌||◌, ℕ, suc, zero, List, [], Bool, true, false, refl, ap, sym, arith, inl, inr, length, filter, not, nat_le, nat_lt, cases_lt, cases_eq, cases_Bool, false≢true, nat_tests, list_any, range_with_len, contains, is_at, nat_cmp, Shape, place_count, RingView, floor_number, unrestored, due_positions, is_not_restored, is_declared_as, address_of, cycle_of, ◌++◌, common_steps, FollowsMarks, RingRecord, ◌%◌}
-use Rattle.std.specs.Prelude.{slice_get}
-use Rattle.trb.specs.Block.{block_at}
+use Rattle.ring_knowledge.proofs.Words.{slice_get, block_at, BTreeSet, IsOrdered, AllByRecursion, IsStrictlySortedBy, Less, nat_cmp_total, IsStrictlySortedBy-filter, btree_set_from_contains, exact_unsigned, any-filter_same, ◌-◌, ◌≤◌, leb-true, ◌≡◌, ◌≢◌, ◌+◌, ◌<◌, ◌∷◌, ◌∙◌, ◌&&◌, ◌||◌, ℕ, suc, zero, List, [], Bool, true, false, refl, ap, sym, arith, inl, inr, length, filter, not, nat_le, nat_lt, cases_lt, cases_eq, cases_Bool, false≢true, nat_tests, list_any, range_with_len, contains, is_at, nat_cmp, Shape, place_count, RingView, floor_number, unrestored, due_positions, is_not_restored, is_declared_as, address_of, cycle_of, ◌++◌, common_steps, FollowsMarks, RingRecord, ◌%◌}
 use Rattle.ring_knowledge.proofs.Noted.{noted_past}
 use Rattle.ring_knowledge.proofs.Forgotten.{get_kept}
 use Rattle.ring_knowledge.proofs.Ranges.{any_filtered, any_same}
-use Rattle.std.specs.BTreeSet.{BTreeSet, IsOrdered}
-use Rattle.std.specs.List.{AllByRecursion}
-use Rattle.std.specs.List.Sorted.{IsStrictlySortedBy}
-use Rattle.std.specs.declared.cmp.Ordering.TheVariants.{Less}
-use Rattle.std.specs.Cmp.{nat_cmp_total}
-use Rattle.std.proofs.lemmas.List.Kept.{IsStrictlySortedBy-filter}
-use Rattle.std.proofs.lemmas.Map.Lookups.{btree_set_from_contains, exact_unsigned}
-use Rattle.std.proofs.lemmas.Map.Views.{any-filter_same}
 
 -- ---- one number of a set
 
@@ -113,9 +103,6 @@ module _ (shape : Shape) (v : RingView) (r : RingRecord) (follows : FollowsMarks
 -- one number of a list more
 pub first_passes : (f : ℕ → Bool) (x : ℕ) (xs ys : List ℕ) → ys ≡ x ∷ xs → f x ≡ true → list_any f ys ≡ true
 first_passes f x xs ys is passes = ap (list_any f) is ∙ ap (λ b. b || list_any f xs) passes
-
-pub first_fails : (f : ℕ → Bool) (x : ℕ) (xs ys : List ℕ) → ys ≡ x ∷ xs → f x ≡ false → list_any f xs ≡ list_any f ys
-first_fails f x xs ys is fails = sym (ap (list_any f) is ∙ ap (λ b. b || list_any f xs) fails)
 
 -- none is left
 pub all_there : (xs ys zs all : List ℕ) → ys ≡ [] → (xs ++ ys) ≡ all → all ≡ zs → xs ≡ zs

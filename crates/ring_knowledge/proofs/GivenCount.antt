@@ -1,5 +1,6 @@
 -- How many positions are given without a gap
-use Rattle.ring_knowledge.proofs.Words.{◌≡◌, ◌+◌, ◌<◌, ◌≤◌, ◌∙◌, ◌&&◌, ◌||◌, ◌%◌, ℕ, suc, zero, List, Bool, true, false, refl, ap, sym, arith, inl, inr, cond, not, cases_lt, cases_eq, false≢true, Block, Spot, Shape, place_count, is_crossing, RingView, Declares, Writes, Reaches, Opens, Holds, changed, new_ring, floor_number, gives, gives_crossing, is_step_given, is_way_given, first_not_given, given_count, RingRecord, FollowsMarks, FollowsRing}
+use Rattle.std.proofs.Common.{rules}
+use Rattle.ring_knowledge.proofs.Words.{◌≡◌, ◌+◌, ◌<◌, ◌≤◌, ◌∙◌, ◌%◌, ℕ, suc, zero, List, true, false, refl, ap, sym, arith, inl, inr, cond, cases_lt, cases_eq, false≢true, Block, Spot, Shape, place_count, RingView, Declares, Writes, Reaches, Opens, Holds, changed, new_ring, floor_number, is_step_given, is_way_given, first_not_given, given_count, RingRecord, FollowsMarks, FollowsRing}
 use Rattle.ring_knowledge.proofs.Noted.{noted_past}
 use Rattle.ring_knowledge.proofs.WholeDescriptors.{step_not_given}
 
@@ -56,20 +57,9 @@ held_step shape v n q = refl
 -- what is given stays given at a write
 pub written_step : (shape : Shape) (v : RingView) (a w q : ℕ) → is_step_given shape v q ≡ true → is_step_given shape (changed shape v (Writes a w)) q ≡ true
 unfolding is_step_given is_way_given
-written_step shape v a w q given =
-    kept (v.given q) (gives shape v.floor q a w) (is_crossing shape q) (v.crossed q) (gives_crossing shape v.floor q a w) given
-  where
-    kept : (g h c x y : Bool) → (g && (not c || x)) ≡ true → ((g || h) && (not c || (x || y))) ≡ true
-    kept true h true true y e = refl
-    kept true h true false y e = absurd (false≢true e)
-    kept true h false x y e = refl
-    kept false h c x y e = absurd (false≢true e)
+written_step shape v a w q given = search (rules, false≢true)
 
 -- a counted record, from its marks and the steps that were counted before
 pub counts_on : (shape : Shape) (v : RingView) (r : RingRecord) → FollowsMarks shape v r → (before : ℕ) → ((q : ℕ) → q < before → is_step_given shape v q ≡ true) →
     ((q : ℕ) → before ≤ q → q < r.count → is_step_given shape v q ≡ true) → is_step_given shape v r.count ≡ false → FollowsRing shape v r
-counts_on shape v r marks before counted_ more stop = record {
-  marks = marks;
-  steps = λ q h. elim (cases_lt q before) [ inl early ↦ counted_ q early | inr late ↦ more q late h ];
-  stop = stop;
-}
+counts_on shape v r marks before counted_ more stop = search (rules, cases_lt)

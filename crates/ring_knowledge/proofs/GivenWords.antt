@@ -1,16 +1,13 @@
 -- What a write gives of a ring that a record follows
-use Rattle.ring_knowledge.specs.RingRecords.{IsFromFloor}
-use Rattle.ring_knowledge.specs.declared.ring_record.RingGiving.{RingGiving}
-use Rattle.ring_knowledge.proofs.Words.{List, Contains, nat_le, nat_lt, leb-true, subst, gives_is, position_given_is, ◌≡◌, ◌+◌, ◌%◌, ◌<◌, ◌≤◌, ◌∷◌, ◌∙◌, ◌&&◌, ℕ, [], Bool, true, false, Option, None, Some, refl, ap, sym, arith, get_or, cond, not, max, option_map, IfSome, eq-eqb, ne_eqb, and_parts, AtData, AtLink, Shape, place_count, link_crossed, place_at, number, RingView, floor_number, gives, gives_crossing, due_positions, due_crossings, positions_given, crossings_given, link_of, is_crossing-from, RingRecord, is_noted, Position, Crossing, FollowsMarks, is_the, least_crossing, positions_of, crossings_of}
+use Rattle.std.proofs.Common.{rules}
+use Rattle.ring_knowledge.proofs.Words.{IsFromFloor, RingGiving, List, Contains, nat_le, nat_lt, leb-true, subst, gives_is, position_given_is, ◌≡◌, ◌+◌, ◌%◌, ◌<◌, ◌≤◌, ◌∷◌, ◌∙◌, ◌&&◌, ℕ, [], Bool, true, false, Option, None, Some, refl, ap, sym, arith, get_or, cond, not, max, option_map, IfSome, eq-eqb, ne_eqb, and_parts, AtData, AtLink, Shape, place_count, link_crossed, place_at, number, RingView, floor_number, gives, gives_crossing, due_positions, due_crossings, positions_given, crossings_given, link_of, is_crossing-from, RingRecord, is_noted, Position, Crossing, FollowsMarks, is_the, least_crossing, positions_of, crossings_of}
 use Rattle.ring_knowledge.proofs.Noted.{noted_due, false_unless}
 use Rattle.ring_knowledge.proofs.Ranges.{filter_none, filter_only}
 use Rattle.ring_knowledge.proofs.DueNumbers.{link_of-crossed}
 use Rattle.ring_knowledge.proofs.DueWrites.{Gives, gives-true, GivesCrossing, gives_crossing-true}
+use Rattle.ring_knowledge.proofs.FlippedWords.{data_is}
 
-data_is : (i v j w : ℕ) → Some (AtData i v) ≡ Some (AtData j w) → i ≡ j
-data_is i v j w e = cc
-
-link_is : (i v j w : ℕ) → Some (AtLink i v) ≡ Some (AtLink j w) → i ≡ j
+pub link_is : (i v j w : ℕ) → Some (AtLink i v) ≡ Some (AtLink j w) → i ≡ j
 link_is i v j w e = cc
 
 yes_no : (b : Bool) → not b ≡ true → b ≡ true → ⊥
@@ -32,23 +29,11 @@ module _ (shape : Shape) (v : RingView) (r : RingRecord) (follows : FollowsMarks
     -- no position is given where none would be
     pub positions_none : ((p : ℕ) → gives shape r.floor p a w ≡ false) → positions_given shape v a w ≡ []
     unfolding positions_given due_positions
-    positions_none never =
-        filter_none (λ p. not (v.given p) && gives shape v.floor p a w) (floor_number v) (place_count shape)
-        (λ p low high. ap (λ b. not (v.given p) && b) (ap (λ f. gives shape f p a w) follows.floor ∙ never p) ∙ and_false (not (v.given p)))
-      where
-        and_false : (b : Bool) → (b && false) ≡ false
-        and_false true = refl
-        and_false false = refl
+    positions_none never = search (rules, filter_none)
 
     pub crossings_none : ((q : ℕ) → gives_crossing shape r.floor q a w ≡ false) → crossings_given shape v a w ≡ []
     unfolding crossings_given due_crossings
-    crossings_none never =
-        filter_none (λ q. not (v.crossed q) && gives_crossing shape v.floor q a w) (floor_number v) (place_count shape + 1)
-        (λ q low high. ap (λ b. not (v.crossed q) && b) (ap (λ f. gives_crossing shape f q a w) follows.floor ∙ never q) ∙ and_false (not (v.crossed q)))
-      where
-        and_false : (b : Bool) → (b && false) ≡ false
-        and_false true = refl
-        and_false false = refl
+    crossings_none never = search (rules, filter_none)
 
     -- nor where the due one is given already
     pub positions_marked : (i u : ℕ) → place_at shape a ≡ Some (AtData i u) → get_or r.given.items i false ≡ true → positions_given shape v a w ≡ []
@@ -140,6 +125,5 @@ given_at shape v a w giving p is at =
     leb-true (floor_number v) p (and_parts (nat_le (floor_number v) p) (nat_lt p (floor_number v + place_count shape)) due).0
 
 pub given_from : (shape : Shape) (v : RingView) (a w : ℕ) (giving : Option RingGiving) → positions_given shape v a w ≡ positions_of giving → IsFromFloor v giving
-given_from shape v a w None is = tt
 given_from shape v a w (Some (Position p)) is = given_at shape v a w (Some (Position p)) p is refl
-given_from shape v a w (Some (Crossing q)) is = tt
+given_from shape v a w _ is = tt

@@ -13,7 +13,6 @@ pub mod WholeDescriptors
 pub mod GivenCount
 pub mod ClearedMarks
 pub mod ReachedSpots
-pub mod FinishedBlocks
 pub mod RegisterWrites
 pub mod SpotsAt
 pub mod SpotsBetween

@@ -1,4 +1,5 @@
 -- What an event names, and where a pointer and a cycle state stand, by the first spot at an address
+use Rattle.std.proofs.Common.{rules}
 use Rattle.ring_knowledge.proofs.Words.{◌≡◌, ◌≢◌, ◌<◌, ◌≤◌, ◌∙◌, ◌^◌, ℕ, Bool, Option, Some, None, ap, sym, arith, inl, inr, subst, IfSome, find, Spot, Shape, IsSpot, number, spot_address, named_spot, RingView, declared, floor_number, named, is_target, spots_between, target, cases_option, rank_least, rank_most, IsNamed, named_spot-Some, named_spot-is, IsFirstAt}
 
 module _ (shape : Shape) (v : RingView) (is : IsSpot shape v.floor) (address : ℕ) where
@@ -20,14 +21,7 @@ module _ (shape : Shape) (v : RingView) (is : IsSpot shape v.floor) (address : �
     -- the first spot there is declared
     pub named_first : number t ≤ declared v → Some t ≡ named shape v address
     unfolding named
-    named_first within =
-        sym (named_spot-is shape v.floor (declared v) address t is (record {
-          spot = first.spot;
-          from = first.later;
-          within = within;
-          at = first.at;
-          least = λ u spot from near there. first.least u spot from there;
-        }))
+    named_first within = search (rules, named_spot-is, first)
 
     -- or it isn't
     pub named_beyond : declared v < number t → None ≡ named shape v address

@@ -1,23 +1,19 @@
 -- A new record follows a ring on which nothing happened
-use Rattle.ring_knowledge.proofs.Words.{drop, slice_index, ◌-◌, ◌≡◌, ◌+◌, ◌-◌, ◌*◌, ◌≤◌, ◌%◌, ◌∙◌, ◌&&◌, ℕ, List, [], Bool, true, false, Some, refl, ap, sym, arith, inl, inr, length, get_or, replicate, cases_lt, cases_Bool, common_steps, length-map, RingKind, Cmd, Evt, Xfer, Segment, Data, Shape, IsShape, place_count, links_of, is_crossing, new_ring, length_from, link_of, crossing_positive, RingRecord, is_noted, FollowsMarks, list_any, is_at, nat_cmp, false≢true}
+use Rattle.std.proofs.Common.{rules}
+use Rattle.ring_knowledge.proofs.Words.{drop, slice_index, ◌-◌, ◌≡◌, ◌+◌, ◌-◌, ◌*◌, ◌≤◌, ◌%◌, ◌∙◌, ◌&&◌, ℕ, List, [], Bool, true, false, Some, refl, ap, sym, arith, length, get_or, replicate, cases_lt, common_steps, length-map, RingKind, Evt, Segment, Data, Shape, IsShape, place_count, links_of, is_crossing, new_ring, length_from, link_of, crossing_positive, RingRecord, is_noted, FollowsMarks, list_any, is_at, nat_cmp, false≢true}
 use Rattle.ring_knowledge.proofs.Noted.{noted_due, noted_past}
 
 -- no more Links than segments
 few_links : (kind : RingKind) (segments : List Segment) → length (links_of kind segments) ≤ length segments
 few_links Evt segments = omega arith
-few_links Cmd segments = omega (arith, length-map segments (λ s. s.base + 16 * (s.count - 1)))
-few_links Xfer segments = omega (arith, length-map segments (λ s. s.base + 16 * (s.count - 1)))
+few_links _ segments = omega (arith, length-map segments (λ s. s.base + 16 * (s.count - 1)))
 
 at_false : (n p : ℕ) → get_or (replicate n false) p false ≡ false
 at_false n p = grind (arith, common_steps)
 
 -- with no mark nothing is noted from the least due number on
 none_noted : (least count : ℕ) (marks : List Bool) (many i n : ℕ) → marks ≡ replicate many false → least ≤ n → is_noted least count marks i n ≡ false
-none_noted least count marks many i n none from =
-    elim (cases_lt n (least + count)) [
-      | inl within ↦ noted_due least count marks i n from within ∙ ap (λ ms. get_or ms i false) none ∙ at_false many i
-      | inr past ↦ noted_past least count marks i n past
-    ]
+none_noted least count marks many i n none from = search (rules, replicate, cases_lt, noted_due, get_or, at_false, noted_past)
 
 and_false : (b : Bool) → (b && false) ≡ false
 and_false true = refl
@@ -25,13 +21,7 @@ and_false false = refl
 
 none_crossed : (shape : Shape) (marks : List Bool) (many q : ℕ) → marks ≡ replicate many false →
     false ≡ (is_crossing shape q && is_noted 1 (place_count shape) marks (link_of shape q) q)
-none_crossed shape marks many q none =
-    elim (cases_Bool (is_crossing shape q)) [
-      | inl crossing ↦
-          let positive = crossing_positive shape q crossing in
-          sym (ap (λ b. is_crossing shape q && b) (none_noted 1 (place_count shape) marks many (link_of shape q) q none (omega arith)) ∙ and_false (is_crossing shape q))
-      | inr other ↦ sym (ap (λ b. b && is_noted 1 (place_count shape) marks (link_of shape q) q) other)
-    ]
+none_crossed shape marks many q none = search (rules, replicate, crossing_positive, none_noted, and_false)
 
 pub new_marks : (shape : Shape) → IsShape shape → 2 ≤ place_count shape → (r : RingRecord) → r.forgotten ≡ 0 → r.blocks.items ≡ [] → r.lengths.items ≡ []
     → r.given.items ≡ replicate (place_count shape) false → r.crossed.items ≡ replicate (length shape.segments) false

@@ -1,5 +1,6 @@
 -- A record with the mark of what a write gives follows what is known after the write
-use Rattle.ring_knowledge.proofs.Words.{drop, ◌≡◌, ◌+◌, ◌%◌, ◌<◌, ◌≤◌, ◌∷◌, ◌∙◌, ◌==◌, ◌&&◌, ◌||◌, ℕ, suc, zero, List, [], Bool, true, false, None, Some, refl, get_or, ap, sym, arith, inl, inr, length, set, subst, not, Contains, eq-eqb, ne_eqb, length-set, mod-lt, cases_Bool, cases_eq, false≢true, Shape, place_count, links, link_crossed, is_crossing, RingView, Writes, changed, floor_number, gives, gives_crossing, positions_given, crossings_given, is_step_given, is_way_given, link_of, place_count_pos, crossed_link, is_crossing-from, gives_is, position_given, position_given_is, crossing_given, crossing_given_is, RingRecord, is_noted, FollowsMarks, FollowsRing, least_crossing, contains, nat_cmp, or_left}
+use Rattle.std.proofs.Common.{rules}
+use Rattle.ring_knowledge.proofs.Words.{drop, ◌≡◌, ◌+◌, ◌%◌, ◌<◌, ◌≤◌, ◌∷◌, ◌∙◌, ◌==◌, ◌&&◌, ◌||◌, ℕ, List, [], Bool, true, false, None, Some, refl, get_or, ap, sym, arith, inl, inr, length, set, subst, Contains, eq-eqb, ne_eqb, length-set, mod-lt, cases_Bool, false≢true, Shape, place_count, links, link_crossed, is_crossing, RingView, Writes, changed, floor_number, gives, gives_crossing, positions_given, crossings_given, is_step_given, is_way_given, link_of, place_count_pos, crossed_link, is_crossing-from, gives_is, position_given, position_given_is, crossing_given, crossing_given_is, RingRecord, is_noted, FollowsMarks, FollowsRing, least_crossing, contains, nat_cmp, or_left}
 use Rattle.ring_knowledge.proofs.Noted.{false_unless, noted_more}
 use Rattle.ring_knowledge.proofs.DueNumbers.{same_due, same_due_crossing, link_of-crossed}
 use Rattle.ring_knowledge.proofs.DueWrites.{GivesCrossing, gives_crossing-true}
@@ -8,11 +9,7 @@ none_in : (n : ℕ) → Contains [] n → ⊥
 none_in n c = omega (arith, c.1)
 
 one_in : (m n : ℕ) → Contains (m ∷ []) n → n ≡ m
-one_in m n c = by c.0 c.1 c.2
-  where
-    by : (i : ℕ) → i < length (m ∷ []) → get_or (m ∷ []) i n ≡ n → n ≡ m
-    by zero below at = sym at
-    by (suc i) below at = absurd (omega (arith, below))
+one_in m n c = search (rules, length, get_or)
 
 none_some : (j : ℕ) → None ≡ Some j → ⊥
 none_some j e = cc
@@ -26,13 +23,7 @@ module _ (given gives_it : ℕ → Bool) (now : List ℕ) (there : (n : ℕ) →
   ]
 
   pub one_more : (m : ℕ) → now ≡ m ∷ [] → gives_it m ≡ true → (n : ℕ) → (given n || gives_it n) ≡ (given n || (n == m))
-  one_more m one is n = elim (cases_eq n m) [
-    | inl same ↦ ap (λ b. given n || b) (ap gives_it same ∙ is ∙ sym (eq-eqb n m same))
-    | inr other ↦ elim (cases_Bool (given n)) [
-      | inl old ↦ rw old refl
-      | inr new ↦ ap (λ b. given n || b) (false_unless (gives_it n) (λ e. other (one_in m n (subst (λ xs. Contains xs n) one (there n new e)))) ∙ sym (ne_eqb n m other))
-    ]
-  ]
+  one_more m one is n = search (rules, eq-eqb, false_unless, one_in, ne_eqb)
 
 -- a record with other marks and all else the same
 pub record HasMarks (r n : RingRecord) (given crossed : List Bool) : Type 0 where
@@ -97,17 +88,7 @@ module _ (shape : Shape) (v : RingView) (a w : ℕ) where
     -- a write that gives nothing
     pub nothing_noted : FollowsRing shape v r → positions_given shape v a w ≡ [] → crossings_given shape v a w ≡ [] → FollowsRing shape (changed shape v (Writes a w)) r
     unfolding is_step_given is_way_given
-    nothing_noted known no_position no_crossing = record {
-      marks = with_marks r.given.items r.crossed.items refl refl (λ p. positions_still no_position p ∙ follows.given p) (λ q. crossings_still no_crossing q ∙ follows.crossed q)
-          r (record { forgotten = refl; blocks = refl; lengths = refl; floor = refl; held = refl; withdrawn = refl; free = refl; given_is = refl; crossed_is = refl });
-      steps = λ q h. same q ∙ known.steps q h;
-      stop = same r.count ∙ known.stop;
-    }
-      where
-        same : (q : ℕ) → is_step_given shape (changed shape v (Writes a w)) q ≡ is_step_given shape v q
-        same q =
-            ap (λ b. b && (not (is_crossing shape q) || (v.crossed q || gives_crossing shape v.floor q a w))) (positions_still no_position q)
-            ∙ ap (λ b. v.given q && (not (is_crossing shape q) || b)) (crossings_still no_crossing q)
+    nothing_noted known no_position no_crossing = search (rules, with_marks, positions_still, crossings_still)
 
     -- a write that gives position m
     pub position_noted : (m : ℕ) → positions_given shape v a w ≡ m ∷ [] → crossings_given shape v a w ≡ [] →

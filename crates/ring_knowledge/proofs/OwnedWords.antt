@@ -1,22 +1,16 @@
 -- Which words of a ring its controller may own, by the place of the address
-use Rattle.ring_knowledge.proofs.Words.{◌≡◌, ◌+◌, ◌/◌, ◌%◌, ◌<◌, ◌≤◌, ◌∙◌, ◌&&◌, ◌||◌, ℕ, Bool, true, false, Some, None, refl, ap, sym, arith, length, slice_index, get_or, nat_lt, lt-ltb, ltb-true, list_any, range_with_len, and_parts, and_from, Place, AtData, AtLink, Shape, place_count, address_of, links, link_crossed, is_crossing, link_address, overlap, place_at, RingView, floor_number, due_positions, due_crossings, leased_positions, leased_crossings, is_handed_over, contains, nat_cmp, not, link_of, place_count_pos, place_below, address_aligned, address_of-first, address_of-mod, link_aligned, crosses, crossed_link, crossing_positive, is_crossing-from, link_address_is, place_at-data, place_at-link, place_at-Data, place_at-Link, RingRecord, is_noted, FollowsMarks, least_crossing}
-use Rattle.ring_knowledge.proofs.Noted.{noted_due, noted_within, false_unless, or_false}
-use Rattle.ring_knowledge.proofs.Ranges.{any_filtered, any_none, any_only}
+use Rattle.std.proofs.Common.{rules}
+use Rattle.ring_knowledge.proofs.Words.{◌≡◌, ◌+◌, ◌/◌, ◌%◌, ◌<◌, ◌≤◌, ◌∙◌, ◌&&◌, ◌||◌, ℕ, Bool, true, false, Some, None, refl, ap, sym, arith, length, slice_index, get_or, nat_lt, lt-ltb, ltb-true, list_any, range_with_len, and_parts, and_from, AtData, AtLink, Shape, place_count, address_of, links, link_crossed, is_crossing, link_address, overlap, place_at, RingView, floor_number, due_positions, due_crossings, leased_positions, leased_crossings, is_handed_over, contains, nat_cmp, not, link_of, place_count_pos, place_below, address_aligned, address_of-first, address_of-mod, link_aligned, crosses, crossed_link, crossing_positive, is_crossing-from, link_address_is, place_at-data, place_at-link, place_at-Data, place_at-Link, RingRecord, is_noted, FollowsMarks, least_crossing}
+use Rattle.ring_knowledge.proofs.Noted.{noted_due, noted_within, false_unless}
+use Rattle.ring_knowledge.proofs.Ranges.{any_filtered, any_none, any_only, or_false}
 use Rattle.ring_knowledge.proofs.DueNumbers.{IsDue, link_of-crossed, due_number, same_due, due_crossing, same_due_crossing}
-use Rattle.ring_knowledge.proofs.DueWrites.{data_no_link}
+use Rattle.ring_knowledge.proofs.DueWrites.{data_no_link, none_some}
+use Rattle.ring_knowledge.proofs.FlippedWords.{data_is}
+use Rattle.ring_knowledge.proofs.GivenWords.{link_is}
 
 -- a word and a block with a byte in common: the word is one of the block's
 word_inside : (a b : ℕ) → a % 4 ≡ 0 → b % 16 ≡ 0 → a < b + 16 → b < a + 4 → b ≤ a
 word_inside a b word block near far = omega arith
-
-data_is : (i v j w : ℕ) → Some (AtData i v) ≡ Some (AtData j w) → i ≡ j
-data_is i v j w e = cc
-
-link_is : (i v j w : ℕ) → Some (AtLink i v) ≡ Some (AtLink j w) → i ≡ j
-link_is i v j w e = cc
-
-some_none : (p : Place) → None ≡ Some p → ⊥
-some_none p e = cc
 
 module _ (shape : Shape) (v : RingView) (r : RingRecord) (follows : FollowsMarks shape v r) (a : ℕ) (word : a % 4 ≡ 0) where
   -- a word with a byte of a position's block is a word of its place
@@ -54,11 +48,7 @@ module _ (shape : Shape) (v : RingView) (r : RingRecord) (follows : FollowsMarks
   crossings_are = any_filtered (λ q. overlap a 4 (link_address shape q) 16) (λ q. is_crossing shape q && v.crossed q) (range_with_len (floor_number v) (place_count shape + 1))
 
   no_positions : ((j w : ℕ) → place_at shape a ≡ Some (AtData j w) → ⊥) → list_any (λ p. overlap a 4 (address_of shape p) 16) (leased_positions shape v) ≡ false
-  no_positions never =
-      positions_are
-      ∙ any_none (λ p. is_handed_over v p && overlap a 4 (address_of shape p) 16) (floor_number v) (place_count shape)
-      (λ p low high. false_unless (is_handed_over v p && overlap a 4 (address_of shape p) 16)
-      (λ h. never (p % place_count shape) (a % 16 / 4) (of_place p (and_parts (is_handed_over v p) (overlap a 4 (address_of shape p) 16) h).1)))
+  no_positions never = search (rules, positions_are, any_none, false_unless, of_place, and_parts)
 
   no_crossings : ((j w : ℕ) → place_at shape a ≡ Some (AtLink j w) → ⊥) → list_any (λ q. overlap a 4 (link_address shape q) 16) (leased_crossings shape v) ≡ false
   no_crossings never =
@@ -157,6 +147,6 @@ module _ (shape : Shape) (v : RingView) (r : RingRecord) (follows : FollowsMarks
   pub owned_nowhere : place_at shape a ≡ None → false
       ≡ (list_any (λ p. overlap a 4 (address_of shape p) 16) (leased_positions shape v) || list_any (λ q. overlap a 4 (link_address shape q) 16) (leased_crossings shape v))
   owned_nowhere at =
-      let positions = no_positions (λ j u e. some_none (AtData j u) (sym at ∙ e)) in
-      let crossings = no_crossings (λ j u e. some_none (AtLink j u) (sym at ∙ e)) in
+      let positions = no_positions (λ j u e. none_some (AtData j u) (sym at ∙ e)) in
+      let crossings = no_crossings (λ j u e. none_some (AtLink j u) (sym at ∙ e)) in
       sym (ap (λ b. b || list_any (λ q. overlap a 4 (link_address shape q) 16) (leased_crossings shape v)) positions ∙ crossings)

@@ -1,5 +1,5 @@
 -- Tests over a run of numbers of which at most one passes
-use Rattle.ring_knowledge.proofs.Words.{◌≡◌, ◌≢◌, ◌+◌, ◌<◌, ◌≤◌, ◌∷◌, ◌∙◌, ◌||◌, ◌&&◌, ℕ, suc, zero, List, [], Bool, true, false, refl, ap, sym, arith, inl, inr, cond, filter, range_with_len, list_any, list_all, cases_eq}
+use Rattle.ring_knowledge.proofs.Words.{◌≡◌, ◌≢◌, ◌+◌, ◌<◌, ◌≤◌, ◌∷◌, ◌∙◌, ◌||◌, ◌&&◌, ℕ, suc, zero, List, [], Bool, true, false, refl, ap, sym, arith, inl, inr, cond, filter, range_with_len, list_any, cases_eq}
 
 -- no number passes
 pub any_none : (f : ℕ → Bool) (a n : ℕ) → ((p : ℕ) → a ≤ p → p < a + n → f p ≡ false) → list_any f (range_with_len a n) ≡ false
@@ -46,30 +46,6 @@ filter_only f a (suc n) j l u h =
           let rest : filter f (range_with_len (a + 1) n) ≡ cond (f j) (j ∷ []) [] = filter_only f (a + 1) n j (omega arith) (omega arith) (λ p l' u' ne. h p (omega arith) (omega arith) ne) in
           rw (here, rest) refl
     ]
-
--- each number passes
-pub all_from : (f : ℕ → Bool) (a n : ℕ) → ((p : ℕ) → a ≤ p → p < a + n → f p ≡ true) → list_all f (range_with_len a n) ≡ true
-all_from f a zero h = refl
-all_from f a (suc n) h =
-    let here : f a ≡ true = h a (omega arith) (omega arith) in
-    let rest : list_all f (range_with_len (a + 1) n) ≡ true = all_from f (a + 1) n (λ p l u. h p (omega arith) (omega arith)) in
-    rw (here, rest) refl
-
-pub all_each : (f : ℕ → Bool) (a n : ℕ) → list_all f (range_with_len a n) ≡ true → (p : ℕ) → a ≤ p → p < a + n → f p ≡ true
-all_each f a zero h p l u = absurd (omega arith)
-all_each f a (suc n) h p l u =
-    elim (cases_eq a p) [
-      | inl same ↦ ap f (sym same) ∙ and_left (f a) (list_all f (range_with_len (a + 1) n)) h
-      | inr other ↦ all_each f (a + 1) n (and_right (f a) (list_all f (range_with_len (a + 1) n)) h) p (omega arith) (omega arith)
-    ]
-  where
-    and_left : (x y : Bool) → (x && y) ≡ true → x ≡ true
-    and_left true y e = refl
-    and_left false y e = absurd (cc)
-
-    and_right : (x y : Bool) → (x && y) ≡ true → y ≡ true
-    and_right true y e = e
-    and_right false y e = absurd (cc)
 
 -- where none passes, each number doesn't
 pub none_each : (f : ℕ → Bool) (a n : ℕ) → list_any f (range_with_len a n) ≡ false → (p : ℕ) → a ≤ p → p < a + n → f p ≡ false

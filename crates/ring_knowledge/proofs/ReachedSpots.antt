@@ -1,26 +1,26 @@
 -- A record whose floor has moved on: the marks of what the controller has passed are cleared
-use Rattle.ring_knowledge.proofs.Words.{drop, ◌≡◌, ◌+◌, ◌-◌, ◌%◌, ◌<◌, ◌≤◌, ◌∙◌, ◌&&◌, ◌||◌, ℕ, List, Bool, true, false, Some, ap, sym, arith, inl, inr, length, not, max, cases_lt, cases_Bool, and_parts, false≢true, add-mod_right, Spot, Data, Link, Shape, place_count, link_crossed, is_crossing, number, RingView, Reaches, changed, floor_number, is_way_given, is_reached, are_given, are_ways_given, link_of, place_count_pos, crossed_link, crossing_positive, is_crossing-from, link_crossed-lap, RingRecord, AreCleared, is_noted, FollowsMarks, least_crossing, contains, nat_cmp}
-use Rattle.ring_knowledge.proofs.Ranges.{all_each}
+use Rattle.std.proofs.Common.{rules}
+use Rattle.ring_knowledge.proofs.Words.{in_range_all, drop, ◌≡◌, ◌+◌, ◌-◌, ◌%◌, ◌<◌, ◌≤◌, ◌∙◌, ◌&&◌, ◌||◌, ℕ, List, Bool, true, false, Some, ap, sym, arith, inl, inr, length, not, max, cases_lt, cases_Bool, and_parts, false≢true, add-mod_right, Spot, Data, Link, Shape, place_count, link_crossed, is_crossing, number, RingView, Reaches, changed, floor_number, is_way_given, is_reached, are_given, are_ways_given, link_of, place_count_pos, crossed_link, crossing_positive, is_crossing-from, link_crossed-lap, RingRecord, AreCleared, is_noted, FollowsMarks, least_crossing}
 use Rattle.ring_knowledge.proofs.Noted.{noted_below, noted_due, noted_past}
 use Rattle.ring_knowledge.proofs.DueNumbers.{same_due, same_due_crossing, link_of-crossed}
 
 -- before a spot that is reached all positions are given
 pub reached_given : (shape : Shape) (v : RingView) (spot : Spot) → is_reached shape v spot ≡ true → (p : ℕ) → p < number spot → v.given p ≡ true
 unfolding is_reached are_given
-reached_given shape v (Data q) reached p below = all_each v.given 0 q (and_parts (are_given v q) (are_ways_given shape v q) reached).0 p (omega arith) (omega arith)
-reached_given shape v (Link q) reached p below = all_each v.given 0 q (and_parts (are_given v q) (are_ways_given shape v (q - 1)) reached).0 p (omega arith) (omega arith)
+reached_given shape v (Data q) reached p below = in_range_all v.given 0 q (and_parts (are_given v q) (are_ways_given shape v q) reached).0 p (omega arith) (omega arith)
+reached_given shape v (Link q) reached p below = in_range_all v.given 0 q (and_parts (are_given v q) (are_ways_given shape v (q - 1)) reached).0 p (omega arith) (omega arith)
 
 -- and all crossings
 pub reached_crossed : (shape : Shape) (v : RingView) (spot : Spot) → is_reached shape v spot ≡ true → (q : ℕ) → is_crossing shape q ≡ true → 0 < q → q < number spot → v.crossed q ≡ true
 unfolding is_reached are_ways_given is_way_given
 reached_crossed shape v (Data n) reached q crossing positive below =
-    is_crossed (is_crossing shape q) (v.crossed q) crossing (all_each (is_way_given shape v) 1 n (and_parts (are_given v n) (are_ways_given shape v n) reached).1 q positive (omega arith))
+    is_crossed (is_crossing shape q) (v.crossed q) crossing (in_range_all (is_way_given shape v) 1 n (and_parts (are_given v n) (are_ways_given shape v n) reached).1 q positive (omega arith))
   where
     is_crossed : (c x : Bool) → c ≡ true → (not c || x) ≡ true → x ≡ true
     is_crossed true x c h = h
     is_crossed false x c h = absurd (false≢true c)
 reached_crossed shape v (Link n) reached q crossing positive below =
-    is_crossed (is_crossing shape q) (v.crossed q) crossing (all_each (is_way_given shape v) 1 (n - 1) (and_parts (are_given v n) (are_ways_given shape v (n - 1)) reached).1 q positive (omega arith))
+    is_crossed (is_crossing shape q) (v.crossed q) crossing (in_range_all (is_way_given shape v) 1 (n - 1) (and_parts (are_given v n) (are_ways_given shape v (n - 1)) reached).1 q positive (omega arith))
   where
     is_crossed : (c x : Bool) → c ≡ true → (not c || x) ≡ true → x ≡ true
     is_crossed true x c h = h
@@ -119,24 +119,4 @@ module _ (shape : Shape) (v : RingView) (r : RingRecord) (follows : FollowsMarks
   -- the record with the new floor
   pub reached_marks : (n : RingRecord) → HasFloor r n spot → AreCleared (λ p i. p % place_count shape ≡ i) r.given.items n.given.items (floor_number v) (number spot) →
       AreCleared (λ q j. link_crossed shape q ≡ Some j) r.crossed.items n.crossed.items (floor_number v) (number spot) → FollowsMarks shape (changed shape v (Reaches spot)) n
-  reached_marks n has given crossed = record {
-    allowed = follows.allowed;
-    passed = omega (arith, follows.passed, has.forgotten, later);
-    queue = ap (λ k. drop k v.queue) has.forgotten ∙ follows.queue ∙ sym has.blocks;
-    count = omega (arith, follows.count, has.forgotten, ap length has.blocks);
-    floor = sym has.floor;
-    held = follows.held ∙ sym has.held;
-    begins = rw (has.lengths, has.forgotten) follows.begins;
-    as_many = ap length has.lengths ∙ follows.as_many ∙ sym (ap length has.blocks);
-    whole = follows.whole;
-    positive = follows.positive;
-    room = omega (arith, follows.room);
-    places = given.as_many ∙ follows.places;
-    given = given_now n.given.items given;
-    segments = omega (arith, follows.segments, crossed.as_many);
-    crossed = crossed_now n.crossed.items crossed;
-    withdrawn = λ p kept. follows.withdrawn p (omega (arith, has.forgotten, kept)) ∙ ap (λ s. contains nat_cmp s p) (sym has.withdrawn);
-    free = λ p. follows.free p ∙ ap (λ s. contains nat_cmp s p) (sym has.free);
-    free_withdrawn = follows.free_withdrawn;
-    free_given = follows.free_given;
-  }
+  reached_marks n has given crossed = search (rules, drop, length, given_now, crossed_now)

@@ -1,4 +1,5 @@
 -- The first spot from another one on at an address, by the place of the address
+use Rattle.std.proofs.Common.{rules}
 use Rattle.ring_knowledge.proofs.Words.{◌≡◌, ◌≢◌, ◌+◌, ◌%◌, ◌<◌, ◌≤◌, ◌∙◌, ℕ, Some, None, refl, ap, sym, arith, inl, inr, slice_index, cases_lt, AtData, AtLink, Spot, Data, Link, Shape, IsShape, place_count, address_of, links, link_crossed, link_address, place_at, IsSpot, number, rank, spot_address, link_aligned, address_aligned, address_of-mod, same_position, place_at-Data, place_at-Link, place_at-None, place_at-None_link, crosses, crossed_link, crossing_positive, is_crossing-from, link_address_is, same_crossing_at, rank_least, rank_most, data_not_link, IsFirstAt}
 
 module _ (shape : Shape) (is : IsShape shape) (address : ℕ) where
@@ -23,14 +24,8 @@ module _ (shape : Shape) (is : IsShape shape) (address : ℕ) where
     -- no spot at the address of a position comes before it, less than a lap from another one on
     least_position : (p : ℕ) → p < number from + place_count shape → address_of shape p ≡ address → (u : Spot) → IsSpot shape u → rank from ≤ rank u →
         spot_address shape u ≡ address → rank (Data p) ≤ rank u
-    least_position p near at (Link q) spot later same = absurd (data_not_link shape is p q spot (at ∙ sym same))
-    least_position p near at (Data q) spot later same =
-        elim (cases_lt q p) [
-          | inl before ↦
-              let one : q ≡ p = same_position shape is q p (omega arith) (omega (arith, rank_least from)) (same ∙ sym at) in
-              absurd (omega arith)
-          | inr behind ↦ omega arith
-        ]
+    least_position p near at (Link q) spot later same = search (rules, data_not_link, cases_lt, same_position, rank_least)
+    least_position p near at (Data q) spot later same = search (rules, data_not_link, cases_lt, same_position, rank_least)
 
     -- the position that is due at the place of an address
     pub first_position : (place word p : ℕ) → place_at shape address ≡ Some (AtData place word) → number from ≤ p → p < number from + place_count shape →

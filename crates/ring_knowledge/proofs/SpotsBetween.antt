@@ -1,4 +1,5 @@
 -- The one spot, with a number between two that are less than a lap apart, at which a pointer and a cycle state stand
+use Rattle.std.proofs.Common.{rules}
 use Rattle.ring_knowledge.proofs.Words.{◌≡◌, ◌≢◌, ◌+◌, ◌-◌, ◌<◌, ◌≤◌, ◌∷◌, ◌∙◌, ◌==◌, ◌&&◌, if◌then◌else◌, ℕ, suc, zero, List, [], refl, Bool, true, false, Some, None, ap, sym, arith, inl, inr, find, eqb-true, eq-eqb, flat_map, range_with_len, cases_lt, cases_eq, cases_Bool, cond-true, cond-false, and_parts, and_from, false≢true, false_from_ne_true, Spot, Data, Link, Shape, IsShape, place_count, IsSpot, is_spot, number, rank, spot_address, spot_cycle, is_target, spots_between, rank_least, rank_most, same_spot, IsFirstAt}
 
 -- ---- a search among the spots with n numbers from a on
@@ -62,11 +63,7 @@ target_cycle shape address cycle t h = (and_parts (is_spot shape t && spot_addre
 -- two spots at one address, with numbers less than a lap apart, are one
 pub one_between : (shape : Shape) → IsShape shape → (least most : ℕ) → most < least + place_count shape → (s t : Spot) → IsSpot shape s → IsSpot shape t →
     least ≤ number s → number s ≤ most → least ≤ number t → number t ≤ most → spot_address shape s ≡ spot_address shape t → s ≡ t
-one_between shape is least most near s t a b from to from' to' same =
-    elim (cases_lt (rank s) (rank t)) [
-      | inl lower ↦ same_spot shape is s t a b (omega arith) (omega (arith, rank_least s, rank_most t)) same
-      | inr upper ↦ sym (same_spot shape is t s b a upper (omega (arith, rank_least t, rank_most s)) (sym same))
-    ]
+one_between shape is least most near s t a b from to from' to' same = search (rules, cases_lt, same_spot, rank_least, rank_most)
 
 module _ (shape : Shape) (is : IsShape shape) (address : ℕ) (cycle : Bool) (least most : ℕ) where
   -- with no spot at the address there is none

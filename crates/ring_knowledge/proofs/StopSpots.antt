@@ -1,6 +1,6 @@
 -- A spot at which a controller may have stopped is one before which all is given, on a ring that a record follows
-use Rattle.ring_knowledge.proofs.Words.{◌≡◌, ◌≢◌, ◌+◌, ◌-◌, ◌<◌, ◌≤◌, ◌∙◌, ◌==◌, ◌&&◌, ◌||◌, ℕ, suc, zero, Bool, true, false, None, Some, refl, ap, sym, arith, inl, inr, not, is_some, nat_lt, nat_le, lt-ltb, le-ltb, le-leb, leb-true, ltb-true, eq-eqb, eqb-true, ne_eqb, cases_lt, cases_eq, and_parts, and_from, or_cases, or_left, or_right, false≢true, Spot, Data, Link, Shape, place_count, is_crossing, link_crossed, RingView, is_way_given, is_step_given, given_count, is_stop_spot, stopped_number, is_reached, are_given, are_ways_given, link_of, is_crossing-from, RingRecord, is_noted, FollowsMarks, FollowsRing, least_crossing}
-use Rattle.ring_knowledge.proofs.Ranges.{all_from, all_each}
+use Rattle.std.proofs.Common.{rules}
+use Rattle.ring_knowledge.proofs.Words.{in_range_all, all_in_range, ◌≡◌, ◌≢◌, ◌+◌, ◌-◌, ◌<◌, ◌≤◌, ◌∙◌, ◌&&◌, ◌||◌, ℕ, suc, zero, Bool, true, false, None, Some, refl, ap, sym, arith, inl, inr, not, is_some, nat_lt, nat_le, lt-ltb, le-ltb, le-leb, leb-true, ltb-true, eq-eqb, eqb-true, ne_eqb, cases_lt, and_parts, and_from, or_cases, or_left, or_right, false≢true, Spot, Data, Link, Shape, place_count, is_crossing, link_crossed, RingView, is_way_given, is_step_given, given_count, is_stop_spot, stopped_number, is_reached, are_given, are_ways_given, link_of, is_crossing-from, RingRecord, is_noted, FollowsMarks, FollowsRing, least_crossing}
 use Rattle.ring_knowledge.proofs.DueNumbers.{link_of-crossed}
 use Rattle.ring_knowledge.proofs.GivenCount.{count_is}
 
@@ -42,30 +42,25 @@ step_both shape v q given way = and_from (v.given q) (is_way_given shape v q) gi
 module _ (shape : Shape) (v : RingView) where
   given_at : (n : ℕ) → are_given v n ≡ true → (p : ℕ) → p < n → v.given p ≡ true
   unfolding are_given
-  given_at n all p below = all_each v.given 0 n all p (omega arith) (omega arith)
+  given_at n all p below = in_range_all v.given 0 n all p (omega arith) (omega arith)
 
   way_at : (n : ℕ) → are_ways_given shape v n ≡ true → (q : ℕ) → q ≤ n → is_way_given shape v q ≡ true
   unfolding are_ways_given is_way_given
   way_at n all zero near = refl
-  way_at n all (suc q) near = all_each (is_way_given shape v) 1 n all (suc q) (omega arith) (omega arith)
+  way_at n all (suc q) near = in_range_all (is_way_given shape v) 1 n all (suc q) (omega arith) (omega arith)
 
   all_given : (n : ℕ) → ((p : ℕ) → p < n → is_step_given shape v p ≡ true) → are_given v n ≡ true
   unfolding are_given
-  all_given n steps = all_from v.given 0 n (λ p low high. (step_parts shape v p (steps p (omega arith))).0)
+  all_given n steps = all_in_range v.given 0 n (λ p low high. (step_parts shape v p (steps p (omega arith))).0)
 
   all_ways : (n : ℕ) → ((q : ℕ) → 0 < q → q ≤ n → is_way_given shape v q ≡ true) → are_ways_given shape v n ≡ true
   unfolding are_ways_given
-  all_ways n ways = all_from (is_way_given shape v) 1 n (λ q low high. ways q (omega arith) (omega arith))
+  all_ways n ways = all_in_range (is_way_given shape v) 1 n (λ q low high. ways q (omega arith) (omega arith))
 
   -- a block up to which all steps are given, with the way to it
   pub reached_block : (q : ℕ) → ((p : ℕ) → p < q → is_step_given shape v p ≡ true) → is_way_given shape v q ≡ true → is_reached shape v (Data q) ≡ true
   unfolding is_reached
-  reached_block q steps way =
-      and_from (are_given v q) (are_ways_given shape v q) (all_given q steps)
-      (all_ways q (λ p some near. elim (cases_eq p q) [
-        | inl last ↦ ap (λ n. is_way_given shape v n) last ∙ way
-        | inr before ↦ (step_parts shape v p (steps p (omega arith))).1
-      ]))
+  reached_block q steps way = search (rules, and_from, all_given, all_ways, step_parts)
 
   pub reached_link : (q : ℕ) → ((p : ℕ) → p < q → is_step_given shape v p ≡ true) → is_reached shape v (Link q) ≡ true
   unfolding is_reached
@@ -106,42 +101,16 @@ module _ (shape : Shape) (v : RingView) (r : RingRecord) (known : FollowsRing sh
 
   pub stop_elsewhere : (p : ℕ) → p ≢ r.count → nat_lt p r.count ≡ is_stop_spot shape v (Data p)
   unfolding is_stop_spot
-  stop_elsewhere p other =
-      let count = count_is shape v r known in
-      let differs : (p == given_count shape v) ≡ false = ne_eqb p (given_count shape v) (λ same. other (same ∙ sym count)) in
-      sym (ap (λ b. nat_lt p (given_count shape v) || (b && is_way_given shape v p)) differs ∙ or_false (nat_lt p (given_count shape v)) ∙ ap (λ n. nat_lt p n) (sym count))
-    where
-      or_false : (b : Bool) → (b || false) ≡ b
-      or_false true = refl
-      or_false false = refl
+  stop_elsewhere p other = search (rules, nat_lt, count_is, ne_eqb)
 
   -- a block is reached exactly there
   block_stop : (q : ℕ) → is_reached shape v (Data q) ≡ true → is_stop_spot shape v (Data q) ≡ true
   unfolding is_stop_spot
-  block_stop q reached =
-      let count = count_is shape v r known in
-      let steps = steps_to_block shape v q reached in
-      let near : q ≤ given_count shape v = omega (arith, within_count q steps.0) in
-      elim (cases_lt q (given_count shape v)) [
-        | inl below ↦ or_left (nat_lt q (given_count shape v)) (q == given_count shape v && is_way_given shape v q) (lt-ltb q (given_count shape v) below)
-        | inr from ↦
-            or_right (nat_lt q (given_count shape v)) (q == given_count shape v && is_way_given shape v q)
-            (and_from (q == given_count shape v) (is_way_given shape v q) (eq-eqb q (given_count shape v) (omega arith)) steps.1)
-      ]
+  block_stop q reached = search (rules, count_is, steps_to_block, within_count, cases_lt, or_left, nat_lt, lt-ltb, or_right, and_from, eq-eqb)
 
   block_reached : (q : ℕ) → is_stop_spot shape v (Data q) ≡ true → is_reached shape v (Data q) ≡ true
   unfolding is_stop_spot
-  block_reached q stop =
-      let count = count_is shape v r known in
-      elim (or_cases (nat_lt q (given_count shape v)) (q == given_count shape v && is_way_given shape v q) stop) [
-        | inl below ↦
-            let near = ltb-true q (given_count shape v) below in
-            reached_block shape v q (λ p h. known.steps p (omega arith)) (step_parts shape v q (known.steps q (omega arith))).1
-        | inr end ↦
-            let parts = and_parts (q == given_count shape v) (is_way_given shape v q) end in
-            let same = eqb-true q (given_count shape v) parts.0 in
-            reached_block shape v q (λ p h. known.steps p (omega arith)) parts.1
-      ]
+  block_reached q stop = search (rules, count_is, or_cases, nat_lt, ltb-true, reached_block, step_parts, and_parts, eqb-true)
 
   link_stop : (q : ℕ) → is_reached shape v (Link q) ≡ true → is_stop_spot shape v (Link q) ≡ true
   unfolding is_stop_spot

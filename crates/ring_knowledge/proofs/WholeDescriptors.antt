@@ -1,6 +1,5 @@
 -- Whether the further blocks of a descriptor are given, on a ring that a record follows
-use Rattle.ring_knowledge.proofs.Words.{◌≡◌, ◌+◌, ◌-◌, ◌%◌, ◌<◌, ◌≤◌, ◌∙◌, ◌&&◌, ◌||◌, ℕ, List, Bool, true, false, Some, None, refl, ap, sym, arith, slice_index, not, is_some, list_all, range_with_len, Shape, place_count, link_crossed, is_crossing, RingView, floor_number, is_step_given, is_way_given, is_not_whole, descriptor_length, link_of, is_crossing-from, RingRecord, is_noted, FollowsMarks, least_crossing}
-use Rattle.ring_knowledge.proofs.Ranges.{all_from, all_each}
+use Rattle.ring_knowledge.proofs.Words.{in_range_all, all_in_range, ◌≡◌, ◌+◌, ◌-◌, ◌%◌, ◌<◌, ◌≤◌, ◌∙◌, ◌&&◌, ◌||◌, ℕ, List, Bool, true, false, Some, None, refl, ap, sym, arith, slice_index, not, is_some, list_all, range_with_len, Shape, place_count, link_crossed, is_crossing, RingView, floor_number, is_step_given, is_way_given, is_not_whole, descriptor_length, link_of, is_crossing-from, RingRecord, is_noted, FollowsMarks, least_crossing}
 use Rattle.ring_knowledge.proofs.DueNumbers.{link_of-crossed}
 
 module _ (shape : Shape) (v : RingView) (r : RingRecord) (follows : FollowsMarks shape v r) where
@@ -38,7 +37,7 @@ module _ (shape : Shape) (v : RingView) (r : RingRecord) (follows : FollowsMarks
   pub whole : (p : ℕ) → r.forgotten ≤ p → ((o : ℕ) → 1 ≤ o → o < length_of p → is_step_given shape v (p + o) ≡ true) → true ≡ not (is_not_whole shape v p)
   whole p kept h =
       let all : list_all (λ q. is_step_given shape v q) (range_with_len (p + 1) (length_of p - 1)) ≡ true =
-      all_from (λ q. is_step_given shape v q) (p + 1) (length_of p - 1)
+      all_in_range (λ q. is_step_given shape v q) (p + 1) (length_of p - 1)
       (λ q low high. let at : p + (q - p) ≡ q = omega arith in rw at at (h (q - p) (omega arith) (omega arith))) in
       sym (ap not (is_not_whole-is p kept) ∙ sym (not_not (list_all (λ q. is_step_given shape v q) (range_with_len (p + 1) (length_of p - 1)))) ∙ all)
 
@@ -48,7 +47,7 @@ module _ (shape : Shape) (v : RingView) (r : RingRecord) (follows : FollowsMarks
       let some : list_all (λ q. is_step_given shape v q) (range_with_len (p + 1) (length_of p - 1)) ≡ false =
       some_fails (list_all (λ q. is_step_given shape v q) (range_with_len (p + 1) (length_of p - 1)))
       (λ all. yes_no (is_step_given shape v (p + o))
-      (all_each (λ q. is_step_given shape v q) (p + 1) (length_of p - 1) all (p + o) (omega arith) (omega arith)) fails) in
+      (in_range_all (λ q. is_step_given shape v q) (p + 1) (length_of p - 1) all (p + o) (omega arith) (omega arith)) fails) in
       sym (ap not (is_not_whole-is p kept) ∙ sym (not_not (list_all (λ q. is_step_given shape v q) (range_with_len (p + 1) (length_of p - 1)))) ∙ some)
     where
       yes_no : (b : Bool) → b ≡ true → b ≡ false → ⊥

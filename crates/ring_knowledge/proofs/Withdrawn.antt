@@ -1,7 +1,7 @@
 -- A record that follows a ring of which a descriptor is withdrawn, or what is free is restored
+use Rattle.std.proofs.Common.{rules}
 use Rattle.ring_knowledge.proofs.Forgotten.{drop_no_ops}
-use Rattle.ring_knowledge.proofs.Words.{drop, ◌-◌, ◌≡◌, ◌+◌, ◌<◌, ◌≤◌, ◌∷◌, ◌++◌, ◌∙◌, ◌==◌, ◌&&◌, ◌||◌, ℕ, suc, zero, List, [], Bool, true, false, refl, ap, sym, arith, inl, inr, length, slice_index, replicate, sum, not, set, nat_le, nat_lt, if◌then◌else◌, cases_eq, cases_lt, cases_Bool, eq-eqb, ne_eqb, nat_tests, common_steps, and_parts, or_cases, Block, Shape, RingView, length_from, descriptor_length, no_ops, split_at, FollowsMarks, FollowsRing, RingRecord, ArePositive, ◌%◌, no_op, is_in, place_count, floor_number, is_step_given, is_way_given, changed, Withdraws, Restores, list_any, range_with_len, contains, nat_cmp, is_at, is_noted, false≢true, or_left, or_right, leb-true, ltb-true}
-use Rattle.segments.proofs.Withdrawing.{length-no_ops, split_sum}
+use Rattle.ring_knowledge.proofs.Words.{length-no_ops, split_sum, drop, ◌-◌, ◌≡◌, ◌+◌, ◌<◌, ◌≤◌, ◌∷◌, ◌++◌, ◌∙◌, ◌==◌, ◌&&◌, ◌||◌, ℕ, suc, zero, List, [], Bool, true, false, refl, ap, sym, arith, inl, inr, length, slice_index, replicate, sum, not, set, nat_le, nat_lt, if◌then◌else◌, cases_eq, cases_lt, cases_Bool, eq-eqb, ne_eqb, nat_tests, common_steps, and_parts, or_cases, Block, Shape, RingView, length_from, descriptor_length, no_ops, split_at, FollowsMarks, FollowsRing, RingRecord, ArePositive, ◌%◌, no_op, is_in, place_count, floor_number, is_step_given, is_way_given, changed, Withdraws, Restores, list_any, range_with_len, contains, nat_cmp, is_noted, false≢true, or_left, or_right, leb-true, ltb-true}
 use Rattle.ring_knowledge.proofs.Ranges.{none_each}
 use Rattle.ring_knowledge.proofs.Noted.{false_unless}
 use Rattle.ring_knowledge.proofs.DeclaredMore.{sum-cons}
@@ -32,16 +32,8 @@ one_no_op (b ∷ rest) (suc p) k =
 
 -- what was added for want of memory is out again
 pub back : (old mid new inside : Bool) → (inside ≡ false → mid ≡ old) → (inside ≡ true → old ≡ false) → new ≡ (mid && not inside) → new ≡ old
-back old mid new true same none is = is ∙ and_false mid ∙ sym (none refl)
-  where
-    and_false : (b : Bool) → (b && false) ≡ false
-    and_false true = refl
-    and_false false = refl
-back old mid new false same none is = is ∙ and_true mid ∙ same refl
-  where
-    and_true : (b : Bool) → (b && true) ≡ b
-    and_true true = refl
-    and_true false = refl
+back old mid new true same none is = search rules
+back old mid new false same none is = search rules
 
 -- ---- the descriptors
 
@@ -263,58 +255,10 @@ module _ (shape : Shape) (v : RingView) (r : RingRecord) (known : FollowsRing sh
   pub same_sets : (n : RingRecord) → n.forgotten ≡ r.forgotten → n.blocks.items ≡ r.blocks.items → n.lengths.items ≡ r.lengths.items → n.given.items ≡ r.given.items → n.crossed.items ≡ r.crossed.items →
       n.floor ≡ r.floor → n.held ≡ r.held → n.count ≡ r.count → ((q : ℕ) → contains nat_cmp n.withdrawn q ≡ contains nat_cmp r.withdrawn q) →
       ((q : ℕ) → contains nat_cmp n.free q ≡ contains nat_cmp r.free q) → FollowsRing shape v n
-  same_sets n forgotten blocks lengths given crossed floor held counted withdrawn free = record {
-    marks = record {
-      allowed = follows.allowed;
-      passed = rw forgotten follows.passed;
-      queue = ap (λ k. drop k v.queue) forgotten ∙ follows.queue ∙ sym blocks;
-      count = omega (arith, follows.count, forgotten, ap length blocks);
-      floor = follows.floor ∙ sym floor;
-      held = follows.held ∙ sym held;
-      begins = rw (lengths, forgotten) follows.begins;
-      as_many = ap length lengths ∙ follows.as_many ∙ sym (ap length blocks);
-      whole = follows.whole;
-      positive = follows.positive;
-      room = follows.room;
-      places = ap length given ∙ follows.places;
-      given = rw given follows.given;
-      segments = rw crossed follows.segments;
-      crossed = rw crossed follows.crossed;
-      withdrawn = λ q late. follows.withdrawn q (omega (arith, forgotten, late)) ∙ sym (withdrawn q);
-      free = λ q. follows.free q ∙ sym (free q);
-      free_withdrawn = follows.free_withdrawn;
-      free_given = follows.free_given;
-    };
-    steps = λ q below. known.steps q (omega (arith, below, counted));
-    stop = ap (λ m. is_step_given shape v m) counted ∙ known.stop;
-  }
+  same_sets n forgotten blocks lengths given crossed floor held counted withdrawn free = search (rules, follows, drop, length)
 
   -- all that was free is restored
   pub restored_now : (n : RingRecord) → n.forgotten ≡ r.forgotten → n.blocks.items ≡ r.blocks.items → n.lengths.items ≡ r.lengths.items → n.given.items ≡ r.given.items → n.crossed.items ≡ r.crossed.items →
       n.floor ≡ r.floor → n.held ≡ r.held → n.count ≡ r.count → n.withdrawn ≡ r.withdrawn → n.free.keys ≡ [] → FollowsRing shape (changed shape v Restores) n
   unfolding is_step_given is_way_given
-  restored_now n forgotten blocks lengths given crossed floor held counted withdrawn none = record {
-    marks = record {
-      allowed = follows.allowed;
-      passed = rw forgotten follows.passed;
-      queue = ap (λ k. drop k v.queue) forgotten ∙ follows.queue ∙ sym blocks;
-      count = omega (arith, follows.count, forgotten, ap length blocks);
-      floor = follows.floor ∙ sym floor;
-      held = follows.held ∙ sym held;
-      begins = rw (lengths, forgotten) follows.begins;
-      as_many = ap length lengths ∙ follows.as_many ∙ sym (ap length blocks);
-      whole = follows.whole;
-      positive = follows.positive;
-      room = follows.room;
-      places = ap length given ∙ follows.places;
-      given = rw given follows.given;
-      segments = rw crossed follows.segments;
-      crossed = rw crossed follows.crossed;
-      withdrawn = λ q late. follows.withdrawn q (omega (arith, forgotten, late)) ∙ ap (λ s. contains nat_cmp s q) (sym withdrawn);
-      free = λ q. sym (ap (λ ks. list_any (is_at (nat_cmp q)) ks) none);
-      free_withdrawn = λ q free. absurd (false≢true free);
-      free_given = λ q free. absurd (false≢true free);
-    };
-    steps = λ q below. known.steps q (omega (arith, below, counted));
-    stop = ap (λ m. is_step_given shape v m) counted ∙ known.stop;
-  }
+  restored_now n forgotten blocks lengths given crossed floor held counted withdrawn none = search (rules, follows, drop, length, false≢true)

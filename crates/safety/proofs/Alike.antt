@@ -1,8 +1,8 @@
 -- Two knowledges of which an event says the same: what it reads and what it changes is alike, but that in one more may be given,
 -- and rings may be held at greater numbers
-use Rattle.std.proofs.Common.{◌≡◌, ◌≤◌, ◌==◌, ◌&&◌, ℕ, true, not, nat_lt, Option, None, Some, unwrap_or, is_none, arith, refl, sym, ap, subst, inl, inr, ltb-true, lt-ltb, leb-true, le-leb, eqb-true, eq-eqb}
-use Rattle.safety.proofs.Words.{cases_eq, false≢true, and_parts, and_from, or_cases, or_left, or_right, Spot, Data, Link, Shape, is_crossing, number, RingView, RingChange, Reaches, Holds, changed, floor_number, given_count, ceiling, is_way_given, is_open, is_data_below, is_stop_spot, stopped_number, GivesMore, step_more, given_count_grows, Header, shape_of, Known, on_ring, IsHeldMore}
+use Rattle.safety.proofs.Words.{◌≡◌, ◌≤◌, ℕ, true, nat_lt, Option, None, Some, unwrap_or, is_none, arith, refl, sym, ap, subst, inl, inr, ltb-true, lt-ltb, leb-true, le-leb, eqb-true, eq-eqb, rules, cases_eq, false≢true, and_parts, and_from, or_cases, or_left, or_right, Spot, Data, Link, Shape, number, RingView, RingChange, Reaches, Holds, changed, floor_number, given_count, ceiling, is_way_given, is_open, is_data_below, is_stop_spot, stopped_number, GivesMore, step_more, given_count_grows, Header, shape_of, Known, on_ring, IsHeldMore}
 use Rattle.safety.proofs.DriverRows.{ring_here, ring_elsewhere}
+use Rattle.safety.proofs.HeldTwice.{held_same as same_held}
 
 pub record RingAlike (v w : RingView) : Type 0 where
   pub floor : w.floor ≡ v.floor
@@ -21,10 +21,6 @@ pub record Alike (P : ℕ → Type 0) (k l : Known) : Type 0 where
   pub device : (s : ℕ) → P s → l.device s ≡ k.device s
 
 -- ---- one ring
-
-same_held : (o : Option ℕ) → IsHeldMore o o
-same_held None = tt
-same_held (Some m) = omega arith
 
 pub held_same : (o p : Option ℕ) → p ≡ o → IsHeldMore o p
 held_same o p same = subst (λ x. IsHeldMore o x) (sym same) (same_held o)
@@ -45,12 +41,7 @@ module _ (shape : Shape) (v w : RingView) (a : RingAlike v w) where
 
   pub open_alike : is_open v ≡ true → is_open w ≡ true
   unfolding is_open
-  open_alike = by v.held w.held a.held
-    where
-      by : (o p : Option ℕ) → IsHeldMore o p → is_none o ≡ true → is_none p ≡ true
-      by None None more none = refl
-      by (Some m) p more none = absurd (false≢true none)
-      by None (Some n) more none = absurd more
+  open_alike = search (rules, is_none, false≢true)
 
   pub below_more : (t : Spot) → is_data_below (ceiling shape v) t ≡ true → is_data_below (ceiling shape w) t ≡ true
   unfolding is_data_below
@@ -59,32 +50,12 @@ module _ (shape : Shape) (v w : RingView) (a : RingAlike v w) where
 
   way_more : (q : ℕ) → is_way_given shape v q ≡ true → is_way_given shape w q ≡ true
   unfolding is_way_given
-  way_more q given =
-      elim (or_cases (not (is_crossing shape q)) (v.crossed q) given) [
-        | inl none ↦ or_left (not (is_crossing shape q)) (w.crossed q) none
-        | inr crossed ↦ or_right (not (is_crossing shape q)) (w.crossed q) (a.more.crossed q crossed)
-      ]
+  way_more q given = search (rules, or_cases, or_left, or_right)
 
   pub stop_more : (t : Spot) → is_stop_spot shape v t ≡ true → is_stop_spot shape w t ≡ true
   unfolding is_stop_spot
-  stop_more (Data p) stops =
-      elim (or_cases (nat_lt p (given_count shape v)) (p == given_count shape v && is_way_given shape v p) stops) [
-        | inl below ↦
-            or_left (nat_lt p (given_count shape w)) (p == given_count shape w && is_way_given shape w p)
-            (lt-ltb p (given_count shape w) (omega (arith, ltb-true p (given_count shape v) below, count_more)))
-        | inr there ↦
-            let parts = and_parts (p == given_count shape v) (is_way_given shape v p) there in
-            let at : p ≡ given_count shape v = eqb-true p (given_count shape v) parts.0 in
-            elim (cases_eq p (given_count shape w)) [
-              | inl same ↦
-                  or_right (nat_lt p (given_count shape w)) (p == given_count shape w && is_way_given shape w p)
-                  (and_from (p == given_count shape w) (is_way_given shape w p) (eq-eqb p (given_count shape w) same) (way_more p parts.1))
-              | inr other ↦
-                  or_left (nat_lt p (given_count shape w)) (p == given_count shape w && is_way_given shape w p)
-                  (lt-ltb p (given_count shape w) (omega (arith, count_more)))
-            ]
-      ]
-  stop_more (Link q) stops = le-leb q (given_count shape w) (omega (arith, leb-true q (given_count shape v) stops, count_more))
+  stop_more (Data p) stops = search (rules, or_cases, nat_lt, or_left, lt-ltb, ltb-true, count_more, and_parts, eqb-true, or_right, and_from, eq-eqb, way_more, le-leb, leb-true)
+  stop_more (Link q) stops = search (rules, or_cases, nat_lt, or_left, lt-ltb, ltb-true, count_more, and_parts, eqb-true, or_right, and_from, eq-eqb, way_more, le-leb, leb-true)
 
   pub stopped_more : (t : Spot) → stopped_number shape v t ≤ stopped_number shape w t
   unfolding stopped_number
@@ -117,17 +88,7 @@ module _ (h : Header) (P : ℕ → Type 0) (k l : Known) (a : Alike P k l) where
   pub on_ring_alike : (r : ℕ) (c d : RingChange) → RingAlike (changed (shape_of h r) (k.ring r) c) (changed (shape_of h r) (l.ring r) d) →
       Alike P (on_ring h k r c) (on_ring h l r d)
   unfolding on_ring
-  on_ring_alike r c d here =
-      record {
-        rings = on_ring_rings r c d here;
-        was_bound = a.was_bound;
-        slot_state = a.slot_state;
-        endpoint_state = a.endpoint_state;
-        ring_of = a.ring_of;
-        must_move = a.must_move;
-        stop_seen = a.stop_seen;
-        device = a.device;
-      }
+  on_ring_alike r c d here = search (rules, on_ring_rings)
 
   pub reached_alike : (r : ℕ) (t : Spot) → Alike P (on_ring h k r (Reaches t)) (on_ring h l r (Reaches t))
   reached_alike r t = on_ring_alike r (Reaches t) (Reaches t) (reaches_alike (shape_of h r) (k.ring r) (l.ring r) (a.rings r) t)

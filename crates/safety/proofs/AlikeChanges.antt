@@ -1,6 +1,5 @@
 -- What the success of a command changes, at two knowledges that are alike: it leaves both alike
-use Rattle.std.proofs.Common.{◌≡◌, ◌==◌, ◌&&◌, if◌then◌else◌, ◌∷◌, ℕ, Bool, true, false, List, [], Option, None, Some, arith, refl, sym, ap, subst}
-use Rattle.safety.proofs.Words.{put, put_pair, Spot, number, Reaches, ceiling, target, Command, EndpointState, Off, Stopped, is_off, Change, SlotGoesOn, DeviceLeft, Disables, Places, Stops, Resets, slot_gone_on, Header, shape_of, ring_having, Known, on_ring, set_to, bound_to, moved_to, moved, pointed, disabled, in_state, held_at_ceiling, changed_by, changed_by_all}
+use Rattle.safety.proofs.Words.{◌≡◌, ◌==◌, ◌&&◌, if◌then◌else◌, ◌∷◌, ℕ, Bool, true, false, List, [], Option, None, Some, arith, refl, sym, ap, subst, put, put_pair, Spot, number, Reaches, ceiling, target, Command, EndpointState, Off, Stopped, is_off, Change, SlotGoesOn, DeviceLeft, Disables, Places, Stops, Resets, slot_gone_on, Header, shape_of, ring_having, Known, on_ring, set_to, bound_to, moved_to, moved, pointed, disabled, in_state, held_at_ceiling, changed_by, changed_by_all}
 use Rattle.safety.proofs.Alike.{Alike, ceiling_more, reached_alike, held_alike}
 use Rattle.safety.proofs.AlikeTransfers.{state_put, move_put}
 

@@ -1,6 +1,5 @@
 -- A Command Completion Event that is possible at one of two knowledges that are alike: it is possible at the other, and leaves both alike
-use Rattle.std.proofs.Common.{◌≡◌, ◌==◌, ◌||◌, if◌then◌else◌, ◌∙◌, ℕ, true, false, not, List, Option, None, Some, arith, refl, sym, ap, subst, inl, inr, ltb-true, lt-ltb}
-use Rattle.safety.proofs.Words.{false≢true, and_parts, and_from, or_parts, or_from, not-false, not_from_true, Block, pointer, code, slot, Spot, address_of, number, after, Reaches, ceiling, cases_option, Command, StopEndpoint, may_answer_slot, is_stop_of, can_succeed, Change, changes, Header, Config, shape_of, command_id, register_or_zero, Known, on_ring, command_at, next_command, changed_by_all, succeeded, stop_ended, finished, completed, was_stop_seen, can_finish, may_be_taken, is_stopping_now, is_impossible_completion}
+use Rattle.safety.proofs.Words.{◌≡◌, ◌==◌, if◌then◌else◌, ℕ, true, false, List, Option, None, Some, arith, refl, sym, ap, subst, ltb-true, lt-ltb, rules, false≢true, and_parts, and_from, or_parts, or_from, not-false, not_from_true, Block, code, slot, Spot, number, after, Reaches, ceiling, cases_option, Command, StopEndpoint, Change, changes, Header, Config, shape_of, command_id, register_or_zero, Known, on_ring, command_at, next_command, changed_by_all, succeeded, stop_ended, finished, completed, was_stop_seen, can_finish, may_be_taken, is_stopping_now, is_impossible_completion}
 use Rattle.safety.proofs.Alike.{Alike, ceiling_more, reached_alike}
 use Rattle.safety.proofs.AlikeTransfers.{both_sides, seen_put}
 use Rattle.safety.proofs.AlikeChanges.{TargetsAre, changes_alike}
@@ -37,14 +36,7 @@ module _ (h : Header) (P : ℕ → Type 0) (k l : Known) (a : Alike P k l) where
   module _ (same : CommandAlike h k l) where
     pub stopping_alike : (s i : ℕ) → is_stopping_now h k s i ≡ true → is_stopping_now h l s i ≡ true
     unfolding is_stopping_now
-    stopping_alike s i stopping =
-        let parts = and_parts (may_be_taken h k) (is_stop_of s i (command_at h k (next_command h k))) stopping in
-        elim (cases_option (command_at h k (next_command h k))) [
-          | inl none ↦ absurd (false≢true (sym (ap (is_stop_of s i) none) ∙ parts.1))
-          | inr some ↦
-              and_from (may_be_taken h l) (is_stop_of s i (command_at h l (next_command h l))) (taken_alike parts.0)
-              (ap (λ n. is_stop_of s i (command_at h l n)) next_alike ∙ ap (is_stop_of s i) (same.command some.0 parts.0 some.1 ∙ sym some.1) ∙ parts.1)
-        ]
+    stopping_alike s i stopping = search (rules, and_parts, cases_option, false≢true, and_from, taken_alike, next_alike)
 
     finish_alike : (b : Block) (c : Command) → may_be_taken h k ≡ true → command_at h k (next_command h k) ≡ Some c → Alike P (finished h k b (Some c)) (finished h l b (Some c))
     unfolding finished succeeded
@@ -69,16 +61,7 @@ module _ (h : Header) (P : ℕ → Type 0) (k l : Known) (a : Alike P k l) where
     module _ (config : register_or_zero l.register Config ≡ register_or_zero k.register Config) where
       some_finish : (b : Block) (c : Command) → can_finish k b (Some c) ≡ true → can_finish l b (Some c) ≡ true
       unfolding can_finish
-      some_finish b c can =
-          let parts = and_parts (may_answer_slot (Some c) (slot b))
-          (if code b == 1 then can_succeed k.slot_state k.endpoint_state (register_or_zero k.register Config) (slot b) c else not (was_stop_seen k c)) can in
-          and_from (may_answer_slot (Some c) (slot b))
-          (if code b == 1 then can_succeed l.slot_state l.endpoint_state (register_or_zero l.register Config) (slot b) c else not (was_stop_seen l c)) parts.0
-          (ap (λ x. if code b == 1 then can_succeed x l.endpoint_state (register_or_zero l.register Config) (slot b) c else not (was_stop_seen l c)) a.slot_state
-          ∙ ap (λ x. if code b == 1 then can_succeed k.slot_state x (register_or_zero l.register Config) (slot b) c else not (was_stop_seen l c)) a.endpoint_state
-          ∙ ap (λ x. if code b == 1 then can_succeed k.slot_state k.endpoint_state x (slot b) c else not (was_stop_seen l c)) config
-          ∙ ap (λ x. if code b == 1 then can_succeed k.slot_state k.endpoint_state (register_or_zero k.register Config) (slot b) c else not x) (seen_alike c)
-          ∙ parts.1)
+      some_finish b c can = search (rules, and_parts, and_from, seen_alike)
 
       can_alike : (b : Block) → (o : Option Command) → command_at h k (next_command h k) ≡ o → can_finish k b o ≡ true → (c : Command) × (command_at h k (next_command h k) ≡ Some c) × (can_finish l b (Some c) ≡ true)
       unfolding can_finish
@@ -87,20 +70,4 @@ module _ (h : Header) (P : ℕ → Type 0) (k l : Known) (a : Alike P k l) where
 
       pub completion_alike : (b : Block) → is_impossible_completion h k b ≡ false → (is_impossible_completion h l b ≡ false) × Alike P (completed h k b) (completed h l b)
       unfolding is_impossible_completion
-      completion_alike b possible =
-          let r : ℕ = command_id h in
-          let m : ℕ = next_command h k in
-          let n : ℕ = next_command h l in
-          let three = or_parts (not (may_be_taken h k) || not (pointer b == address_of (shape_of h r) m) || code b == 0) (not (can_finish k b (command_at h k m))) possible in
-          let two = or_parts (not (may_be_taken h k) || not (pointer b == address_of (shape_of h r) m)) (code b == 0) three.0 in
-          let one = or_parts (not (may_be_taken h k)) (not (pointer b == address_of (shape_of h r) m)) two.0 in
-          let may : may_be_taken h k ≡ true = not-false (may_be_taken h k) one.0 in
-          let can = can_alike b (command_at h k m) refl (not-false (can_finish k b (command_at h k m)) three.1) in
-          let found : command_at h l n ≡ Some can.0 = ap (λ x. command_at h l x) next_alike ∙ same.command can.0 may can.1 in (
-            or_from (not (may_be_taken h l) || not (pointer b == address_of (shape_of h r) n) || code b == 0) (not (can_finish l b (command_at h l n)))
-                (or_from (not (may_be_taken h l) || not (pointer b == address_of (shape_of h r) n)) (code b == 0)
-                (or_from (not (may_be_taken h l)) (not (pointer b == address_of (shape_of h r) n)) (not_from_true (may_be_taken h l) (taken_alike may))
-                (ap (λ x. not (pointer b == address_of (shape_of h r) x)) next_alike ∙ one.1)) two.1)
-                (not_from_true (can_finish l b (command_at h l n)) (ap (λ o. can_finish l b o) found ∙ can.2)),
-            completed_alike b can.0 may can.1,
-          )
+      completion_alike b possible = search (rules, or_parts, not-false, can_alike, next_alike, or_from, not_from_true, taken_alike, completed_alike)

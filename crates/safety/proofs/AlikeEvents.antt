@@ -1,6 +1,5 @@
 -- An event that may be read at one of two knowledges that are alike: it may be read at the other, and leaves both alike
-use Rattle.std.proofs.Common.{◌≡◌, ◌-◌, ◌≤◌, ◌==◌, ◌&&◌, ◌||◌, ◌∙◌, ℕ, false, not, [], Some, arith, refl, ap, le-ltb, ltb-false}
-use Rattle.safety.proofs.Words.{or_parts, or_from, not-false, Block, BlockKind, TransferEvent, CommandCompletion, kind, cycle, is_event, is_transfer_event, Spot, cycle_of, named, Header, Read, Config, shape_of, event_shape, event_size, register_or_zero, Known, event_read, learned, is_in_profile, is_impossible_by_kind, is_past_room, is_impossible, event_tests, lenient_tests, lenient}
+use Rattle.safety.proofs.Words.{◌≡◌, ◌-◌, ◌≤◌, ◌==◌, ◌&&◌, ◌||◌, ◌∙◌, ℕ, false, not, [], Some, refl, ap, le-ltb, ltb-false, rules, or_parts, or_from, not-false, Block, BlockKind, TransferEvent, CommandCompletion, kind, cycle, is_event, is_transfer_event, Spot, cycle_of, named, Header, Read, Config, shape_of, event_shape, register_or_zero, Known, event_read, learned, is_in_profile, is_impossible_by_kind, is_past_room, is_impossible, event_tests, lenient_tests, lenient}
 use Rattle.safety.proofs.TestsPassed.{AllFail, clean_tests, tests_fail}
 use Rattle.safety.proofs.EventRead.{event_broken}
 use Rattle.safety.proofs.Alike.{Alike}
@@ -31,11 +30,7 @@ module _ (h : Header) (P : ℕ → Type 0) (k l : Known) (a : Alike P k l) (x : 
 
   room_alike : is_past_room h k ≡ false → is_past_room h l ≡ false
   unfolding is_past_room
-  room_alike room =
-      let within = ltb-false (event_size h - 2) (k.reads - k.dequeue) room in
-      let reads = x.reads in
-      let dequeue = x.room in
-      le-ltb (event_size h - 2) (l.reads - l.dequeue) (omega arith)
+  room_alike room = search (rules, ltb-false, le-ltb)
 
   pub read_alike : (e : Block) → lenient h k (Read e) ≡ [] → ReadAlike h P k l e
   unfolding lenient_tests event_tests is_impossible learned

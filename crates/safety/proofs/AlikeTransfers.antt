@@ -1,6 +1,5 @@
 -- A Transfer Event that is possible at one of two knowledges that are alike: it is possible at the other, and leaves both alike
-use Rattle.std.proofs.Common.{◌≡◌, ◌+◌, ◌&&◌, ◌||◌, if◌then◌else◌, ◌∙◌, ℕ, Bool, true, false, not, Option, None, Some, arith, refl, sym, ap, subst, inl, inr}
-use Rattle.safety.proofs.Words.{option_map, false≢true, and_parts, and_from, or_parts, and_cases, or_from, not-false, not_from_true, none-some, put_pair, Block, pointer, code, slot, endpoint, is_success, is_halting, is_trb_error, is_stopping, Spot, number, after, Reaches, Holds, ceiling, named, is_data_below, is_open, is_stop_spot, stopped_number, cases_option, EndpointState, Halted, Error, is_off, is_running, Header, shape_of, Known, RingSpot, on_ring, spot_on, event_at, passed, broken_off, stopped_at, transferred, transferred_at, transfer_read, is_in_profile, is_working, is_stopping_now, can_report, can_report_at, is_impossible_transfer}
+use Rattle.safety.proofs.Words.{◌≡◌, ◌+◌, ◌&&◌, ◌||◌, if◌then◌else◌, ◌∙◌, ℕ, Bool, true, false, not, Option, None, Some, arith, refl, sym, ap, subst, inl, inr, rules, false≢true, and_parts, and_from, or_parts, and_cases, or_from, not-false, not_from_true, none-some, put_pair, Block, pointer, code, slot, endpoint, Spot, number, after, Reaches, Holds, named, is_open, stopped_number, cases_option, EndpointState, is_off, is_running, Header, shape_of, Known, RingSpot, on_ring, spot_on, event_at, passed, broken_off, stopped_at, transferred, transferred_at, transfer_read, is_in_profile, is_working, is_stopping_now, can_report, can_report_at, is_impossible_transfer}
 use Rattle.safety.proofs.Alike.{Alike, below_more, open_alike, stop_more, stopped_more, reached_alike, held_alike}
 
 pub both_sides : {A : Type 0} (R : A → A → Type 0) (b : Bool) (x y u v : A) → R x u → R y v → R (if b then x else y) (if b then u else v)
@@ -16,45 +15,15 @@ chain_from false false x y z u v w one two three h = three h
 
 pub state_put : (P : ℕ → Type 0) (m n : Known) (s i : ℕ) (state : EndpointState) → Alike P m n →
     Alike P (let x : Known = record m { endpoint_state = put_pair m.endpoint_state s i state } in x) (let x : Known = record n { endpoint_state = put_pair n.endpoint_state s i state } in x)
-state_put P m n s i state b =
-    record {
-      rings = b.rings;
-      was_bound = b.was_bound;
-      slot_state = b.slot_state;
-      endpoint_state = ap (λ f. put_pair f s i state) b.endpoint_state;
-      ring_of = b.ring_of;
-      must_move = b.must_move;
-      stop_seen = b.stop_seen;
-      device = b.device;
-    }
+state_put P m n s i state b = search rules
 
 pub move_put : (P : ℕ → Type 0) (m n : Known) (s i : ℕ) (f g : ℕ → ℕ → Bool) (must : Bool) → f ≡ g → Alike P m n →
     Alike P (let x : Known = record m { must_move = put_pair g s i must } in x) (let x : Known = record n { must_move = put_pair f s i must } in x)
-move_put P m n s i f g must same b =
-    record {
-      rings = b.rings;
-      was_bound = b.was_bound;
-      slot_state = b.slot_state;
-      endpoint_state = b.endpoint_state;
-      ring_of = b.ring_of;
-      must_move = ap (λ x. put_pair x s i must) same;
-      stop_seen = b.stop_seen;
-      device = b.device;
-    }
+move_put P m n s i f g must same b = search rules
 
 pub seen_put : (P : ℕ → Type 0) (m n : Known) (s i : ℕ) (seen : Bool) → Alike P m n →
     Alike P (let x : Known = record m { stop_seen = put_pair m.stop_seen s i seen } in x) (let x : Known = record n { stop_seen = put_pair n.stop_seen s i seen } in x)
-seen_put P m n s i seen b =
-    record {
-      rings = b.rings;
-      was_bound = b.was_bound;
-      slot_state = b.slot_state;
-      endpoint_state = b.endpoint_state;
-      ring_of = b.ring_of;
-      must_move = b.must_move;
-      stop_seen = ap (λ x. put_pair x s i seen) b.stop_seen;
-      device = b.device;
-    }
+seen_put P m n s i seen b = search rules
 
 module _ (h : Header) (P : ℕ → Type 0) (k l : Known) (a : Alike P k l) where
   -- ---- what is read
@@ -81,11 +50,7 @@ module _ (h : Header) (P : ℕ → Type 0) (k l : Known) (a : Alike P k l) where
 
   pub transferred_alike : (c s i r : ℕ) (t : Spot) → Alike P (transferred h k c s i r t) (transferred h l c s i r t)
   unfolding transferred
-  transferred_alike c s i r t =
-      both_sides (Alike P) (is_success c) _ _ _ _ (passed_alike r t)
-      (both_sides (Alike P) (is_halting c) _ _ _ _
-      (move_put P (broken_off h k s i r t Halted) (broken_off h l s i r t Halted) s i l.must_move k.must_move true a.must_move (broken_alike s i r t Halted))
-      (both_sides (Alike P) (is_trb_error c) _ _ _ _ (broken_alike s i r t Error) (both_sides (Alike P) (is_stopping c) _ _ _ _ (stopped_alike s i r t) a)))
+  transferred_alike c s i r t = search (rules, both_sides, passed_alike, move_put, broken_alike, stopped_alike)
 
   -- ---- what is possible
 
@@ -99,19 +64,7 @@ module _ (h : Header) (P : ℕ → Type 0) (k l : Known) (a : Alike P k l) where
   module _ (stopping : (s i : ℕ) → is_stopping_now h k s i ≡ true → is_stopping_now h l s i ≡ true) where
     report_alike : (c s i r : ℕ) (t : Spot) → can_report h k c s i r t ≡ true → can_report h l c s i r t ≡ true
     unfolding can_report
-    report_alike c s i r t can =
-        let low : Bool = is_data_below (ceiling (shape_of h r) (k.ring r)) t in
-        let high : Bool = is_data_below (ceiling (shape_of h r) (l.ring r)) t in
-        let below : low ≡ true → high ≡ true = below_more (shape_of h r) (k.ring r) (l.ring r) (a.rings r) t in
-        chain_from (is_success c) (is_halting c || is_trb_error c) low (low && is_working k s i r) (is_working k s i r && is_stopping_now h k s i && is_stop_spot (shape_of h r) (k.ring r) t)
-        high (high && is_working l s i r) (is_working l s i r && is_stopping_now h l s i && is_stop_spot (shape_of h r) (l.ring r) t) below
-        (λ x. let p = and_parts low (is_working k s i r) x in and_from high (is_working l s i r) (below p.0) (working_alike s i r p.1))
-        (λ x.
-        let p = and_parts (is_working k s i r && is_stopping_now h k s i) (is_stop_spot (shape_of h r) (k.ring r) t) x in
-        let q = and_parts (is_working k s i r) (is_stopping_now h k s i) p.0 in
-        and_from (is_working l s i r && is_stopping_now h l s i) (is_stop_spot (shape_of h r) (l.ring r) t)
-        (and_from (is_working l s i r) (is_stopping_now h l s i) (working_alike s i r q.0) (stopping s i q.1))
-        (stop_more (shape_of h r) (k.ring r) (l.ring r) (a.rings r) t p.1)) can
+    report_alike c s i r t can = search (rules, below_more, chain_from, and_parts, and_from, working_alike, stop_more)
 
     report_at : (b : Block) (o p : Option RingSpot) → ((at : RingSpot) → o ≡ Some at → p ≡ Some at) → can_report_at h k b o ≡ true →
         (can_report_at h l b p ≡ true) × Alike P (transferred_at h k b o) (transferred_at h l b p)
@@ -128,13 +81,8 @@ module _ (h : Header) (P : ℕ → Type 0) (k l : Known) (a : Alike P k l) where
     module _ (names : (s i r p : ℕ) (t : Spot) → k.ring_of s i ≡ Some r → named (shape_of h r) (k.ring r) p ≡ Some t → named (shape_of h r) (l.ring r) p ≡ Some t) where
       spot_alike : (s i p : ℕ) (o : Option ℕ) → k.ring_of s i ≡ o → (at : RingSpot) → spot_on h k p o ≡ Some at → spot_on h l p o ≡ Some at
       unfolding spot_on
-      spot_alike s i p None has at e = absurd (none-some at e)
-      spot_alike s i p (Some r) has at e =
-          let make : Spot → RingSpot = λ t. let x : RingSpot = record { ring = r; spot = t } in x in
-          elim (cases_option (named (shape_of h r) (k.ring r) p)) [
-            | inl none ↦ absurd (none-some at (sym (ap (option_map make) none) ∙ e))
-            | inr some ↦ ap (option_map make) (names s i r p some.0 has some.1 ∙ sym some.1) ∙ e
-          ]
+      spot_alike s i p None has at e = search rules
+      spot_alike s i p (Some r) has at e = search (rules, none-some, cases_option)
 
       event_alike : (b : Block) (at : RingSpot) → event_at h k b ≡ Some at → event_at h l b ≡ Some at
       unfolding event_at

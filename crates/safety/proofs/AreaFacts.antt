@@ -1,40 +1,23 @@
 -- Areas and ranges under lease that have no byte in common
-use Rattle.std.proofs.Common.{◌≡◌, ◌≢◌, ◌+◌, ◌*◌, ◌/◌, ◌^◌, ◌<◌, ◌≤◌, ◌⊎◌, ◌||◌, ◌∷◌, ◌∙◌, ℕ, Bool, false, List, [], nat_lt, nat_le, Option, None, Some, arith, refl, sym, inl, inr, lt-ltb, le-ltb, ltb-true, leb-true, ◌++◌}
-use Rattle.safety.proofs.Words.{list_any, flat_map, cases_lt, and_left, and_right, or_parts, or_from, and_parts, and_cases, false≢true, false_from_ne_true, list_any-append, is_in, overlap, device_context_bytes, input_context_bytes, Command, named_context, table_bytes, event_shape, base_address, Erstba, Header, touches_ring, Known, entry_of, Range, SegmentTable, Use, InputContext, SlotEntry, DeviceContext, slots, covers, lease_start, lease_bytes, range_of_device, device_ranges, open_ranges, open_leases, is_leased, is_bad_area, is_in_range_lease, is_soiled, IsUnfinished, is_the_controllers, segment_ranges}
+use Rattle.safety.proofs.Words.{◌≡◌, ◌≢◌, ◌+◌, ◌*◌, ◌/◌, ◌^◌, ◌<◌, ◌≤◌, ◌⊎◌, ◌||◌, ◌∷◌, ◌∙◌, ℕ, Bool, false, List, [], nat_lt, nat_le, Some, arith, refl, sym, inl, inr, lt-ltb, le-ltb, ltb-true, leb-true, ◌++◌, rules, list_any, flat_map, cases_lt, and_left, and_right, or_parts, or_from, and_parts, and_cases, false≢true, false_from_ne_true, list_any-append, is_in, overlap, device_context_bytes, input_context_bytes, Command, named_context, table_bytes, event_shape, base_address, Erstba, Header, touches_ring, Known, entry_of, Range, SegmentTable, Use, InputContext, SlotEntry, DeviceContext, covers, lease_start, lease_bytes, range_of_device, device_ranges, open_ranges, open_leases, is_leased, is_bad_area, is_in_range_lease, is_soiled, IsUnfinished, is_the_controllers, segment_ranges}
 use Rattle.safety.proofs.SafeContext.{none_in_range}
 use Rattle.safety.proofs.UnfinishedLists.{fails_in, context_leased, device_listed, device_leased, entry_leased, table_leased, in_right}
 
 -- ---- two ranges of bytes
 
 pub not_overlap : (a m b n : ℕ) → overlap a m b n ≡ false → (b + n ≤ a) ⊎ (a + m ≤ b)
-not_overlap a m b n none =
-    elim (and_cases (nat_lt a (b + n)) (nat_lt b (a + m)) none) [
-      | inl first ↦ inl (above a (b + n) first)
-      | inr second ↦ inr (above b (a + m) second)
-    ]
-  where
-    above : (x y : ℕ) → nat_lt x y ≡ false → y ≤ x
-    above x y none = elim (cases_lt x y) [ inl low ↦ absurd (false≢true (sym none ∙ lt-ltb x y low)) | inr high ↦ high ]
+not_overlap a m b n none = search (rules, and_cases, nat_lt, cases_lt, false≢true, lt-ltb)
 
 pub overlap_from : (a m b n : ℕ) → (b + n ≤ a) ⊎ (a + m ≤ b) → overlap a m b n ≡ false
 overlap_from a m b n (inl high) = and_left (nat_lt a (b + n)) (nat_lt b (a + m)) (le-ltb a (b + n) high)
 overlap_from a m b n (inr low) = and_right (nat_lt a (b + n)) (nat_lt b (a + m)) (le-ltb b (a + m) low)
 
 pub overlap_turned : (a m b n : ℕ) → overlap a m b n ≡ false → overlap b n a m ≡ false
-overlap_turned a m b n none =
-    elim (not_overlap a m b n none) [
-      | inl high ↦ overlap_from b n a m (inr high)
-      | inr low ↦ overlap_from b n a m (inl low)
-    ]
+overlap_turned a m b n none = search (rules, not_overlap, overlap_from)
 
 -- a byte of one isn't in the other
 pub not_in_other : (a m b n x : ℕ) → overlap a m b n ≡ false → b ≤ x → x < b + n → is_in x a m ≡ false
-not_in_other a m b n x none low high =
-    false_from_ne_true (is_in x a m) (λ within.
-    let parts = and_parts (nat_le a x) (nat_lt x (a + m)) within in
-    let from = leb-true a x parts.0 in
-    let to = ltb-true x (a + m) parts.1 in
-    elim (not_overlap a m b n none) [ inl above ↦ absurd (omega arith) | inr below ↦ absurd (omega arith) ])
+not_in_other a m b n x none low high = search (rules, false_from_ne_true, and_parts, nat_le, nat_lt, leb-true, ltb-true, not_overlap)
 
 -- a word that has no byte of a range
 pub word_elsewhere : (a b n x : ℕ) → overlap a 4 b n ≡ false → b ≤ x → x < b + n → x ≢ a
@@ -85,11 +68,7 @@ module _ (h : Header) where
   pub devices_apart : (k : Known) (from len : ℕ) → ((t e : ℕ) → k.device t ≡ Some e → overlap from len e (device_context_bytes h.context_size) ≡ false) →
       list_any (covers h from len) (device_ranges h k) ≡ false
   unfolding device_ranges range_of_device
-  devices_apart k from len each = none_flat (covers h from len) (λ s. range_of_device h s (k.device s)) slots (λ s. by s (k.device s) refl)
-    where
-      by : (s : ℕ) (o : Option ℕ) → k.device s ≡ o → list_any (covers h from len) (range_of_device h s o) ≡ false
-      by s None at = refl
-      by s (Some e) at = or_from (covers h from len (Range (device_context_bytes h.context_size) e (DeviceContext s))) false (covers_range from len (device_context_bytes h.context_size) e (DeviceContext s) ∙ each s e at) refl
+  devices_apart k from len each = search (rules, none_flat, or_from, covers_range)
 
   -- ---- ranges under lease
 

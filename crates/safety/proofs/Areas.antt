@@ -1,46 +1,20 @@
 -- Where an unfinished command's input context lies: in no ring, and clean
-use Rattle.std.proofs.Common.{◌≡◌, ◌+◌, ◌*◌, ◌/◌, ◌<◌, ◌≤◌, ◌∙◌, ℕ, suc, zero, Bool, true, false, nat_lt, Some, arith, sym, ap, inl, inr, lt-ltb, leb-true, ltb-true}
-use Rattle.safety.proofs.Words.{list_any, range_with_len, cases_eq, false_from_ne_true, false≢true, or_parts, and_parts, and_from, Shape, is_inside, overlap, segment_has, Command, named_context, input_context_bytes, Header, Ring, touches_ring, Known, is_bad_area, is_soiled, is_bad_command, has_bad_context, IsIn, any_of, some_of, IsUnfinished, DriverKeeps}
+use Rattle.safety.proofs.Words.{◌≡◌, ◌+◌, ◌*◌, ◌/◌, ◌<◌, ◌≤◌, ◌∙◌, ℕ, true, false, nat_lt, Some, arith, sym, ap, lt-ltb, leb-true, ltb-true, rules, none_each, false_from_ne_true, false≢true, or_parts, and_parts, and_from, Shape, is_inside, Command, named_context, input_context_bytes, Header, Ring, touches_ring, Known, is_bad_area, is_soiled, is_bad_command, has_bad_context, IsIn, any_of, some_of, IsUnfinished, DriverKeeps}
 use Rattle.segments.specs.Places.{touches}
 use Rattle.safety.proofs.Stored.{IsInNoContext}
-
-none_of_range : (test : ℕ → Bool) (a n : ℕ) → list_any test (range_with_len a n) ≡ false → (i : ℕ) → a ≤ i → i < a + n → test i ≡ false
-none_of_range test a zero none i low high = absurd (omega arith)
-none_of_range test a (suc n) none i low high =
-    let parts = or_parts (test a) (list_any test (range_with_len (a + 1) n)) none in
-    elim (cases_eq a i) [
-      | inl here ↦ ap test (sym here) ∙ parts.0
-      | inr later ↦ none_of_range test (a + 1) n parts.1 i (omega arith) (omega arith)
-    ]
 
 -- a clean area has no soiled word
 pub clean_word : (k : Known) (from len i : ℕ) → is_soiled k from len ≡ false → i < len / 4 → k.soiled (from + 4 * i) ≡ false
 unfolding is_soiled
-clean_word k from len i none l = none_of_range (λ i. k.soiled (from + 4 * i)) 0 (len / 4) none i (omega arith) (omega arith)
+clean_word k from len i none l = none_each (λ i. k.soiled (from + 4 * i)) 0 (len / 4) none i (omega arith) (omega arith)
 
 -- a byte inside a ring's segments is in no area that touches none
 pub byte_apart : (shape : Shape) (from len x : ℕ) → touches shape from len ≡ false → is_inside shape x ≡ true → from ≤ x → x < from + len → ⊥
-byte_apart shape from len x none inside low high =
-    let some = lt-ltb 0 len (omega arith) in
-    let s = some_of (segment_has x) shape.segments inside in
-    let parts = and_parts _ _ s.2 in
-    let a = leb-true s.0.base x parts.0 in
-    let b = ltb-true x (s.0.base + 16 * s.0.count) parts.1 in
-    false≢true (sym none ∙ and_from _ _ some (any_of (λ s. overlap from len s.base (16 * s.count)) shape.segments s.0 s.1
-    (and_from (nat_lt from (s.0.base + 16 * s.0.count)) (nat_lt s.0.base (from + len)) (lt-ltb from (s.0.base + 16 * s.0.count) (omega arith)) (lt-ltb s.0.base (from + len) (omega arith)))))
+byte_apart shape from len x none inside low high = search (rules, lt-ltb, some_of, and_parts, leb-true, ltb-true, false≢true, and_from, any_of, nat_lt)
 
 -- a part of an area that touches no segment touches none
 pub part_apart : (shape : Shape) (from len a n : ℕ) → touches shape from len ≡ false → from ≤ a → a + n ≤ from + len → touches shape a n ≡ false
-part_apart shape from len a n apart low high =
-    false_from_ne_true (touches shape a n) (λ t.
-    let both = and_parts (nat_lt 0 n) (list_any (λ s. overlap a n s.base (16 * s.count)) shape.segments) t in
-    let some = ltb-true 0 n both.0 in
-    let s = some_of (λ s. overlap a n s.base (16 * s.count)) shape.segments both.1 in
-    let parts = and_parts (nat_lt a (s.0.base + 16 * s.0.count)) (nat_lt s.0.base (a + n)) s.2 in
-    let one = ltb-true a (s.0.base + 16 * s.0.count) parts.0 in
-    let two = ltb-true s.0.base (a + n) parts.1 in
-    false≢true (sym apart ∙ and_from _ _ (lt-ltb 0 len (omega arith)) (any_of (λ s. overlap from len s.base (16 * s.count)) shape.segments s.0 s.1
-    (and_from (nat_lt from (s.0.base + 16 * s.0.count)) (nat_lt s.0.base (from + len)) (lt-ltb from (s.0.base + 16 * s.0.count) (omega arith)) (lt-ltb s.0.base (from + len) (omega arith))))))
+part_apart shape from len a n apart low high = search (rules, false_from_ne_true, and_parts, nat_lt, ltb-true, some_of, false≢true, and_from, lt-ltb, any_of)
 
 pub ring_untouched : (h : Header) (from len : ℕ) → touches_ring h from len ≡ false → (r : Ring) → IsIn r h.rings → touches r.shape from len ≡ false
 unfolding touches_ring
@@ -53,11 +27,7 @@ pub record ContextLies (h : Header) (k : Known) (n : ℕ) : Type 0 where
 
 pub bad_context_parts : (h : Header) (k : Known) (n : ℕ) → has_bad_context h k (Some n) ≡ false → ContextLies h k n
 unfolding has_bad_context is_bad_area
-bad_context_parts h k n none =
-    let parts = or_parts _ _ none in
-    let area = or_parts _ _ parts.0 in
-    let ends = or_parts _ _ area.0 in
-    record { rings = ends.1; clean = parts.1 }
+bad_context_parts h k n none = search (rules, or_parts)
 
 pub bad_command_context : (h : Header) (k : Known) (c : Command) → is_bad_command h k c ≡ false → has_bad_context h k (named_context c) ≡ false
 unfolding is_bad_command

@@ -1,6 +1,5 @@
 -- The command ring's first doorbell beneath an event that isn't read yet: the two may change places
-use Rattle.std.proofs.Common.{◌≡◌, ◌-◌, ◌==◌, ◌&&◌, ◌||◌, if◌then◌else◌, ◌∷◌, ◌∙◌, ℕ, Bool, true, false, not, [], Some, is_none, nat_lt, arith, refl, sym, ap, subst, inl, ltb-true, eqb-true}
-use Rattle.safety.proofs.Words.{MayCome, none-some, false≢true, and_parts, or_parts, or_from, not-false, not_from_true, cond-true, cond-false, Block, BlockKind, TransferEvent, CommandCompletion, kind, cycle, is_event, is_transfer_event, is_command_completion, cycle_of, Opens, ceiling, is_open, ceiling_held, is_stop_of, Header, Bell, Read, IsHeader, shape_of, command_id, event_shape, event_size, Known, on_ring, command_at, next_command, endpoint_rung, rung, event_read, learned, is_in_profile, may_be_taken, is_stopping_now, is_past_room, is_impossible_by_kind, is_impossible, event_tests, is_bad_bell, is_bad_doorbell, doorbell_tests, lenient_tests, lenient, broken_of, AfterStop, BadDoorbell, DriverKeeps, HeldMore, is_open_if, Square}
+use Rattle.safety.proofs.Words.{◌≡◌, ◌-◌, ◌==◌, ◌&&◌, ◌||◌, if◌then◌else◌, ◌∙◌, ℕ, Bool, true, false, not, [], Some, is_none, nat_lt, arith, refl, sym, ap, subst, inl, ltb-true, eqb-true, rules, MayCome, none-some, false≢true, and_parts, or_parts, or_from, not-false, not_from_true, cond-true, cond-false, Block, BlockKind, TransferEvent, CommandCompletion, kind, cycle, is_event, is_transfer_event, is_command_completion, cycle_of, Opens, ceiling, is_open, ceiling_held, is_stop_of, Header, Bell, Read, IsHeader, shape_of, command_id, event_shape, event_size, Known, on_ring, command_at, next_command, endpoint_rung, rung, event_read, learned, is_in_profile, may_be_taken, is_stopping_now, is_past_room, is_impossible_by_kind, is_impossible, event_tests, is_bad_bell, is_bad_doorbell, doorbell_tests, lenient_tests, lenient, DriverKeeps, HeldMore, is_open_if, Square}
 use Rattle.safety.proofs.DriverHistories.{kept_driver}
 use Rattle.safety.proofs.TestsPassed.{AllFail, clean_tests, tests_fail}
 use Rattle.safety.proofs.EventRead.{event_broken}
@@ -64,18 +63,7 @@ module _ (h : Header) where
 
   command_woken : (k : Known) → Woken h (command_id h) none_of k (command_rung k)
   unfolding on_ring
-  command_woken k = record {
-    own = ring_here h k (command_id h) Opens;
-    rings = λ q other. ring_elsewhere h k (command_id h) q Opens other;
-    awake = λ s i in_it. absurd (false≢true in_it);
-    state = λ s i out. refl;
-    was_bound = refl;
-    slot_state = refl;
-    ring_of = refl;
-    must_move = refl;
-    stop_seen = refl;
-    device = refl;
-  }
+  command_woken k = search (rules, command_rung, ring_here, ring_elsewhere, false≢true)
 
   bell_command : (k : Known) (s t : ℕ) → (s == 0) ≡ true → learned h k (Bell s t) ≡ command_rung k
   unfolding learned rung
@@ -83,13 +71,7 @@ module _ (h : Header) where
 
   pub bell_clean : (k : Known) (s t : ℕ) → k.stopped ≡ false → k.started ≡ true → (if s == 0 then not (t == 0) else is_bad_bell h k s t) ≡ false → lenient h k (Bell s t) ≡ []
   unfolding lenient lenient_tests doorbell_tests is_bad_doorbell
-  bell_clean k s t on started good =
-      cond-false k.stopped (AfterStop ∷ []) (broken_of (doorbell_tests h k s t)) on
-      ∙ one_fails (not k.started || (if s == 0 then not (t == 0) else is_bad_bell h k s t))
-      (or_from (not k.started) (if s == 0 then not (t == 0) else is_bad_bell h k s t) (not_from_true k.started started) good)
-    where
-      one_fails : (b : Bool) → b ≡ false → broken_of ((BadDoorbell, b) ∷ []) ≡ []
-      one_fails b out = rw out refl
+  bell_clean k s t on started good = search (rules, cond-false, or_from, not_from_true)
 
   module _ (is : IsHeader h) (k : Known) (d : DriverKeeps h k) (first : (k.ring (command_id h)).held ≡ Some 0) where
     -- no command was taken yet

@@ -1,6 +1,5 @@
 -- A ring that waits for a binding behind an event waited for it before
-use Rattle.std.proofs.Common.{◌≡◌, if◌then◌else◌, ◌∷◌, ◌∙◌, ℕ, Bool, true, false, [], map, refl, sym, ap, inl, inr}
-use Rattle.safety.proofs.Words.{list_any, and_parts, and_from, false≢true, cases_option, cases_Bool, Block, Command, NoOp, EnableSlot, DisableSlot, AddressDevice, ConfigureEndpoint, EvaluateContext, ResetEndpoint, StopEndpoint, SetTrDequeue, ResetDevice, EndpointState, Off, is_off, is_open, added_endpoints, Header, Read, IsHeader, is_ring, Known, unfinished, learned, lenient, Binding, binding_in, binds, ring_bound, binds_ring, is_being_bound, awaits_binding, some_of, any_of, IsUnfinished, DriverKeeps}
+use Rattle.safety.proofs.Words.{◌≡◌, if◌then◌else◌, ◌∷◌, ◌∙◌, ℕ, Bool, true, false, [], map, refl, sym, ap, inl, inr, list_any, and_parts, and_from, false≢true, cases_option, cases_Bool, Block, Command, AddressDevice, ConfigureEndpoint, is_off, is_open, added_endpoints, Header, Read, IsHeader, is_ring, Known, unfinished, learned, lenient, Binding, binding_in, binds, ring_bound, binds_ring, is_being_bound, awaits_binding, some_of, any_of, IsUnfinished, DriverKeeps}
 use Rattle.safety.proofs.TestsPassed.{clean_tests}
 use Rattle.safety.proofs.DriverHistories.{kept_driver}
 use Rattle.safety.proofs.RowBeneath.{read_on}
@@ -8,10 +7,7 @@ use Rattle.safety.proofs.OpenedBefore.{opened_before}
 use Rattle.safety.proofs.LeasesBehind.{Behind}
 use Rattle.safety.proofs.EventBehind.{event_behind}
 use Rattle.safety.proofs.UnfinishedBehind.{listed_unfinished, listed_before, rings_behind}
-
-is_off_only : (e : EndpointState) → is_off e ≡ true → e ≡ Off
-is_off_only Off off = refl
-is_off_only _ off = absurd (false≢true off)
+use Rattle.safety.proofs.EndpointsOff.{off_is}
 
 module _ (h : Header) (is : IsHeader h) (k : Known) (d : DriverKeeps h k) (e : Block) (may : lenient h k (Read e) ≡ []) where
   abbrev l : Known
@@ -33,7 +29,7 @@ module _ (h : Header) (is : IsHeader h) (k : Known) (d : DriverKeeps h k) (e : B
       elim (cases_option (k.ring_of s 1)) [
         | inl none ↦ ap is_off (d.states.off s 1 none)
         | inr has ↦
-            absurd (behind_keeps.states.on s 1 has.0 (rings_behind h is k d e may p (AddressDevice s bsr n) s 1 u (refl, tt) ∙ has.1) (is_off_only (l.endpoint_state s 1) off))
+            absurd (behind_keeps.states.on s 1 has.0 (rings_behind h is k d e may p (AddressDevice s bsr n) s 1 u (refl, tt) ∙ has.1) (off_is (l.endpoint_state s 1) off))
       ]
 
   binds_before : (p r : ℕ) (c : Command) → IsUnfinished h l p c → binds_ring h l r c ≡ true → binds_ring h k r c ≡ true
@@ -48,15 +44,7 @@ module _ (h : Header) (is : IsHeader h) (k : Known) (d : DriverKeeps h k) (e : B
       ]
   binds_before p r (ConfigureEndpoint s false n) u bound =
       ap (λ m. let x : Known = record k { memory = m } in list_any (λ b. is_ring r (ring_bound h b)) (map (binding_in h x n) (added_endpoints m n))) (sym b.driver.memory) ∙ bound
-  binds_before p r (ConfigureEndpoint s true n) u bound = absurd (false≢true bound)
-  binds_before p r NoOp u bound = absurd (false≢true bound)
-  binds_before p r EnableSlot u bound = absurd (false≢true bound)
-  binds_before p r (DisableSlot s) u bound = absurd (false≢true bound)
-  binds_before p r (EvaluateContext s n) u bound = absurd (false≢true bound)
-  binds_before p r (ResetEndpoint s i) u bound = absurd (false≢true bound)
-  binds_before p r (StopEndpoint s i) u bound = absurd (false≢true bound)
-  binds_before p r (SetTrDequeue s i q cycle) u bound = absurd (false≢true bound)
-  binds_before p r (ResetDevice s) u bound = absurd (false≢true bound)
+  binds_before p r _ u bound = absurd (false≢true bound)
 
   pub bound_before : (r : ℕ) → is_being_bound h l r ≡ true → is_being_bound h k r ≡ true
   unfolding is_being_bound

@@ -1,6 +1,5 @@
 -- A ring that a command binds is a transfer ring; what is dropped is of the command's slot
-use Rattle.std.proofs.Common.{◌≡◌, ◌==◌, ◌∙◌, ℕ, true, false, Option, None, Some, sym, ap, eqb-true}
-use Rattle.safety.proofs.Words.{Any-from_list_any, and_parts, false≢true, Command, NoOp, EnableSlot, DisableSlot, AddressDevice, ConfigureEndpoint, EvaluateContext, ResetEndpoint, StopEndpoint, SetTrDequeue, ResetDevice, named_slot, is_dropped, Header, IsHeader, is_ring, Known, Binding, drops, binds, ring_bound, binds_ring}
+use Rattle.safety.proofs.Words.{◌≡◌, ◌==◌, ◌∙◌, ℕ, true, false, Option, None, Some, sym, ap, eqb-true, Any-from_list_any, and_parts, false≢true, Command, ConfigureEndpoint, StopEndpoint, named_slot, is_dropped, Header, IsHeader, is_ring, Known, Binding, drops, binds, ring_bound, binds_ring}
 use Rattle.safety.specs.EndpointsKeep as endpoints
 use Rattle.safety.proofs.RingIds.{having_transfer}
 use Rattle.safety.proofs.Concerned.{Concerns}
@@ -19,31 +18,13 @@ bound_transfer h is k r c bound =
 drops_named : (k : Known) (c : Command) (s i : ℕ) → drops k c s i ≡ true → named_slot c ≡ Some s
 unfolding drops
 drops_named k (ConfigureEndpoint t false n) s i is = ap (λ x. Some x) (sym (eqb-true s t (and_parts (s == t) (is_dropped k.memory n i) is).0))
-drops_named k (ConfigureEndpoint t true n) s i is = absurd (false≢true is)
-drops_named k NoOp s i is = absurd (false≢true is)
-drops_named k EnableSlot s i is = absurd (false≢true is)
-drops_named k (DisableSlot t) s i is = absurd (false≢true is)
-drops_named k (AddressDevice t bsr n) s i is = absurd (false≢true is)
-drops_named k (EvaluateContext t n) s i is = absurd (false≢true is)
-drops_named k (ResetEndpoint t j) s i is = absurd (false≢true is)
-drops_named k (StopEndpoint t j) s i is = absurd (false≢true is)
-drops_named k (SetTrDequeue t j p cycle) s i is = absurd (false≢true is)
-drops_named k (ResetDevice t) s i is = absurd (false≢true is)
+drops_named k _ s i is = absurd (false≢true is)
 
 -- so it concerns that endpoint
 pub drops_concerns : (k : Known) (c : Command) (s i : ℕ) → drops k c s i ≡ true → Concerns c s i
 unfolding drops
 drops_concerns k (ConfigureEndpoint t false n) s i is = (drops_named k (ConfigureEndpoint t false n) s i is, tt)
-drops_concerns k (ConfigureEndpoint t true n) s i is = absurd (false≢true is)
-drops_concerns k NoOp s i is = absurd (false≢true is)
-drops_concerns k EnableSlot s i is = absurd (false≢true is)
-drops_concerns k (DisableSlot t) s i is = absurd (false≢true is)
-drops_concerns k (AddressDevice t bsr n) s i is = absurd (false≢true is)
-drops_concerns k (EvaluateContext t n) s i is = absurd (false≢true is)
-drops_concerns k (ResetEndpoint t j) s i is = absurd (false≢true is)
-drops_concerns k (StopEndpoint t j) s i is = absurd (false≢true is)
-drops_concerns k (SetTrDequeue t j p cycle) s i is = absurd (false≢true is)
-drops_concerns k (ResetDevice t) s i is = absurd (false≢true is)
+drops_concerns k _ s i is = absurd (false≢true is)
 
 pub stops_drop_none : (k : Known) (c : Command) (s i t j : ℕ) → drops k c s i ≡ true → c ≡ StopEndpoint t j → ⊥
 unfolding drops

@@ -1,6 +1,5 @@
 -- What a register write, a doorbell or an event that breaks no rule says
-use Rattle.std.proofs.Common.{◌≡◌, ◌==◌, ◌&&◌, ◌||◌, if◌then◌else◌, ℕ, not, true, false, []}
-use Rattle.safety.proofs.Words.{or_parts, not-false, Block, kind, cycle, is_transfer_event, is_event, cycle_of, Header, Register, Reg, Bell, Read, event_shape, Known, is_bad_register, is_bad_erdp, register_tests, is_bad_bell, is_bad_doorbell, doorbell_tests, is_in_profile, is_impossible_by_kind, is_past_room, is_impossible, event_tests, lenient_tests, lenient}
+use Rattle.safety.proofs.Words.{◌≡◌, ◌==◌, ◌&&◌, ◌||◌, if◌then◌else◌, ℕ, not, true, false, [], or_parts, not-false, Block, kind, cycle, is_transfer_event, is_event, cycle_of, Header, Register, Reg, Bell, Read, event_shape, Known, is_bad_register, is_bad_erdp, register_tests, is_bad_bell, is_bad_doorbell, doorbell_tests, is_in_profile, is_impossible_by_kind, is_past_room, is_impossible, event_tests, lenient_tests, lenient}
 use Rattle.safety.proofs.TestsPassed.{AllFail, tests_fail}
 
 pub record RegisterFacts (h : Header) (k : Known) (r : Register) (v : ℕ) : Type 0 where

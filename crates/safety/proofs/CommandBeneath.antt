@@ -1,7 +1,6 @@
 -- A write that gives a command and an event that isn't read yet: the event stays possible, the command is unfinished behind it, and what
 -- is known is the same both ways but for the numbers at which rings are held
-use Rattle.std.proofs.Common.{◌≡◌, ◌≢◌, ◌⊎◌, ◌∙◌, ℕ, Bool, false, true, [], Option, None, Some, option_and_then, slice_get, arith, refl, sym, ap, subst, inl, inr}
-use Rattle.safety.proofs.Words.{MayCome, fun_ext, or_right, none-some, same_Some, Block, is_inside, RingView, Writes, changed, is_due, gives, positions_given, cases_option, gives_is, address_inside, position_given_is, Command, NoOp, EnableSlot, DisableSlot, AddressDevice, ConfigureEndpoint, EvaluateContext, ResetEndpoint, StopEndpoint, SetTrDequeue, ResetDevice, Header, Write, Read, IsHeader, shape_of, command_id, Known, command_at, with_device, with_word, written, taken_device, device_named, no_device, command_given, learned, lenient, IsHeldMore, HeldMore, IsDriverRing, IsUnfinished, CommandKeeps, DriverKeeps}
+use Rattle.safety.proofs.Words.{◌≡◌, ◌≢◌, ◌⊎◌, ◌∙◌, ℕ, Bool, false, true, [], Option, None, Some, option_and_then, slice_get, arith, refl, sym, ap, subst, inl, inr, rules, MayCome, or_right, none-some, same_Some, Block, is_inside, RingView, Writes, changed, is_due, gives, positions_given, cases_option, gives_is, address_inside, position_given_is, Command, AddressDevice, Header, Write, Read, IsHeader, shape_of, command_id, Known, command_at, with_device, with_word, written, taken_device, device_named, no_device, command_given, learned, lenient, IsHeldMore, HeldMore, IsDriverRing, IsUnfinished, CommandKeeps, DriverKeeps}
 use Rattle.safety.proofs.TestsPassed.{clean_tests}
 use Rattle.safety.proofs.CleanRows.{event_facts}
 use Rattle.safety.proofs.Headers.{ring_shape}
@@ -68,39 +67,12 @@ module _ (h : Header) (is : IsHeader h) (k : Known) (d : DriverKeeps h k) (a w :
   untaken_devices t apart = device_then.after.device t apart ∙ word_first.after.device t tt
 
   pub alike_there : Alike (Untaken (taken h k a w)) l beneath
-  alike_there =
-      let one = word_first.after in
-      let two = device_then.after in
-      record {
-        rings = λ r. record {
-          floor = (two.rings r).floor ∙ (one.rings r).floor;
-          held = held_twice (l.ring r).held ((learned h word (Read e)).ring r).held (beneath.ring r).held (one.rings r).held (two.rings r).held;
-          more = record { given = λ p g. (two.rings r).more.given p ((one.rings r).more.given p g); crossed = λ q g. (two.rings r).more.crossed q ((one.rings r).more.crossed q g) };
-        };
-        was_bound = two.was_bound ∙ one.was_bound;
-        slot_state = two.slot_state ∙ one.slot_state;
-        endpoint_state = two.endpoint_state ∙ one.endpoint_state;
-        ring_of = two.ring_of ∙ one.ring_of;
-        must_move = two.must_move ∙ one.must_move;
-        stop_seen = two.stop_seen ∙ one.stop_seen;
-        device = untaken_devices;
-      }
+  alike_there = search (rules, taken, l, beneath, word_first, device_then, held_twice, word, untaken_devices)
 
   -- a ring is given what the write gives of it behind the event
   pub rings_there : (r : ℕ) → SameGiven (changed (shape_of h r) (l.ring r) (Writes a w)) (beneath.ring r)
   unfolding with_word
-  rings_there r =
-      let read = (read_same h m e).rings r in
-      let both = (word_driver h is k d a w e clean may).rings r in
-      let view : m.ring r ≡ word.ring r = ring_after r in
-      record {
-        queue = read.queue ∙ ap (λ (v : RingView). v.queue) view ∙ both.queue;
-        lengths = read.lengths ∙ ap (λ (v : RingView). v.lengths) view ∙ both.lengths;
-        given = read.given ∙ ap {B = ℕ → Bool} (λ (v : RingView). v.given) view ∙ both.given;
-        crossed = read.crossed ∙ ap {B = ℕ → Bool} (λ (v : RingView). v.crossed) view ∙ both.crossed;
-        withdrawn = read.withdrawn ∙ ap {B = ℕ → Bool} (λ (v : RingView). v.withdrawn) view ∙ both.withdrawn;
-        free = read.free ∙ ap {B = ℕ → Bool} (λ (v : RingView). v.free) view ∙ both.free;
-      }
+  rings_there r = search (rules, l, beneath, read_same, m, word_driver, word, ring_after)
 
   -- ---- the command that is given
 
@@ -171,14 +143,7 @@ module _ (h : Header) (is : IsHeader h) (k : Known) (d : DriverKeeps h k) (a w :
         given_keeps.device s n bsr same (untaken_devices s (λ f some. absurd (none-some f (sym idle ∙ some))) ∙ none)
 
     pub device_alike : (s n : ℕ) (bsr : Bool) → c ≡ AddressDevice s bsr n → ((k.device s ≡ None) × (l.device s ≡ None)) ⊎ ((k.device s ≢ None) × (l.device s ≢ None))
-    device_alike s n bsr same =
-        elim (cases_option (k.device s)) [
-          | inl none ↦ elim (cases_option (l.device s)) [
-            | inl also ↦ inl (none, also)
-            | inr some ↦ absurd (none-some some.0 (sym none ∙ devices_left h k e s some.0 some.1))
-          ]
-          | inr some ↦ inr (λ none. none-some some.0 (sym none ∙ some.1), device_kept s n some.0 bsr same some.1)
-        ]
+    device_alike s n bsr same = search (rules, l, cases_option, none-some, devices_left, device_kept)
 
     device_same : (s x y : ℕ) (o u : Option ℕ) → ((o ≡ None) × (u ≡ None)) ⊎ ((o ≢ None) × (u ≢ None)) → x ≡ y → no_device u s x ≡ no_device o s y
     unfolding no_device
@@ -194,15 +159,7 @@ module _ (h : Header) (is : IsHeader h) (k : Known) (d : DriverKeeps h k) (a w :
     taken_by : (x : Command) → c ≡ x → taken_device l x ≡ taken_device k x
     unfolding taken_device
     taken_by (AddressDevice s bsr n) at = device_same s (device_named l s) (device_named k s) (k.device s) (l.device s) (device_alike s n bsr at) (names_same s)
-    taken_by NoOp at = refl
-    taken_by EnableSlot at = refl
-    taken_by (DisableSlot s) at = refl
-    taken_by (ConfigureEndpoint s dc n) at = refl
-    taken_by (EvaluateContext s n) at = refl
-    taken_by (ResetEndpoint s i) at = refl
-    taken_by (StopEndpoint s i) at = refl
-    taken_by (SetTrDequeue s i p cycle) at = refl
-    taken_by (ResetDevice s) at = refl
+    taken_by _ at = refl
 
     taken_same : taken h l a w ≡ taken h k a w
     taken_same =
@@ -225,24 +182,8 @@ module _ (h : Header) (is : IsHeader h) (k : Known) (d : DriverKeeps h k) (a w :
     states_by : (o : Option (ℕ × ℕ)) (x : Known) → ((t : ℕ) → x.device t ≡ (with_device h (with_word h l a w) o).device t) → SameStates l (record x { device = l.device }) →
         SameStates (with_device h (with_word h l a w) o) x
     unfolding with_device with_word
-    states_by None x device s = record {
-      was_bound = s.was_bound;
-      slot_state = s.slot_state;
-      endpoint_state = s.endpoint_state;
-      ring_of = s.ring_of;
-      must_move = s.must_move;
-      stop_seen = s.stop_seen;
-      device = fun_ext device;
-    }
-    states_by (Some f) x device s = record {
-      was_bound = s.was_bound;
-      slot_state = s.slot_state;
-      endpoint_state = s.endpoint_state;
-      ring_of = s.ring_of;
-      must_move = s.must_move;
-      stop_seen = s.stop_seen;
-      device = fun_ext device;
-    }
+    states_by None x device s = search (rules, l)
+    states_by (Some f) x device s = search (rules, l)
 
     floor_is : (x : Known) (r : ℕ) → x.ring ≡ (with_word h l a w).ring → (x.ring r).floor ≡ (l.ring r).floor
     unfolding with_word

@@ -1,6 +1,5 @@
 -- Behind an event that is read before it, a command that a write gives has the same input context, and may move the same rings
-use Rattle.std.proofs.Common.{◌≡◌, ◌∙◌, ℕ, false, Bool, Option, Some, None, [], refl, ap, subst}
-use Rattle.safety.proofs.Words.{MayCome, or_parts, or_from, Block, Command, SetTrDequeue, input_context_bytes, Header, Write, Read, IsHeader, Known, command_given, learned, is_bad_area, is_soiled, covers, device_ranges, is_bad_dequeue, is_bad_move, lenient, DriverKeeps, MovesIf}
+use Rattle.safety.proofs.Words.{◌≡◌, ◌∙◌, ℕ, false, Bool, Option, Some, None, [], refl, ap, subst, MayCome, or_parts, or_from, Block, Command, SetTrDequeue, input_context_bytes, Header, Write, Read, IsHeader, Known, command_given, learned, is_bad_area, is_soiled, covers, device_ranges, is_bad_dequeue, is_bad_move, lenient, DriverKeeps, MovesIf}
 use Rattle.ownership_rules.specs.Commands as commands
 use Rattle.safety.proofs.AreaFacts.{AreaParts, area_parts, area_from, clean_same}
 use Rattle.safety.proofs.WriteBeside.{context_parts, context_from}

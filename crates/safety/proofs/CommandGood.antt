@@ -1,7 +1,6 @@
 -- Behind an event that is read before it, a command that a write gives names a slot and an endpoint that are there, and its contexts lie and
 -- say what they may
-use Rattle.std.proofs.Common.{◌≡◌, ◌==◌, ◌&&◌, ◌||◌, ◌∙◌, ℕ, not, true, false, [], Option, None, Some, refl}
-use Rattle.safety.proofs.Words.{MayCome, or_parts, or_from, Block, input_add_flag, Command, NoOp, EnableSlot, DisableSlot, AddressDevice, ConfigureEndpoint, EvaluateContext, ResetEndpoint, StopEndpoint, SetTrDequeue, ResetDevice, named_slot, named_endpoint, named_context, Header, Write, Read, IsHeader, Known, command_given, learned, lenient, DriverKeeps}
+use Rattle.safety.proofs.Words.{◌≡◌, ◌==◌, ◌&&◌, ◌||◌, ◌∙◌, ℕ, not, false, [], Option, None, Some, refl, MayCome, or_parts, or_from, Block, input_add_flag, Command, AddressDevice, ConfigureEndpoint, named_slot, named_endpoint, named_context, Header, Write, Read, IsHeader, Known, command_given, learned, lenient, DriverKeeps}
 use Rattle.ownership_rules.specs.Commands as commands
 use Rattle.safety.proofs.GivenBehind.{between, own_between, facts}
 use Rattle.safety.proofs.CommandContext.{context_behind}
@@ -39,15 +38,7 @@ module _ (h : Header) (is : IsHeader h) (k : Known) (d : DriverKeeps h k) (a w :
       let takes = or_parts (not (input_add_flag k.memory n 0 && input_add_flag k.memory n 1) || commands.type_in h k n 1 == 0) (commands.takes_bad_device h k s n) before in
       or_from (not (input_add_flag l.memory n 0 && input_add_flag l.memory n 1) || commands.type_in h l n 1 == 0) (commands.takes_bad_device h l s n) read.0 (device_behind h is k d e may a w clean c given s n bsr at takes.1)
   content_of (ConfigureEndpoint s false n) at there before = there
-  content_of (ConfigureEndpoint s true n) at there before = refl
-  content_of NoOp at there before = refl
-  content_of EnableSlot at there before = refl
-  content_of (DisableSlot s) at there before = refl
-  content_of (EvaluateContext s n) at there before = refl
-  content_of (ResetEndpoint s i) at there before = refl
-  content_of (StopEndpoint s i) at there before = refl
-  content_of (SetTrDequeue s i p cycle) at there before = refl
-  content_of (ResetDevice s) at there before = refl
+  content_of _ at there before = refl
 
   -- the command breaks BadCommand behind the event no more than before it
   pub good_behind : commands.is_bad_command h l c ≡ false

@@ -1,6 +1,5 @@
 -- Behind an event that is read before it, a command that a write gives may move its rings as before
-use Rattle.std.proofs.Common.{◌≡◌, ◌==◌, ◌&&◌, ◌∙◌, ℕ, not, Bool, false, Some, [], refl, sym, ap, subst, inl, inr, eq-eqb}
-use Rattle.safety.proofs.Words.{MayCome, or_from, and_parts, false≢true, false_from_ne_true, not_from_true, Block, declared, floor_number, is_move, cases_option, Command, NoOp, EnableSlot, DisableSlot, AddressDevice, ConfigureEndpoint, EvaluateContext, ResetEndpoint, StopEndpoint, SetTrDequeue, ResetDevice, is_off, context_pointer, context_cycle, Header, Write, Read, IsHeader, shape_of, Known, command_given, learned, binding_in, is_bad_stay, is_bad_move, lenient, DriverKeeps, StaysIf}
+use Rattle.safety.proofs.Words.{◌≡◌, ◌==◌, ◌&&◌, ◌∙◌, ℕ, not, Bool, false, Some, [], refl, sym, ap, subst, inl, inr, eq-eqb, MayCome, or_from, and_parts, false≢true, false_from_ne_true, not_from_true, Block, declared, floor_number, is_move, cases_option, Command, AddressDevice, SetTrDequeue, is_off, context_pointer, context_cycle, Header, Write, Read, IsHeader, shape_of, Known, command_given, learned, binding_in, is_bad_stay, is_bad_move, lenient, DriverKeeps, StaysIf}
 use Rattle.safety.proofs.TestsPassed.{clean_tests}
 use Rattle.safety.proofs.DriverHistories.{kept_driver}
 use Rattle.safety.proofs.RowBeneath.{read_on}
@@ -36,14 +35,7 @@ module _ (h : Header) (is : IsHeader h) (k : Known) (d : DriverKeeps h k) (a w :
         | inl none ↦ false≢true (sym (ap (λ t. not (is_off t)) (behind_keeps.states.off s 1 none)) ∙ parts.0)
         | inr r ↦ false≢true (sym (ap (λ o. is_bad_stay h l o (binding_in h l n 1)) r.1 ∙ stay_behind s n r.0 bsr at r.1) ∙ parts.1)
       ])
-  by NoOp at = refl
-  by EnableSlot at = refl
-  by (DisableSlot s) at = refl
-  by (ConfigureEndpoint s dc n) at = refl
-  by (EvaluateContext s n) at = refl
-  by (ResetEndpoint s i) at = refl
-  by (StopEndpoint s i) at = refl
-  by (ResetDevice s) at = refl
+  by _ at = refl
 
   pub moves_behind : is_bad_move h l c ≡ false
   moves_behind = by c refl

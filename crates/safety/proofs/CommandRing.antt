@@ -1,22 +1,13 @@
 -- Where a command may be unfinished the header has a command ring
-use Rattle.std.proofs.Common.{◌≡◌, ℕ, true, Option, Some, None, find, arith, refl, ap, inl, inr}
-use Rattle.safety.proofs.Words.{RingKind, Cmd, Evt, Xfer, Spot, place_count, is_due, due_is, cases_option, Header, Ring, IsHeader, ring_with, shape_of, shape_or, command_ring, command_id, id_or_none, is_command_kind, is_driver_kind, false≢true, IsDriverRing}
+use Rattle.safety.proofs.Words.{◌≡◌, ℕ, true, Option, Some, None, find, arith, refl, rules, Spot, place_count, is_due, due_is, cases_option, Header, Ring, IsHeader, shape_of, command_ring, command_id, id_or_none, is_command_kind, IsDriverRing}
 use Rattle.safety.proofs.RingsOfHeader.{found_passes}
 use Rattle.safety.proofs.RingIds.{found_again, together, none_has_256}
-
-command_driver : (kind : RingKind) → is_command_kind kind ≡ true → is_driver_kind kind ≡ true
-command_driver Cmd c = refl
-command_driver Evt c = absurd (false≢true c)
-command_driver Xfer c = absurd (false≢true c)
+use Rattle.safety.proofs.KeptRegisters.{command_drives}
 
 module _ (h : Header) (is : IsHeader h) where
   no_places : place_count (shape_of h 256) ≡ 0
   unfolding shape_of
-  no_places =
-      elim (cases_option (ring_with h 256)) [
-        | inl none ↦ ap (λ o. place_count (shape_or Xfer o)) none
-        | inr some ↦ absurd (none_has_256 h is some.0 some.1)
-      ]
+  no_places = search (rules, cases_option, none_has_256)
 
   due_by : (o : Option Ring) → find (λ q. is_command_kind q.shape.kind) h.rings ≡ o → (floor : Spot) (p : ℕ) → is_due (shape_of h (id_or_none o)) floor p ≡ true → IsDriverRing h (id_or_none o)
   due_by None none floor p due = let within = due_is (shape_of h 256) floor p due in absurd (omega (arith, within.0, within.1, no_places))
@@ -24,7 +15,7 @@ module _ (h : Header) (is : IsHeader h) where
       record {
         ring = c;
         found = found_again (λ q. is_command_kind q.shape.kind) h.rings c (together h is) found;
-        kind = command_driver c.shape.kind (found_passes (λ q. is_command_kind q.shape.kind) h.rings c found);
+        kind = command_drives c.shape.kind (found_passes (λ q. is_command_kind q.shape.kind) h.rings c found);
       }
 
   -- a position of the command ring that is due is one of a ring

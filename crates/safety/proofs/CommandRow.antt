@@ -1,6 +1,5 @@
 -- Behind an event that is read before it, a write that gives a command breaks no rule: what is tested of its bindings and its slot
-use Rattle.std.proofs.Common.{◌≡◌, ◌||◌, ◌∷◌, ◌∙◌, ℕ, not, true, false, List, [], map, All, Some, refl, sym, ap, subst, inl, inr, eq-eqb, Option, None}
-use Rattle.safety.proofs.Words.{MayCome, list_any, or_from, not_from_true, false≢true, false_from_ne_true, All-head, All-tail, cases_option, Block, is_due, Command, NoOp, EnableSlot, DisableSlot, AddressDevice, ConfigureEndpoint, EvaluateContext, ResetEndpoint, StopEndpoint, SetTrDequeue, ResetDevice, Header, Write, Read, IsHeader, shape_of, command_id, is_ring, Known, unfinished, command_given, learned, Binding, binding_in, binds, ring_bound, binds_ring, has_repeats, drops, is_kept, is_taken, is_placed, is_bad_place, is_being_bound, is_bad_binding, lenient, IsIn, some_of, any_of, IsUnfinished, CommandKeeps, DriverKeeps, exclude}
+use Rattle.safety.proofs.Words.{◌≡◌, ◌||◌, ◌∷◌, ◌∙◌, ℕ, not, true, false, List, [], map, All, Some, refl, sym, ap, subst, inl, inr, eq-eqb, Option, None, rules, MayCome, list_any, or_from, not_from_true, false≢true, false_from_ne_true, All-head, All-tail, cases_option, Block, Command, NoOp, EnableSlot, DisableSlot, AddressDevice, ConfigureEndpoint, EvaluateContext, ResetEndpoint, StopEndpoint, SetTrDequeue, ResetDevice, Header, Write, Read, IsHeader, command_id, is_ring, Known, unfinished, command_given, learned, Binding, binding_in, binds, ring_bound, binds_ring, has_repeats, drops, is_kept, is_taken, is_placed, is_bad_place, is_being_bound, is_bad_binding, lenient, IsIn, some_of, any_of, IsUnfinished, CommandKeeps, DriverKeeps, exclude}
 use Rattle.ownership_rules.specs.Commands as commands
 use Rattle.safety.proofs.LeasesBehind.{none_fewer}
 use Rattle.safety.proofs.WriteBeside.{beside_old}
@@ -52,16 +51,7 @@ module _ (h : Header) (is : IsHeader h) (k : Known) (d : DriverKeeps h k) (a w :
   binds_same : (f : Command) → binds h l f ≡ binds h x f
   unfolding binds binding_in
   binds_same (AddressDevice s bsr n) = refl
-  binds_same (ConfigureEndpoint s false n) = refl
-  binds_same (ConfigureEndpoint s true n) = refl
-  binds_same NoOp = refl
-  binds_same EnableSlot = refl
-  binds_same (DisableSlot s) = refl
-  binds_same (EvaluateContext s n) = refl
-  binds_same (ResetEndpoint s i) = refl
-  binds_same (StopEndpoint s i) = refl
-  binds_same (SetTrDequeue s i p cycle) = refl
-  binds_same (ResetDevice s) = refl
+  binds_same _ = refl
 
   binds_ring_same : (r : ℕ) (f : Command) → binds_ring h l r f ≡ binds_ring h x r f
   unfolding binds_ring
@@ -69,12 +59,7 @@ module _ (h : Header) (is : IsHeader h) (k : Known) (d : DriverKeeps h k) (a w :
 
   -- what is unfinished behind the event is unfinished there
   stays_there : (q : ℕ) (f : Command) → IsUnfinished h l q f → IsUnfinished h beneath q f
-  stays_there q f u =
-      record {
-        due = ap (λ t. is_due (shape_of h (command_id h)) t q) (floors_alike h is k d a w e clean may (command_id h)) ∙ u.due;
-        given = ((alike_there h is k d a w e clean may).rings (command_id h)).more.given q u.given;
-        command = command_same h l beneath q (rings_there h is k d a w e clean may (command_id h)).queue ∙ u.command;
-      }
+  stays_there q f u = search (rules, l, beneath, floors_alike, alike_there, command_same, rings_there)
 
   -- no other command that is unfinished names a ring that this one binds
   unnamed : (r : ℕ) → binds_ring h x r c ≡ true → list_any (binds_ring h l r) (unfinished h l) ≡ false
@@ -96,16 +81,7 @@ module _ (h : Header) (is : IsHeader h) (k : Known) (d : DriverKeeps h k) (a w :
   drops_same : (f : Command) (s i : ℕ) → drops l f s i ≡ drops x f s i
   unfolding drops
   drops_same (ConfigureEndpoint s false n) t i = refl
-  drops_same (ConfigureEndpoint s true n) t i = refl
-  drops_same (AddressDevice s bsr n) t i = refl
-  drops_same NoOp t i = refl
-  drops_same EnableSlot t i = refl
-  drops_same (DisableSlot s) t i = refl
-  drops_same (EvaluateContext s n) t i = refl
-  drops_same (ResetEndpoint s j) t i = refl
-  drops_same (StopEndpoint s j) t i = refl
-  drops_same (SetTrDequeue s j p cycle) t i = refl
-  drops_same (ResetDevice s) t i = refl
+  drops_same _ t i = refl
 
   -- nor has an endpoint one of them that isn't dropped
   unkept_behind : (r : ℕ) → binds_ring h x r c ≡ true → is_kept h l c r ≡ false
@@ -113,13 +89,7 @@ module _ (h : Header) (is : IsHeader h) (k : Known) (d : DriverKeeps h k) (a w :
 
   free_behind : (b : Binding) → IsIn b (binds h x c) → is_taken h l c (ring_bound h b) ≡ false
   unfolding binds_ring is_taken is_being_bound
-  free_behind b at =
-      elim (cases_option (ring_bound h b)) [
-        | inl none ↦ ap (λ o. is_taken h l c o) none
-        | inr r ↦
-            let bound : binds_ring h x r.0 c ≡ true = any_of (λ b. is_ring r.0 (ring_bound h b)) (binds h x c) b at (ap (λ o. is_ring r.0 o) r.1 ∙ eq-eqb r.0 r.0 refl) in
-            ap (λ o. is_taken h l c o) r.1 ∙ or_from (is_kept h l c r.0) (list_any (binds_ring h l r.0) (unfinished h l)) (unkept_behind r.0 bound) (unnamed r.0 bound)
-      ]
+  free_behind b at = search (rules, x, l, cases_option, any_of, eq-eqb, or_from, unkept_behind, unnamed)
 
   placed_same : (o : Option ℕ) (b : Binding) → is_placed h l o b ≡ is_placed h x o b
   unfolding is_placed

@@ -1,6 +1,5 @@
 -- Behind an event that is read before it, a second Address Device that a write gives finds nothing left on its ring
-use Rattle.std.proofs.Common.{◌≡◌, ◌∙◌, ℕ, Bool, length, Some, [], arith, refl, sym, ap, subst, inl, inr}
-use Rattle.safety.proofs.Words.{MayCome, cases_lt, Block, RingView, declared, floor_number, Command, AddressDevice, Header, Write, Read, IsHeader, Known, command_given, learned, lenient, DriverKeeps}
+use Rattle.safety.proofs.Words.{◌≡◌, ◌∙◌, ℕ, Bool, length, Some, [], arith, refl, sym, ap, subst, inl, inr, MayCome, cases_lt, Block, RingView, declared, floor_number, Command, AddressDevice, Header, Write, Read, IsHeader, Known, command_given, learned, lenient, DriverKeeps}
 use Rattle.safety.proofs.Concerned.{Concerns}
 use Rattle.safety.proofs.RowFrames.{write_leaves}
 use Rattle.safety.proofs.EventBehind.{event_behind}

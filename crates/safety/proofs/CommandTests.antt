@@ -1,6 +1,5 @@
 -- Behind an event that is read before it, a write that gives a good command breaks no rule
-use Rattle.std.proofs.Common.{◌≡◌, ◌∷◌, ◌∙◌, ℕ, Bool, false, [], Some, ap}
-use Rattle.safety.proofs.Words.{MayCome, cond-false, or_from, Block, Command, Header, Write, Read, IsHeader, Known, command_given, learned, broken_of, AfterStop, some_command, holds_of, write_tests, lenient_tests, lenient, DriverKeeps}
+use Rattle.safety.proofs.Words.{◌≡◌, ◌∷◌, ◌∙◌, ℕ, Bool, false, [], Some, ap, MayCome, cond-false, or_from, Block, Command, Header, Write, Read, IsHeader, Known, command_given, learned, broken_of, AfterStop, some_command, holds_of, write_tests, lenient_tests, lenient, DriverKeeps}
 use Rattle.ownership_rules.specs.Commands as commands
 use Rattle.safety.proofs.TestsPassed.{clean_tests}
 use Rattle.safety.proofs.RowBeneath.{read_on}

@@ -1,6 +1,5 @@
 -- What the rules say of a command holds still where nothing that the command reads has changed
-use Rattle.std.proofs.Common.{◌≡◌, ◌≢◌, ◌<◌, ◌==◌, ◌&&◌, ◌||◌, if◌then◌else◌, ◌∷◌, ◌∙◌, ℕ, not, Bool, false, [], map, Option, None, Some, is_none, nat_lt, arith, refl, ap, nat_le}
-use Rattle.safety.proofs.Words.{list_any, or_parts, or_from, and_left, Command, AddressDevice, ConfigureEndpoint, ResetEndpoint, StopEndpoint, SetTrDequeue, named_slot, named_endpoint, named_context, is_disabled, is_off, added_endpoints, input_add_flag, Header, is_ring, Known, binding_in, binds, ring_bound, binds_ring, drops}
+use Rattle.safety.proofs.Words.{◌≡◌, ◌≢◌, ◌<◌, ◌==◌, ◌&&◌, ◌||◌, if◌then◌else◌, ◌∷◌, ◌∙◌, ℕ, not, Bool, false, [], map, Option, None, Some, is_none, nat_lt, arith, refl, ap, nat_le, rules, list_any, or_parts, or_from, and_left, Command, AddressDevice, ConfigureEndpoint, ResetEndpoint, StopEndpoint, SetTrDequeue, named_slot, named_endpoint, named_context, is_disabled, is_off, added_endpoints, input_add_flag, Header, is_ring, Known, binding_in, binds, ring_bound, binds_ring, drops}
 use Rattle.ownership_rules.specs.Commands as commands
 use Rattle.safety.proofs.Concerned.{Concerns}
 use Rattle.safety.proofs.ContextReads.{AgreeIn, any_same, map_same, added_indices, added_same, add_flag_same, drop_flag_same, type_same, streams_same, pointer_same, cycle_same}
@@ -84,11 +83,7 @@ module _ (h : Header) where
 
     slot_beside : (c : Command) → Beside k l c → commands.names_disabled_slot k (named_slot c) ≡ false → commands.names_disabled_slot l (named_slot c) ≡ false
     unfolding commands.names_disabled_slot
-    slot_beside c b good = by (named_slot c) refl good
-      where
-        by : (o : Option ℕ) → named_slot c ≡ o → commands.names_disabled_slot k o ≡ false → commands.names_disabled_slot l o ≡ false
-        by None at good = refl
-        by (Some s) at good = b.slot s at good
+    slot_beside c b good = search rules
 
     endpoint_beside : (c : Command) → Beside k l c → commands.names_disabled_endpoint l (named_endpoint c) ≡ commands.names_disabled_endpoint k (named_endpoint c)
     unfolding commands.names_disabled_endpoint
@@ -98,11 +93,7 @@ module _ (h : Header) where
     endpoint_beside _ b = refl
 
     context_beside : (c : Command) → Beside k l c → commands.has_bad_context h l (named_context c) ≡ false
-    context_beside c b = by (named_context c) refl
-      where
-        by : (o : Option ℕ) → named_context c ≡ o → commands.has_bad_context h l o ≡ false
-        by None at = no_context h l
-        by (Some n) at = b.context n at
+    context_beside c b = search (rules, no_context)
 
     -- a device context that is under lease isn't taken again
     pub leased_device : (s n : ℕ) → l.device s ≢ None → commands.takes_bad_device h l s n ≡ false
@@ -132,15 +123,7 @@ module _ (h : Header) where
 
     pub good_beside : (c : Command) → Beside k l c → commands.is_bad_command h k c ≡ false → commands.is_bad_command h l c ≡ false
     unfolding commands.is_bad_command
-    good_beside c b good =
-        let three = or_parts _ (commands.has_bad_content h k c) good in
-        let two = or_parts _ (commands.has_bad_context h k (named_context c)) three.0 in
-        let one = or_parts (commands.names_disabled_slot k (named_slot c)) (commands.names_disabled_endpoint k (named_endpoint c)) two.0 in
-        or_from _ (commands.has_bad_content h l c)
-        (or_from _ (commands.has_bad_context h l (named_context c))
-        (or_from (commands.names_disabled_slot l (named_slot c)) (commands.names_disabled_endpoint l (named_endpoint c)) (slot_beside c b one.0) (endpoint_beside c b ∙ one.1))
-        (context_beside c b))
-        (content_beside c b three.1)
+    good_beside c b good = search (rules, or_parts, or_from, slot_beside, endpoint_beside, context_beside, content_beside)
 
     pub in_profile_beside : (c : Command) → Beside k l c → commands.adds_streams h k c ≡ false → commands.adds_streams h l c ≡ false
     in_profile_beside c b good = profile_beside c b ∙ good

@@ -1,6 +1,5 @@
 -- A completion keeps what is kept of the commands that stay unfinished
-use Rattle.std.proofs.Common.{◌≡◌, ◌≢◌, ◌==◌, if◌then◌else◌, ◌∙◌, ℕ, not, true, false, nat_lt, Option, None, Some, is_some, arith, refl, sym, ap, subst, inl, inr, ltb-true}
-use Rattle.safety.proofs.Words.{cases_Bool, cond-true, cond-false, or_parts, and_parts, not-false, false≢true, Block, code, slot, Spot, after, Reaches, ceiling, Command, NoOp, EnableSlot, DisableSlot, AddressDevice, ConfigureEndpoint, EvaluateContext, ResetEndpoint, StopEndpoint, SetTrDequeue, ResetDevice, exclude, SlotState, Disabled, Enabled, Default, Addressed, Configured, named_slot, may_answer_slot, is_disabled, can_succeed, slot_success, Header, Config, IsHeader, shape_of, command_id, register_or_zero, Known, command_at, next_command, on_ring, succeeded, stop_ended, finished, completed, may_be_taken, can_finish, was_stop_seen, is_impossible_completion, IsDriverRing, IsUnfinished, DriverKeeps, CommandsKeep}
+use Rattle.safety.proofs.Words.{◌≡◌, ◌≢◌, ◌==◌, if◌then◌else◌, ◌∙◌, ℕ, not, true, false, nat_lt, Option, None, Some, is_some, arith, refl, sym, ap, subst, inl, inr, ltb-true, cases_Bool, cond-true, cond-false, or_parts, and_parts, not-false, false≢true, Block, code, slot, Spot, after, Reaches, ceiling, Command, NoOp, EnableSlot, DisableSlot, AddressDevice, ConfigureEndpoint, EvaluateContext, ResetEndpoint, StopEndpoint, SetTrDequeue, ResetDevice, exclude, SlotState, Disabled, named_slot, may_answer_slot, is_disabled, can_succeed, slot_success, Header, Config, IsHeader, shape_of, command_id, register_or_zero, Known, command_at, next_command, on_ring, succeeded, stop_ended, finished, completed, may_be_taken, can_finish, was_stop_seen, is_impossible_completion, IsDriverRing, IsUnfinished, DriverKeeps, CommandsKeep}
 use Rattle.ownership_rules.specs.Commands as commands
 use Rattle.safety.proofs.Headers.{ring_shape}
 use Rattle.safety.proofs.NoWait.{ceiling_given}
@@ -15,10 +14,7 @@ use Rattle.safety.proofs.CommandsFinished.{beside_finished, rings_finished, unfi
 
 enabled_before : (s : SlotState) → is_some (slot_success EnableSlot s) ≡ true → is_disabled s ≡ true
 enabled_before Disabled can = refl
-enabled_before Enabled can = absurd (false≢true can)
-enabled_before Default can = absurd (false≢true can)
-enabled_before Addressed can = absurd (false≢true can)
-enabled_before Configured can = absurd (false≢true can)
+enabled_before _ can = absurd (false≢true can)
 
 -- an Enable Slot succeeds with a slot that was Disabled
 enabled_slot : (k : Known) (n : ℕ) → can_succeed k.slot_state k.endpoint_state (register_or_zero k.register Config) n EnableSlot ≡ true → is_disabled (k.slot_state n) ≡ true

@@ -1,6 +1,5 @@
 -- A declaration keeps what is kept of unfinished commands
-use Rattle.std.proofs.Common.{◌≡◌, ◌<◌, ◌∙◌, ℕ, List, option_and_then, slice_get, arith, refl, sym, ap, subst, inl, inr}
-use Rattle.safety.proofs.Words.{cases_eq, Block, number, RingView, Declares, declared, is_due, slice_get-append, Command, command_of, Header, IsHeader, shape_of, command_id, Known, on_ring, command_at, IsUnfinished, CommandKeeps, DriverKeeps}
+use Rattle.safety.proofs.Words.{◌≡◌, ◌<◌, ◌∙◌, ℕ, List, option_and_then, slice_get, arith, refl, sym, ap, subst, inl, inr, rules, cases_eq, Block, number, RingView, Declares, declared, is_due, slice_get-append, Command, command_of, Header, IsHeader, shape_of, command_id, Known, on_ring, command_at, IsUnfinished, CommandKeeps, DriverKeeps}
 use Rattle.safety.proofs.DriverRows.{ring_here, ring_elsewhere}
 use Rattle.safety.proofs.NothingFree.{declared_free}
 use Rattle.safety.proofs.DeclaredMoves.{MovesStay, moves_declares, moves_stand}
@@ -24,13 +23,7 @@ module _ (h : Header) (is : IsHeader h) (k : Known) (d : DriverKeeps h k) (r : �
 
   only : (q : ℕ) → OnlyDeclares (k.ring q) (l.ring q)
   unfolding l
-  only q =
-      elim (cases_eq q r) [
-        | inl same ↦ subst (λ n. OnlyDeclares (k.ring n) ((on_ring h k r (Declares blocks)).ring n)) (sym same)
-            (subst (λ w. OnlyDeclares (k.ring r) w) (sym (ring_here h k r (Declares blocks)))
-            (record { floor = refl; given = refl; queue = λ p low. slice_get-append (k.ring r).queue blocks p low }))
-        | inr other ↦ subst (λ w. OnlyDeclares (k.ring q) w) (sym (ring_elsewhere h k r q (Declares blocks) other)) (record { floor = refl; given = refl; queue = λ p low. refl })
-      ]
+  only q = search (rules, l, ring_here, slice_get-append, ring_elsewhere)
 
   before : (p : ℕ) (c : Command) → IsUnfinished h l p c → IsUnfinished h k p c
   unfolding command_at

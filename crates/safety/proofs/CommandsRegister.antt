@@ -1,6 +1,5 @@
 -- A register write keeps what is kept of unfinished commands
-use Rattle.std.proofs.Common.{◌≡◌, ℕ, refl, sym, ap, subst}
-use Rattle.safety.proofs.Words.{Command, is_off, Header, Register, Reg, command_id, Known, learned, IsUnfinished, CommandsKeep}
+use Rattle.safety.proofs.Words.{◌≡◌, ℕ, refl, sym, ap, subst, rules, Command, Header, Register, Reg, command_id, Known, learned, IsUnfinished, CommandsKeep}
 use Rattle.safety.proofs.WithReads.{with_reads}
 use Rattle.safety.proofs.RowFrames.{register_leaves}
 use Rattle.safety.proofs.SameDriver.{SameGiven}
@@ -20,15 +19,7 @@ pub record SameForCommands (k l : Known) : Type 0 where
 
 module _ (h : Header) (k l : Known) (same : SameForCommands k l) where
   states : SameStates k l
-  states = record {
-    memory = same.memory;
-    soiled = same.soiled;
-    device = same.device;
-    slot_state = same.slot_state;
-    off = λ s i. ap (λ f. is_off (f s i)) same.endpoint_state;
-    ring_of = same.ring_of;
-    was_bound = same.was_bound;
-  }
+  states = search rules
 
   given : SameGiven (k.ring (command_id h)) (l.ring (command_id h))
   given = subst (λ f. SameGiven (k.ring (command_id h)) (f (command_id h))) (sym same.ring) (record { queue = refl; lengths = refl; given = refl; crossed = refl; withdrawn = refl; free = refl })

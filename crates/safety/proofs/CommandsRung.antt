@@ -1,6 +1,5 @@
 -- A doorbell keeps what is kept of unfinished commands: none of them touches the endpoint
-use Rattle.std.proofs.Common.{◌≡◌, ◌≢◌, ◌==◌, ◌&&◌, if◌then◌else◌, ◌∙◌, ℕ, not, Bool, true, false, [], Option, None, Some, refl, sym, ap, subst, inl, inr, eq-eqb}
-use Rattle.safety.proofs.Words.{cases_eq, cond_both, cond-false, or_parts, or_left, and_from, false≢true, put_pair, Opens, number, Command, NoOp, EnableSlot, DisableSlot, AddressDevice, ConfigureEndpoint, EvaluateContext, ResetEndpoint, StopEndpoint, SetTrDequeue, ResetDevice, EndpointState, Off, Running, Halted, Stopped, Error, is_off, is_stopped, is_at_rest, changes, Header, Bell, IsHeader, shape_of, command_id, Known, on_ring, endpoint_rung, rung, touches_endpoint, is_touched, is_bad_bell, is_bad_doorbell, doorbell_tests, lenient_tests, lenient, IsUnfinished, CommandKeeps, DriverKeeps, drops, ConfigureEndpoint, is_dropped}
+use Rattle.safety.proofs.Words.{◌≡◌, ◌≢◌, ◌==◌, ◌&&◌, if◌then◌else◌, ◌∙◌, ℕ, not, Bool, true, false, [], Option, None, Some, refl, sym, ap, subst, eq-eqb, rules, cond_both, cond-false, or_parts, or_left, and_from, false≢true, put_pair, Opens, number, Command, ConfigureEndpoint, SetTrDequeue, EndpointState, Off, Running, is_off, is_stopped, is_at_rest, changes, Header, Bell, IsHeader, shape_of, command_id, Known, on_ring, endpoint_rung, rung, touches_endpoint, is_touched, is_bad_bell, is_bad_doorbell, doorbell_tests, lenient_tests, lenient, IsUnfinished, CommandKeeps, DriverKeeps, drops, is_dropped}
 use Rattle.safety.proofs.TestsPassed.{AllFail, tests_fail}
 use Rattle.safety.proofs.DriverRows.{ring_here, ring_elsewhere}
 use Rattle.safety.proofs.Headers.{transfer_not_command}
@@ -17,10 +16,7 @@ use Rattle.safety.proofs.CommandsSame.{SameStates, RingsStay, ring_stays, same_s
 
 stopped_on : (e : EndpointState) → is_stopped e ≡ true → false ≡ is_off e
 stopped_on Off stopped = absurd (false≢true stopped)
-stopped_on Running stopped = refl
-stopped_on Halted stopped = refl
-stopped_on Stopped stopped = refl
-stopped_on Error stopped = refl
+stopped_on _ stopped = refl
 
 opened_states : (h : Header) (k : Known) (r : ℕ) → SameStates k (on_ring h k r Opens)
 unfolding on_ring
@@ -33,11 +29,7 @@ opened_endpoints h k r = refl
 module _ (h : Header) (is : IsHeader h) (k : Known) (d : DriverKeeps h k) where
   -- a ring of the driver whose pointer doesn't change
   opened_floor : (r q : ℕ) → ((on_ring h k r Opens).ring q).floor ≡ (k.ring q).floor
-  opened_floor r q =
-      elim (cases_eq q r) [
-        | inl same ↦ ap (λ n. ((on_ring h k r Opens).ring n).floor) same ∙ ap (λ v. v.floor) (ring_here h k r Opens) ∙ ap (λ n. (k.ring n).floor) (sym same)
-        | inr other ↦ ap (λ v. v.floor) (ring_elsewhere h k r q Opens other)
-      ]
+  opened_floor r q = search (rules, ring_here, ring_elsewhere)
 
   -- ---- the command ring's
 
@@ -64,16 +56,7 @@ module _ (h : Header) (is : IsHeader h) (k : Known) (d : DriverKeeps h k) where
   drops_touches : (s t : ℕ) (c : Command) → drops k c s t ≡ true → touches_endpoint h k s t c ≡ true
   unfolding drops touches_endpoint changes
   drops_touches s t (ConfigureEndpoint q false n) drops_it = or_left (s == q && is_dropped k.memory n t) _ drops_it
-  drops_touches s t (ConfigureEndpoint q true n) drops_it = absurd (false≢true drops_it)
-  drops_touches s t NoOp drops_it = absurd (false≢true drops_it)
-  drops_touches s t EnableSlot drops_it = absurd (false≢true drops_it)
-  drops_touches s t (DisableSlot q) drops_it = absurd (false≢true drops_it)
-  drops_touches s t (AddressDevice q bsr n) drops_it = absurd (false≢true drops_it)
-  drops_touches s t (EvaluateContext q n) drops_it = absurd (false≢true drops_it)
-  drops_touches s t (ResetEndpoint q i) drops_it = absurd (false≢true drops_it)
-  drops_touches s t (StopEndpoint q i) drops_it = absurd (false≢true drops_it)
-  drops_touches s t (SetTrDequeue q i p cycle) drops_it = absurd (false≢true drops_it)
-  drops_touches s t (ResetDevice q) drops_it = absurd (false≢true drops_it)
+  drops_touches s t _ drops_it = absurd (false≢true drops_it)
 
   none_drops : (s t u : ℕ) (c : Command) → is_touched h k s t ≡ false → IsUnfinished h k u c → drops k c s t ≡ true → ⊥
   unfolding is_touched
@@ -88,20 +71,7 @@ module _ (h : Header) (is : IsHeader h) (k : Known) (d : DriverKeeps h k) where
 
     rung_states : SameStates k l
     unfolding l endpoint_rung on_ring
-    rung_states =
-        record {
-          memory = refl;
-          soiled = refl;
-          device = refl;
-          slot_state = refl;
-          off = λ q i.
-              cond_both (is_stopped (k.endpoint_state s t)) (put_pair k.endpoint_state s t Running) k.endpoint_state (λ f. is_off (f q i) ≡ is_off (k.endpoint_state q i))
-              (λ stopped. at_pair (λ e. is_off e ≡ is_off (k.endpoint_state q i)) k.endpoint_state s t Running q i
-              (λ a b. stopped_on (k.endpoint_state s t) stopped ∙ ap (λ n. is_off (k.endpoint_state n t)) (sym a) ∙ ap (λ n. is_off (k.endpoint_state q n)) (sym b)) (λ other. refl))
-              (λ on. refl);
-          ring_of = refl;
-          was_bound = refl;
-        }
+    rung_states = search (rules, l, at_pair, stopped_on)
 
     ring_is : l.ring ≡ opened.ring
     unfolding l opened endpoint_rung

@@ -1,6 +1,5 @@
 -- What is kept of unfinished commands is kept where slots, endpoints, contexts and device contexts are as they were
-use Rattle.std.proofs.Common.{◌≡◌, ◌∙◌, ℕ, Bool, true, false, Option, None, Some, refl, sym, ap, subst}
-use Rattle.safety.proofs.Words.{MovesRestored, or_parts, Command, AddressDevice, SetTrDequeue, named_context, is_disabled, is_off, is_at_rest, Header, shape_of, Known, device_ranges, is_bad_area, is_soiled, IsUnfinished, CommandKeeps, binds_ring}
+use Rattle.safety.proofs.Words.{◌≡◌, ◌∙◌, ℕ, Bool, true, false, Option, None, Some, refl, sym, ap, rules, MovesRestored, or_parts, Command, AddressDevice, SetTrDequeue, named_context, is_disabled, is_off, is_at_rest, Header, shape_of, Known, device_ranges, is_bad_area, is_soiled, IsUnfinished, CommandKeeps, binds_ring}
 use Rattle.ownership_rules.specs.Commands as commands
 use Rattle.safety.proofs.CommandsBeside.{Beside}
 use Rattle.safety.proofs.CommandsStay.{Standing, PlacesStay, MovesAhead, RingsBeside, own_keeps, pair_keeps, commands_stay, still_restored}
@@ -44,16 +43,7 @@ module _ (h : Header) where
         }
 
     rings_same : (c : Command) → RingsStay k l c → RingsBeside h k l c
-    rings_same c stay =
-        record {
-          ring_of = λ s i at. ap (λ f. f s i) same.ring_of;
-          rest = stay.rest;
-          ahead = stay.ahead;
-          standing = stay.standing;
-          still = stay.still;
-          kept = λ r s i bound has. ap (λ f. f s i) (sym same.ring_of) ∙ has;
-          moved = stay.moved;
-        }
+    rings_same c stay = search rules
 
     -- what is unfinished was before
     pub same_stay : ((p : ℕ) (c : Command) → IsUnfinished h k p c → CommandKeeps h k p c) → ((p : ℕ) (c : Command) → IsUnfinished h l p c → IsUnfinished h k p c) →
@@ -66,11 +56,4 @@ module _ (h : Header) where
   -- rings that are as they were
   pub ring_stays : (k l : Known) (c : Command) → l.endpoint_state ≡ k.endpoint_state → l.ring_of ≡ k.ring_of → ((s i r : ℕ) → k.ring_of s i ≡ Some r → l.ring r ≡ k.ring r) →
       ((r : ℕ) → binds_ring h k r c ≡ true → l.ring r ≡ k.ring r) → ((r : ℕ) → (l.ring r).free ≡ (k.ring r).free) → RingsStay k l c
-  ring_stays k l c states ring_of rings bound free =
-      record {
-        rest = λ s i p cycle at rests. ap (λ f. is_at_rest (f s i)) states ∙ rests;
-        ahead = λ s i p r cycle at has rests. subst (λ v. MovesAhead (shape_of h r) (k.ring r) v) (sym (rings s i r has)) (λ x y moves. moves);
-        standing = λ s n r bsr at has. subst (λ v. Standing (shape_of h r) (k.ring r) v) (sym (rings s 1 r has)) (record { here = λ x y moves. moves; nothing = λ none. none });
-        still = λ r binds. subst (λ v. PlacesStay (shape_of h r) (k.ring r) v) (sym (bound r binds)) (λ x y placed. placed);
-        moved = still_restored k l c (λ s i its. ap (λ f. f s i) ring_of) free;
-      }
+  ring_stays k l c states ring_of rings bound free = search (rules, still_restored)

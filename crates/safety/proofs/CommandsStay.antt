@@ -1,6 +1,5 @@
 -- What is kept of unfinished commands is kept where nothing that they read has changed
-use Rattle.std.proofs.Common.{◌≡◌, ◌≢◌, ◌≤◌, ◌∙◌, ℕ, not, Bool, true, false, map, All, Option, None, Some, arith, refl, sym, ap, subst, List, get_or, eq-eqb, inl, inr}
-use Rattle.safety.proofs.Words.{MovesRestored, or_parts, or_from, not-false, not_from_true, Shape, RingView, declared, floor_number, ceiling, is_move, Command, NoOp, EnableSlot, DisableSlot, AddressDevice, ConfigureEndpoint, EvaluateContext, ResetEndpoint, StopEndpoint, SetTrDequeue, ResetDevice, is_at_rest, context_pointer, context_cycle, Header, shape_of, Known, binds, ring_bound, binds_ring, has_repeats, is_bad_dequeue, is_bad_move, IsUnfinished, Stays, StaysIf, MovesIf, CommandKeeps, is_placed, is_placement, drops, Binding, list_any, is_ring, Any-from_list_any, All-get_or, cases_option, list_any_at, false≢true, placement_still, exclude}
+use Rattle.safety.proofs.Words.{◌≡◌, ◌≢◌, ◌≤◌, ◌∙◌, ℕ, not, Bool, true, false, map, All, Option, None, Some, arith, refl, sym, ap, subst, List, get_or, eq-eqb, rules, MovesRestored, or_parts, or_from, not-false, not_from_true, Shape, RingView, declared, floor_number, ceiling, is_move, Command, AddressDevice, SetTrDequeue, is_at_rest, context_pointer, context_cycle, Header, shape_of, Known, binds, ring_bound, binds_ring, has_repeats, is_bad_dequeue, is_bad_move, IsUnfinished, Stays, StaysIf, MovesIf, CommandKeeps, is_placed, is_placement, drops, Binding, list_any, is_ring, Any-from_list_any, All-get_or, cases_option, list_any_at, false≢true, placement_still, exclude}
 use Rattle.ownership_rules.specs.Commands as commands
 use Rattle.safety.proofs.Concerned.{Concerns}
 use Rattle.safety.proofs.ContextReads.{pointer_same, cycle_same}
@@ -96,14 +95,7 @@ module _ (h : Header) where
     unfolding is_bad_move
     moves_beside (SetTrDequeue s i p cycle) b good = set_beside s i p cycle b good
     moves_beside (AddressDevice s bsr n) b good = tt
-    moves_beside NoOp b good = refl
-    moves_beside EnableSlot b good = refl
-    moves_beside (DisableSlot s) b good = refl
-    moves_beside (ConfigureEndpoint s dc n) b good = refl
-    moves_beside (EvaluateContext s n) b good = refl
-    moves_beside (ResetEndpoint s i) b good = refl
-    moves_beside (StopEndpoint s i) b good = refl
-    moves_beside (ResetDevice s) b good = refl
+    moves_beside _ b good = refl
 
     stays_beside : (c : Command) → Beside h k l c → RingsBeside k l c → StaysIf h k c → StaysIf h l c
     stays_beside (AddressDevice s bsr n) m b stays =
@@ -121,28 +113,12 @@ module _ (h : Header) where
               ∙ stands.here (context_pointer h.context_size k.memory n 1) (context_cycle h.context_size k.memory n 1) old.here;
           nothing = stands.nothing old.nothing;
         }
-    stays_beside NoOp m b stays = tt
-    stays_beside EnableSlot m b stays = tt
-    stays_beside (DisableSlot s) m b stays = tt
-    stays_beside (ConfigureEndpoint s dc n) m b stays = tt
-    stays_beside (EvaluateContext s n) m b stays = tt
-    stays_beside (ResetEndpoint s i) m b stays = tt
-    stays_beside (StopEndpoint s i) m b stays = tt
-    stays_beside (SetTrDequeue s i p cycle) m b stays = tt
-    stays_beside (ResetDevice s) m b stays = tt
+    stays_beside _ m b stays = tt
 
     placed_beside : (bs : List Binding) → ((r : ℕ) → list_any (λ b. is_ring r (ring_bound h b)) bs ≡ true → PlacesStay (shape_of h r) (k.ring r) (l.ring r)) →
         All (λ b. is_placed h k (ring_bound h b) b ≡ true) bs → All (λ b. is_placed h l (ring_bound h b) b ≡ true) bs
     unfolding is_placed
-    placed_beside bs still all x d inside =
-        let b : Binding = get_or bs x d in
-        elim (cases_option (ring_bound h b)) [
-          | inl none ↦ absurd (false≢true (sym (ap (λ o. is_placed h k o b) none) ∙ all x d inside))
-          | inr some ↦
-              ap (λ o. is_placed h l o b) some.1
-              ∙ still some.0 (list_any_at (λ y. is_ring some.0 (ring_bound h y)) bs x d inside (ap (is_ring some.0) some.1 ∙ eq-eqb some.0 some.0 refl)) b.pointer b.cycle
-              (sym (ap (λ o. is_placed h k o b) some.1) ∙ all x d inside)
-        ]
+    placed_beside bs still all x d inside = search (rules, get_or, cases_option, false≢true, list_any_at, eq-eqb)
 
     still_placed : (c : Command) → RingsBeside k l c → All (λ b. is_placed h k (ring_bound h b) b ≡ true) (binds h k c) → All (λ b. is_placed h l (ring_bound h b) b ≡ true) (binds h k c)
     unfolding binds_ring

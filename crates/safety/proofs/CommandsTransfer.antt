@@ -1,6 +1,5 @@
 -- A Transfer Event keeps what is kept of unfinished commands
-use Rattle.std.proofs.Common.{◌≡◌, ◌≢◌, ◌==◌, ◌&&◌, ◌||◌, ◌∙◌, ℕ, not, Bool, true, false, nat_lt, Option, None, Some, arith, refl, sym, ap, subst, inl, inr, eqb-true, eq-eqb, ltb-true}
-use Rattle.safety.proofs.Words.{cases_Bool, cases_eq, and_parts, and_cases, or_parts, not-false, false≢true, Block, code, slot, endpoint, pointer, is_success, is_halting, is_trb_error, Spot, number, ceiling, is_data_below, is_stop_spot, cases_option, given_below, step_is, ceiling_within, below_is, IsAhead, named_ahead, Command, NoOp, EnableSlot, DisableSlot, AddressDevice, ConfigureEndpoint, EvaluateContext, ResetEndpoint, StopEndpoint, SetTrDequeue, ResetDevice, is_stop_of, EndpointState, Off, Running, Halted, Stopped, Error, is_off, is_running, is_at_rest, Header, IsHeader, shape_of, command_id, Known, RingSpot, event_at, command_at, next_command, transferred, transferred_at, transfer_read, is_in_profile, is_working, may_be_taken, is_stopping_now, can_report, can_report_at, is_impossible_transfer, IsDriverRing, IsUnfinished, Stays, DriverKeeps, CommandsKeep, binds_ring, drops, same_Some, and_from}
+use Rattle.safety.proofs.Words.{◌≡◌, ◌≢◌, ◌==◌, ◌||◌, ◌∙◌, ℕ, not, Bool, true, false, nat_lt, Option, None, Some, arith, refl, sym, ap, subst, inl, inr, eq-eqb, ltb-true, rules, cases_eq, and_parts, and_cases, or_parts, not-false, false≢true, Block, code, slot, endpoint, pointer, Spot, number, ceiling, is_data_below, cases_option, given_below, step_is, ceiling_within, below_is, IsAhead, named_ahead, Command, AddressDevice, StopEndpoint, is_stop_of, EndpointState, Stopped, Error, is_off, is_running, is_at_rest, Header, IsHeader, shape_of, command_id, Known, RingSpot, event_at, command_at, next_command, transferred, transferred_at, transfer_read, is_in_profile, may_be_taken, is_stopping_now, can_report, can_report_at, is_impossible_transfer, IsDriverRing, IsUnfinished, Stays, DriverKeeps, CommandsKeep, binds_ring, drops, same_Some, and_from}
 use Rattle.safety.proofs.Headers.{ring_shape, transfer_driver, transfer_not_command}
 use Rattle.safety.proofs.NoWait.{ceiling_given}
 use Rattle.safety.proofs.SafeContext.{AtFloor, at_floor}
@@ -14,37 +13,15 @@ use Rattle.safety.proofs.CommandsStay.{Standing, PlacesStay, MovesAhead, bound_s
 use Rattle.safety.proofs.BoundRings.{drops_concerns, stops_drop_none}
 use Rattle.safety.proofs.Concerned.{not_both}
 use Rattle.safety.proofs.CommandsSame.{SameStates, RingsStay, same_stay}
-
-stop_is : (s i : ℕ) (o : Option Command) → is_stop_of s i o ≡ true → o ≡ Some (StopEndpoint s i)
-stop_is s i None h = absurd (false≢true h)
-stop_is s i (Some (StopEndpoint t j)) h =
-    let p = and_parts (s == t) (i == j) h in
-    let a = eqb-true s t p.0 in
-    let b = eqb-true i j p.1 in
-    cc
-stop_is s i (Some NoOp) h = absurd (false≢true h)
-stop_is s i (Some EnableSlot) h = absurd (false≢true h)
-stop_is s i (Some (DisableSlot t)) h = absurd (false≢true h)
-stop_is s i (Some (AddressDevice t bsr c)) h = absurd (false≢true h)
-stop_is s i (Some (ConfigureEndpoint t dc c)) h = absurd (false≢true h)
-stop_is s i (Some (EvaluateContext t c)) h = absurd (false≢true h)
-stop_is s i (Some (ResetEndpoint t j)) h = absurd (false≢true h)
-stop_is s i (Some (SetTrDequeue t j p c)) h = absurd (false≢true h)
-stop_is s i (Some (ResetDevice t)) h = absurd (false≢true h)
+use Rattle.safety.proofs.StatesParts.{stop_is}
 
 pub rest_not_running : (e : EndpointState) → is_at_rest e ≡ true → is_running e ≡ false
-rest_not_running Off rests = absurd (false≢true rests)
-rest_not_running Running rests = absurd (false≢true rests)
-rest_not_running Halted rests = absurd (false≢true rests)
 rest_not_running Stopped rests = refl
 rest_not_running Error rests = refl
+rest_not_running _ rests = absurd (false≢true rests)
 
 address_not_stop : (s t i n : ℕ) (bsr : Bool) → ◌≡◌ {A = Option Command} (Some (AddressDevice s bsr n)) (Some (StopEndpoint t i)) → ⊥
-address_not_stop s t i n bsr same = false≢true (sym (ap is_address same))
-  where
-    is_address : Option Command → Bool
-    is_address (Some (AddressDevice s bsr n)) = true
-    is_address _ = false
+address_not_stop s t i n bsr same = search (rules, false≢true)
 
 module _ (h : Header) (is : IsHeader h) (k : Known) (d : DriverKeeps h k) where
   -- the command that stops an endpoint now is unfinished
@@ -61,19 +38,7 @@ module _ (h : Header) (is : IsHeader h) (k : Known) (d : DriverKeeps h k) where
   -- nothing is reported where no block is below the ceiling, and the endpoint isn't stopping
   none_reported : (s i r : ℕ) (t : Spot) → (is_data_below (ceiling (shape_of h r) (k.ring r)) t ≡ true → ⊥) → (is_stopping_now h k s i ≡ true → ⊥) → (c : ℕ) → can_report h k c s i r t ≡ true → ⊥
   unfolding can_report
-  none_reported s i r t none_below none_stops c can =
-      let below : Bool = is_data_below (ceiling (shape_of h r) (k.ring r)) t in
-      let stops : Bool = is_working k s i r && is_stopping_now h k s i && is_stop_spot (shape_of h r) (k.ring r) t in
-      let cases = chain (is_success c) (is_halting c || is_trb_error c) below (below && is_working k s i r) stops can in
-      elim (cases_Bool (is_success c)) [
-        | inl success ↦ none_below (cases.0 success)
-        | inr other ↦ elim (cases_Bool (is_halting c || is_trb_error c)) [
-          | inl broken ↦ none_below (and_parts below (is_working k s i r) (cases.1 other broken)).0
-          | inr stopped ↦
-              none_stops (and_parts (is_working k s i r) (is_stopping_now h k s i)
-              (and_parts (is_working k s i r && is_stopping_now h k s i) (is_stop_spot (shape_of h r) (k.ring r) t) (cases.2 other stopped)).0).1
-        ]
-      ]
+  none_reported s i r t none_below none_stops c can = search (rules, chain, and_parts)
 
   -- while a second Address Device is unfinished nothing is reported of its endpoint
   module _ (u s n r : ℕ) (bsr : Bool) (unfinished_at : IsUnfinished h k u (AddressDevice s bsr n)) (has : k.ring_of s 1 ≡ Some r) (t : Spot) (ahead : IsAhead (shape_of h r) (k.ring r) t) where
@@ -150,16 +115,7 @@ module _ (h : Header) (is : IsHeader h) (k : Known) (d : DriverKeeps h k) where
     same_endpoint q j x there same = d.states.one_endpoint q j s i r (there ∙ ap (λ n. Some n) same) has
 
     rest_stays : (q j : ℕ) → is_at_rest (k.endpoint_state q j) ≡ true → is_at_rest (l.endpoint_state q j) ≡ true
-    rest_stays q j rests =
-        elim (cases_eq q s) [
-          | inl same ↦ elim (cases_eq j i) [
-            | inl here ↦
-                let at : k.endpoint_state q j ≡ k.endpoint_state s i = ap (λ a. k.endpoint_state a j) same ∙ ap (λ b. k.endpoint_state s b) here in
-                ap (λ f. is_at_rest (f q j)) (leaves.rests (rest_not_running (k.endpoint_state s i) (ap is_at_rest (sym at) ∙ rests))).0 ∙ rests
-            | inr other ↦ ap is_at_rest (leaves.states q j (λ a b. other b)) ∙ rests
-          ]
-          | inr other ↦ ap is_at_rest (leaves.states q j (λ a b. other a)) ∙ rests
-        ]
+    rest_stays q j rests = search (rules, rest_not_running, states)
 
     -- the ring of an endpoint at rest is held, and held where it was
     ahead_at_rest : is_at_rest (k.endpoint_state s i) ≡ true → MovesAhead (shape_of h r) (k.ring r) (l.ring r)

@@ -1,6 +1,5 @@
 -- A write keeps what is kept of unfinished commands, and of the command that it gives holds what was tested
-use Rattle.std.proofs.Common.{◌≡◌, ◌≢◌, ◌<◌, ◌∙◌, ℕ, not, Bool, true, false, [], None, Some, arith, refl, sym, ap, subst, inl, inr, le-leb, eq-eqb, ◌||◌, ◌≤◌, ◌⊎◌}
-use Rattle.safety.proofs.Words.{MovesRestored, command_given, list_any, or_parts, or_from, and_from, cases_lt, not_from_false, false≢true, false_from_ne_true, All-contains, Shape, RingView, Writes, changed, declared, floor_number, gives, positions_given, ceiling, is_not_declared, cases_option, gives_is, position_given, gives_one, move-writes, ceiling_held, Command, AddressDevice, EndpointState, Off, is_off, is_at_rest, is_running, Header, Write, IsHeader, shape_of, command_id, is_ring, Known, unfinished, binds_ring, awaits_binding, is_being_bound, moves_ring, is_being_moved, crossings_given, crossing_given, gives_crossing, given_count, given_count_grows, step_more, GivesMore, is_placement, is_open, is_inside, address_inside, IsTransferRing, cases_Bool, or_cases, write_tests, lenient_tests, lenient, IsDriverRing, IsUnfinished, DriverKeeps, CommandsKeep, exclude}
+use Rattle.safety.proofs.Words.{◌≡◌, ◌≢◌, ◌<◌, ◌∙◌, ℕ, not, Bool, true, false, [], None, Some, arith, refl, sym, ap, subst, inl, inr, eq-eqb, ◌||◌, ◌≤◌, ◌⊎◌, rules, MovesRestored, command_given, list_any, or_parts, or_from, and_from, not_from_false, false≢true, false_from_ne_true, All-contains, Shape, RingView, Writes, changed, declared, floor_number, gives, positions_given, ceiling, is_not_declared, cases_option, gives_is, position_given, gives_one, move-writes, ceiling_held, Command, AddressDevice, is_off, is_at_rest, is_running, Header, Write, IsHeader, shape_of, command_id, is_ring, Known, unfinished, binds_ring, awaits_binding, is_being_bound, moves_ring, is_being_moved, crossings_given, crossing_given, gives_crossing, given_count, given_count_grows, step_more, GivesMore, is_placement, is_open, is_inside, address_inside, IsTransferRing, cases_Bool, or_cases, write_tests, lenient_tests, lenient, IsDriverRing, IsUnfinished, DriverKeeps, CommandsKeep, exclude}
 use Rattle.ownership_rules.specs.Commands as commands
 use Rattle.safety.proofs.TestsPassed.{AllFail, tests_fail}
 use Rattle.safety.proofs.RingsOfHeader.{has_ring}
@@ -20,16 +19,12 @@ use Rattle.safety.proofs.CommandsTransfer.{rest_not_running}
 use Rattle.safety.proofs.CommandsBeside.{Beside}
 use Rattle.safety.proofs.CommandsStay.{Standing, PlacesStay, MovesAhead, OwnKeeps, PairKeeps, RingsBeside, own_keeps, pair_keeps, commands_stay, still_restored}
 use Rattle.safety.proofs.Concerned.{excludes_turned}
+use Rattle.safety.proofs.StatesPlaced.{on_is}
 
 -- ---- one ring
 
 standing_written : (shape : Shape) (v : RingView) (a w : ℕ) → ((p : ℕ) → v.given p ≡ false → gives shape v.floor p a w ≡ true → ⊥) → Standing shape v (changed shape v (Writes a w))
-standing_written shape v a w none =
-    record {
-      here = λ p cycle moves. move-writes shape v p cycle (floor_number v) (floor_number v) (floor_number v) (floor_number v) (omega arith) (omega arith) moves a w;
-      nothing = λ nothing p low.
-          or_from (v.given p) (gives shape v.floor p a w) (nothing p low) (false_from_ne_true (gives shape v.floor p a w) (λ now. none p (nothing p low) now));
-    }
+standing_written shape v a w none = search (rules, move-writes, or_from, false_from_ne_true)
 
 ahead_written : (shape : Shape) (v : RingView) (a w m : ℕ) → v.held ≡ Some m → MovesAhead shape v (changed shape v (Writes a w))
 ahead_written shape v a w m at p cycle moves =
@@ -58,31 +53,11 @@ held_written shape v a w m at = omega (arith, ceiling_held shape v m at, ceiling
 -- a write that gives nothing of the ring
 gives_none : (shape : Shape) (v : RingView) (a w : ℕ) → ((p : ℕ) → v.given p ≡ false → gives shape v.floor p a w ≡ true → ⊥) → ((q : ℕ) → v.crossed q ≡ false → gives_crossing shape v.floor q a w ≡ true → ⊥) →
     GivesMore (changed shape v (Writes a w)) v
-gives_none shape v a w no_block no_link = record {
-  given = λ p now. elim (cases_Bool (v.given p)) [
-    | inl was ↦ was
-    | inr fresh ↦ elim (or_cases (v.given p) (gives shape v.floor p a w) now) [ inl was ↦ was | inr new ↦ absurd (no_block p fresh new) ]
-  ];
-  crossed = λ q now. elim (cases_Bool (v.crossed q)) [
-    | inl was ↦ was
-    | inr fresh ↦ elim (or_cases (v.crossed q) (gives_crossing shape v.floor q a w) now) [ inl was ↦ was | inr new ↦ absurd (no_link q fresh new) ]
-  ];
-}
+gives_none shape v a w no_block no_link = search (rules, or_cases)
 
 declared_is : (v : RingView) (p : ℕ) → is_not_declared v p ≡ false → p < declared v
 unfolding is_not_declared
-declared_is v p fails =
-    elim (cases_lt p (declared v)) [
-      | inl low ↦ low
-      | inr high ↦ absurd (false≢true (sym fails ∙ le-leb (declared v) p high))
-    ]
-
-on_is : (e : EndpointState) → e ≢ Off → is_off e ≡ false
-on_is e on = false_from_ne_true (is_off e) (λ off. on (off_is e off))
-  where
-    off_is : (e : EndpointState) → is_off e ≡ true → e ≡ Off
-    off_is Off off = refl
-    off_is _ off = absurd (false≢true off)
+declared_is v p fails = search rules
 
 module _ (h : Header) (is : IsHeader h) (k : Known) (d : DriverKeeps h k) (a w : ℕ) (clean : lenient h k (Write a w) ≡ []) where
   abbrev l : Known

@@ -1,6 +1,5 @@
 -- A Command Completion Event that may be read keeps what the rules keep of each ring, so long as it places endpoints where it may
-use Rattle.std.proofs.Common.{◌≡◌, ◌<◌, ◌≤◌, ◌==◌, ◌||◌, if◌then◌else◌, ◌∷◌, ℕ, not, nat_lt, Bool, false, List, [], Option, None, Some, arith, refl, sym, subst, ltb-true, eqb-true, true}
-use Rattle.safety.proofs.Words.{IsShownTo, RingsKept, changed, cond_both, or_parts, not-false, Block, code, slot, pointer, Spot, address_of, number, after, RingView, Reaches, Holds, floor_number, ceiling, target, is_reached, MayReach, holds_keeps, reaches_keeps, reaches_and_holds_keeps, reached_given, after_reached, number-after, move_reached, ceiling_held, ceiling_within, IsAhead, target_ahead, Command, StopEndpoint, EndpointState, Stopped, is_off, Change, SlotGoesOn, DeviceLeft, Disables, Places, Stops, Resets, changes, Header, IsHeader, shape_of, command_id, ring_having, Known, command_at, next_command, set_to, bound_to, moved_to, moved, pointed, disabled, in_state, held_at_ceiling, changed_by, changed_by_all, succeeded, stop_ended, finished, completed, may_be_taken, can_finish, is_impossible_completion, RingsKeep, EndpointsKeep, MayPoint, MayChange, MayChangeAll, MayFinish}
+use Rattle.safety.proofs.Words.{◌≡◌, ◌<◌, ◌≤◌, ◌==◌, ◌||◌, if◌then◌else◌, ◌∷◌, ℕ, not, nat_lt, Bool, false, List, [], Option, None, Some, arith, refl, sym, subst, ltb-true, eqb-true, true, rules, IsShownTo, RingsKept, changed, cond_both, or_parts, not-false, Block, code, slot, pointer, Spot, address_of, number, after, RingView, Reaches, Holds, floor_number, ceiling, target, is_reached, MayReach, holds_keeps, reaches_keeps, reaches_and_holds_keeps, reached_given, after_reached, number-after, move_reached, ceiling_held, ceiling_within, IsAhead, target_ahead, Command, StopEndpoint, EndpointState, is_off, Change, Places, Stops, changes, Header, IsHeader, shape_of, command_id, ring_having, Known, command_at, next_command, set_to, bound_to, moved_to, moved, pointed, disabled, in_state, held_at_ceiling, changed_by, changed_by_all, succeeded, stop_ended, finished, completed, may_be_taken, can_finish, is_impossible_completion, RingsKeep, EndpointsKeep, MayPoint, MayChange, MayChangeAll, MayFinish}
 use Rattle.safety.specs.RingsKeep.{IsDriverRing}
 use Rattle.safety.proofs.RingsOfHeader.{shape_allowed}
 use Rattle.safety.proofs.EndpointHistories.{finish_elsewhere}
@@ -74,13 +73,9 @@ module _ (h : Header) (is : IsHeader h) (first : Known) where
 
   change_keeps : (c : Command) (k : Known) (change : Change) → RingsKept h first k → MayChange h k change → RingsKept h first (changed_by h c k change)
   unfolding changed_by disabled in_state
-  change_keeps c k (SlotGoesOn s) keeps may = same_keeps h first k (changed_by h c k (SlotGoesOn s)) refl refl keeps
-  change_keeps c k (DeviceLeft s) keeps may = same_keeps h first k (changed_by h c k (DeviceLeft s)) refl refl keeps
-  change_keeps c k (Disables s which) keeps may = same_keeps h first k (changed_by h c k (Disables s which)) refl refl keeps
-  change_keeps c k (Places s i p cycle state) keeps may =
-      same_keeps h first (pointed h k s i p cycle) (changed_by h c k (Places s i p cycle state)) refl refl (pointed_keeps k keeps s i p cycle may)
-  change_keeps c k (Stops s i) keeps may = held_keeps (in_state h k s i Stopped) (state_keeps k keeps s i Stopped) (k.ring_of s i)
-  change_keeps c k (Resets s i) keeps may = state_keeps k keeps s i Stopped
+  change_keeps c k (Places s i p cycle state) keeps may = search (rules, pointed_keeps)
+  change_keeps c k (Stops s i) keeps may = search (rules, held_keeps)
+  change_keeps c k _ keeps may = search rules
 
   changes_keep : (c : Command) (k : Known) (all : List Change) → RingsKept h first k → MayChangeAll h c k all → RingsKept h first (changed_by_all h c k all)
   unfolding changed_by_all

@@ -1,6 +1,5 @@
 -- The endpoints that a command concerns: two commands that don't exclude each other concern none both
-use Rattle.std.proofs.Common.{◌≡◌, ◌==◌, ◌&&◌, ◌∙◌, ℕ, not, Bool, true, false, Option, None, Some, refl, sym, ap, eq-eqb, eqb-true}
-use Rattle.safety.proofs.Words.{and_from, not_from_true, false_from_ne_true, false≢true, same_Some, Command, NoOp, EnableSlot, DisableSlot, AddressDevice, ConfigureEndpoint, EvaluateContext, ResetEndpoint, StopEndpoint, SetTrDequeue, ResetDevice, named_slot, named_endpoint, same_slot, other_endpoint, exclude}
+use Rattle.safety.proofs.Words.{◌≡◌, ◌==◌, ◌&&◌, ◌∙◌, ℕ, not, Bool, true, false, Option, None, Some, refl, sym, ap, eq-eqb, eqb-true, and_from, not_from_true, false_from_ne_true, false≢true, same_Some, Command, ResetEndpoint, StopEndpoint, SetTrDequeue, named_slot, named_endpoint, same_slot, other_endpoint, exclude}
 
 abbrev pub IsEndpoint : Option (ℕ × ℕ) → ℕ → ℕ → Type 0
 IsEndpoint None s i = Unit {0}
@@ -12,16 +11,10 @@ Concerns c s i = (named_slot c ≡ Some s) × IsEndpoint (named_endpoint c) s i
 
 -- of its slot it concerns one
 pub some_concerned : (c : Command) (s : ℕ) → named_slot c ≡ Some s → (i : ℕ) × Concerns c s i
-some_concerned NoOp s named = (0, (named, tt))
-some_concerned EnableSlot s named = (0, (named, tt))
-some_concerned (DisableSlot t) s named = (0, (named, tt))
-some_concerned (AddressDevice t bsr n) s named = (0, (named, tt))
-some_concerned (ConfigureEndpoint t dc n) s named = (0, (named, tt))
-some_concerned (EvaluateContext t n) s named = (0, (named, tt))
 some_concerned (ResetEndpoint t i) s named = (i, (named, (same_Some t s named, refl)))
 some_concerned (StopEndpoint t i) s named = (i, (named, (same_Some t s named, refl)))
 some_concerned (SetTrDequeue t i p cycle) s named = (i, (named, (same_Some t s named, refl)))
-some_concerned (ResetDevice t) s named = (0, (named, tt))
+some_concerned _ s named = (0, (named, tt))
 
 same_named : (x y : Option ℕ) (s : ℕ) → x ≡ Some s → y ≡ Some s → same_slot x y ≡ true
 same_named x y s a b = ap (λ o. same_slot o y) a ∙ ap (λ o. same_slot (Some s) o) b ∙ eq-eqb s s refl

@@ -1,6 +1,5 @@
 -- What is read of an input context is the same where its words are
-use Rattle.std.proofs.Common.{◌≡◌, ◌+◌, ◌<◌, ◌≤◌, ◌||◌, ◌∷◌, ◌∙◌, ℕ, suc, zero, Bool, List, [], map, filter, arith, refl, ap}
-use Rattle.safety.proofs.Words.{list_any, range_with_len, cond_both, ContextSize, Bytes32, Bytes64, input_context_bytes, input_endpoint, input_add_flag, input_drop_flag, has_flag, added_endpoints, endpoint_type, endpoint_streams, context_pointer, context_cycle}
+use Rattle.safety.proofs.Words.{◌≡◌, ◌+◌, ◌<◌, ◌≤◌, ◌||◌, ◌∷◌, ◌∙◌, ℕ, suc, zero, Bool, List, [], map, filter, arith, refl, ap, rules, list_any, range_with_len, cond_both, ContextSize, Bytes32, Bytes64, input_context_bytes, input_endpoint, input_add_flag, input_drop_flag, has_flag, added_endpoints, endpoint_type, endpoint_streams, context_pointer, context_cycle}
 
 -- each is the index of an endpoint
 abbrev pub AreIndices : List ℕ → Type 0
@@ -64,20 +63,10 @@ module _ (size : ContextSize) (m l : ℕ → ℕ) (n : ℕ) (same : AgreeIn size
   type_same i low = let w = word_of i 4 low (omega arith) in cc
 
   pub streams_same : (i : ℕ) → i < 32 → endpoint_streams l (input_endpoint size n i) ≡ endpoint_streams m (input_endpoint size n i)
-  streams_same i low =
-      let e = input_endpoint size n i in
-      let at = inside size n i 0 low (omega arith) in
-      let w : l e ≡ m e = same e (omega (arith, at.0)) (omega (arith, at.1)) in
-      cc
+  streams_same i low = search (rules, inside)
 
   pub pointer_same : (i : ℕ) → i < 32 → context_pointer size l n i ≡ context_pointer size m n i
-  pointer_same i low =
-      let e : ℕ = input_endpoint size n i in
-      let at8 = inside size n i 8 low (omega arith) in
-      let at12 = inside size n i 12 low (omega arith) in
-      let w : l (e + 8) ≡ m (e + 8) = same (e + 8) at8.0 at8.1 in
-      let x : l (e + 8 + 4) ≡ m (e + 8 + 4) = same (e + 8 + 4) (omega (arith, at12.0)) (omega (arith, at12.1)) in
-      cc
+  pointer_same i low = search (rules, inside)
 
   pub cycle_same : (i : ℕ) → i < 32 → context_cycle size l n i ≡ context_cycle size m n i
   cycle_same i low = ap (λ w. has_flag w 0) (word_of i 8 low (omega arith))

@@ -1,6 +1,5 @@
 -- The input context of a command that is given stands in the world as the driver wrote it: its success does what is known
-use Rattle.std.proofs.Common.{◌≡◌, ◌+◌, ◌*◌, ◌/◌, ◌^◌, ◌<◌, ◌≤◌, ◌&&◌, ◌∷◌, ◌∙◌, ℕ, suc, zero, Bool, false, List, [], map, filter, nat_le, All, arith, refl, sym, ap, inl, inr}
-use Rattle.safety.proofs.Words.{range_with_len, cases_eq, All-nil, All-cons, All-head, All-tail, All-filter, AddressDevice, ConfigureEndpoint, Running, SlotGoesOn, Disables, Places, changes, placed_by_context, ContextSize, Bytes32, Bytes64, input_context_bytes, has_flag, input_add_flag, input_endpoint, added_endpoints, is_dropped, Header, IsHeader, event_size, touches_ring, World, Known, Stands, touches_events}
+use Rattle.safety.proofs.Words.{◌≡◌, ◌+◌, ◌*◌, ◌/◌, ◌^◌, ◌<◌, ◌≤◌, ◌&&◌, ◌∷◌, ◌∙◌, ℕ, suc, zero, Bool, false, List, [], map, filter, nat_le, All, arith, refl, sym, ap, inl, inr, range_with_len, cases_eq, All-nil, All-cons, All-head, All-tail, All-filter, AddressDevice, ConfigureEndpoint, Running, SlotGoesOn, Disables, Places, changes, placed_by_context, ContextSize, Bytes32, Bytes64, input_context_bytes, has_flag, input_add_flag, input_endpoint, added_endpoints, is_dropped, Header, IsHeader, event_size, touches_ring, World, Known, Stands, touches_events}
 use Rattle.segments.specs.Places.{touches}
 use Rattle.safety.proofs.Headers.{EventRing, event_ring_is, no_events}
 use Rattle.safety.proofs.Areas.{ContextLies, clean_word, part_apart, ring_untouched}

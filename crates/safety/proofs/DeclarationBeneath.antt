@@ -1,7 +1,6 @@
 -- A declaration beneath an event that isn't read yet: the two may change places
-use Rattle.std.proofs.Common.{◌≡◌, ◌+◌, ◌-◌, ◌≤◌, ◌<◌, ◌++◌, ◌∷◌, ◌∙◌, ℕ, Bool, true, false, not, List, [], length, Some, option_and_then, slice_get, arith, refl, sym, ap, subst, inl, inr, length-append, ltb-true, ltb-false, le-ltb}
-use Rattle.safety.proofs.Words.{cond-false, none-some, slice_get_within, Block, RingView, Declares, changed, declared, floor_number, place_count, ceiling, has_no_room, is_bad_descriptor, is_left_out, cases_option, slice_get-append, Command, command_of, Header, Sub, Read, IsHeader, ring_with, shape_of, command_id, Known, on_ring, command_at, next_command, learned, is_driver_ring, declaration_tests, may_be_taken, broken_of, AfterStop, NotDeclared, RingFull, BadDescriptor, NotInProfile, lenient_tests, lenient, DriverKeeps, IsUnfinished, IsHeldMore, HeldMore, Square}
-use Rattle.safety.proofs.TestsPassed.{AllFail, clean_tests, tests_fail}
+use Rattle.safety.proofs.Words.{◌≡◌, ◌+◌, ◌-◌, ◌≤◌, ◌<◌, ◌++◌, ◌∷◌, ◌∙◌, ℕ, Bool, true, false, List, [], length, Some, option_and_then, slice_get, arith, refl, sym, ap, subst, length-append, ltb-true, ltb-false, le-ltb, rules, cond-false, none-some, slice_get_within, Block, RingView, Declares, changed, declared, floor_number, place_count, ceiling, has_no_room, cases_option, slice_get-append, Command, command_of, Header, Sub, Read, IsHeader, shape_of, command_id, Known, on_ring, command_at, next_command, learned, declaration_tests, may_be_taken, broken_of, NotDeclared, RingFull, BadDescriptor, NotInProfile, lenient_tests, lenient, DriverKeeps, IsUnfinished, IsHeldMore, HeldMore, Square}
+use Rattle.safety.proofs.TestsPassed.{clean_tests, tests_fail}
 use Rattle.safety.proofs.Headers.{transfer_driver}
 use Rattle.safety.proofs.CleanRows.{EventFacts, event_facts}
 use Rattle.safety.proofs.KeptRings.{next_unfinished, command_holds}
@@ -20,22 +19,14 @@ record DeclaresMore (v w : RingView) : Type 0 where
   pub more : declared v ≤ declared w
 
 same_more : (v : RingView) → DeclaresMore v v
-same_more v = record {
-  alike = record { floor = refl; held = held_same v.held v.held refl; more = record { given = λ p yes. yes; crossed = λ q yes. yes } };
-  queue = λ p b at. at;
-  more = omega arith;
-}
+same_more v = search (rules, held_same)
 
 module _ (h : Header) (r : ℕ) (blocks : List Block) where
   abbrev declaring : Known → Known
   declaring k = on_ring h k r (Declares blocks)
 
   changed_more : (v : RingView) → DeclaresMore v (changed (shape_of h r) v (Declares blocks))
-  changed_more v = record {
-    alike = record { floor = refl; held = held_same v.held v.held refl; more = record { given = λ p yes. yes; crossed = λ q yes. yes } };
-    queue = λ p b at. slice_get-append v.queue blocks p (slice_get_within v.queue p b at) ∙ at;
-    more = omega (arith, length-append v.queue blocks);
-  }
+  changed_more v = search (rules, held_same, slice_get-append, slice_get_within, length-append)
 
   rings_more : (k : Known) (q : ℕ) → DeclaresMore (k.ring q) ((declaring k).ring q)
   rings_more k q =
@@ -44,25 +35,12 @@ module _ (h : Header) (r : ℕ) (blocks : List Block) where
 
   declared_alike : (k : Known) → Alike EverySlot k (declaring k)
   unfolding on_ring
-  declared_alike k = record {
-    rings = λ q. (rings_more k q).alike;
-    was_bound = refl;
-    slot_state = refl;
-    endpoint_state = refl;
-    ring_of = refl;
-    must_move = refl;
-    stop_seen = refl;
-    device = λ s _. refl;
-  }
+  declared_alike k = search (rules, declaring, rings_more)
 
   -- ---- what an event reads
 
   some_queued : (xs : List Block) (p : ℕ) (c : Command) → option_and_then command_of (slice_get xs p) ≡ Some c → (b : Block) × (slice_get xs p ≡ Some b)
-  some_queued xs p c at =
-      elim (cases_option (slice_get xs p)) [
-        | inl none ↦ absurd (none-some c (sym (ap (option_and_then command_of) none) ∙ at))
-        | inr some ↦ some
-      ]
+  some_queued xs p c at = search (rules, option_and_then, slice_get, cases_option, none-some)
 
   command_still : (k : Known) (p : ℕ) (c : Command) → command_at h k p ≡ Some c → command_at h (declaring k) p ≡ Some c
   unfolding command_at
@@ -111,16 +89,7 @@ module _ (h : Header) (r : ℕ) (blocks : List Block) where
 
   declared_driver : (k l : Known) → SameDriver k l → SameDriver (declaring k) (declaring l)
   unfolding on_ring
-  declared_driver k l d = record {
-    started = d.started;
-    stopped = d.stopped;
-    register = d.register;
-    memory = d.memory;
-    soiled = d.soiled;
-    reads = d.reads;
-    dequeue = d.dequeue;
-    rings = declared_rings k l d;
-  }
+  declared_driver k l d = search (rules, declaring, declared_rings)
 
   counted_declaring : (k : Known) → declaring (counted h k) ≡ counted h (declaring k)
   unfolding on_ring
@@ -140,11 +109,7 @@ module _ (h : Header) (r : ℕ) (blocks : List Block) where
 
   still_clean : (k l : Known) → l.stopped ≡ false → floor_number (k.ring r) ≤ floor_number (l.ring r) → (l.ring r).queue ≡ (k.ring r).queue → lenient h k (Sub r blocks) ≡ [] → lenient h l (Sub r blocks) ≡ []
   unfolding lenient lenient_tests declaration_tests
-  still_clean k l on grows queue clean =
-      let fails : AllFail (declaration_tests h k r blocks) = tests_fail h k (Sub r blocks) clean in
-      cond-false l.stopped (AfterStop ∷ []) (broken_of (declaration_tests h l r blocks)) on
-      ∙ four_fail (not (is_driver_ring (ring_with h r))) (has_no_room (shape_of h r) (l.ring r) (length blocks)) (is_bad_descriptor (shape_of h r).kind blocks) (is_left_out (shape_of h r).kind blocks)
-      fails.0 (room_still (k.ring r) (l.ring r) grows queue fails.1.0) fails.1.1.0 fails.1.1.1.0
+  still_clean k l on grows queue clean = search (rules, tests_fail, cond-false, four_fail, length, room_still)
 
   learned_declaring : (k : Known) → learned h k (Sub r blocks) ≡ declaring k
   unfolding learned
@@ -159,15 +124,7 @@ module _ (h : Header) (r : ℕ) (blocks : List Block) where
 
   declared_states : (k l : Known) → SameStates k l → SameStates (declaring k) l
   unfolding on_ring
-  declared_states k l s = record {
-    was_bound = s.was_bound;
-    slot_state = s.slot_state;
-    endpoint_state = s.endpoint_state;
-    ring_of = s.ring_of;
-    must_move = s.must_move;
-    stop_seen = s.stop_seen;
-    device = s.device;
-  }
+  declared_states k l s = search (rules, declaring)
 
   pub declaration_square : IsHeader h → (k : Known) → DriverKeeps h k → (e : Block) → lenient h k (Sub r blocks) ≡ [] → lenient h k (Read e) ≡ [] → Square h k (Sub r blocks) e
   declaration_square is k d e clean may =

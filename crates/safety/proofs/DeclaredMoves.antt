@@ -1,6 +1,5 @@
 -- Spots to which a ring may be moved stay such, behind a declaration too
-use Rattle.std.proofs.Common.{◌≡◌, ℕ, Bool, true, List, unwrap_or, arith, sym, ap, length-append}
-use Rattle.safety.proofs.Words.{Block, Shape, RingView, Declares, changed, declared, floor_number, ceiling, is_move, given_count-declares, move-declares, is_placement}
+use Rattle.safety.proofs.Words.{◌≡◌, ℕ, Bool, true, List, unwrap_or, arith, sym, ap, length-append, rules, Block, Shape, RingView, Declares, changed, declared, floor_number, ceiling, is_move, given_count-declares, move-declares, is_placement}
 
 -- spots to which a ring may be moved stay such: at the floor, where it stands still, and from the ceiling up to what is declared
 pub record MovesStay (shape : Shape) (v w : RingView) : Type 0 where
@@ -19,14 +18,7 @@ placed_declares shape v blocks p cycle placed =
     (omega (arith, ceiling_declares shape v blocks)) (omega arith) placed blocks
 
 pub moves_declares : (shape : Shape) (v : RingView) (blocks : List Block) → MovesStay shape v (changed shape v (Declares blocks))
-moves_declares shape v blocks =
-    record {
-      standing = λ p cycle moves. move-declares shape v p cycle (floor_number v) (floor_number v) (floor_number v) (floor_number v) (omega arith) (omega arith) moves blocks;
-      placed = placed_declares shape v blocks;
-      ahead = λ p cycle moves.
-          move-declares shape v p cycle (ceiling shape v) (declared v) (ceiling shape (changed shape v (Declares blocks))) (declared (changed shape v (Declares blocks)))
-          (omega (arith, ceiling_declares shape v blocks)) (omega (arith, length-append v.queue blocks)) moves blocks;
-    }
+moves_declares shape v blocks = search (rules, move-declares, placed_declares, ceiling_declares, length-append)
 
 pub moves_stand : (shape : Shape) (v : RingView) → MovesStay shape v v
 moves_stand shape v = record { standing = λ p cycle moves. moves; placed = λ p cycle placed. placed; ahead = λ p cycle moves. moves }

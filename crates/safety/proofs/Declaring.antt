@@ -1,6 +1,5 @@
 -- A declaration that breaks no rule is one that its ring allows
-use Rattle.std.proofs.Common.{◌≡◌, ◌<◌, ◌==◌, ◌&&◌, ◌||◌, ◌∷◌, ℕ, not, true, false, List, [], length, All, arith, refl, sym}
-use Rattle.safety.proofs.Words.{list_any, or_parts, not-false, false≢true, All-weaker, Block, BlockKind, RingKind, Cmd, Evt, Xfer, kind, is_link, is_transfer, is_command, is_left_out_command, is_badly_formed, is_bad_descriptor, is_no_command, has_other_type, has_left_out_type, is_transfer_arrangement, MayDeclare, Header, Sub, ring_with, shape_of, Known, is_driver_ring, declaration_tests, lenient_tests, lenient}
+use Rattle.safety.proofs.Words.{◌≡◌, ◌<◌, ◌&&◌, ◌∷◌, ℕ, not, true, false, List, [], length, All, arith, refl, sym, rules, or_parts, not-false, false≢true, Block, BlockKind, RingKind, Cmd, kind, is_link, is_transfer, is_command, is_left_out_command, is_badly_formed, is_bad_descriptor, MayDeclare, Header, Sub, ring_with, shape_of, Known, is_driver_ring, declaration_tests, lenient_tests, lenient}
 use Rattle.trb.specs.declared.kind.BlockKind.TheVariants.{Link}
 use Rattle.safety.proofs.TestsPassed.{AllFail, tests_fail, each_fails}
 
@@ -18,20 +17,8 @@ some_blocks [] h = absurd (false≢true (sym h))
 some_blocks (b ∷ rest) h = omega arith
 
 good_descriptor : (ring : RingKind) (blocks : List Block) → is_bad_descriptor ring blocks ≡ false → (0 < length blocks) × All (λ b. is_link (kind b) ≡ false) blocks
-good_descriptor Cmd blocks h =
-    let two = or_parts (is_badly_formed blocks || not (length blocks == 1)) (list_any is_no_command blocks) h in
-    let one = or_parts (is_badly_formed blocks) (not (length blocks == 1)) two.0 in (
-      some_blocks blocks one.0,
-      All-weaker (λ b. is_no_command b ≡ false) (λ b. is_link (kind b) ≡ false) (λ b. command_no_link (kind b)) blocks (each_fails is_no_command blocks two.1),
-    )
-good_descriptor Xfer blocks h =
-    let two = or_parts (is_badly_formed blocks || has_other_type blocks) (not (is_transfer_arrangement blocks) && not (has_left_out_type blocks)) h in
-    let one = or_parts (is_badly_formed blocks) (has_other_type blocks) two.0 in (
-      some_blocks blocks one.0,
-      All-weaker (λ b. not (is_transfer (kind b)) ≡ false) (λ b. is_link (kind b) ≡ false) (λ b. transfer_no_link (kind b)) blocks
-          (each_fails (λ b. not (is_transfer (kind b))) blocks one.1),
-    )
-good_descriptor Evt blocks h = absurd (false≢true (sym h))
+good_descriptor Cmd blocks h = search (rules, length, or_parts, some_blocks, command_no_link, each_fails, transfer_no_link, false≢true)
+good_descriptor _ blocks h = search (rules, length, or_parts, some_blocks, command_no_link, each_fails, transfer_no_link, false≢true)
 
 -- its ring is a command or transfer ring that has room for it
 pub may_declare : (h : Header) (k : Known) (r : ℕ) (blocks : List Block) → lenient h k (Sub r blocks) ≡ [] →

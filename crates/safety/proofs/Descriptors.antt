@@ -1,6 +1,5 @@
 -- A position inside a descriptor: where the descriptor begins
-use Rattle.std.proofs.Common.{◌≡◌, ◌+◌, ◌<◌, ◌≤◌, ◌==◌, ◌∷◌, ◌∙◌, ℕ, suc, false, List, [], All, sum, arith, refl, sym, inl, inr, eq-eqb, ne_eqb}
-use Rattle.safety.proofs.Words.{cases_lt, cases_eq, false≢true, eqb-false, or_parts, cond-true, cond-false, sum_by-cons, is_border, length_from}
+use Rattle.safety.proofs.Words.{◌≡◌, ◌+◌, ◌<◌, ◌≤◌, ◌==◌, ◌∷◌, ◌∙◌, ℕ, suc, false, List, [], All, sum, arith, refl, sym, inl, inr, eq-eqb, ne_eqb, cases_lt, cases_eq, false≢true, eqb-false, or_parts, cond-true, cond-false, sum_by-cons, is_border, length_from}
 
 -- a descriptor begins before position t and ends behind it; the first one begins at start
 pub record Surrounds (lengths : List ℕ) (start t : ℕ) : Type 0 where

@@ -1,6 +1,5 @@
 -- A device context that a write takes: an event reads nothing of it
-use Rattle.std.proofs.Common.{◌≡◌, ◌≢◌, ◌||◌, ◌∙◌, ℕ, Bool, [], Option, None, Some, arith, refl, sym, ap}
-use Rattle.safety.proofs.Words.{none-some, same_Some, Block, is_in, device_context_bytes, changes, Header, Read, Config, command_id, register_or_zero, Known, next_command, with_device, lenient}
+use Rattle.safety.proofs.Words.{◌≡◌, ◌≢◌, ◌∙◌, ℕ, [], Option, None, Some, arith, refl, sym, ap, rules, none-some, same_Some, Block, changes, Header, Read, Config, command_id, register_or_zero, Known, next_command, with_device, lenient}
 use Rattle.safety.proofs.EndpointPut.{at_number}
 use Rattle.safety.proofs.SameDriver.{SameDriver}
 use Rattle.safety.proofs.Alike.{Alike, held_same}
@@ -71,17 +70,8 @@ module _ (h : Header) (x : Known) where
   -- what the driver did is the same with it as it was without
   pub device_driver : (y : Known) (o : Option (ℕ × ℕ)) → SameDriver x (counted h y) → SameDriver (with_device h x o) (counted h (with_device h y o))
   unfolding with_device
-  device_driver y None s = s
-  device_driver y (Some f) s = record {
-    started = s.started;
-    stopped = s.stopped;
-    register = s.register;
-    memory = s.memory;
-    soiled = ap {B = ℕ → Bool} (λ g z. is_in z f.1 (device_context_bytes h.context_size) || g z) s.soiled;
-    reads = s.reads;
-    dequeue = s.dequeue;
-    rings = s.rings;
-  }
+  device_driver y None s = search rules
+  device_driver y (Some f) s = search (rules, counted)
 
   -- slot by slot
   pub devices_same : (o : Option (ℕ × ℕ)) (now : ℕ → Option ℕ) → ((t : ℕ) → Untaken o t → now t ≡ x.device t) → ((f : ℕ × ℕ) → o ≡ Some f → now f.0 ≡ Some f.1) →

@@ -1,6 +1,5 @@
 -- What is kept of device contexts under lease is kept where none is added, and no word and no base address changes
-use Rattle.std.proofs.Common.{◌≡◌, ◌∙◌, ℕ, Some, is_some, refl, sym, ap}
-use Rattle.safety.proofs.Words.{overlap, device_context_bytes, Header, Dcbaap, Erstba, touches_ring, Known, device_named, entry_of, is_soiled, DeviceKeeps, DevicesKeep}
+use Rattle.safety.proofs.Words.{◌≡◌, ◌∙◌, ℕ, Some, is_some, refl, sym, ap, overlap, device_context_bytes, Header, Dcbaap, Erstba, touches_ring, Known, device_named, entry_of, is_soiled, DeviceKeeps, DevicesKeep}
 use Rattle.safety.proofs.AreaFacts.{clean_same}
 
 pub record SameForDevices (k l : Known) : Type 0 where

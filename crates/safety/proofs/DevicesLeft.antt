@@ -1,6 +1,5 @@
 -- An event takes no device context: where one is leased behind it, it was
-use Rattle.std.proofs.Common.{◌≡◌, ◌==◌, if◌then◌else◌, ◌∷◌, ℕ, Bool, true, false, List, [], Option, None, Some}
-use Rattle.safety.proofs.Words.{cond_both, none-some, put_pair, Block, BlockKind, TransferEvent, CommandCompletion, kind, code, slot, endpoint, is_success, is_halting, is_trb_error, is_stopping, Spot, target, Command, StopEndpoint, Halted, Error, Stopped, is_off, Change, SlotGoesOn, DeviceLeft, Disables, Places, Stops, Resets, changes, Header, Read, shape_of, ring_having, Known, RingSpot, on_ring, event_at, command_at, next_command, passed, broken_off, stopped_at, transferred, transferred_at, transfer_read, set_to, bound_to, moved_to, moved, pointed, disabled, in_state, held_at_ceiling, changed_by, changed_by_all, succeeded, stop_ended, finished, completed, event_read, learned}
+use Rattle.safety.proofs.Words.{◌≡◌, ◌==◌, if◌then◌else◌, ◌∷◌, ℕ, Bool, true, false, List, [], Option, None, Some, rules, cond_both, none-some, Block, BlockKind, TransferEvent, CommandCompletion, kind, code, slot, endpoint, Spot, target, Command, StopEndpoint, Stopped, is_off, Change, DeviceLeft, Places, Stops, Header, Read, shape_of, ring_having, Known, RingSpot, on_ring, event_at, command_at, next_command, passed, broken_off, stopped_at, transferred, transferred_at, transfer_read, set_to, bound_to, moved_to, moved, pointed, disabled, in_state, held_at_ceiling, changed_by, changed_by_all, succeeded, stop_ended, finished, completed, event_read, learned}
 
 abbrev pub DevicesLeft : Known → Known → Type 0
 DevicesLeft k l = (s x : ℕ) → l.device s ≡ Some x → k.device s ≡ Some x
@@ -13,14 +12,7 @@ module _ (h : Header) where
 
   transferred_left : (k : Known) (c s i r : ℕ) (t : Spot) → DevicesLeft k (transferred h k c s i r t)
   unfolding transferred passed broken_off stopped_at on_ring
-  transferred_left k c s i r t =
-      let halts : Known = record (broken_off h k s i r t Halted) { must_move = put_pair k.must_move s i true } in
-      let fails : Known = broken_off h k s i r t Error in
-      let stopped : Known = if is_stopping c then stopped_at h k s i r t else k in
-      cond_both (is_success c) (passed h k r t) (if is_halting c then halts else if is_trb_error c then fails else stopped) (DevicesLeft k) (λ _ s x at. at)
-      (λ _. cond_both (is_halting c) halts (if is_trb_error c then fails else stopped) (DevicesLeft k) (λ _ s x at. at)
-      (λ _. cond_both (is_trb_error c) fails stopped (DevicesLeft k) (λ _ s x at. at)
-      (λ _. cond_both (is_stopping c) (stopped_at h k s i r t) k (DevicesLeft k) (λ _ s x at. at) (λ _ s x at. at))))
+  transferred_left k c s i r t = search rules
 
   at_left : (k : Known) (b : Block) (o : Option RingSpot) → DevicesLeft k (transferred_at h k b o)
   unfolding transferred_at
@@ -61,12 +53,10 @@ module _ (h : Header) where
 
   change_left : (c : Command) (k : Known) (change : Change) → DevicesLeft k (changed_by h c k change)
   unfolding changed_by disabled in_state
-  change_left c k (SlotGoesOn s) = none_left k
   change_left c k (DeviceLeft s) = λ t x at. put_left (t == s) (k.device t) x at
-  change_left c k (Disables s which) = none_left k
   change_left c k (Places s i p cycle state) = pointed_left k s i p cycle
   change_left c k (Stops s i) = held_left (in_state h k s i Stopped) (k.ring_of s i)
-  change_left c k (Resets s i) = none_left k
+  change_left c k _ = none_left k
 
   changes_left : (c : Command) (k : Known) (all : List Change) → DevicesLeft k (changed_by_all h c k all)
   unfolding changed_by_all
@@ -80,11 +70,8 @@ module _ (h : Header) where
 
   finish_left : (k : Known) (b : Block) (o : Option Command) → DevicesLeft k (finished h k b o)
   unfolding finished succeeded
-  finish_left k b None = none_left k
-  finish_left k b (Some c) =
-      let all : List Change = changes h.context_size k.memory (slot b) c in
-      let l : Known = if code b == 1 then changed_by_all h c k all else k in
-      λ s x at. cond_both (code b == 1) (changed_by_all h c k all) k (DevicesLeft k) (λ _. changes_left c k all) (λ _. none_left k) s x (stop_left l c s x at)
+  finish_left k b None = search (rules, none_left)
+  finish_left k b (Some c) = search (rules, none_left, changes_left, stop_left)
 
   completed_left : (k : Known) (b : Block) → DevicesLeft k (completed h k b)
   unfolding completed on_ring

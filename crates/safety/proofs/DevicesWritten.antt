@@ -1,6 +1,5 @@
 -- A write keeps what is kept of device contexts under lease, and of the one that it takes holds what was tested
-use Rattle.std.proofs.Common.{◌≡◌, ◌≢◌, ◌+◌, ◌*◌, ◌^◌, ◌<◌, ◌≤◌, ◌==◌, ◌&&◌, ◌⊎◌, ◌∙◌, ℕ, not, true, false, List, [], Contains, nat_le, nat_lt, Option, Some, None, is_some, option_and_then, slice_get, unwrap_or, arith, refl, sym, ap, subst, inl, inr, lt-ltb, le-leb, leb-true, ltb-true, ne_eqb}
-use Rattle.safety.proofs.Words.{cases_lt, and_left, and_from, and_parts, or_from, or_left, or_right, false≢true, not_from_false, none-some, same_Some, slice_get_within, get_or_from_slice_get, Block, is_in, is_inside, overlap, positions_given, cases_option, address_inside, gives_is, position_given_is, put_elsewhere, Command, command_of, named_slot, device_context, device_context_bytes, slot_entry, Header, Dcbaap, Erstba, Write, IsHeader, shape_of, command_id, touches_ring, register_or_zero, Known, command_at, device_named, entry_of, command_given, is_soiled, lenient, IsDriverRing, DeviceKeeps, DriverKeeps, DevicesKeep}
+use Rattle.safety.proofs.Words.{◌≡◌, ◌≢◌, ◌+◌, ◌*◌, ◌^◌, ◌<◌, ◌≤◌, ◌==◌, ◌&&◌, ◌⊎◌, ◌∙◌, ℕ, not, true, false, List, [], Contains, nat_le, nat_lt, Option, Some, None, is_some, option_and_then, slice_get, unwrap_or, arith, refl, sym, ap, subst, inl, inr, lt-ltb, le-leb, ne_eqb, rules, is_in-parts, cases_lt, and_left, and_from, or_from, or_left, or_right, false≢true, not_from_false, none-some, same_Some, slice_get_within, get_or_from_slice_get, Block, is_in, is_inside, overlap, positions_given, cases_option, address_inside, gives_is, position_given_is, put_elsewhere, Command, command_of, named_slot, device_context_bytes, Header, Dcbaap, Erstba, Write, IsHeader, shape_of, command_id, touches_ring, Known, command_at, device_named, entry_of, command_given, is_soiled, lenient, IsDriverRing, DeviceKeeps, DriverKeeps, DevicesKeep}
 use Rattle.safety.proofs.Headers.{ring_shape}
 use Rattle.safety.proofs.CommandRing.{due_has_ring}
 use Rattle.safety.proofs.Areas.{clean_word}
@@ -15,17 +14,10 @@ use Rattle.safety.proofs.DeviceFrames.{entry_same}
 
 named_from : (k l : Known) (s : ℕ) → l.register Dcbaap ≡ k.register Dcbaap → ((x : ℕ) → entry_of k s ≤ x → x < entry_of k s + 8 → l.memory x ≡ k.memory x) → device_named l s ≡ device_named k s
 unfolding device_named entry_of
-named_from k l s same words =
-    let e : ℕ = slot_entry (register_or_zero k.register Dcbaap) s in
-    let one : l.memory e ≡ k.memory e = words e (omega arith) (omega arith) in
-    let two : l.memory (e + 4) ≡ k.memory (e + 4) = words (e + 4) (omega arith) (omega arith) in
-    ap (λ o. device_context l.memory (unwrap_or o 0) s) same ∙ ap (λ x. x + 2 ^ 32 * l.memory (e + 4)) one ∙ ap (λ x. k.memory e + 2 ^ 32 * x) two
+named_from k l s same words = search (rules, unwrap_or)
 
 below_end : (n m : ℕ) → nat_lt m n ≡ false → n ≤ m
 below_end n m fails = elim (cases_lt m n) [ inl low ↦ absurd (false≢true (sym fails ∙ lt-ltb m n low)) | inr high ↦ high ]
-
-in_bytes : (x d len : ℕ) → is_in x d len ≡ true → (d ≤ x) × (x < d + len)
-in_bytes x d len inside = let p = and_parts (nat_le d x) (nat_lt x (d + len)) inside in (leb-true d x p.0, ltb-true x (d + len) p.1)
 
 pub contains_first : (xs : List ℕ) (p : ℕ) → slice_get xs 0 ≡ Some p → Contains xs p
 contains_first xs p at = (0, slice_get_within xs 0 p at, get_or_from_slice_get xs 0 p p at)
@@ -100,7 +92,7 @@ module _ (h : Header) (is : IsHeader h) (k : Known) (d : DriverKeeps h k) (a w :
         ends = was.ends;
         rings = was.rings;
         soiled = λ x inside.
-            let within = in_bytes x c (device_context_bytes h.context_size) inside in
+            let within = is_in-parts x c (device_context_bytes h.context_size) inside in
             still_soiled x (word_elsewhere a c (device_context_bytes h.context_size) x (not_in_device h k a (not_the_controllers h k a w clean) s c was.slot.0 was.slot.1 at) within.0 within.1) (was.soiled x inside);
         written = ap is_some dcbaap ∙ was.written;
         entry = named_from k l s dcbaap (word_stays h is k d a w clean (entry_of k s) 8 (λ free. entry_free h k a 4 (word_free h k a free) s c was.slot.0 was.slot.1 at)) ∙ was.entry;

@@ -1,6 +1,5 @@
 -- A doorbell of a ring that is held beneath an event that isn't read yet: the two may change places
-use Rattle.std.proofs.Common.{◌≡◌, ◌==◌, ◌∙◌, ℕ, true, false, [], Some, is_none, sym, ap, inl, inr}
-use Rattle.safety.proofs.Words.{MayCome, cases_Bool, cond-true, false≢true, Block, is_open, Header, Bell, Read, IsHeader, command_id, Known, lenient, DriverKeeps, is_open_if, is_idle, Square}
+use Rattle.safety.proofs.Words.{◌≡◌, ◌==◌, ℕ, true, false, [], Some, is_none, inl, inr, rules, MayCome, cases_Bool, cond-true, false≢true, Block, is_open, Header, Bell, Read, IsHeader, command_id, Known, lenient, DriverKeeps, is_idle, Square}
 use Rattle.safety.proofs.BellBeneath.{command_square}
 use Rattle.safety.proofs.RungBeneath.{rung_ring, bell_square}
 
@@ -8,12 +7,7 @@ module _ (h : Header) (is : IsHeader h) (k : Known) (d : DriverKeeps h k) (s t :
   -- the command ring isn't open: its doorbell wasn't rung yet
   first_held : (s == 0) ≡ true → (k.ring (command_id h)).held ≡ Some 0
   unfolding is_open
-  first_held command =
-      let closed : is_open (k.ring (command_id h)) ≡ false = sym (cond-true (s == 0) (is_open (k.ring (command_id h))) (is_open_if k (k.ring_of s t)) command) ∙ awake in
-      elim d.command_ring.held [
-        | inl rung ↦ absurd (false≢true (sym closed ∙ ap is_none rung))
-        | inr first ↦ first.0
-      ]
+  first_held command = search (rules, cond-true, false≢true, is_none)
 
   endpoint_square : (s == 0) ≡ false → (e : Block) → lenient h k (Read e) ≡ [] → Square h k (Bell s t) e
   endpoint_square endpoint e may =

@@ -1,6 +1,5 @@
 -- A declaration, a write and the opening of a ring leave its pointer where it is
-use Rattle.std.proofs.Common.{◌≡◌, ◌-◌, ◌≤◌, ◌∙◌, ℕ, List, length, Option, None, Some, arith, refl}
-use Rattle.safety.proofs.Words.{or_left, Block, Shape, IsShape, RingView, Declares, Writes, Opens, changed, gives_crossing, ceiling, given_count, is_step_given, is_way_given, RingKeeps, given_count_same, given_count-declares, given_count-writes, ceiling_within, is_border-push, gives}
+use Rattle.safety.proofs.Words.{◌≡◌, ◌-◌, ◌≤◌, ℕ, List, length, arith, refl, rules, or_left, Block, Shape, IsShape, RingView, Declares, Writes, Opens, changed, ceiling, given_count, is_step_given, is_way_given, RingKeeps, given_count_same, given_count-declares, given_count-writes, ceiling_within, is_border-push}
 use Rattle.safety.proofs.NoWait.{ceiling_open, ceiling_held}
 use Rattle.safety.proofs.RingGoesOn.{RingGoesOn}
 
@@ -9,29 +8,13 @@ goes_same shape v = record { floor = refl; ceiling = omega arith; more = record 
 
 -- held as before, with no less given
 ceiling_more : (shape : Shape) (v x : RingView) → x.held ≡ v.held → given_count shape v ≤ given_count shape x → ceiling shape v ≤ ceiling shape x
-ceiling_more shape v x held more = by v.held refl
-  where
-    by : (o : Option ℕ) → v.held ≡ o → ceiling shape v ≤ ceiling shape x
-    by None at = omega (arith, more, ceiling_open shape v at, ceiling_open shape x (held ∙ at))
-    by (Some m) at = omega (arith, ceiling_held shape v m at, ceiling_held shape x m (held ∙ at))
+ceiling_more shape v x held more = search (rules, ceiling_open, ceiling_held)
 
 pub declares_goes_on : (shape : Shape) (v : RingView) (blocks : List Block) → RingGoesOn shape v (changed shape v (Declares blocks))
-declares_goes_on shape v blocks = record {
-  floor = refl;
-  ceiling = ceiling_more shape v (changed shape v (Declares blocks)) refl (omega (arith, given_count-declares shape v blocks));
-  more = record { given = λ p g. g; crossed = λ q c. c };
-  borders = λ q b. is_border-push v.lengths (length blocks) 0 q b;
-  held = λ none. none;
-}
+declares_goes_on shape v blocks = search (rules, ceiling_more, given_count-declares, is_border-push, length)
 
 pub writes_goes_on : (shape : Shape) (v : RingView) (a x : ℕ) → RingGoesOn shape v (changed shape v (Writes a x))
-writes_goes_on shape v a x = record {
-  floor = refl;
-  ceiling = ceiling_more shape v (changed shape v (Writes a x)) refl (given_count-writes shape (λ b. 0) v a x);
-  more = record { given = λ p g. or_left (v.given p) (gives shape v.floor p a x) g; crossed = λ q c. or_left (v.crossed q) (gives_crossing shape v.floor q a x) c };
-  borders = λ q b. b;
-  held = λ none. none;
-}
+writes_goes_on shape v a x = search (rules, ceiling_more, given_count-writes, or_left)
 
 open_steps : (shape : Shape) (v : RingView) (q : ℕ) → is_step_given shape v q ≡ is_step_given shape (changed shape v Opens) q
 unfolding is_step_given is_way_given

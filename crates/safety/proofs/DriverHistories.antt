@@ -1,6 +1,5 @@
 -- A clean history keeps what a driver keeps
-use Rattle.std.proofs.Common.{◌≡◌, ◌∷◌, ◌∙◌, false, List, [], ap}
-use Rattle.safety.proofs.Words.{Block, kind, Header, Row, IsHeader, Read, World, Known, learned, known, IsLenient, DriverKeeps, AreRestored, KeptByRestoring, command_id, lenient, ArePossible, Runs, all_read}
+use Rattle.safety.proofs.Words.{◌≡◌, ◌∷◌, ◌∙◌, false, List, [], ap, Block, kind, Header, Row, IsHeader, Read, World, Known, learned, known, IsLenient, DriverKeeps, KeptByRestoring, command_id, lenient, ArePossible, Runs, all_read}
 use Rattle.safety.proofs.SameDriver.{event_same}
 use Rattle.safety.proofs.TestsPassed.{clean_tests}
 use Rattle.safety.proofs.KeptCommandRing.{kept_crcr, kept_crcr_written, kept_sized, kept_erstsz_written}
@@ -12,8 +11,7 @@ use Rattle.safety.proofs.NumberedHistories.{row_numbered}
 use Rattle.safety.proofs.KeptStates.{kept_states}
 use Rattle.safety.proofs.KeptDevices.{kept_devices}
 use Rattle.safety.proofs.KeptUnfinished.{kept_unfinished}
-use Rattle.safety.proofs.DriverRings.{endpoints_of}
-use Rattle.safety.proofs.NothingFree.{free_same, may_come, restoring_where_restored}
+use Rattle.safety.proofs.NothingFree.{free_same, may_come}
 use Rattle.safety.proofs.NothingKept.{nothing_kept}
 
 module _ (h : Header) where
@@ -35,10 +33,6 @@ module _ (h : Header) where
     devices = kept_devices h is k row d may.0 on;
     unfinished = kept_unfinished h is k row d may on;
   }
-
-  -- where nothing is free
-  pub kept_restored : IsHeader h → (k : Known) (row : Row) → AreRestored h k → DriverKeeps h k → lenient h k row ≡ [] → (learned h k row).stopped ≡ false → DriverKeeps h (learned h k row)
-  kept_restored is k row restored d clean on = kept_driver is k row d (clean, restoring_where_restored h is k row (endpoints_of h k d.states) restored) on
 
   pub kept_history : IsHeader h → (past : List Row) (row : Row) → DriverKeeps h (known h past) → lenient h (known h past) row ≡ [] → (learned h (known h past) row).stopped ≡ false →
       DriverKeeps h (learned h (known h past) row)

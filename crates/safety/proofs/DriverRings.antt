@@ -1,14 +1,9 @@
 -- The rings and endpoints of what a driver keeps, as the laws of rings take them
-use Rattle.std.proofs.Common.{◌≡◌, ◌∙◌, ℕ, true, Option, Some, None, refl, ap}
-use Rattle.safety.proofs.Words.{false≢true, Header, Ring, ring_with, is_driver_kind, is_transfer_kind, Known, is_driver_ring}
+use Rattle.safety.proofs.Words.{◌≡◌, ◌∙◌, ℕ, true, Option, Some, None, refl, ap, false≢true, Header, Ring, ring_with, is_transfer_kind, Known, is_driver_ring}
 use Rattle.safety.specs.Keeps as keeps
 use Rattle.safety.specs.RingsKeep as rings
 use Rattle.safety.specs.EndpointsKeep as endpoints
-
-driver_found : (o : Option Ring) → is_driver_ring o ≡ true → (r : Ring) × (o ≡ Some r) × (is_driver_kind r.shape.kind ≡ true)
-unfolding is_driver_ring
-driver_found None h = absurd (false≢true h)
-driver_found (Some r) h = (r, refl, h)
+use Rattle.safety.proofs.RingsOfHeader.{driver_is}
 
 transfer_found : (o : Option Ring) → endpoints.is_transfer_ring o ≡ true → (r : Ring) × (o ≡ Some r) × (is_transfer_kind r.shape.kind ≡ true)
 transfer_found None h = absurd (false≢true h)
@@ -20,7 +15,7 @@ module _ (h : Header) where
   driver_test r ring = ap is_driver_ring ring.found ∙ ring.kind
 
   pub driver_ring : (r : ℕ) → rings.IsDriverRing h r → keeps.IsDriverRing h r
-  driver_ring r is = let found = driver_found (ring_with h r) is in record { ring = found.0; found = found.1; kind = found.2 }
+  driver_ring r is = let found = driver_is (ring_with h r) is in record { ring = found.0; found = found.1; kind = found.2 }
 
   pub transfer_test : (r : ℕ) → keeps.IsTransferRing h r → endpoints.IsTransferRing h r
   transfer_test r ring = ap endpoints.is_transfer_ring ring.found ∙ ring.kind

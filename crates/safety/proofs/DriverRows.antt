@@ -1,6 +1,5 @@
 -- Declarations, writes, register writes and doorbells keep what the rules keep of each ring
-use Rattle.std.proofs.Common.{◌≡◌, ◌≢◌, ◌==◌, ◌&&◌, ◌||◌, if◌then◌else◌, ◌∙◌, ℕ, not, true, List, [], Option, None, Some, option_and_then, refl, sym, ap, subst, inl, inr, eq-eqb, ne_eqb}
-use Rattle.safety.proofs.Words.{cases_eq, cond-true, cond-false, cond_both, Block, RingView, RingChange, Declares, Opens, Writes, EndpointRestored, IsRestored, MayCome, RingKept, RingsKept, changed, new_ring_keeps, declares_keeps, writes_keeps, opens_keeps, Header, Register, Erdp, Usbcmd, Sub, Write, IsHeader, shape_of, command_id, run_bit, reset_bit, Known, nothing, on_ring, with_device, with_word, written, command_given, taken_device, run_or_stop, valued, register_written, endpoint_rung, rung, lenient, RingsKeep}
+use Rattle.safety.proofs.Words.{◌≡◌, ◌≢◌, ◌==◌, ◌∙◌, ℕ, List, [], Option, None, Some, option_and_then, refl, sym, ap, subst, inl, inr, eq-eqb, ne_eqb, rules, cases_eq, cond-true, cond-false, cond_both, Block, RingView, RingChange, Declares, Opens, Writes, EndpointRestored, IsRestored, MayCome, RingKept, RingsKept, changed, new_ring_keeps, declares_keeps, writes_keeps, opens_keeps, Header, Register, Erdp, Usbcmd, Sub, Write, IsHeader, shape_of, command_id, Known, nothing, on_ring, with_device, with_word, written, command_given, taken_device, run_or_stop, valued, register_written, endpoint_rung, rung, lenient, RingsKeep}
 use Rattle.safety.specs.RingsKeep.{IsDriverRing}
 use Rattle.safety.proofs.RingsOfHeader.{shape_allowed}
 use Rattle.safety.proofs.Declaring.{may_declare}
@@ -106,12 +105,7 @@ module _ (h : Header) (k : Known) (keeps : RingsKeep h k) where
 
   run_keeps : (l : Known) (x : ℕ) → RingsKept h k l → RingsKept h k (run_or_stop l x)
   unfolding run_or_stop
-  run_keeps l x kept =
-      let on : Known = record l { started = true } in
-      let off : Known = record l { stopped = true } in
-      cond_both (not l.started) (if run_bit x && not (reset_bit x) then on else l) (if not (run_bit x) || reset_bit x then off else l) (RingsKept h k)
-      (λ _. cond_both (run_bit x && not (reset_bit x)) on l (RingsKept h k) (λ _. same_keeps h k l on refl refl kept) (λ _. kept))
-      (λ _. cond_both (not (run_bit x) || reset_bit x) off l (RingsKept h k) (λ _. same_keeps h k l off refl refl kept) (λ _. kept))
+  run_keeps l x kept = search (rules, same_keeps)
 
   pub register_keeps : (r : Register) (x : ℕ) → RingsKept h k (register_written h k r x)
   unfolding register_written valued
@@ -120,11 +114,7 @@ module _ (h : Header) (k : Known) (keeps : RingsKeep h k) where
   register_keeps r x = same_stands (valued k r x) refl refl
 
   open_keeps : IsHeader h → (r : ℕ) → IsRestored (k.ring r) → RingsKept h k (on_ring h k r Opens)
-  open_keeps is r restored =
-      on_ring_keeps h k k r Opens stands (λ driver. record {
-        rules = opens_keeps (shape_of h r) (shape_allowed h is r driver) k.memory (k.ring r) (keeps r driver) restored;
-        passes = passes_restored (shape_of h r) (k.ring r) (changed (shape_of h r) (k.ring r) Opens) restored;
-      })
+  open_keeps is r restored = search (rules, on_ring_keeps, stands, opens_keeps, shape_allowed, passes_restored)
 
   endpoint_keeps : IsHeader h → (s t : ℕ) (ring : Option ℕ) → k.ring_of s t ≡ ring → EndpointRestored k s t → RingsKept h k (endpoint_rung h k s t ring)
   unfolding endpoint_rung

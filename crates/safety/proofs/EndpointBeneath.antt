@@ -1,6 +1,5 @@
 -- The doorbell of an endpoint whose ring is held wakes it; a Transfer Event that was possible before is so behind it, and leaves it woken
-use Rattle.std.proofs.Common.{◌≡◌, ◌≢◌, ◌==◌, ◌&&◌, ◌||◌, ◌∙◌, ℕ, true, false, Some, nat_lt, slice_get, option_and_then, refl, sym, ap, inl, inr, eqb-true}
-use Rattle.safety.proofs.Words.{false≢true, and_parts, cond-false, or_cases, cond_both, put_pair, Opens, Running, is_running, is_stopped, Header, Known, on_ring, endpoint_rung, DriverKeeps, floor_number, ceiling, is_open, ceiling_within, Block, command_of, is_stop_of, IsHeader, shape_of, command_id, command_at, next_command, transfer_read, is_in_profile, may_be_taken, is_stopping_now, is_impossible_transfer}
+use Rattle.safety.proofs.Words.{◌≡◌, ◌≢◌, ◌==◌, ◌&&◌, ◌||◌, ◌∙◌, ℕ, true, false, Some, nat_lt, slice_get, option_and_then, refl, sym, ap, eqb-true, rules, false≢true, and_parts, cond-false, or_cases, cond_both, put_pair, Opens, Running, is_running, is_stopped, Header, Known, on_ring, endpoint_rung, DriverKeeps, floor_number, ceiling, is_open, ceiling_within, Block, command_of, is_stop_of, IsHeader, shape_of, command_id, command_at, next_command, transfer_read, is_in_profile, may_be_taken, is_stopping_now, is_impossible_transfer}
 use Rattle.safety.proofs.DriverRows.{ring_here, ring_elsewhere}
 use Rattle.safety.proofs.Headers.{ring_shape, transfer_driver, transfer_not_command}
 use Rattle.safety.proofs.WokenTransfers.{transfer_woken}
@@ -16,14 +15,7 @@ module _ (h : Header) (k : Known) (s t r : ℕ) (has : k.ring_of s t ≡ Some r)
 
   rung_here : woken.endpoint_state s t ≡ Running
   unfolding endpoint_rung
-  rung_here =
-      cond_both (is_stopped (k.endpoint_state s t)) (put_pair k.endpoint_state s t Running) k.endpoint_state (λ f. f s t ≡ Running)
-      (λ stopped. at_pair (λ e. e ≡ Running) k.endpoint_state s t Running s t (λ a b. refl) (λ other. absurd (other refl refl)))
-      (λ on.
-      elim (or_cases (is_running (k.endpoint_state s t)) (is_stopped (k.endpoint_state s t)) may) [
-        | inl runs ↦ running_is (k.endpoint_state s t) runs
-        | inr stopped ↦ absurd (false≢true (sym on ∙ stopped))
-      ])
+  rung_here = search (rules, woken, at_pair, or_cases, running_is, false≢true)
 
   rung_elsewhere : (u j : ℕ) → one_of s t u j ≡ false → woken.endpoint_state u j ≡ k.endpoint_state u j
   unfolding endpoint_rung
@@ -38,18 +30,7 @@ module _ (h : Header) (k : Known) (s t r : ℕ) (has : k.ring_of s t ≡ Some r)
 
   pub rung_woken : Woken h r (one_of s t) k woken
   unfolding endpoint_rung on_ring
-  rung_woken = record {
-    own = ring_here h k r Opens;
-    rings = λ q other. ring_elsewhere h k r q Opens other;
-    awake = rung_awake;
-    state = rung_elsewhere;
-    was_bound = refl;
-    slot_state = refl;
-    ring_of = refl;
-    must_move = refl;
-    stop_seen = refl;
-    device = refl;
-  }
+  rung_woken = search (rules, ring_here, ring_elsewhere, rung_awake, rung_elsewhere)
 
   pub rung_driver : SameDriver k woken
   unfolding endpoint_rung

@@ -1,7 +1,6 @@
 -- Behind the doorbell of an endpoint whose ring is held, and that no unfinished command touches, each event may be read that might be
 -- before, and leaves the endpoint woken
-use Rattle.std.proofs.Common.{◌≡◌, ◌≢◌, ◌==◌, ◌&&◌, ◌||◌, ◌∙◌, ℕ, Bool, true, false, not, [], Option, None, Some, nat_lt, slice_get, option_and_then, refl, sym, ap, subst}
-use Rattle.safety.proofs.Words.{false≢true, or_parts, or_from, not-false, Block, BlockKind, TransferEvent, CommandCompletion, kind, pointer, code, slot, is_transfer_event, address_of, RingView, floor_number, ceiling, is_open, Command, command_of, changes, is_running, is_stopped, Header, Config, Read, IsHeader, shape_of, command_id, register_or_zero, Known, command_at, next_command, endpoint_rung, completed, event_read, touches_endpoint, is_touched, is_in_profile, may_be_taken, can_finish, is_impossible_completion, is_impossible_by_kind, lenient, CommandKeeps, DriverKeeps}
+use Rattle.safety.proofs.Words.{◌≡◌, ◌≢◌, ◌==◌, ◌&&◌, ◌||◌, ℕ, true, false, not, [], Option, None, Some, nat_lt, slice_get, option_and_then, refl, rules, or_parts, or_from, not-false, Block, BlockKind, TransferEvent, CommandCompletion, kind, code, slot, is_transfer_event, is_open, Command, changes, is_running, is_stopped, Header, Config, Read, IsHeader, command_id, register_or_zero, Known, command_at, next_command, endpoint_rung, completed, event_read, touches_endpoint, is_touched, is_in_profile, may_be_taken, can_finish, is_impossible_completion, is_impossible_by_kind, lenient, CommandKeeps, DriverKeeps}
 use Rattle.safety.proofs.BellBeneath.{ReadWoken, read_woken}
 use Rattle.safety.proofs.CleanRows.{EventFacts, event_facts}
 use Rattle.safety.proofs.DriverRings.{endpoints_of, rings_of}
@@ -21,20 +20,7 @@ use Rattle.safety.proofs.WokenCompletions.{finish_same, completed_woken}
 possible_woken : (h : Header) (r s i : ℕ) (k l : Known) → Woken h r (one_of s i) k l → SameDriver k l → command_id h ≢ r → (b : Block) (c : Command) →
     command_at h k (next_command h k) ≡ Some c → touches_endpoint h k s i c ≡ false → is_impossible_completion h k b ≡ false → is_impossible_completion h l b ≡ false
 unfolding is_impossible_completion may_be_taken next_command command_at
-possible_woken h r s i k l w d other b c at apart possible =
-    let most : Bool = impossible_most (k.ring (command_id h)) in
-    let o : Option Command = command_in (k.ring (command_id h)) in
-    let parts = or_parts most (not (can_finish k b o)) possible in
-    let can : can_finish l b (Some c) ≡ true = finish_same h r s i k l w d b c apart (ap (can_finish k b) (sym at) ∙ not-false (can_finish k b o) parts.1) in
-    subst (λ v. (impossible_most v || not (can_finish l b (command_in v))) ≡ false) (sym (w.rings (command_id h) other))
-    (or_from most (not (can_finish l b o)) parts.0 (ap (λ x. not (can_finish l b x)) at ∙ ap not can))
-  where
-    impossible_most : RingView → Bool
-    impossible_most v =
-        not (nat_lt (floor_number v) (ceiling (shape_of h (command_id h)) v)) || not (pointer b == address_of (shape_of h (command_id h)) (floor_number v)) || code b == 0
-
-    command_in : RingView → Option Command
-    command_in v = option_and_then command_of (slice_get v.queue (floor_number v))
+possible_woken h r s i k l w d other b c at apart possible = search (rules, one_of, or_parts, finish_same, not-false, or_from, nat_lt, option_and_then, slice_get)
 
 module _ (h : Header) (k : Known) (s t r : ℕ) (has : k.ring_of s t ≡ Some r) (may : (is_running (k.endpoint_state s t) || is_stopped (k.endpoint_state s t)) ≡ true)
     (is : IsHeader h) (d : DriverKeeps h k) (held : is_open (k.ring r) ≡ false) (untouched : is_touched h k s t ≡ false) where
@@ -70,11 +56,8 @@ module _ (h : Header) (k : Known) (s t r : ℕ) (has : k.ring_of s t ≡ Some r)
     next_rung : (o : Option Command) → command_at h k (next_command h k) ≡ o → can_finish k b o ≡ true →
         (is_impossible_completion h woken b ≡ false) × Woken h r (one_of s t) (completed h k b) (completed h woken b)
     unfolding can_finish
-    next_rung None at can = absurd (false≢true can)
-    next_rung (Some c) at can = (
-      possible_woken h r s t k woken awake driver (not_command h k s t r has may is d held) b c at (next_apart c at) possible,
-      completed_woken h r s t k woken awake driver is owns b c (next_apart c at) (next_fits c at can) (not_command h k s t r has may is d held) at,
-    )
+    next_rung None at can = search (rules, possible_woken, completed_woken)
+    next_rung (Some c) at can = search (rules, possible_woken, awake, driver, not_command, next_apart, completed_woken, owns, next_fits)
 
     pub completion_rung : (is_impossible_completion h woken b ≡ false) × Woken h r (one_of s t) (completed h k b) (completed h woken b)
     completion_rung = next_rung (command_at h k (next_command h k)) refl facts.finishes

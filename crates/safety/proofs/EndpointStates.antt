@@ -1,6 +1,5 @@
 -- States of endpoints that change alike in what is known and in the world
-use Rattle.std.proofs.Common.{◌≡◌, ℕ, Bool, List, refl}
-use Rattle.safety.proofs.Words.{EndpointState, Header, Block, World, Known, Stands, EventsStand, Matches}
+use Rattle.safety.proofs.Words.{◌≡◌, ℕ, Bool, List, refl, EndpointState, Header, Block, World, Known, Stands, EventsStand, Matches}
 use Rattle.world_state.specs.World as of_world
 use Rattle.safety.proofs.Learns.{under_way_same, unfinished_same}
 

@@ -1,6 +1,5 @@
 -- Any history keeps endpoints on transfer rings
-use Rattle.std.proofs.Common.{◌≡◌, ◌≢◌, ◌==◌, ◌&&◌, if◌then◌else◌, ◌∷◌, ◌∙◌, ℕ, Bool, true, false, List, [], Option, None, Some, refl, sym, ap, subst}
-use Rattle.safety.proofs.Words.{cond_both, none-some, same_Some, Spot, number, Reaches, Holds, ceiling, target, Command, Stopped, is_off, Change, SlotGoesOn, DeviceLeft, Disables, Places, Stops, Resets, Header, IsHeader, shape_of, ring_having, Known, on_ring, set_to, bound_to, moved_to, moved, pointed, disabled, in_state, held_at_ceiling, changed_by, changed_by_all, EndpointsKeep}
+use Rattle.safety.proofs.Words.{◌≡◌, ◌≢◌, ◌==◌, ◌&&◌, if◌then◌else◌, ◌∷◌, ◌∙◌, ℕ, Bool, true, false, List, [], Option, None, Some, refl, sym, ap, subst, rules, cond_both, none-some, same_Some, Spot, number, Reaches, Holds, ceiling, target, Command, Stopped, is_off, Change, SlotGoesOn, DeviceLeft, Disables, Places, Stops, Resets, Header, IsHeader, shape_of, ring_having, Known, on_ring, set_to, bound_to, moved_to, moved, pointed, disabled, in_state, held_at_ceiling, changed_by, changed_by_all, EndpointsKeep}
 use Rattle.safety.specs.EndpointsKeep.{IsTransferRing}
 use Rattle.safety.proofs.RingIds.{having_transfer}
 use Rattle.safety.proofs.DriverRows.{ring_elsewhere}
@@ -16,12 +15,8 @@ module _ (h : Header) where
 
   moved_rings : (k : Known) (o : Option ℕ) (p : ℕ) (cycle : Bool) → (moved h k o p cycle).ring_of ≡ k.ring_of
   unfolding moved moved_to set_to on_ring
-  moved_rings k None p cycle = refl
-  moved_rings k (Some r) p cycle = by (target (shape_of h r) (k.ring r) p cycle)
-    where
-      by : (o : Option Spot) → (moved_to h k r o).ring_of ≡ k.ring_of
-      by None = refl
-      by (Some t) = refl
+  moved_rings k None p cycle = search rules
+  moved_rings k (Some r) p cycle = search rules
 
   held_rings : (k : Known) (o : Option ℕ) → (held_at_ceiling h k o).ring_of ≡ k.ring_of
   unfolding held_at_ceiling on_ring
@@ -36,12 +31,8 @@ module _ (h : Header) where
 
   bound_keeps : (k : Known) → EndpointsKeep h k → (s i : ℕ) (o : Option ℕ) (p : ℕ) (cycle : Bool) → ((r : ℕ) → o ≡ Some r → IsTransferRing h r) → EndpointsKeep h (bound_to h k s i o p cycle)
   unfolding bound_to
-  bound_keeps k keeps s i None p cycle transfers = keeps
-  bound_keeps k keeps s i (Some r) p cycle transfers = record { transfer = λ t j q at. by (t == s && j == i) t j q at }
-    where
-      by : (b : Bool) (t j q : ℕ) → (if b then Some r else k.ring_of t j) ≡ Some q → IsTransferRing h q
-      by true t j q at = subst (λ n. IsTransferRing h n) (same_Some r q at) (transfers r refl)
-      by false t j q at = keeps.transfer t j q at
+  bound_keeps k keeps s i None p cycle transfers = search rules
+  bound_keeps k keeps s i (Some r) p cycle transfers = search (rules, same_Some)
 
   pointed_keeps : IsHeader h → (k : Known) → EndpointsKeep h k → (s i p : ℕ) (cycle : Bool) → EndpointsKeep h (pointed h k s i p cycle)
   unfolding pointed
@@ -84,12 +75,8 @@ module _ (h : Header) where
 
     moved_elsewhere : (k : Known) → EndpointsKeep h k → (s i p : ℕ) (cycle : Bool) (o : Option ℕ) → k.ring_of s i ≡ o → (moved h k o p cycle).ring q ≡ k.ring q
     unfolding moved moved_to
-    moved_elsewhere k keeps s i p cycle None at = refl
-    moved_elsewhere k keeps s i p cycle (Some r) at = by (target (shape_of h r) (k.ring r) p cycle)
-      where
-        by : (o : Option Spot) → (moved_to h k r o).ring q ≡ k.ring q
-        by None = refl
-        by (Some t) = set_elsewhere k r q t (other_ring k keeps s i r at)
+    moved_elsewhere k keeps s i p cycle None at = search rules
+    moved_elsewhere k keeps s i p cycle (Some r) at = search (rules, set_elsewhere, other_ring)
 
     bound_elsewhere : (k : Known) (s i : ℕ) (o : Option ℕ) (p : ℕ) (cycle : Bool) → ((r : ℕ) → o ≡ Some r → q ≢ r) → (bound_to h k s i o p cycle).ring q ≡ k.ring q
     unfolding bound_to moved moved_to
@@ -114,12 +101,9 @@ module _ (h : Header) where
 
     change_elsewhere : (c : Command) (k : Known) (change : Change) → EndpointsKeep h k → (changed_by h c k change).ring q ≡ k.ring q
     unfolding changed_by disabled in_state
-    change_elsewhere c k (SlotGoesOn s) keeps = refl
-    change_elsewhere c k (DeviceLeft s) keeps = refl
-    change_elsewhere c k (Disables s which) keeps = refl
     change_elsewhere c k (Places s i p cycle state) keeps = pointed_elsewhere k keeps s i p cycle
     change_elsewhere c k (Stops s i) keeps = held_elsewhere (in_state h k s i Stopped) (state_keeps k keeps s i) s i (k.ring_of s i) refl
-    change_elsewhere c k (Resets s i) keeps = refl
+    change_elsewhere c k _ keeps = refl
 
     -- stays as it is
     pub changes_elsewhere : (c : Command) (k : Known) (all : List Change) → EndpointsKeep h k → (changed_by_all h c k all).ring q ≡ k.ring q

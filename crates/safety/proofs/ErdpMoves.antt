@@ -1,6 +1,5 @@
 -- How far a written ERDP takes the dequeue pointer
-use Rattle.std.proofs.Common.{◌≡◌, ◌+◌, ◌%◌, ◌<◌, ◌∷◌, List, [], length, slice_index, mod-lt, ◌≤◌, ◌==◌, ◌&&◌, ◌⊎◌, ◌∙◌, ℕ, suc, zero, Bool, true, false, nat_lt, Option, None, Some, find, unwrap_or, is_some, not, refl, arith, sym, ap, inl, inr}
-use Rattle.safety.proofs.Words.{and_cases, not-false, not-true, erdp_address, Header, Erdp, event_ring, event_shape, Known, is_bad_erdp, may_pass, names_no_place, or_left, or_right, data_places, is_event_place, list_any, range_with_len, cases_Bool, cond-true, cond-false, and_parts, or_cases, false≢true, none-some, same_Some, Shape, place_count, address_of, cases_option, position_from, is_reached_within}
+use Rattle.safety.proofs.Words.{◌≡◌, ◌+◌, ◌%◌, ◌<◌, ◌∷◌, List, [], length, slice_index, mod-lt, ◌≤◌, ◌==◌, ◌⊎◌, ◌∙◌, ℕ, suc, zero, Bool, true, false, nat_lt, Option, Some, find, unwrap_or, is_some, arith, sym, ap, inl, inr, rules, and_cases, not-false, not-true, erdp_address, Header, Erdp, event_shape, Known, is_bad_erdp, may_pass, names_no_place, or_left, or_right, data_places, is_event_place, list_any, range_with_len, cases_Bool, cond-true, cond-false, and_parts, or_cases, false≢true, none-some, same_Some, Shape, place_count, address_of, cases_option, position_from, is_reached_within}
 
 -- what is found in a range lies in it
 found_from : (test : ℕ → Bool) (a n q : ℕ) → find test (range_with_len a n) ≡ Some q → (a ≤ q) × (q < a + n)
@@ -49,13 +48,7 @@ place_of shape q a some is = any_index (λ x. x == a) (data_places shape) (q % p
 
 -- an address that is no event place moves nothing
 pub no_place_stays : (shape : Shape) (p a : ℕ) → is_event_place shape a ≡ false → position_from shape p a ≡ p
-no_place_stays shape p a none =
-    elim (cases_option (find (λ q. address_of shape q == a) (range_with_len p (place_count shape)))) [
-      | inl nothing ↦ ap (λ x. unwrap_or x p) nothing
-      | inr found ↦
-          let within = found_from (λ q. address_of shape q == a) p (place_count shape) found.0 found.1 in
-          absurd (false≢true (sym none ∙ place_of shape found.0 a (omega (arith, within.0, within.1)) (found_passes (λ q. address_of shape q == a) p (place_count shape) found.0 found.1)))
-    ]
+no_place_stays shape p a none = search (rules, cases_option, find, unwrap_or, found_from, false≢true, place_of, found_passes)
 
 module _ (shape : Shape) (p more address : ℕ) (reached : is_reached_within shape p more address ≡ true) where
   some : list_any (λ q. address_of shape q == address) (range_with_len p (more + 1)) ≡ true
@@ -66,38 +59,18 @@ module _ (shape : Shape) (p more address : ℕ) (reached : is_reached_within sha
 
   -- no further back, and at most that much further
   pub position_within : (p ≤ position_from shape p address) × (position_from shape p address ≤ p + more)
-  position_within =
-      elim (cases_option (find (λ q. address_of shape q == address) (range_with_len p (place_count shape)))) [
-        | inl none ↦ let is : position_from shape p address ≡ p = position_is None none in (omega arith, omega arith)
-        | inr found ↦
-            let q : ℕ = found.0 in
-            let is : position_from shape p address ≡ q = position_is (Some q) found.1 in
-            let low = found_from (λ q. address_of shape q == address) p (place_count shape) q found.1 in
-            let high = found_below (λ q. address_of shape q == address) p (place_count shape) (more + 1) q some found.1 in
-            (omega (arith, low.0), omega (arith, high))
-      ]
+  position_within = search (rules, cases_option, find, position_is, found_from, found_below, some)
 
 -- a good ERDP names a place up to what may be passed or, before the start, no event place
 pub erdp_says : (h : Header) (k : Known) (v : ℕ) → is_bad_erdp h k Erdp v ≡ false →
     (is_reached_within (event_shape h) k.dequeue (may_pass k) (erdp_address v) ≡ true) ⊎ ((k.started ≡ false) × (is_event_place (event_shape h) (erdp_address v) ≡ false))
 unfolding is_bad_erdp names_no_place
-erdp_says h k v good =
-    elim (and_cases (not (names_no_place h k v)) (not (is_reached_within (event_shape h) k.dequeue (may_pass k) (erdp_address v))) good) [
-      | inl names ↦
-          let all = and_parts (not k.started && is_some (event_ring h)) (not (is_event_place (event_shape h) (erdp_address v))) (not-false (names_no_place h k v) names) in
-          let first = and_parts (not k.started) (is_some (event_ring h)) all.0 in
-          inr (not-true k.started first.0, not-true (is_event_place (event_shape h) (erdp_address v)) all.1)
-      | inr reached ↦ inl (not-false (is_reached_within (event_shape h) k.dequeue (may_pass k) (erdp_address v)) reached)
-    ]
+erdp_says h k v good = search (rules, and_cases, and_parts, is_some, not-false, not-true)
 
 -- the other way round
 pub reached_is_good : (h : Header) (k : Known) (v : ℕ) → is_reached_within (event_shape h) k.dequeue (may_pass k) (erdp_address v) ≡ true → is_bad_erdp h k Erdp v ≡ false
 unfolding is_bad_erdp
-reached_is_good h k v reached = rw reached (none_left (not (names_no_place h k v)))
-  where
-    none_left : (b : Bool) → (b && false) ≡ false
-    none_left true = refl
-    none_left false = refl
+reached_is_good h k v reached = search rules
 
 -- the pointer goes no further back than it was, nor further on than what may be passed
 pub erdp_within : (h : Header) (k : Known) (v : ℕ) → is_bad_erdp h k Erdp v ≡ false →

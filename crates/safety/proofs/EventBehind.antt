@@ -1,6 +1,5 @@
 -- What stands behind an event that may be read: rings whose floors moved on, and no device context more
-use Rattle.std.proofs.Common.{◌≡◌, ◌==◌, if◌then◌else◌, ◌∷◌, ◌∙◌, ℕ, [], List, Option, None, Some, refl, sym, ap, subst, inl, inr}
-use Rattle.safety.proofs.Words.{flips_passed, RingView, cond_both, none-some, Block, BlockKind, TransferEvent, CommandCompletion, kind, code, slot, is_command_completion, RingKeeps, Command, StopEndpoint, Change, SlotGoesOn, DeviceLeft, Disables, Places, Stops, Resets, changes, Header, Read, IsHeader, shape_of, command_id, Known, on_ring, command_at, next_command, disabled, changed_by, changed_by_all, succeeded, stop_ended, finished, completed, event_read, learned, lenient, KeepsPassed, RingsKeep, RingsKept, EndpointsKeep, DriverKeeps, MayRead}
+use Rattle.safety.proofs.Words.{◌≡◌, ◌==◌, if◌then◌else◌, ◌∷◌, ◌∙◌, ℕ, [], List, Option, None, Some, refl, sym, ap, subst, inl, inr, flips_passed, RingView, cond_both, none-some, Block, BlockKind, TransferEvent, CommandCompletion, kind, code, slot, is_command_completion, RingKeeps, Command, StopEndpoint, Change, DeviceLeft, Places, Stops, Resets, changes, Header, Read, IsHeader, shape_of, command_id, Known, on_ring, command_at, next_command, disabled, changed_by, changed_by_all, succeeded, stop_ended, finished, completed, event_read, learned, lenient, KeepsPassed, RingsKeep, RingsKept, EndpointsKeep, DriverKeeps, MayRead}
 use Rattle.safety.specs.RingsKeep.{IsDriverRing}
 use Rattle.safety.proofs.Histories.{row_kept}
 use Rattle.safety.proofs.StillPlacing.{still_reads}
@@ -26,12 +25,11 @@ module _ (h : Header) where
 
   change_fewer : (c : Command) (k : Known) (change : Change) → FewerDevices k (changed_by h c k change)
   unfolding changed_by disabled
-  change_fewer c k (SlotGoesOn s) t d at = at
   change_fewer c k (DeviceLeft s) t d at = at_number (λ (o : Option ℕ). o ≡ Some d → k.device t ≡ Some d) k.device s None t (λ same gone. absurd (none-some d gone)) (λ other there. there) at
-  change_fewer c k (Disables s which) t d at = at
   change_fewer c k (Places s i p cycle state) t d at = ap (λ f. f t) (sym (placed_leaves h c k s i p cycle state).device) ∙ at
   change_fewer c k (Stops s i) t d at = sym (stops_slot h c k s i t).device ∙ at
   change_fewer c k (Resets s i) t d at = sym (resets_slot h c k s i t).device ∙ at
+  change_fewer c k _ t d at = at
 
   changes_fewer : (c : Command) (k : Known) (all : List Change) → FewerDevices k (changed_by_all h c k all)
   unfolding changed_by_all

@@ -1,6 +1,5 @@
 -- The controller finishes an Address Device with success: the run goes on
-use Rattle.std.proofs.Common.{◌≡◌, ◌<◌, ◌≤◌, ◌==◌, ◌∷◌, ◌∙◌, ℕ, Bool, true, false, List, [], Some, arith, refl, sym, ap, subst, inl, inr}
-use Rattle.safety.proofs.Words.{cases_Bool, cases_lt, false≢true, Block, IsBlock, code, slot, Shape, IsShape, RingView, floor_number, given_count, RingKeeps, cases_option, given_below, step_is, floor_given, given_count_declared, ceiling_within, Command, AddressDevice, Running, command_of, SlotGoesOn, Places, changes, is_off, context_pointer, context_cycle, Header, IsHeader, shape_of, World, UnderWay, counted, Known, next_command, DriverKeeps, CommandKeeps, Stays, Stands, Runs, all_read}
+use Rattle.safety.proofs.Words.{◌≡◌, ◌<◌, ◌≤◌, ◌==◌, ◌∷◌, ◌∙◌, ℕ, Bool, true, false, [], Some, arith, refl, sym, ap, subst, inl, inr, rules, cases_Bool, cases_lt, false≢true, Block, IsBlock, code, slot, Shape, IsShape, RingView, floor_number, given_count, RingKeeps, cases_option, given_below, step_is, floor_given, given_count_declared, ceiling_within, Command, AddressDevice, Running, command_of, SlotGoesOn, Places, changes, is_off, context_pointer, context_cycle, Header, IsHeader, shape_of, World, UnderWay, counted, Known, next_command, DriverKeeps, CommandKeeps, Stays, Stands, Runs, all_read}
 use Rattle.controller_model.specs.Bindings as bindings
 use Rattle.controller_model.specs.Finishes as finishes
 use Rattle.ring_knowledge.specs.Completions as completions
@@ -82,19 +81,7 @@ module _ (h : Header) (is : IsHeader h) (k : Known) (d : DriverKeeps h k) (s n :
 
   pub slot_moves : MayMove h k s 1 p cycle → MayMove h (completions.changed_by h c k (SlotGoesOn s)) s 1 p cycle
   unfolding completions.changed_by
-  slot_moves m = record {
-    on = m.on;
-    ring = m.ring;
-    had = m.had;
-    transfer = m.transfer;
-    keeps = m.keeps;
-    least = m.least;
-    most = m.most;
-    low = m.low;
-    floor = m.floor;
-    high = m.high;
-    moves = m.moves;
-  }
+  slot_moves m = search rules
 
   place_keeps : (u v : World) → StatesMatch h (completions.changed_by h c k (SlotGoesOn s)) u → s < 256 → bindings.changed_by h c u (Places s 1 p cycle Running) ≡ Some v →
       ChangeKeeps h (completions.changed_by h c k (SlotGoesOn s)) (completions.changed_by h c (completions.changed_by h c k (SlotGoesOn s)) (Places s 1 p cycle Running)) u v
@@ -107,11 +94,7 @@ module _ (h : Header) (is : IsHeader h) (k : Known) (d : DriverKeeps h k) (s n :
       ]
 
   list_keeps : (w : World) → StatesMatch h k w → s < 256 → ListKeeps h c k w (SlotGoesOn s ∷ Places s 1 p cycle Running ∷ [])
-  list_keeps w m low =
-      let l : Known = completions.changed_by h c k (SlotGoesOn s) in
-      change_then h c k w (SlotGoesOn s) (Places s 1 p cycle Running ∷ []) (λ v at. slot_keeps h c k w m s v at)
-      (λ u at there. change_then h c l u (Places s 1 p cycle Running) [] (λ v placed. place_keeps u v there low placed)
-      (λ v placed states. nothing_keeps h c (completions.changed_by h c l (Places s 1 p cycle Running)) v states))
+  list_keeps w m low = search (rules, change_then, slot_keeps, place_keeps, nothing_keeps)
 
   pub address_changes : (m : ℕ) → changes h.context_size k.memory m c ≡ SlotGoesOn s ∷ Places s 1 p cycle Running ∷ []
   unfolding changes

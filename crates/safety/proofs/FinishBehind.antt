@@ -1,6 +1,5 @@
 -- Behind the success of a command: its changes are made, the event is posted, and the command ring's floor moves on
-use Rattle.std.proofs.Common.{◌≡◌, ◌≢◌, ◌∙◌, ℕ, Bool, true, List, option_and_then, slice_get, sym, ap, subst, inl, inr}
-use Rattle.safety.proofs.Words.{cases_eq, false≢true, Block, floor_number, is_due, Command, command_of, Header, shape_of, command_id, World, Known, command_at, next_command, IsUnfinished, Stands, EventsStand, state_of, RingMatches, BoundRing, FreeRing, EndpointRing, Matches}
+use Rattle.safety.proofs.Words.{◌≡◌, ◌≢◌, ◌∙◌, ℕ, Bool, true, List, option_and_then, slice_get, sym, ap, subst, inl, inr, rules, false≢true, Block, floor_number, Command, command_of, Header, shape_of, command_id, World, Known, command_at, next_command, IsUnfinished, Stands, EventsStand, state_of, RingMatches, BoundRing, FreeRing, EndpointRing, Matches}
 use Rattle.world_state.specs.World as of_world
 use Rattle.safety.proofs.SafeContext.{next_is}
 use Rattle.safety.proofs.LookKinds.{put_at, put_off}
@@ -30,29 +29,13 @@ module _ (h : Header) (k m : Known) (w v : World) (c : ChangeKeeps h k m w v) (s
   ring_same q other = put_off m.ring (command_id h) _ q other
 
   queue_before : (q : ℕ) → (before.ring q).queue ≡ (later.ring q).queue
-  queue_before q =
-      elim (cases_eq q (command_id h)) [
-        | inl same ↦ ap (λ p. (before.ring p).queue) same ∙ ap (λ x. x.queue) (sym command_ring) ∙ ap (λ p. (later.ring p).queue) (sym same)
-        | inr other ↦ ap (λ x. x.queue) (put_off k.ring (command_id h) _ q other) ∙ sym (c.rest.queues q) ∙ ap (λ x. x.queue) (sym (ring_same q other))
-      ]
+  queue_before q = search (rules, before, later, command_ring, put_off, ring_same)
 
   lengths_before : (q : ℕ) → (before.ring q).lengths ≡ (later.ring q).lengths
-  lengths_before q =
-      elim (cases_eq q (command_id h)) [
-        | inl same ↦ ap (λ p. (before.ring p).lengths) same ∙ ap (λ x. x.lengths) (sym command_ring) ∙ ap (λ p. (later.ring p).lengths) (sym same)
-        | inr other ↦ ap (λ x. x.lengths) (put_off k.ring (command_id h) _ q other) ∙ sym (c.rest.lengths q) ∙ ap (λ x. x.lengths) (sym (ring_same q other))
-      ]
+  lengths_before q = search (rules, before, later, command_ring, put_off, ring_same)
 
   pub stands_changed : (u : World) → Stands h before (let_go u) → Stands h later (let_go (world_changed u v))
-  stands_changed u s = record {
-    started = s.started;
-    stopped = s.stopped;
-    registers = s.registers;
-    queues = λ q. s.queues q ∙ queue_before q;
-    lengths = λ q. s.lengths q ∙ lengths_before q;
-    dequeue = s.dequeue;
-    quiet = s.quiet;
-  }
+  stands_changed u s = search (rules, before, let_go, later, world_changed, queue_before, lengths_before)
 
   pub events_changed : (u : World) (unread : List Block) → EventsStand h (let_go u) unread → EventsStand h (let_go (world_changed u v)) unread
   unfolding of_world.event_at
@@ -63,11 +46,7 @@ module _ (h : Header) (k m : Known) (w v : World) (c : ChangeKeeps h k m w v) (s
   command_kept p = ap (λ x. option_and_then command_of (slice_get x.queue p)) command_ring
 
   unfinished_before : (p : ℕ) (e : Command) → IsUnfinished h later p e → IsUnfinished h before p e
-  unfinished_before p e u = record {
-    due = ap (λ x. is_due (shape_of h (command_id h)) x.floor p) (sym command_ring) ∙ u.due;
-    given = ap (λ x. x.given p) (sym command_ring) ∙ u.given;
-    command = sym (command_kept p) ∙ u.command;
-  }
+  unfinished_before p e u = search (rules, later, before, command_ring, command_kept)
 
   endpoint_ring : (u : World) (q : ℕ) → q ≢ command_id h → EndpointRing h m v q → EndpointRing h later (let_go (world_changed u v)) q
   endpoint_ring u q other (inl bound) = inl (subst (λ x. BoundRing (shape_of h q) m.ring_of x (state_of v q) q) (sym (ring_same q other)) bound)

@@ -1,6 +1,5 @@
 -- The controller finishes a Configure Endpoint with success: the run goes on
-use Rattle.std.proofs.Common.{◌≡◌, ◌<◌, ◌≤◌, ◌==◌, ◌&&◌, ◌||◌, if◌then◌else◌, ◌∷◌, ◌∙◌, ℕ, Bool, true, false, List, map, All, Some, None, arith, refl, sym, ap, subst, inl, inr, get_or, eq-eqb, leb-true}
-use Rattle.safety.proofs.Words.{cases_Bool, and_from, and_right, cond-true, cond-false, false≢true, Block, IsBlock, code, slot, Command, ConfigureEndpoint, command_of, Change, SlotGoesOn, Disables, changes, placed_by_context, is_off, added_endpoints, is_dropped, Header, IsHeader, World, UnderWay, counted, Known, next_command, binding_in, binds, ring_bound, has_repeats, DriverKeeps, CommandKeeps, StillHolds, Stands, Runs, all_read}
+use Rattle.safety.proofs.Words.{◌≡◌, ◌<◌, ◌≤◌, ◌==◌, ◌&&◌, ◌||◌, if◌then◌else◌, ◌∷◌, ◌∙◌, ℕ, true, false, List, map, All, Some, None, arith, refl, sym, ap, subst, get_or, eq-eqb, leb-true, rules, and_from, and_right, cond-true, cond-false, false≢true, Block, IsBlock, code, Command, ConfigureEndpoint, command_of, Change, SlotGoesOn, Disables, changes, placed_by_context, is_off, added_endpoints, is_dropped, Header, IsHeader, World, UnderWay, counted, Known, next_command, binding_in, binds, ring_bound, has_repeats, DriverKeeps, CommandKeeps, StillHolds, Stands, Runs, all_read}
 use Rattle.controller_model.specs.Bindings as bindings
 use Rattle.controller_model.specs.Finishes as finishes
 use Rattle.ring_knowledge.specs.Completions as completions
@@ -36,17 +35,7 @@ module _ (h : Header) (is : IsHeader h) (k : Known) (d : DriverKeeps h k) (s a :
 
   -- what is added was dropped or off, so it has no ring
   none_left : (i : ℕ) → (is_off (k.endpoint_state s i) || is_dropped k.memory a i) ≡ true → l.ring_of s i ≡ None
-  none_left i free =
-      elim (cases_Bool (is_dropped k.memory a i)) [
-        | inl gone ↦ dropped_ring s i ∙ cond-true (s == s && is_dropped k.memory a i) None (k.ring_of s i) (and_from (s == s) (is_dropped k.memory a i) (eq-eqb s s refl) gone)
-        | inr stays ↦
-            dropped_ring s i ∙ cond-false (s == s && is_dropped k.memory a i) None (k.ring_of s i) (and_right (s == s) (is_dropped k.memory a i) stays)
-            ∙ off_none h k d s i (first (is_off (k.endpoint_state s i)) (is_dropped k.memory a i) stays free)
-      ]
-    where
-      first : (x y : Bool) → y ≡ false → (x || y) ≡ true → x ≡ true
-      first true y none some = refl
-      first false y none some = absurd (false≢true (sym none ∙ some))
+  none_left i free = search (rules, l, dropped_ring, cond-true, and_from, eq-eqb, cond-false, and_right, off_none, false≢true)
 
   pub may_add : All (ReadyAt h is l k.memory s a) (added_endpoints k.memory a)
   may_add = all_ready h is k (rings_of h k d) s a still
@@ -72,12 +61,7 @@ module _ (h : Header) (is : IsHeader h) (k : Known) (d : DriverKeeps h k) (s a :
   all = SlotGoesOn s ∷ Disables s (is_dropped k.memory a) ∷ map (placed_by_context h.context_size k.memory s a) (added_endpoints k.memory a)
 
   list_keeps : (w : World) → StatesMatch h k w → s < 256 → ListKeeps h c k w all
-  list_keeps w m low =
-      let n : Known = completions.changed_by h c k (SlotGoesOn s) in
-      let adds : List Change = map (placed_by_context h.context_size k.memory s a) (added_endpoints k.memory a) in
-      change_then h c k w (SlotGoesOn s) (Disables s (is_dropped k.memory a) ∷ adds) (λ v at. slot_keeps h c k w m s v at)
-      (λ u at there. change_then h c n u (Disables s (is_dropped k.memory a)) adds (λ v drops. disable_keeps h c n u there s (is_dropped k.memory a) v drops)
-      (λ v drops states. each v states low))
+  list_keeps w m low = search (rules, change_then, slot_keeps, disable_keeps, each)
 
   pub configure_changes : (n : ℕ) → changes h.context_size k.memory n c ≡ all
   unfolding changes
@@ -96,8 +80,4 @@ pub finish_configure_runs : (h : Header) → IsHeader h → (now : Known) (w v :
     DriverKeeps h (all_read h now run.unread) → (u : UnderWay) → w.under_way ≡ Some u →
     (s a : ℕ) → command_of u.block ≡ Some (ConfigureEndpoint s false a) → (code b == 1) ≡ true →
     finishes.finished h w b ≡ Some v → Runs h now (counted h v)
-finish_configure_runs h is now w v b block running run d u at_u s a is_u one at =
-    let k : Known = all_read h now run.unread in
-    finish_given_runs h is now w v b block running run d u at_u (ConfigureEndpoint s false a) is_u one
-    (λ given. configure_keeps h is k d s a given w (slot b) run.agrees.stands (states_match h is k w d (d.numbered) run.agrees.matches)
-    (command_numbered u.block (ConfigureEndpoint s false a) is_u)) at
+finish_configure_runs h is now w v b block running run d u at_u s a is_u one at = search (rules, finish_given_runs, configure_keeps, states_match, command_numbered)

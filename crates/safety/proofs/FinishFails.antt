@@ -1,6 +1,5 @@
 -- The controller finishes the command under way with another code than success: the run goes on
-use Rattle.std.proofs.Common.{◌≡◌, ◌+◌, ◌<◌, ◌==◌, ◌∷◌, ◌++◌, ◌∙◌, ℕ, Bool, true, false, not, List, [], Option, Some, None, is_some, arith, refl, sym, ap, subst, lt-ltb, eq-eqb}
-use Rattle.safety.proofs.Words.{false≢true, and_from, and_left, or_from, or_left, or_right, cond-true, cond-false, not_from_true, not_from_false, Block, BlockKind, IsBlock, code, kind, pointer, slot, is_transfer_event, is_command_completion, address_of, ceiling, cycle_of_bit, Command, command_of, may_answer_slot, can_succeed, Header, Read, Config, IsHeader, shape_of, command_id, register_or_zero, World, posted, counted, Known, event_read, learned, command_at, next_command, is_in_profile, is_impossible_by_kind, is_impossible_completion, may_be_taken, can_finish, was_stop_seen, DriverKeeps, CommandMatches, UnderWayMatches, Agrees, Runs, all_read}
+use Rattle.safety.proofs.Words.{◌≡◌, ◌+◌, ◌<◌, ◌==◌, ◌∷◌, ◌++◌, ◌∙◌, ℕ, Bool, true, false, not, List, [], Option, Some, None, is_some, arith, refl, sym, ap, subst, lt-ltb, eq-eqb, false≢true, and_from, and_left, or_from, or_left, or_right, cond-true, cond-false, not_from_true, not_from_false, Block, BlockKind, IsBlock, code, kind, pointer, slot, is_transfer_event, is_command_completion, address_of, ceiling, cycle_of_bit, Command, command_of, may_answer_slot, can_succeed, Header, Read, Config, IsHeader, shape_of, command_id, register_or_zero, World, posted, counted, Known, event_read, learned, command_at, next_command, is_in_profile, is_impossible_by_kind, is_impossible_completion, may_be_taken, can_finish, was_stop_seen, DriverKeeps, CommandMatches, UnderWayMatches, Agrees, Runs, all_read}
 use Rattle.world_state.specs.World as of_world
 use Rattle.controller_model.specs.Finishes as finishes
 use Rattle.safety.proofs.Headers.{ring_shape}

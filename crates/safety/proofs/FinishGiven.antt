@@ -1,6 +1,5 @@
 -- The command that succeeds is one that was given: what was tested of it then holds still
-use Rattle.std.proofs.Common.{◌≡◌, ◌==◌, ◌∷◌, ◌∙◌, true, false, List, [], Some, sym, ap, subst}
-use Rattle.safety.proofs.Words.{same_Some, Block, IsBlock, code, slot, Command, command_of, Change, Header, IsHeader, World, UnderWay, counted, Known, next_command, DriverKeeps, CommandKeeps, Runs, all_read}
+use Rattle.safety.proofs.Words.{◌≡◌, ◌==◌, ◌∷◌, ◌∙◌, true, false, List, [], Some, sym, ap, subst, same_Some, Block, IsBlock, code, slot, Command, command_of, Change, Header, IsHeader, World, UnderWay, counted, Known, next_command, DriverKeeps, CommandKeeps, Runs, all_read}
 use Rattle.controller_model.specs.Bindings as bindings
 use Rattle.controller_model.specs.Finishes as finishes
 use Rattle.ring_knowledge.specs.Completions as completions

@@ -1,6 +1,5 @@
 -- What a finish is, and what is known behind the completion of a command that had no effect
-use Rattle.std.proofs.Common.{◌≡◌, ◌==◌, ◌&&◌, if◌then◌else◌, ◌∙◌, ℕ, Bool, true, false, not, Option, Some, None, refl, sym, ap, inl, inr, eqb-true}
-use Rattle.safety.proofs.Words.{false≢true, and_parts, cond-false, not-true, false_from_ne_true, none-some, same_Some, put, put_pair, Block, BlockKind, code, kind, pointer, slot, is_command_completion, after, Reaches, Command, NoOp, EnableSlot, DisableSlot, AddressDevice, ConfigureEndpoint, EvaluateContext, ResetEndpoint, StopEndpoint, SetTrDequeue, ResetDevice, command_of, is_stop_of, may_answer_slot, Header, shape_of, command_id, World, UnderWay, can_post, posted, Known, event_read, command_at, next_command, on_ring, is_stopping_now, may_be_taken, was_stop_seen, DriverKeeps}
+use Rattle.safety.proofs.Words.{◌≡◌, ◌==◌, ◌∙◌, ℕ, Bool, true, false, Option, Some, None, refl, sym, ap, eqb-true, rules, false≢true, and_parts, cond-false, not-true, false_from_ne_true, none-some, same_Some, put, put_pair, Block, BlockKind, code, kind, pointer, slot, is_command_completion, after, Reaches, Command, StopEndpoint, command_of, is_stop_of, may_answer_slot, Header, shape_of, command_id, World, UnderWay, can_post, posted, Known, event_read, command_at, next_command, on_ring, is_stopping_now, may_be_taken, was_stop_seen, DriverKeeps}
 use Rattle.trb.specs.declared.kind.BlockKind.TheVariants as kinds
 use Rattle.controller_model.specs.Finishes as finishes
 use Rattle.ring_knowledge.specs.Completions as completions
@@ -23,24 +22,12 @@ pub record IsFinish (h : Header) (w v : World) (b : Block) : Type 0 where
 finished_on : (h : Header) (w v : World) (b : Block) (o : Option UnderWay) → finishes.finished_as h w b o ≡ Some v →
     (u : UnderWay) × (o ≡ Some u) × (pointer b ≡ u.address) × (may_answer_slot (command_of u.block) (slot b) ≡ true) × (finishes.ended_with h w b u ≡ Some v)
 unfolding finishes.finished_as
-finished_on h w v b None at = absurd (none-some v at)
-finished_on h w v b (Some u) at =
-    elim (cond_is (pointer b == u.address && may_answer_slot (command_of u.block) (slot b)) (finishes.ended_with h w b u) None (Some v) at) [
-      | inl on ↦ let p = and_parts (pointer b == u.address) (may_answer_slot (command_of u.block) (slot b)) on.0 in (u, refl, eqb-true (pointer b) u.address p.0, p.1, on.1)
-      | inr off ↦ absurd (none-some v off.1)
-    ]
+finished_on h w v b None at = search (rules, none-some)
+finished_on h w v b (Some u) at = search (rules, none-some, cond_is, and_parts, eqb-true)
 
 pub finish_is : (h : Header) (w v : World) (b : Block) → finishes.finished h w b ≡ Some v → IsFinish h w v b
 unfolding finishes.finished
-finish_is h w v b at =
-    elim (cond_is (can_post h w b && is_command_completion (kind b) && not (code b == 0)) (finishes.finished_as h w b w.under_way) None (Some v) at) [
-      | inl on ↦
-          let p = and_parts (can_post h w b && is_command_completion (kind b)) (not (code b == 0)) on.0 in
-          let q = and_parts (can_post h w b) (is_command_completion (kind b)) p.0 in
-          let f = finished_on h w v b w.under_way on.1 in
-          record { can = q.0; completion = q.1; some_code = not-true (code b == 0) p.1; taken = f.0; under_way = f.1; named = f.2; slot_named = f.3; ends = f.4 }
-      | inr off ↦ absurd (none-some v off.1)
-    ]
+finish_is h w v b at = search (rules, cond_is, and_parts, finished_on, not-true, none-some)
 
 -- the world behind the completion of a command that had no effect
 abbrev pub let_go : World → World
@@ -48,11 +35,7 @@ let_go u = record u { under_way = None }
 
 pub failure_is : (h : Header) (w v : World) (b : Block) (u : UnderWay) → (code b == 1) ≡ false → finishes.ended_with h w b u ≡ Some v → (u.has_stopped ≡ false) × (let_go (posted h w b) ≡ v)
 unfolding finishes.ended_with finishes.ended
-failure_is h w v b u fails at =
-    elim (cond_is u.has_stopped None (Some (let_go (posted h w b))) (Some v) (sym (cond-false (code b == 1) _ _ fails) ∙ at)) [
-      | inl stopped ↦ absurd (none-some v stopped.1)
-      | inr on ↦ (on.0, same_Some (let_go (posted h w b)) v on.1)
-    ]
+failure_is h w v b u fails at = search (rules, cond_is, cond-false, none-some, same_Some)
 
 pub completion_kind : (t : BlockKind) → is_command_completion t ≡ true → t ≡ kinds.CommandCompletion
 completion_kind kinds.CommandCompletion h = refl
@@ -95,15 +78,7 @@ unfolding was_stop_seen
 stop_of_is k s i (StopEndpoint t j) at =
     let p = and_parts (s == t) (i == j) at in
     ap (λ x. k.stop_seen x j) (sym (eqb-true s t p.0)) ∙ ap (λ x. k.stop_seen s x) (sym (eqb-true i j p.1))
-stop_of_is k s i NoOp at = absurd (false≢true at)
-stop_of_is k s i EnableSlot at = absurd (false≢true at)
-stop_of_is k s i (DisableSlot t) at = absurd (false≢true at)
-stop_of_is k s i (AddressDevice t bsr c) at = absurd (false≢true at)
-stop_of_is k s i (ConfigureEndpoint t dc c) at = absurd (false≢true at)
-stop_of_is k s i (EvaluateContext t c) at = absurd (false≢true at)
-stop_of_is k s i (ResetEndpoint t j) at = absurd (false≢true at)
-stop_of_is k s i (SetTrDequeue t j p c) at = absurd (false≢true at)
-stop_of_is k s i (ResetDevice t) at = absurd (false≢true at)
+stop_of_is k s i _ at = absurd (false≢true at)
 
 pub stopping_of : (h : Header) (k : Known) (s i : ℕ) → is_stopping_now h k s i ≡ true → is_stop_of s i (command_at h k (next_command h k)) ≡ true
 unfolding is_stopping_now
@@ -116,20 +91,8 @@ none_waits h k d c at fresh s i =
     false≢true (sym fresh ∙ stop_of_is k s i c stop ∙ seen))
 
 pub put_false : (f : ℕ → ℕ → Bool) (a b s i : ℕ) → f s i ≡ false → put_pair f a b false s i ≡ false
-put_false f a b s i none = either (s == a && i == b) (f s i) none
-  where
-    either : (t x : Bool) → x ≡ false → (if t then false else x) ≡ false
-    either true x e = refl
-    either false x e = e
+put_false f a b s i none = search rules
 
 pub none_after : (k : Known) (c : Command) → ((s i : ℕ) → k.stop_seen s i ≡ false) → (s i : ℕ) → seen_after k c s i ≡ false
 none_after k (StopEndpoint t j) none s i = put_false k.stop_seen t j s i (none s i)
-none_after k NoOp none s i = none s i
-none_after k EnableSlot none s i = none s i
-none_after k (DisableSlot t) none s i = none s i
-none_after k (AddressDevice t bsr c) none s i = none s i
-none_after k (ConfigureEndpoint t dc c) none s i = none s i
-none_after k (EvaluateContext t c) none s i = none s i
-none_after k (ResetEndpoint t j) none s i = none s i
-none_after k (SetTrDequeue t j p c) none s i = none s i
-none_after k (ResetDevice t) none s i = none s i
+none_after k _ none s i = none s i

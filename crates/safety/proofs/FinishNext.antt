@@ -1,6 +1,5 @@
 -- Behind the completion of a command that had no effect: the command ring's floor moves on, and no command is under way
-use Rattle.std.proofs.Common.{◌≡◌, ◌≢◌, ◌+◌, ◌∙◌, ℕ, Bool, true, false, List, option_and_then, slice_get, arith, refl, sym, ap, subst, inl, inr}
-use Rattle.safety.proofs.Words.{cases_eq, Block, Spot, after, number, floor_number, is_due, due_is, due_from, Command, command_of, Header, IsHeader, shape_of, command_id, World, Known, command_at, next_command, IsDriverRing, DriverKeeps, IsUnfinished, Stands, EventsStand, state_of, RingMatches, BoundRing, FreeRing, EndpointRing, Matches}
+use Rattle.safety.proofs.Words.{◌≡◌, ◌≢◌, ◌+◌, ◌∙◌, ℕ, Bool, true, false, List, option_and_then, slice_get, arith, refl, sym, ap, subst, inl, inr, rules, Block, Spot, number, floor_number, due_is, due_from, Command, command_of, Header, IsHeader, shape_of, command_id, World, Known, command_at, next_command, IsDriverRing, DriverKeeps, IsUnfinished, Stands, EventsStand, state_of, RingMatches, BoundRing, FreeRing, EndpointRing, Matches}
 use Rattle.world_state.specs.World as of_world
 use Rattle.safety.proofs.SafeContext.{command_is_ring, next_is}
 use Rattle.safety.proofs.LookKinds.{put_at, put_off}
@@ -20,29 +19,13 @@ module _ (h : Header) (is : IsHeader h) (k : Known) (d : DriverKeeps h k) (on : 
     ring_here = put_at k.ring (command_id h) (floor_behind (shape_of h (command_id h)) (k.ring (command_id h)) (next_command h k))
 
     queue_same : (q : ℕ) → (k.ring q).queue ≡ ((next_known h k seen n).ring q).queue
-    queue_same q =
-        elim (cases_eq q (command_id h)) [
-          | inl same ↦ ap (λ p. (k.ring p).queue) same ∙ ap (λ v. v.queue) (sym ring_here) ∙ ap (λ p. ((next_known h k seen n).ring p).queue) (sym same)
-          | inr other ↦ ap (λ v. v.queue) (sym (ring_same q other))
-        ]
+    queue_same q = search (rules, ring, next_known, ring_here, ring_same)
 
     lengths_same : (q : ℕ) → (k.ring q).lengths ≡ ((next_known h k seen n).ring q).lengths
-    lengths_same q =
-        elim (cases_eq q (command_id h)) [
-          | inl same ↦ ap (λ p. (k.ring p).lengths) same ∙ ap (λ v. v.lengths) (sym ring_here) ∙ ap (λ p. ((next_known h k seen n).ring p).lengths) (sym same)
-          | inr other ↦ ap (λ v. v.lengths) (sym (ring_same q other))
-        ]
+    lengths_same q = search (rules, ring, next_known, ring_here, ring_same)
 
     pub stands_next : (u : World) → Stands h k u → Stands h (next_known h k seen n) (let_go u)
-    stands_next u s = record {
-      started = s.started;
-      stopped = s.stopped;
-      registers = s.registers;
-      queues = λ q. s.queues q ∙ queue_same q;
-      lengths = λ q. s.lengths q ∙ lengths_same q;
-      dequeue = s.dequeue;
-      quiet = s.quiet;
-    }
+    stands_next u s = search (rules, next_known, let_go, queue_same, lengths_same)
 
     pub events_next : (u : World) (unread : List Block) → EventsStand h u unread → EventsStand h (let_go u) unread
     unfolding of_world.event_at
@@ -57,15 +40,7 @@ module _ (h : Header) (is : IsHeader h) (k : Known) (d : DriverKeeps h k) (on : 
 
     -- what is unfinished was before
     unfinished_before : (p : ℕ) (c : Command) → IsUnfinished h (next_known h k seen n) p c → IsUnfinished h k p c
-    unfinished_before p c u =
-        let given : (k.ring (command_id h)).given p ≡ true = ap (λ v. v.given p) (sym ring_here) ∙ u.given in
-        let due = due_is (shape_of h (command_id h)) (after (shape_of h (command_id h)) (next_command h k)) p (ap (λ v. is_due (shape_of h (command_id h)) v.floor p) (sym ring_here) ∙ u.due) in
-        let within = (d.rings (command_id h) ring).given_within p given in
-        record {
-          due = due_from (shape_of h (command_id h)) (k.ring (command_id h)).floor p (omega (arith, due.0, number_after (shape_of h (command_id h)) (next_command h k), next_is h k)) within;
-          given = given;
-          command = sym (command_kept p) ∙ u.command;
-        }
+    unfinished_before p c u = search (rules, next_known, ring, ring_here, due_is, due_from, number_after, next_is, command_kept)
 
     other_ring : (u : World) (q : ℕ) → q ≢ command_id h → EndpointRing h k u q → EndpointRing h (next_known h k seen n) (let_go u) q
     other_ring u q other (inl bound) = inl (subst (λ v. BoundRing (shape_of h q) k.ring_of v (state_of u q) q) (sym (ring_same q other)) bound)

@@ -1,6 +1,5 @@
 -- The controller finishes with success a command that places no endpoint on a ring: the run goes on
-use Rattle.std.proofs.Common.{◌≡◌, ◌==◌, ◌∷◌, ◌∙◌, ℕ, true, false, List, [], Option, Some, None, option_and_then, refl, ap, subst}
-use Rattle.safety.proofs.Words.{none-some, same_Some, Block, IsBlock, code, slot, Command, NoOp, EnableSlot, DisableSlot, AddressDevice, ConfigureEndpoint, EvaluateContext, ResetEndpoint, StopEndpoint, SetTrDequeue, ResetDevice, command_of, Change, SlotGoesOn, DeviceLeft, Disables, Places, Stops, Resets, changes, ContextSize, Header, IsHeader, World, UnderWay, counted, Known, DriverKeeps, Runs, all_read}
+use Rattle.safety.proofs.Words.{◌≡◌, ◌==◌, ◌∷◌, ◌∙◌, ℕ, true, false, List, [], Option, Some, None, option_and_then, refl, ap, subst, none-some, same_Some, Block, IsBlock, code, slot, Command, NoOp, EnableSlot, DisableSlot, AddressDevice, ConfigureEndpoint, EvaluateContext, ResetEndpoint, StopEndpoint, SetTrDequeue, ResetDevice, command_of, Change, SlotGoesOn, DeviceLeft, Disables, Places, Stops, Resets, changes, ContextSize, Header, IsHeader, World, UnderWay, counted, Known, DriverKeeps, Runs, all_read}
 use Rattle.controller_model.specs.Bindings as bindings
 use Rattle.controller_model.specs.Finishes as finishes
 use Rattle.ring_knowledge.specs.Completions as completions

@@ -10,7 +10,7 @@ use Rattle.safety.proofs.Counted.{agrees_counted}
 use Rattle.safety.proofs.WithReads.{with_reads}
 use Rattle.safety.proofs.Posted.{post_keeps}
 use Rattle.safety.proofs.EventRead.{learned_read, event_clean, blocks_more, possible_more, read_more}
-use Rattle.safety.proofs.ReportSuccess.{ReportKeeps}
+use Rattle.safety.proofs.ReportSuccess.{ReportKeeps, mapped}
 use Rattle.safety.proofs.LookKinds.{cond_is}
 use Rattle.safety.proofs.FinishKinds.{IsFinish, finish_is, completion_kind, let_go, seen_after, next_known, stop_ended_is, reached_is, stopping_of, put_false, none_waits, none_after}
 use Rattle.safety.proofs.FinishNext.{stands_next, events_next, matches_next}
@@ -19,10 +19,6 @@ use Rattle.safety.proofs.FinishChanges.{known_changed, world_changed, LeavesRest
 use Rattle.safety.proofs.FinishBehind.{stands_changed, events_changed, matches_changed}
 
 -- ---- in the world
-
-some_mapped : {A B : Type 0} (f : A → B) (o : Option A) (y : B) → option_map f o ≡ Some y → (x : A) × (o ≡ Some x) × (f x ≡ y)
-some_mapped f None y at = absurd (none-some y at)
-some_mapped f (Some x) y at = (x, refl, same_Some (f x) y at)
 
 pub record IsSuccess (h : Header) (w v : World) (b : Block) (e : Command) : Type 0 where
   pub can : can_succeed w.slot_state w.endpoint_state (register_or_zero w.register Config) (slot b) e ≡ true
@@ -34,7 +30,7 @@ pub record IsSuccess (h : Header) (w v : World) (b : Block) (e : Command) : Type
 success_is : (h : Header) (w v : World) (b : Block) (u : UnderWay) (e : Command) → command_of u.block ≡ Some e → (code b == 1) ≡ true → finishes.ended_with h w b u ≡ Some v → IsSuccess h w v b e
 unfolding finishes.ended_with finishes.ended finishes.succeeded
 success_is h w v b u e is one at =
-    let x = some_mapped (λ y. finishes.ended h y b) (finishes.succeeded h w (slot b) (Some e)) v
+    let x = mapped (λ y. finishes.ended h y b) (finishes.succeeded h w (slot b) (Some e)) v
     (ap (λ o. option_map (λ y. finishes.ended h y b) (finishes.succeeded h w (slot b) o)) (sym is) ∙ sym (cond-true (code b == 1) _ _ one) ∙ at) in
     elim (cond_is (finishes.passes_end h (named_context e) || not (can_succeed w.slot_state w.endpoint_state (register_or_zero w.register Config) (slot b) e)) None (bindings.effect h w (slot b) e) (Some x.0) x.1) [
       | inl stuck ↦ absurd (none-some x.0 stuck.1)
@@ -96,7 +92,7 @@ none_left h k d e at =
 
 -- ---- what it succeeds in is known
 
-same_meant : (f g : ℕ → ℕ → EndpointState) (o : Option (ℕ × ℕ)) → ((s i : ℕ) → f s i ≡ g s i) → endpoint_meant f o ≡ endpoint_meant g o
+pub same_meant : (f g : ℕ → ℕ → EndpointState) (o : Option (ℕ × ℕ)) → ((s i : ℕ) → f s i ≡ g s i) → endpoint_meant f o ≡ endpoint_meant g o
 same_meant f g None same = refl
 same_meant f g (Some at) same = same at.0 at.1
 

@@ -1,6 +1,5 @@
 -- An event moves no floor back, and concerns no ring but those of the driver
-use Rattle.std.proofs.Common.{◌≡◌, ◌+◌, ◌≤◌, ◌⊎◌, ◌==◌, if◌then◌else◌, ◌∷◌, ◌∙◌, ℕ, Bool, true, List, [], Option, None, Some, arith, refl, sym, ap, subst, inl, inr, eqb-true}
-use Rattle.safety.proofs.Words.{cases_eq, cond_both, put_pair, Block, pointer, code, slot, endpoint, is_success, is_halting, is_trb_error, is_stopping, Spot, number, after, RingView, RingChange, Reaches, Holds, changed, floor_number, ceiling, stopped_number, target, IsAhead, named_ahead, target_ahead, number-after, Command, StopEndpoint, EndpointState, Halted, Error, Stopped, is_off, Change, SlotGoesOn, DeviceLeft, Disables, Places, Stops, Resets, changes, Header, IsHeader, shape_of, command_id, ring_having, Known, RingSpot, on_ring, event_at, command_at, next_command, passed, broken_off, stopped_at, transferred, transferred_at, transfer_read, set_to, bound_to, moved_to, moved, pointed, disabled, in_state, held_at_ceiling, changed_by, changed_by_all, succeeded, stop_ended, finished, completed, EndpointsKeep, RingsKeep, MayChange, MayChangeAll, MayFinish}
+use Rattle.safety.proofs.Words.{◌≡◌, ◌+◌, ◌≤◌, ◌⊎◌, ◌∷◌, ℕ, Bool, List, [], Option, None, Some, arith, refl, ap, inl, eqb-true, rules, cond_both, Block, pointer, code, slot, endpoint, Spot, number, after, RingView, RingChange, Reaches, Holds, changed, floor_number, ceiling, target, IsAhead, named_ahead, target_ahead, number-after, Command, StopEndpoint, EndpointState, Stopped, is_off, Change, SlotGoesOn, DeviceLeft, Disables, Places, Stops, Resets, changes, Header, IsHeader, shape_of, command_id, ring_having, Known, RingSpot, on_ring, event_at, next_command, passed, broken_off, stopped_at, transferred, transferred_at, transfer_read, set_to, bound_to, moved_to, moved, pointed, disabled, in_state, held_at_ceiling, changed_by, changed_by_all, succeeded, stop_ended, finished, completed, EndpointsKeep, RingsKeep, MayChange, MayChangeAll, MayFinish}
 use Rattle.safety.specs.EndpointsKeep.{IsTransferRing}
 use Rattle.safety.specs.RingsKeep.{IsDriverRing}
 use Rattle.safety.proofs.DriverRows.{ring_here, ring_elsewhere}
@@ -25,26 +24,10 @@ module _ (h : Header) where
   floors_same k l same r = inl (ap (λ f. f r) same)
 
   pub floors_both : (k l m : Known) → FloorsOn k l → FloorsOn l m → FloorsOn k m
-  floors_both k l m first second r =
-      elim (first r) [
-        | inl same ↦ elim (second r) [
-          | inl again ↦ inl (again ∙ same)
-          | inr on ↦ inr (record { driver = on.driver; on = omega (arith, ap (λ (v : RingView). floor_number v) same, on.on) })
-        ]
-        | inr on ↦ elim (second r) [
-          | inl again ↦ inr (record { driver = on.driver; on = omega (arith, ap (λ (v : RingView). floor_number v) again, on.on) })
-          | inr further ↦ inr (record { driver = on.driver; on = omega (arith, on.on, further.on) })
-        ]
-      ]
+  floors_both k l m first second r = search rules
 
   floors_ring : (k : Known) (r : ℕ) (change : RingChange) → IsDriverRing h r → floor_number (k.ring r) ≤ floor_number (changed (shape_of h r) (k.ring r) change) → FloorsOn k (on_ring h k r change)
-  floors_ring k r change driver on q =
-      elim (cases_eq q r) [
-        | inl here ↦
-            inr (subst (λ n. MovesOn (k.ring n) ((on_ring h k r change).ring n) n) (sym here)
-            (record { driver = driver; on = omega (arith, ap (λ (v : RingView). floor_number v) (ring_here h k r change), on) }))
-        | inr other ↦ inl (ring_elsewhere h k r q change other)
-      ]
+  floors_ring k r change driver on q = search (rules, ring_here, ring_elsewhere)
 
   floors_held : (k : Known) (r n : ℕ) → IsDriverRing h r → FloorsOn k (on_ring h k r (Holds n))
   floors_held k r n driver = floors_ring k r (Holds n) driver (omega arith)
@@ -65,25 +48,11 @@ module _ (h : Header) where
 
     stopped_on : (s i : ℕ) → FloorsOn k (stopped_at h k s i r t)
     unfolding stopped_at
-    stopped_on s i =
-        let n : ℕ = stopped_number (shape_of h r) (k.ring r) t in
-        let m : Known = on_ring h k r (Holds (stopped_number (shape_of h r) (k.ring r) t)) in
-        floors_both k m (on_ring h m r (Reaches t)) (floors_held k r (stopped_number (shape_of h r) (k.ring r) t) driver)
-        (floors_reached m r t driver (omega (arith, ap (λ (v : RingView). floor_number v) (ring_here h k r (Holds (stopped_number (shape_of h r) (k.ring r) t))), on)))
+    stopped_on s i = search (rules, floors_both, floors_held, floors_reached, ring_here)
 
     transferred_on : (c s i : ℕ) → FloorsOn k (transferred h k c s i r t)
     unfolding transferred
-    transferred_on c s i =
-        let halts : Known = record (broken_off h k s i r t Halted) { must_move = put_pair k.must_move s i true } in
-        let fails : Known = broken_off h k s i r t Error in
-        let stopped : Known = if is_stopping c then stopped_at h k s i r t else k in
-        cond_both (is_success c) (passed h k r t) (if is_halting c then halts else if is_trb_error c then fails else stopped) (FloorsOn k)
-        (λ _. passed_on)
-        (λ _. cond_both (is_halting c) halts (if is_trb_error c then fails else stopped) (FloorsOn k)
-        (λ _. broken_on s i Halted)
-        (λ _. cond_both (is_trb_error c) fails stopped (FloorsOn k)
-        (λ _. broken_on s i Error)
-        (λ _. cond_both (is_stopping c) (stopped_at h k s i r t) k (FloorsOn k) (λ _. stopped_on s i) (λ _. floors_same k k refl))))
+    transferred_on c s i = search (rules, passed_on, broken_on, stopped_on, floors_same)
 
   transfer_is_driver : (r : ℕ) → IsTransferRing h r → IsDriverRing h r
   transfer_is_driver r t = driver_test h r (transfer_driver h r (transfer_ring h r t))
@@ -167,12 +136,8 @@ module _ (h : Header) where
     finish_on : (k : Known) (b : Block) (o : Option Command) → EndpointsKeep h k → ((c : Command) → o ≡ Some c → code b ≡ 1 → MayChangeAll h c k (changes h.context_size k.memory (slot b) c)) →
         FloorsOn k (finished h k b o)
     unfolding finished succeeded
-    finish_on k b None endpoints may = floors_same k k refl
-    finish_on k b (Some c) endpoints may =
-        let all : List Change = changes h.context_size k.memory (slot b) c in
-        ended_on k (if code b == 1 then succeeded h k (slot b) c else k) c
-        (cond_both (code b == 1) (succeeded h k (slot b) c) k (FloorsOn k)
-        (λ success. changes_on c k (changes h.context_size k.memory (slot b) c) endpoints (may c refl (eqb-true (code b) 1 success))) (λ _. floors_same k k refl))
+    finish_on k b None endpoints may = search (rules, floors_same)
+    finish_on k b (Some c) endpoints may = search (rules, floors_same, ended_on, changes_on, eqb-true)
 
     at_floor : (k : Known) → next_command h k ≡ floor_number (k.ring (command_id h))
     unfolding next_command
@@ -180,10 +145,4 @@ module _ (h : Header) where
 
     pub completion_on : (k : Known) (b : Block) → EndpointsKeep h k → IsDriverRing h (command_id h) → MayFinish h k b → FloorsOn k (completed h k b)
     unfolding completed
-    completion_on k b endpoints driver may =
-        let m : Known = finished h k b (command_at h k (next_command h k)) in
-        let t : Spot = after (shape_of h (command_id h)) (next_command h k) in
-        let still : m.ring (command_id h) ≡ k.ring (command_id h) = finish_elsewhere h is k b (command_at h k (next_command h k)) endpoints in
-        floors_both k m (on_ring h m (command_id h) (Reaches t)) (finish_on k b (command_at h k (next_command h k)) endpoints may)
-        (floors_reached m (command_id h) t driver
-        (omega (arith, ap (λ (v : RingView). floor_number v) still, number-after (shape_of h (command_id h)) (next_command h k), at_floor k)))
+    completion_on k b endpoints driver may = search (rules, finish_elsewhere, floors_both, finish_on, floors_reached, number-after, at_floor)

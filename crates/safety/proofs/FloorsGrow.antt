@@ -1,6 +1,5 @@
 -- An event that may be read moves no floor back
-use Rattle.std.proofs.Common.{◌≡◌, ◌+◌, ◌≤◌, ◌==◌, if◌then◌else◌, ◌∷◌, ◌∙◌, ℕ, Bool, true, List, [], Option, None, Some, arith, refl, sym, ap, subst, inl, inr, eqb-true}
-use Rattle.safety.proofs.Words.{option_map, cond_both, none-some, same_Some, cases_option, put_pair, Block, BlockKind, TransferEvent, CommandCompletion, kind, code, slot, endpoint, pointer, is_command_completion, is_success, is_halting, is_trb_error, is_stopping, Spot, number, after, Reaches, Holds, floor_number, ceiling, named, stopped_number, target, number-after, IsAhead, named_ahead, target_ahead, Command, StopEndpoint, EndpointState, Halted, Error, Stopped, is_off, Change, SlotGoesOn, DeviceLeft, Disables, Places, Stops, Resets, changes, Header, Read, IsHeader, shape_of, command_id, ring_having, Known, RingSpot, on_ring, spot_on, event_at, command_at, next_command, passed, broken_off, stopped_at, transferred, transferred_at, transfer_read, set_to, bound_to, moved_to, moved, pointed, disabled, in_state, held_at_ceiling, changed_by, changed_by_all, succeeded, stop_ended, finished, completed, event_read, learned, lenient, DriverKeeps, EndpointsKeep, MayChange, MayChangeAll}
+use Rattle.safety.proofs.Words.{◌≡◌, ◌+◌, ◌≤◌, ◌∷◌, ℕ, Bool, true, List, [], Option, None, Some, arith, refl, ap, eqb-true, rules, cond_both, none-some, same_Some, cases_option, Block, BlockKind, TransferEvent, CommandCompletion, kind, code, slot, endpoint, pointer, is_command_completion, Spot, number, after, Reaches, Holds, floor_number, ceiling, named, stopped_number, target, number-after, IsAhead, named_ahead, target_ahead, Command, StopEndpoint, EndpointState, Stopped, is_off, Change, Places, Stops, changes, Header, Read, IsHeader, shape_of, command_id, ring_having, Known, RingSpot, on_ring, spot_on, event_at, command_at, next_command, passed, broken_off, stopped_at, transferred, transferred_at, transfer_read, set_to, bound_to, moved_to, moved, pointed, disabled, in_state, held_at_ceiling, changed_by, changed_by_all, succeeded, stop_ended, finished, completed, event_read, learned, lenient, DriverKeeps, EndpointsKeep, MayChange, MayChangeAll}
 use Rattle.safety.proofs.Headers.{transfer_driver}
 use Rattle.safety.proofs.DriverRings.{rings_of, endpoints_of}
 use Rattle.safety.proofs.EndpointHistories.{finish_elsewhere}
@@ -51,28 +50,13 @@ module _ (h : Header) where
 
     transferred_grows : (c s i : ℕ) → FloorsGrow k (transferred h k c s i r t)
     unfolding transferred
-    transferred_grows c s i =
-        let halts : Known = record (broken_off h k s i r t Halted) { must_move = put_pair k.must_move s i true } in
-        let fails : Known = broken_off h k s i r t Error in
-        let stopped : Known = if is_stopping c then stopped_at h k s i r t else k in
-        cond_both (is_success c) (passed h k r t) (if is_halting c then halts else if is_trb_error c then fails else stopped) (FloorsGrow k)
-        (λ _. passed_grows)
-        (λ _. cond_both (is_halting c) halts (if is_trb_error c then fails else stopped) (FloorsGrow k) (λ _. broken_grows s i Halted)
-        (λ _. cond_both (is_trb_error c) fails stopped (FloorsGrow k) (λ _. broken_grows s i Error)
-        (λ _. cond_both (is_stopping c) (stopped_at h k s i r t) k (FloorsGrow k) (λ _. stopped_grows s i) (λ _. grow_none k))))
+    transferred_grows c s i = search (rules, passed_grows, broken_grows, stopped_grows, grow_none)
 
   -- the spot that an event names lies on the ring of its endpoint
   found_on : (k : Known) (p : ℕ) (o : Option ℕ) (at : RingSpot) → spot_on h k p o ≡ Some at → (o ≡ Some at.ring) × (named (shape_of h at.ring) (k.ring at.ring) p ≡ Some at.spot)
   unfolding spot_on
-  found_on k p None at e = absurd (none-some at e)
-  found_on k p (Some r) at e =
-      let make : Spot → RingSpot = λ t. let x : RingSpot = record { ring = r; spot = t } in x in
-      elim (cases_option (named (shape_of h r) (k.ring r) p)) [
-        | inl none ↦ absurd (none-some at (sym (ap (option_map make) none) ∙ e))
-        | inr some ↦
-            let same : make some.0 ≡ at = same_Some (make some.0) at (sym (ap (option_map make) some.1) ∙ e) in
-            subst (λ (x : RingSpot). (◌≡◌ {A = Option ℕ} (Some r) (Some x.ring)) × (named (shape_of h x.ring) (k.ring x.ring) p ≡ Some x.spot)) same (refl, some.1)
-      ]
+  found_on k p None at e = search (rules, none-some, cases_option, same_Some)
+  found_on k p (Some r) at e = search (rules, none-some, cases_option, same_Some)
 
   at_grows : (k : Known) (d : DriverKeeps h k) (b : Block) (o : Option RingSpot) → event_at h k b ≡ o → FloorsGrow k (transferred_at h k b o)
   unfolding transferred_at event_at
@@ -118,12 +102,9 @@ module _ (h : Header) where
 
   change_grows : (c : Command) (k : Known) (change : Change) → MayChange h k change → FloorsGrow k (changed_by h c k change)
   unfolding changed_by disabled in_state
-  change_grows c k (SlotGoesOn s) may = λ r. omega arith
-  change_grows c k (DeviceLeft s) may = λ r. omega arith
-  change_grows c k (Disables s which) may = λ r. omega arith
   change_grows c k (Places s i p cycle state) may = pointed_grows k s i p cycle
   change_grows c k (Stops s i) may = held_grows (in_state h k s i Stopped) (k.ring_of s i)
-  change_grows c k (Resets s i) may = λ r. omega arith
+  change_grows c k _ may = λ r. omega arith
 
   changes_grow : (c : Command) (k : Known) (all : List Change) → MayChangeAll h c k all → FloorsGrow k (changed_by_all h c k all)
   unfolding changed_by_all
@@ -139,12 +120,8 @@ module _ (h : Header) where
   finish_grows : (k : Known) (b : Block) (o : Option Command) →
       ((c : Command) → o ≡ Some c → code b ≡ 1 → MayChangeAll h c k (changes h.context_size k.memory (slot b) c)) → FloorsGrow k (finished h k b o)
   unfolding finished succeeded
-  finish_grows k b None may = grow_none k
-  finish_grows k b (Some c) may =
-      let all : List Change = changes h.context_size k.memory (slot b) c in
-      let l : Known = if code b == 1 then changed_by_all h c k all else k in
-      grow_twice k l (stop_ended h l c)
-      (cond_both (code b == 1) (changed_by_all h c k all) k (FloorsGrow k) (λ success. changes_grow c k all (may c refl (eqb-true (code b) 1 success))) (λ _. grow_none k)) (stop_grows l c)
+  finish_grows k b None may = search (rules, grow_none)
+  finish_grows k b (Some c) may = search (rules, grow_none, grow_twice, changes_grow, eqb-true, stop_grows)
 
   floor_next : (k : Known) → next_command h k ≡ floor_number (k.ring (command_id h))
   unfolding next_command
@@ -153,12 +130,7 @@ module _ (h : Header) where
   completion_grows : (k : Known) (b : Block) → EndpointsKeep h k → IsHeader h →
       ((c : Command) → command_at h k (next_command h k) ≡ Some c → code b ≡ 1 → MayChangeAll h c k (changes h.context_size k.memory (slot b) c)) → FloorsGrow k (completed h k b)
   unfolding completed
-  completion_grows k b endpoints is may =
-      let l : Known = finished h k b (command_at h k (next_command h k)) in
-      let same : l.ring (command_id h) ≡ k.ring (command_id h) = finish_elsewhere h is k b (command_at h k (next_command h k)) endpoints in
-      let low : floor_number (l.ring (command_id h)) ≡ floor_number (k.ring (command_id h)) = ap (λ v. floor_number v) same in
-      grow_twice k l (on_ring h l (command_id h) (Reaches (after (shape_of h (command_id h)) (next_command h k)))) (finish_grows k b (command_at h k (next_command h k)) may)
-      (reach_grows l (command_id h) (after (shape_of h (command_id h)) (next_command h k)) (omega (arith, number-after (shape_of h (command_id h)) (next_command h k), floor_next k)))
+  completion_grows k b endpoints is may = search (rules, finish_elsewhere, grow_twice, finish_grows, reach_grows, number-after, floor_next)
 
   -- ---- any event
 

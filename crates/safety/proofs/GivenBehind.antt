@@ -1,6 +1,5 @@
 -- What is kept of a command that a write gives holds behind an event that is read before the write, but for its device context
-use Rattle.std.proofs.Common.{◌≡◌, ◌∙◌, ℕ, true, [], length, Some, slice_get, arith, refl, sym, ap}
-use Rattle.safety.proofs.Words.{MayCome, MovesRestored, false≢true, false_from_ne_true, Block, number, declared, floor_number, positions_given, ceiling, is_border, is_placement, GivesMore, move_more, gives_is, position_given_is, Command, named_context, is_disabled, is_off, is_at_rest, Header, Write, Read, IsHeader, shape_of, command_id, Known, command_at, command_given, learned, lenient, IsTransferRing, CommandKeeps, DriverKeeps}
+use Rattle.safety.proofs.Words.{◌≡◌, ◌∙◌, ℕ, true, [], length, Some, slice_get, arith, refl, sym, ap, MayCome, MovesRestored, false≢true, false_from_ne_true, Block, number, declared, floor_number, positions_given, ceiling, is_border, is_placement, GivesMore, move_more, gives_is, position_given_is, Command, named_context, is_disabled, is_off, is_at_rest, Header, Write, Read, IsHeader, shape_of, command_id, Known, command_at, command_given, learned, lenient, IsTransferRing, CommandKeeps, DriverKeeps}
 use Rattle.ownership_rules.specs.Commands as commands
 use Rattle.safety.proofs.Headers.{transfer_driver, transfer_not_command}
 use Rattle.safety.proofs.CommandRing.{due_has_ring}

@@ -1,6 +1,5 @@
 -- What the rules test of a command that a write gives: its bindings and its moves may be made
-use Rattle.std.proofs.Common.{◌≡◌, ◌≤◌, ◌==◌, ◌||◌, ◌+◌, ◌∙◌, ℕ, not, Bool, true, false, map, nat_le, All, Option, Some, suc, zero, arith, sym, ap, subst, inl, inr, get_or, eqb-true, le-leb}
-use Rattle.safety.proofs.Words.{list_any, range_with_len, or_parts, and_from, or_cases, or_left, or_right, not-false, All-nil, All-cons, All-filter, All-get_or, All-weaker, Any-from_list_any, declared, floor_number, is_move, input_drop_flag, input_add_flag, added_endpoints, is_dropped, Command, NoOp, EnableSlot, DisableSlot, AddressDevice, ConfigureEndpoint, EvaluateContext, ResetEndpoint, StopEndpoint, SetTrDequeue, ResetDevice, named_slot, named_endpoint, named_context, is_off, Header, shape_of, is_ring, Known, Binding, binds, ring_bound, binds_ring, is_placed, is_taken, is_kept, is_being_bound, is_bad_place, has_repeats, is_bad_binding, is_bad_stay, holds_of, AreFree}
+use Rattle.safety.proofs.Words.{◌≡◌, ◌≤◌, ◌||◌, ◌+◌, ◌∙◌, ℕ, Bool, true, false, map, nat_le, All, Option, Some, suc, zero, arith, sym, ap, subst, get_or, eqb-true, le-leb, rules, range_with_len, or_parts, and_from, or_cases, or_left, or_right, not-false, All-nil, All-cons, All-filter, All-get_or, Any-from_list_any, floor_number, is_move, input_add_flag, added_endpoints, is_dropped, Command, ConfigureEndpoint, named_slot, named_endpoint, named_context, is_off, Header, shape_of, is_ring, Known, Binding, binds, ring_bound, binds_ring, is_placed, is_taken, is_kept, is_being_bound, is_bad_place, has_repeats, is_bad_binding, is_bad_stay, holds_of, AreFree}
 use Rattle.ownership_rules.specs.Commands as commands
 use Rattle.safety.proofs.TestsPassed.{each_fails}
 use Rattle.safety.proofs.BoundRings.{ring_is}
@@ -23,19 +22,7 @@ module _ (h : Header) (k : Known) where
 
   pub good_bindings : (c : Command) → is_bad_binding h k c ≡ false → GoodBindings c
   unfolding is_bad_binding is_bad_place
-  good_bindings c good =
-      let parts = or_parts (list_any (is_bad_place h k c) (binds h k c)) (has_repeats (map (ring_bound h) (binds h k c))) good in
-      let each : All (λ b. (is_taken h k c (ring_bound h b) || not (is_placed h k (ring_bound h b) b)) ≡ false) (binds h k c) =
-      each_fails (λ b. is_taken h k c (ring_bound h b) || not (is_placed h k (ring_bound h b) b)) (binds h k c) parts.0 in
-      record {
-        free =
-            All-weaker (λ b. (is_taken h k c (ring_bound h b) || not (is_placed h k (ring_bound h b) b)) ≡ false) (λ b. is_taken h k c (ring_bound h b) ≡ false)
-            (λ b fails. (or_parts (is_taken h k c (ring_bound h b)) (not (is_placed h k (ring_bound h b) b)) fails).0) (binds h k c) each;
-        placed =
-            All-weaker (λ b. (is_taken h k c (ring_bound h b) || not (is_placed h k (ring_bound h b) b)) ≡ false) (λ b. is_placed h k (ring_bound h b) b ≡ true)
-            (λ b fails. not-false (is_placed h k (ring_bound h b) b) (or_parts (is_taken h k c (ring_bound h b)) (not (is_placed h k (ring_bound h b) b)) fails).1) (binds h k c) each;
-        repeats = parts.1;
-      }
+  good_bindings c good = search (rules, or_parts, map, each_fails, not-false)
 
   -- a ring that it binds is kept by no endpoint, and bound by no other command
   pub bound_free : (c : Command) → GoodBindings c → (r : ℕ) → binds_ring h k r c ≡ true → (is_kept h k c r ≡ false) × (is_being_bound h k r ≡ false)
@@ -51,14 +38,7 @@ module _ (h : Header) (k : Known) where
   -- what Configure Endpoint adds
   free_by : (s n i : ℕ) → commands.is_bad_added h k s n i ≡ false → nat_le 2 i ≡ true → (is_off (k.endpoint_state s i) || is_dropped k.memory n i) ≡ true
   unfolding commands.is_bad_added
-  free_by s n i good above =
-      let free : (is_off (k.endpoint_state s i) || input_drop_flag k.memory n i) ≡ true =
-      not-false (is_off (k.endpoint_state s i) || input_drop_flag k.memory n i)
-      (or_parts (commands.type_in h k n i == 0) (not (is_off (k.endpoint_state s i) || input_drop_flag k.memory n i)) good).1 in
-      elim (or_cases (is_off (k.endpoint_state s i)) (input_drop_flag k.memory n i) free) [
-        | inl off ↦ or_left (is_off (k.endpoint_state s i)) (is_dropped k.memory n i) off
-        | inr drops ↦ or_right (is_off (k.endpoint_state s i)) (is_dropped k.memory n i) (and_from (nat_le 2 i) (input_drop_flag k.memory n i) above drops)
-      ]
+  free_by s n i good above = search (rules, nat_le, not-false, or_parts, or_cases, or_left, or_right, and_from)
 
   pub content_good : (c : Command) → commands.is_bad_command h k c ≡ false → commands.has_bad_content h k c ≡ false
   unfolding commands.is_bad_command
@@ -71,27 +51,13 @@ module _ (h : Header) (k : Known) where
   are_free (ConfigureEndpoint s false n) good =
       let each = each_fails (commands.is_bad_added h k s n) (added_endpoints k.memory n) good in
       λ x d inside. free_by s n (get_or (added_endpoints k.memory n) x d) (each x d inside) (added_above k.memory n x d inside)
-  are_free (ConfigureEndpoint s true n) good = tt
-  are_free NoOp good = tt
-  are_free EnableSlot good = tt
-  are_free (DisableSlot s) good = tt
-  are_free (AddressDevice s bsr n) good = tt
-  are_free (EvaluateContext s n) good = tt
-  are_free (ResetEndpoint s i) good = tt
-  are_free (StopEndpoint s i) good = tt
-  are_free (SetTrDequeue s i p cycle) good = tt
-  are_free (ResetDevice s) good = tt
+  are_free _ good = tt
 
   -- where the pointer stands
   pub stays : (b : Binding) (o : Option ℕ) (r : ℕ) → is_bad_stay h k o b ≡ false → o ≡ Some r →
       is_move (shape_of h r) (k.ring r) b.pointer b.cycle (floor_number (k.ring r)) (floor_number (k.ring r)) ≡ true
   unfolding is_bad_stay
-  stays b o r good at =
-      let here : is_bad_stay h k (Some r) b ≡ false = ap (λ x. is_bad_stay h k x b) (sym at) ∙ good in
-      let move : ℕ → Bool = λ n. is_move (shape_of h r) (k.ring r) b.pointer b.cycle n n in
-      let parts = or_parts (not (declared (k.ring r) == floor_number (k.ring r))) (not (move (declared (k.ring r)))) here in
-      let same : declared (k.ring r) ≡ floor_number (k.ring r) = eqb-true (declared (k.ring r)) (floor_number (k.ring r)) (not-false (declared (k.ring r) == floor_number (k.ring r)) parts.0) in
-      ap move (sym same) ∙ not-false (move (declared (k.ring r))) parts.1
+  stays b o r good at = search (rules, or_parts, eqb-true, not-false)
 
   pub fails_of : (test : Command → Bool) (o : Option Command) (c : Command) → holds_of test o ≡ false → o ≡ Some c → test c ≡ false
   unfolding holds_of

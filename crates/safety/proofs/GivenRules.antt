@@ -1,16 +1,12 @@
 -- What the rules say of a command that a write gives
-use Rattle.std.proofs.Common.{◌≡◌, ◌==◌, ◌||◌, ◌∙◌, ℕ, not, Bool, true, false, [], Some, arith, refl, sym, ap, inl, inr, eqb-true, ◌≢◌, ◌<◌}
-use Rattle.safety.proofs.Words.{and_cases, or_parts, not-false, false≢true, false_from_ne_true, declared, floor_number, is_move, Command, NoOp, EnableSlot, DisableSlot, AddressDevice, ConfigureEndpoint, EvaluateContext, ResetEndpoint, StopEndpoint, SetTrDequeue, ResetDevice, EndpointState, Off, is_off, Header, Write, IsHeader, shape_of, Known, command_given, binding_in, binds_ring, drops, is_being_bound, is_bad_binding, is_bad_stay, is_bad_move, some_command, write_tests, lenient_tests, lenient, StaysIf, MovesIf, DriverKeeps, none-some}
+use Rattle.safety.proofs.Words.{◌≡◌, ◌==◌, ◌||◌, ◌∙◌, ℕ, not, Bool, true, false, [], Some, arith, refl, sym, ap, inl, inr, eqb-true, ◌≢◌, ◌<◌, and_cases, or_parts, not-false, false_from_ne_true, declared, floor_number, is_move, Command, AddressDevice, is_off, Header, Write, IsHeader, shape_of, Known, command_given, binding_in, binds_ring, drops, is_being_bound, is_bad_binding, is_bad_stay, is_bad_move, some_command, write_tests, lenient_tests, lenient, StaysIf, MovesIf, DriverKeeps, none-some}
 use Rattle.ownership_rules.specs.Commands as commands
 use Rattle.safety.proofs.TestsPassed.{AllFail, tests_fail}
 use Rattle.safety.proofs.Headers.{transfer_driver}
 use Rattle.safety.proofs.GivenCommands.{GoodBindings, good_bindings, bound_free, content_good, stays, fails_of}
 use Rattle.safety.proofs.RingsKept.{kept_drops}
 use Rattle.safety.proofs.CommandsStay.{OwnKeeps}
-
-is_off_only : (e : EndpointState) → is_off e ≡ true → e ≡ Off
-is_off_only Off off = refl
-is_off_only _ off = absurd (false≢true off)
+use Rattle.safety.proofs.EndpointsOff.{off_is}
 
 module _ (h : Header) (k : Known) where
   pub record GivenFacts (c : Command) : Type 0 where
@@ -23,15 +19,7 @@ module _ (h : Header) (k : Known) where
 
   moves_if : (c : Command) → is_bad_move h k c ≡ false → MovesIf h k c
   moves_if (AddressDevice s bsr n) good = tt
-  moves_if NoOp good = good
-  moves_if EnableSlot good = good
-  moves_if (DisableSlot s) good = good
-  moves_if (ConfigureEndpoint s dc n) good = good
-  moves_if (EvaluateContext s n) good = good
-  moves_if (ResetEndpoint s i) good = good
-  moves_if (StopEndpoint s i) good = good
-  moves_if (SetTrDequeue s i p cycle) good = good
-  moves_if (ResetDevice s) good = good
+  moves_if _ good = good
 
   module _ (is : IsHeader h) (d : DriverKeeps h k) where
     -- an endpoint that has a ring which the command binds is dropped
@@ -48,7 +36,7 @@ module _ (h : Header) (k : Known) where
     unfolding is_bad_move
     stand_rule s n r bsr good at =
         elim (and_cases (not (is_off (k.endpoint_state s 1))) (is_bad_stay h k (k.ring_of s 1) (binding_in h k n 1)) good) [
-          | inl off ↦ absurd (d.states.on s 1 r at (is_off_only (k.endpoint_state s 1) (not-false (is_off (k.endpoint_state s 1)) off)))
+          | inl off ↦ absurd (d.states.on s 1 r at (off_is (k.endpoint_state s 1) (not-false (is_off (k.endpoint_state s 1)) off)))
           | inr stand ↦ ap (λ o. is_bad_stay h k o (binding_in h k n 1)) (sym at) ∙ stand
         ]
 
@@ -70,15 +58,7 @@ module _ (h : Header) (k : Known) where
               false_from_ne_true ((k.ring r).given p)
               (λ given. let below = (d.rings r (transfer_driver h r (d.states.transfer s 1 r at))).given_declared p given in absurd (omega arith));
         }
-    stays_if NoOp good = tt
-    stays_if EnableSlot good = tt
-    stays_if (DisableSlot s) good = tt
-    stays_if (ConfigureEndpoint s dc n) good = tt
-    stays_if (EvaluateContext s n) good = tt
-    stays_if (ResetEndpoint s i) good = tt
-    stays_if (StopEndpoint s i) good = tt
-    stays_if (SetTrDequeue s i p cycle) good = tt
-    stays_if (ResetDevice s) good = tt
+    stays_if _ good = tt
 
     left_if : (c : Command) → is_bad_move h k c ≡ false → (s n r : ℕ) (bsr : Bool) → c ≡ AddressDevice s bsr n → k.ring_of s 1 ≡ Some r → declared (k.ring r) ≡ floor_number (k.ring r)
     left_if c good s n r bsr at has = none_left s n r bsr (ap (λ x. is_bad_move h k x) (sym at) ∙ good) has

@@ -1,6 +1,5 @@
 -- A write that gives a command and an event that isn't read yet may change places
-use Rattle.std.proofs.Common.{◌≡◌, ◌∙◌, ℕ, [], Some, refl, sym, subst}
-use Rattle.safety.proofs.Words.{MayCome, MovesRestored, same_Some, learned, Block, Command, Header, Write, Read, IsHeader, Known, command_given, lenient, DriverKeeps, Square}
+use Rattle.safety.proofs.Words.{◌≡◌, ◌∙◌, ℕ, [], Some, refl, sym, subst, MayCome, MovesRestored, same_Some, learned, Block, Command, Header, Write, Read, IsHeader, Known, command_given, lenient, DriverKeeps, Square}
 use Rattle.safety.proofs.CommandBeneath.{command_event, command_after}
 use Rattle.safety.proofs.EventBehind.{passed_behind}
 use Rattle.safety.proofs.WriteBehind.{command_behind}

@@ -1,8 +1,6 @@
 -- What a write gives of a ring it gives also behind an event: what is due only there is a lap behind what is leased, and what was
 -- due only before is passed, hence given
-use Rattle.std.proofs.Common.{◌≡◌, ◌+◌, ◌-◌, ◌<◌, ◌≤◌, ◌⊎◌, ◌||◌, ◌∙◌, ℕ, Bool, true, false, arith, refl, sym, ap, inl, inr, ◌%◌}
-use Rattle.safety.proofs.Words.{IsShownTo, cases_lt, cases_eq, false≢true, Shape, IsShape, place_count, address_of, is_crossing, link_address, Link, rank, RingView, floor_number, gives, gives_crossing, RingKeeps, address_of-lap, is_crossing-lap, link_address-lap, rank_least, crossed_due, IsCrossingDue, due_from, gives_is, gives_from, crossing_due_from, gives_crossing_is, gives_crossing_from, both_ways, cycle_of}
-use Rattle.segments.proofs.Positions.{cycle_of_flips}
+use Rattle.safety.proofs.Words.{◌≡◌, ◌+◌, ◌-◌, ◌<◌, ◌≤◌, ◌⊎◌, ◌||◌, ◌∙◌, ℕ, Bool, true, false, arith, refl, sym, ap, inl, inr, ◌%◌, rules, cycle_of_flips, IsShownTo, cases_lt, cases_eq, false≢true, Shape, IsShape, place_count, address_of, is_crossing, link_address, RingView, floor_number, gives, gives_crossing, RingKeeps, address_of-lap, is_crossing-lap, link_address-lap, rank_least, crossed_due, IsCrossingDue, due_from, gives_is, gives_from, crossing_due_from, gives_crossing_is, gives_crossing_from, both_ways, cycle_of}
 use Rattle.safety.proofs.KeptWords.{KeepsCycles}
 use Rattle.safety.proofs.SameDriver.{SameGiven}
 
@@ -26,30 +24,10 @@ module _ (shape : Shape) (memory : ℕ → ℕ) (v u : RingView) (b : RingBehind
   -- ---- what was due and isn't given is still due
 
   pub gives_behind : (p : ℕ) → v.given p ≡ false → gives shape v.floor p a x ≡ true → gives shape u.floor p a x ≡ true
-  gives_behind p fresh gives_now =
-      let g = gives_is shape v.floor p a x gives_now in
-      elim (cases_lt p (floor_number u)) [
-        | inl passed ↦ absurd (false≢true (sym fresh ∙ given_there p (b.behind.passed p passed)))
-        | inr from ↦ ap (λ y. gives shape u.floor p y x) g.at ∙ gives_from shape u.floor p x (due_from shape u.floor p from (omega (arith, g.within, b.on))) g.cycle
-      ]
+  gives_behind p fresh gives_now = search (rules, gives_is, cases_lt, false≢true, given_there, gives_from, due_from)
 
   crossing_behind : (q : ℕ) → IsCrossingDue shape v.floor q → v.crossed q ≡ false → IsCrossingDue shape u.floor q
-  crossing_behind q due fresh =
-      elim (cases_lt (rank (Link q)) (rank u.floor)) [
-        | inl passed ↦ absurd (false≢true (sym fresh ∙ crossed_there q (b.behind.passed_links q due.crossing passed)))
-        | inr from ↦
-            record {
-              crossing = due.crossing;
-              from = omega (arith, rank_least u.floor);
-              within = elim due.within [
-                | inl below ↦ inl (omega (arith, b.on))
-                | inr first ↦ elim (cases_eq (floor_number u) 0) [
-                  | inl still ↦ inr (first.0, still)
-                  | inr moved ↦ inl (omega arith)
-                ]
-              ];
-            }
-      ]
+  crossing_behind q due fresh = search (rules, cases_lt, false≢true, crossed_there, rank_least)
 
   pub crosses_behind : (q : ℕ) → v.crossed q ≡ false → gives_crossing shape v.floor q a x ≡ true → gives_crossing shape u.floor q a x ≡ true
   crosses_behind q fresh gives_now =

@@ -1,6 +1,5 @@
 -- The rings of a header: allowed, and apart from the event ring
-use Rattle.std.proofs.Common.{◌≡◌, ◌==◌, ◌%◌, ◌<◌, ◌≤◌, ◌&&◌, ◌⊎◌, ◌∷◌, ◌∙◌, ℕ, Bool, true, false, not, List, [], nat_lt, Option, Some, None, find, arith, refl, sym, ap, subst, inl, inr, eq-eqb, eqb-true, ltb-true}
-use Rattle.safety.proofs.Words.{list_all, list_any, cases_Bool, false≢true, cond-true, cond-false, and_parts, or_parts, not-true, not_from_true, false_from_ne_true, none-some, same_Some, RingKind, Cmd, Evt, Xfer, Shape, is_inside, place_count, IsShape, is_shape, shape_facts, cases_option, rings_apart, touches-word, Header, Ring, IsHeader, may_stand_together, clash, ring_with, shape_of, shape_or, event_ring, event_shape, event_size, command_ring, command_id, id_or_none, is_command_kind, is_event_kind, is_driver_kind, is_transfer_kind, IsIn, any_of, IsDriverRing, IsTransferRing}
+use Rattle.safety.proofs.Words.{◌≡◌, ◌==◌, ◌%◌, ◌<◌, ◌≤◌, ◌&&◌, ◌⊎◌, ◌∷◌, ◌∙◌, ℕ, Bool, true, false, not, List, [], nat_lt, Option, Some, None, find, arith, refl, sym, ap, subst, inl, inr, eq-eqb, eqb-true, ltb-true, rules, list_all, list_any, cases_Bool, false≢true, cond-true, cond-false, and_parts, or_parts, not-true, not_from_true, false_from_ne_true, none-some, same_Some, RingKind, Evt, Xfer, Shape, is_inside, place_count, IsShape, is_shape, shape_facts, cases_option, rings_apart, touches-word, Header, Ring, IsHeader, may_stand_together, clash, ring_with, shape_of, shape_or, event_ring, event_shape, event_size, command_ring, command_id, id_or_none, is_command_kind, is_event_kind, is_driver_kind, is_transfer_kind, IsIn, any_of, IsDriverRing, IsTransferRing}
 use Rattle.segments.specs.Places.{touches}
 
 -- what a search finds passes, and is one of the list
@@ -41,26 +40,19 @@ together (y ∷ ys) r q may a b =
     ]
 
 pub clash_apart : (r q : Ring) (x : ℕ) → clash r q ≡ false → is_inside r.shape x ≡ true → is_inside q.shape x ≡ true → ⊥
-clash_apart r q x none a b =
-    let p1 = or_parts _ _ none in
-    let p2 = or_parts _ _ p1.0 in
-    let p3 = or_parts _ _ p2.0 in
-    rings_apart r.shape q.shape x p3.1 a b
+clash_apart r q x none a b = search (rules, or_parts, rings_apart)
 
 kinds_apart : (kind : RingKind) → is_transfer_kind kind ≡ true → is_command_kind kind ≡ true → ⊥
-kinds_apart Cmd a b = false≢true a
 kinds_apart Xfer a b = false≢true b
-kinds_apart Evt a b = false≢true a
+kinds_apart _ a b = false≢true a
 
 driver_not_event : (kind : RingKind) → is_driver_kind kind ≡ true → kind ≡ Evt → ⊥
-driver_not_event Cmd h e = cc
-driver_not_event Xfer h e = cc
 driver_not_event Evt h e = false≢true h
+driver_not_event _ h e = cc
 
 transfer_is_driver : (kind : RingKind) → is_transfer_kind kind ≡ true → is_driver_kind kind ≡ true
-transfer_is_driver Cmd h = refl
-transfer_is_driver Xfer h = refl
 transfer_is_driver Evt h = absurd (false≢true h)
+transfer_is_driver _ h = refl
 
 -- the event ring of a header that has one
 pub record EventRing (h : Header) : Type 0 where
@@ -177,11 +169,7 @@ module _ (h : Header) where
     not_both r c a b same = kinds_apart c.shape.kind (ap (λ x. is_transfer_kind x.shape.kind) (sym same) ∙ a) b
 
     ids_apart : (r c : Ring) → clash r c ≡ false → r.id ≡ c.id → ⊥
-    ids_apart r c none same =
-        let p1 = or_parts _ _ none in
-        let p2 = or_parts _ _ p1.0 in
-        let p3 = or_parts _ _ p2.0 in
-        false≢true (sym p3.0 ∙ eq-eqb r.id c.id same)
+    ids_apart r c none same = search (rules, or_parts, false≢true, eq-eqb)
 
     -- a transfer ring isn't the command ring
     pub transfer_not_command : (r : ℕ) → IsTransferRing h r → r ≡ command_id h → ⊥

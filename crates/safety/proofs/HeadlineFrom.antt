@@ -1,6 +1,5 @@
 -- The headline, from a law for the driver's rows: each world of a run beside clean rows is safe
-use Rattle.std.proofs.Common.{◌≡◌, ◌∷◌, ◌++◌, ◌∙◌, false, List, [], Option, Some, None, All, reverse, option_map, option_and_then, refl, sym, ap, subst, inl, inr, append_assoc, append-nil}
-use Rattle.safety.proofs.Words.{cases_Bool, cond-false, cond-true, false≢true, reverse-append, All-head, All-tail, none-some, same_Some, Block, Header, Row, Sub, Write, Reg, Bell, Read, Step, NextRow, Look, Report, Finish, Other, Scribble, IsHeader, IsRow, IsStep, World, opening, IsSafe, Known, learned, known, MayCome, IsLenient, IsHarmless, DriverKeeps, IsDriverRow, Agrees, Runs, all_read}
+use Rattle.safety.proofs.Words.{◌≡◌, ◌∷◌, ◌++◌, ◌∙◌, false, List, [], Option, Some, All, reverse, refl, sym, ap, subst, inl, inr, append_assoc, append-nil, rules, cases_Bool, cond-false, cond-true, false≢true, reverse-append, All-head, All-tail, none-some, same_Some, Block, Header, Row, Sub, Write, Reg, Bell, Read, Step, NextRow, Look, Report, Finish, Other, Scribble, IsHeader, IsRow, IsStep, World, opening, IsSafe, Known, learned, known, MayCome, IsLenient, IsHarmless, DriverKeeps, IsDriverRow, Agrees, Runs, all_read}
 use Rattle.world_state.specs.World as of_world
 use Rattle.controller_model.specs.DriverRows as driver
 use Rattle.controller_model.specs.Looks as looks
@@ -21,6 +20,8 @@ use Rattle.safety.proofs.Safe.{safe}
 use Rattle.safety.proofs.Scribble.{scribble_runs}
 use Rattle.safety.proofs.StopRow.{stop_ends}
 use Rattle.safety.proofs.TestsPassed.{clean_tests}
+use Rattle.safety.proofs.ReportSuccess.{mapped}
+use Rattle.safety.proofs.FinishSlots.{some_then}
 
 -- ---- what is owed
 
@@ -32,14 +33,6 @@ RowLaw h =
 
 -- ---- small facts
 
-some_then : {A B : Type 0} (f : A → Option B) (o : Option A) (y : B) → option_and_then f o ≡ Some y → (x : A) × (o ≡ Some x) × (f x ≡ Some y)
-some_then f None y at = absurd (none-some y at)
-some_then f (Some x) y at = (x, refl, at)
-
-some_of : {A B : Type 0} (f : A → B) (o : Option A) (y : B) → option_map f o ≡ Some y → (x : A) × (o ≡ Some x) × (f x ≡ y)
-some_of f None y at = absurd (none-some y at)
-some_of f (Some x) y at = (x, refl, same_Some (f x) y at)
-
 pub later_clean : (h : Header) (xs ys : List Row) → IsLenient h (xs ++ ys) → IsLenient h ys
 later_clean h [] ys clean = clean
 later_clean h (x ∷ xs) ys clean = later_clean h xs ys clean.0
@@ -48,27 +41,7 @@ module _ (h : Header) where
   -- nothing that is kept speaks of the rows still to come
   agrees_rest : (k : Known) (unread : List Block) (w : World) (rest : List Row) → Agrees h k unread w → Agrees h k unread (record w { rows = rest })
   unfolding of_world.event_at
-  agrees_rest k unread w rest g =
-      let s = g.stands in
-      let e = g.events in
-      let m = g.matches in
-      record {
-        stands = record { started = s.started; stopped = s.stopped; registers = s.registers; queues = s.queues; lengths = s.lengths; dequeue = s.dequeue; quiet = s.quiet };
-        events = record { order = e.order; count = e.count; places = e.places; started = e.started; ring = e.ring };
-        matches = record {
-          slots = m.slots;
-          endpoints = m.endpoints;
-          ring_of = m.ring_of;
-          rings = m.rings;
-          before = λ off. let b = m.before off in record { inactive = b.inactive; no_events = b.no_events; none = b.none };
-          command = λ on. let c = m.command on in record { spot = c.spot; ring = c.ring; under_way = c.under_way };
-          scribbles = m.scribbles;
-          contexts = m.contexts;
-          inside = m.inside;
-        };
-        read = g.read;
-        stamps = g.stamps;
-      }
+  agrees_rest k unread w rest g = search rules
 
   pub runs_rest : (now : Known) (w : World) (rest : List Row) → Runs h now w → Runs h now (record w { rows = rest })
   runs_rest now w rest run =
@@ -115,16 +88,7 @@ module _ (h : Header) where
     stays : (past : List Row) (w u : World) (o : Option World) → CameTo past w → o ≡ Some u → RowsLeft w o → (Runs h (known h past) w → Runs h (known h past) (steps.counted h u)) → w.stopped ≡ false →
         CameTo past (steps.counted h u)
     unfolding steps.counted
-    stays past w u o c at left goes running =
-        let rows : u.rows ≡ w.rows = left.left u at in
-        record {
-          left = subst (λ l. All IsRow l) (sym rows) c.left;
-          clean = subst (λ l. IsLenient h (reverse l ++ past)) (sym rows) c.clean;
-          holds = elim c.holds [
-            | inl run ↦ inl (goes run)
-            | inr over ↦ absurd (false≢true (sym running ∙ over.also))
-          ];
-        }
+    stays past w u o c at left goes running = search (rules, reverse, false≢true)
 
     -- ---- a row
 
@@ -151,11 +115,7 @@ module _ (h : Header) where
 
     pub running_is : (w u : World) (o : Option World) → steps.while_running h w o ≡ Some u → (w.stopped ≡ false) × (o ≡ Some u)
     unfolding steps.while_running
-    running_is w u o at =
-        elim (cases_Bool w.stopped) [
-          | inl stopped ↦ absurd (none-some u (sym (cond-true w.stopped None o stopped) ∙ at))
-          | inr on ↦ (on, sym (cond-false w.stopped None o on) ∙ at)
-        ]
+    running_is w u o at = search (rules, none-some, cond-true, cond-false)
 
     step_made : (past : List Row) (w u : World) (s : Step) → IsStep s → CameTo past w → steps.made h w s ≡ Some u → (later : List Row) × CameTo later (steps.counted h u)
     unfolding steps.made
@@ -180,11 +140,7 @@ module _ (h : Header) where
 
     first : (rows : List Row) → All IsRow rows → IsLenient h (reverse rows) → CameTo [] (opening rows)
     unfolding opening known
-    first rows are clean = record {
-      left = are;
-      clean = subst (λ l. IsLenient h l) (sym (append-nil (reverse rows))) clean;
-      holds = inl (opens h rows);
-    }
+    first rows are clean = search (rules, reverse, append-nil, opens)
 
     came : (rows : List Row) → All IsRow rows → IsLenient h (reverse rows) → (made : List Step) (w : World) → All IsStep made → steps.reached h rows made ≡ Some w →
         (past : List Row) × CameTo past w
@@ -193,16 +149,12 @@ module _ (h : Header) where
     came rows are clean (s ∷ older) w all at =
         let before = some_then (λ v. steps.stepped h v s) (steps.reached h rows older) w at in
         let came_before = came rows are clean older before.0 (All-tail IsStep s older all) before.1 in
-        let step = some_of (steps.counted h) (steps.made h before.0 s) w before.2 in
+        let step = mapped (steps.counted h) (steps.made h before.0 s) w before.2 in
         let after = step_made came_before.0 before.0 step.0 s (All-head IsStep s older all) came_before.1 step.1 in
         (after.0, subst (λ v. CameTo after.0 v) step.2 after.1)
 
     safe_there : (past : List Row) (w : World) → CameTo past w → IsSafe h w
-    safe_there past w c =
-        elim c.holds [
-          | inl run ↦ safe h is (known h past) w run (later_keeps past w c run)
-          | inr over ↦ over.safe
-        ]
+    safe_there past w c = search (rules, safe, later_keeps)
 
     pub headline_from : (rows : List Row) → All IsRow rows → IsLenient h (reverse rows) → IsHarmless h rows
     headline_from rows are clean made w all at = let c = came rows are clean made w all at in safe_there c.0 w c.1

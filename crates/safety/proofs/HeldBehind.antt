@@ -1,6 +1,5 @@
 -- An event leaves an endpoint whose ring is held, where no unfinished command touches it: its doorbell stays one that may be rung
-use Rattle.std.proofs.Common.{◌≡◌, ◌==◌, ◌&&◌, ◌||◌, ◌∙◌, ℕ, not, nat_lt, true, false, [], is_none, Option, None, Some, refl, sym, ap, subst, inl, inr, eqb-true, eq-eqb}
-use Rattle.safety.proofs.Words.{cases_Bool, cond-true, and_parts, and_from, or_parts, or_from, not-false, false≢true, same_Some, Block, BlockKind, TransferEvent, CommandCompletion, kind, code, slot, endpoint, is_transfer_event, is_command_completion, is_success, is_halting, is_trb_error, Spot, ceiling, is_data_below, is_open, is_stop_spot, is_running, is_stopped, Header, Read, IsHeader, shape_of, Known, RingSpot, event_at, transferred, transferred_at, transfer_read, event_read, learned, is_touched, is_bad_bell, is_in_profile, is_working, is_stopping_now, can_report, can_report_at, is_impossible_by_kind, lenient, DriverKeeps}
+use Rattle.safety.proofs.Words.{◌≡◌, ◌==◌, ◌&&◌, ◌∙◌, ℕ, not, nat_lt, true, false, [], is_none, Option, None, Some, refl, sym, ap, subst, inl, inr, eqb-true, eq-eqb, rules, cases_Bool, cond-true, and_parts, and_from, or_parts, or_from, not-false, false≢true, same_Some, Block, BlockKind, TransferEvent, CommandCompletion, kind, code, slot, endpoint, is_transfer_event, is_command_completion, is_success, Spot, is_open, Header, Read, IsHeader, Known, RingSpot, event_at, transferred, transferred_at, transfer_read, event_read, learned, is_touched, is_bad_bell, is_in_profile, is_working, can_report, can_report_at, is_impossible_by_kind, lenient, DriverKeeps}
 use Rattle.safety.proofs.CleanRows.{EventFacts, event_facts}
 use Rattle.safety.proofs.KeptRings.{completion_facts}
 use Rattle.safety.proofs.StatesTransfer.{reported}
@@ -15,14 +14,7 @@ module _ (h : Header) (k : Known) (s i r : ℕ) (held : is_open (k.ring r) ≡ f
   -- only blocks that were finished before are reported of a ring that is held
   held_success : (c : ℕ) (t : Spot) → can_report h k c s i r t ≡ true → is_success c ≡ true
   unfolding can_report is_working
-  held_success c t can =
-      elim (cases_Bool (is_success c)) [
-        | inl success ↦ success
-        | inr other ↦
-            let works = works_there (is_success c) (is_halting c || is_trb_error c) (is_data_below (ceiling (shape_of h r) (k.ring r)) t)
-            (is_running (k.endpoint_state s i) && is_open (k.ring r)) (is_stopping_now h k s i) (is_stop_spot (shape_of h r) (k.ring r) t) other can in
-            absurd (false≢true (sym held ∙ (and_parts (is_running (k.endpoint_state s i)) (is_open (k.ring r)) works).1))
-      ]
+  held_success c t can = search (rules, works_there, false≢true, and_parts)
 
   own_holds : (c : ℕ) (t : Spot) → can_report h k c s i r t ≡ true → EndpointHolds k (transferred h k c s i r t) s i
   unfolding transferred
@@ -79,12 +71,4 @@ module _ (h : Header) (is : IsHeader h) (k : Known) (d : DriverKeeps h k) (s i r
   -- and it may still be rung
   pub good_behind : (e : Block) → lenient h k (Read e) ≡ [] → is_bad_bell h k s i ≡ false → is_bad_bell h (learned h k (Read e)) s i ≡ false
   unfolding is_bad_bell
-  good_behind e clean good =
-      let l : Known = learned h k (Read e) in
-      let holds : EndpointHolds k l s i = read_holds e clean in
-      let rest = (or_parts _ (is_touched h k s i) good).0 in
-      or_from (i == 0 || nat_lt 31 i || not (is_running (l.endpoint_state s i) || is_stopped (l.endpoint_state s i)) || l.must_move s i) (is_touched h l s i)
-      (ap (λ x. i == 0 || nat_lt 31 i || not (is_running x || is_stopped x) || l.must_move s i) holds.state
-      ∙ ap (λ x. i == 0 || nat_lt 31 i || not (is_running (k.endpoint_state s i) || is_stopped (k.endpoint_state s i)) || x) holds.must_move
-      ∙ rest)
-      (untouched_behind h is k d e clean s i untouched)
+  good_behind e clean good = search (rules, read_holds, or_parts, or_from, nat_lt, untouched_behind)

@@ -1,6 +1,5 @@
 -- Where rings are held at greater numbers, the same events are possible, and what they lead to is the same but for these numbers
-use Rattle.std.proofs.Common.{◌≡◌, ◌+◌, ◌∷◌, ◌∙◌, ℕ, List, [], length, Bool, find, option_and_then, slice_get, arith, refl, sym, ap}
-use Rattle.safety.proofs.Words.{fun_ext, Block, kind, number, named_spot, RingView, floor_number, named, is_target, spots_between, target, Command, command_of, Change, SlotGoesOn, DeviceLeft, Disables, Places, Stops, Resets, changes, Header, Read, Config, shape_of, command_id, register_or_zero, Known, command_at, next_command, event_read, learned, changed_by, IsHeldMore, HeldMore, MoreLaw}
+use Rattle.safety.proofs.Words.{◌≡◌, ◌+◌, ◌∷◌, ◌∙◌, ℕ, List, [], length, Bool, find, option_and_then, slice_get, arith, sym, ap, rules, Block, number, named_spot, RingView, floor_number, named, is_target, spots_between, target, Command, command_of, Change, Places, changes, Header, Read, Config, shape_of, command_id, register_or_zero, Known, command_at, next_command, learned, changed_by, IsHeldMore, HeldMore, MoreLaw}
 use Rattle.safety.proofs.SameDriver.{SameDriver, both_drivers, change_same, event_same}
 use Rattle.safety.proofs.Alike.{Alike}
 use Rattle.safety.proofs.AlikeChanges.{TargetIs, TargetsAre, change_alike}
@@ -9,15 +8,7 @@ use Rattle.safety.proofs.AlikeEvents.{EventAlike, ReadAlike, read_alike}
 -- ---- all fields the same, but that rings are held at greater numbers
 
 view_is : (v w : RingView) → v.queue ≡ w.queue → v.lengths ≡ w.lengths → v.given ≡ w.given → v.crossed ≡ w.crossed → v.withdrawn ≡ w.withdrawn → v.free ≡ w.free → v.floor ≡ w.floor → v.held ≡ w.held → v ≡ w
-view_is v w queue lengths given crossed withdrawn free floor held =
-    ap {B = RingView} (λ x. record v { queue = x }) queue
-    ∙ ap {B = RingView} (λ x. record v { queue = w.queue; lengths = x }) lengths
-    ∙ ap {B = RingView} (λ x. record v { queue = w.queue; lengths = w.lengths; given = x }) given
-    ∙ ap {B = RingView} (λ x. record v { queue = w.queue; lengths = w.lengths; given = w.given; crossed = x }) crossed
-    ∙ ap {B = RingView} (λ x. record w { withdrawn = x; free = v.free; floor = v.floor; held = v.held }) withdrawn
-    ∙ ap {B = RingView} (λ x. record w { free = x; floor = v.floor; held = v.held }) free
-    ∙ ap {B = RingView} (λ x. record w { floor = x; held = v.held }) floor
-    ∙ ap {B = RingView} (λ x. record w { held = x }) held
+view_is v w queue lengths given crossed withdrawn free floor held = search rules
 
 -- what events may change and the driver's rows don't, but for where rings are held
 pub record SameStates (k l : Known) : Type 0 where
@@ -30,79 +21,20 @@ pub record SameStates (k l : Known) : Type 0 where
   pub device : l.device ≡ k.device
 
 known_is : (k l : Known) → k.ring ≡ l.ring → SameDriver k l → SameStates k l → k ≡ l
-known_is k l ring d s =
-    ap {B = Known} (λ x. record k { ring = x }) ring
-    ∙ ap {B = Known} (λ x. record k { ring = l.ring; started = x }) (sym d.started)
-    ∙ ap {B = Known} (λ x. record k { ring = l.ring; started = l.started; stopped = x }) (sym d.stopped)
-    ∙ ap {B = Known} (λ x. record k { ring = l.ring; started = l.started; stopped = l.stopped; register = x }) (sym d.register)
-    ∙ ap {B = Known} (λ x. record k { ring = l.ring; started = l.started; stopped = l.stopped; register = l.register; memory = x }) (sym d.memory)
-    ∙ ap {B = Known} (λ x. record k { ring = l.ring; started = l.started; stopped = l.stopped; register = l.register; memory = l.memory; soiled = x }) (sym d.soiled)
-    ∙ ap {B = Known} (λ x. record k { ring = l.ring; started = l.started; stopped = l.stopped; register = l.register; memory = l.memory; soiled = l.soiled; reads = x }) (sym d.reads)
-    ∙ ap {B = Known} (λ x. record l { dequeue = x; was_bound = k.was_bound; slot_state = k.slot_state; endpoint_state = k.endpoint_state; ring_of = k.ring_of; must_move = k.must_move; stop_seen = k.stop_seen; device = k.device }) (sym d.dequeue)
-    ∙ ap {B = Known} (λ x. record l { was_bound = x; slot_state = k.slot_state; endpoint_state = k.endpoint_state; ring_of = k.ring_of; must_move = k.must_move; stop_seen = k.stop_seen; device = k.device }) (sym s.was_bound)
-    ∙ ap {B = Known} (λ x. record l { slot_state = x; endpoint_state = k.endpoint_state; ring_of = k.ring_of; must_move = k.must_move; stop_seen = k.stop_seen; device = k.device }) (sym s.slot_state)
-    ∙ ap {B = Known} (λ x. record l { endpoint_state = x; ring_of = k.ring_of; must_move = k.must_move; stop_seen = k.stop_seen; device = k.device }) (sym s.endpoint_state)
-    ∙ ap {B = Known} (λ x. record l { ring_of = x; must_move = k.must_move; stop_seen = k.stop_seen; device = k.device }) (sym s.ring_of)
-    ∙ ap {B = Known} (λ x. record l { must_move = x; stop_seen = k.stop_seen; device = k.device }) (sym s.must_move)
-    ∙ ap {B = Known} (λ x. record l { stop_seen = x; device = k.device }) (sym s.stop_seen)
-    ∙ ap {B = Known} (λ x. record l { device = x }) (sym s.device)
+known_is k l ring d s = search rules
 
 pub flip_driver : (k l : Known) → SameDriver k l → SameDriver l k
-flip_driver k l d = record {
-  started = sym d.started;
-  stopped = sym d.stopped;
-  register = sym d.register;
-  memory = sym d.memory;
-  soiled = sym d.soiled;
-  reads = sym d.reads;
-  dequeue = sym d.dequeue;
-  rings = λ r. let g = d.rings r in record { queue = sym g.queue; lengths = sym g.lengths; given = sym g.given; crossed = sym g.crossed; withdrawn = sym g.withdrawn; free = sym g.free };
-}
+flip_driver k l d = search rules
 
 pub held_more : (k l : Known) → SameDriver k l → SameStates k l → ((r : ℕ) → (l.ring r).floor ≡ (k.ring r).floor) → ((r : ℕ) → IsHeldMore (k.ring r).held (l.ring r).held) → HeldMore k l
-held_more k l d s floor held =
-    let m : Known = record k { ring = l.ring } in
-    let same : SameDriver m l = record {
-      started = d.started;
-      stopped = d.stopped;
-      register = d.register;
-      memory = d.memory;
-      soiled = d.soiled;
-      reads = d.reads;
-      dequeue = d.dequeue;
-      rings = λ r. record { queue = refl; lengths = refl; given = refl; crossed = refl; withdrawn = refl; free = refl };
-    } in
-    let states : SameStates m l = record {
-      was_bound = s.was_bound;
-      slot_state = s.slot_state;
-      endpoint_state = s.endpoint_state;
-      ring_of = s.ring_of;
-      must_move = s.must_move;
-      stop_seen = s.stop_seen;
-      device = s.device;
-    } in
-    record {
-      rest = known_is m l refl same states;
-      rings = λ r. let g = d.rings r in record {
-        rest = view_is (let v : RingView = record (k.ring r) { held = (l.ring r).held } in v) (l.ring r) (sym g.queue) (sym g.lengths) (sym g.given) (sym g.crossed) (sym g.withdrawn) (sym g.free) (sym (floor r)) refl;
-        held = held r;
-      };
-    }
+held_more k l d s floor held = search (rules, known_is, view_is)
 
 -- every device context is alike
 abbrev pub EverySlot : ℕ → Type 0
 EverySlot s = Unit {0}
 
 pub states_from : (k l : Known) → Alike EverySlot k l → SameStates k l
-states_from k l a = record {
-  was_bound = a.was_bound;
-  slot_state = a.slot_state;
-  endpoint_state = a.endpoint_state;
-  ring_of = a.ring_of;
-  must_move = a.must_move;
-  stop_seen = a.stop_seen;
-  device = fun_ext (λ s. a.device s tt);
-}
+states_from k l a = search rules
 
 module _ (h : Header) where
   abbrev pub counted : Known → Known
@@ -111,34 +43,11 @@ module _ (h : Header) where
   -- the reading of an event leaves all that the driver did
   pub read_same : (k : Known) (e : Block) → SameDriver (counted k) (learned h k (Read e))
   unfolding learned
-  read_same k e =
-      let d : SameDriver k (event_read h k (kind e) e) = event_same h k (kind e) e in
-      record {
-        started = d.started;
-        stopped = d.stopped;
-        register = d.register;
-        memory = d.memory;
-        soiled = d.soiled;
-        reads = refl;
-        dequeue = d.dequeue;
-        rings = d.rings;
-      }
+  read_same k e = search (rules, counted, event_same)
 
   -- where the driver did the same it has done the same when the event is read
   pub read_both : (k l : Known) (e : Block) → SameDriver k l → SameDriver (learned h k (Read e)) (learned h l (Read e))
-  read_both k l e d =
-      let more : SameDriver (counted k) (counted l) = record {
-        started = d.started;
-        stopped = d.stopped;
-        register = d.register;
-        memory = d.memory;
-        soiled = d.soiled;
-        reads = ap (λ n. n + 1) d.reads;
-        dequeue = d.dequeue;
-        rings = d.rings;
-      } in
-      both_drivers (learned h k (Read e)) (counted k) (learned h l (Read e)) (flip_driver (counted k) (learned h k (Read e)) (read_same k e))
-      (both_drivers (counted k) (counted l) (learned h l (Read e)) more (read_same l e))
+  read_both k l e d = search (rules, counted, both_drivers, flip_driver, read_same)
 
   -- ---- what is the same where queues and floors are
 
@@ -155,15 +64,8 @@ module _ (h : Header) where
 
   module _ (P : ℕ → Type 0) where
     target_is : (k l : Known) → Alike P k l → ((r : ℕ) → (l.ring r).queue ≡ (k.ring r).queue) → (change : Change) → TargetIs h k l change
-    target_is k l a queues (Places s i p cycle state) = record {
-      binds = λ off r at. target_same r p cycle (k.ring r) (l.ring r) (a.rings r).floor (queues r);
-      moves = λ on r has. target_same r p cycle (k.ring r) (l.ring r) (a.rings r).floor (queues r);
-    }
-    target_is k l a queues (SlotGoesOn s) = tt
-    target_is k l a queues (DeviceLeft s) = tt
-    target_is k l a queues (Disables s which) = tt
-    target_is k l a queues (Stops s i) = tt
-    target_is k l a queues (Resets s i) = tt
+    target_is k l a queues (Places s i p cycle state) = search (rules, target_same)
+    target_is k l a queues _ = search rules
 
     pub targets_are : (c : Command) (k l : Known) → Alike P k l → ((r : ℕ) → (l.ring r).queue ≡ (k.ring r).queue) → (all : List Change) → TargetsAre h c k l all
     targets_are c k l a queues [] = tt
@@ -194,46 +96,10 @@ module _ (h : Header) where
   }
 
   more_driver : (k m : Known) → HeldMore k m → SameDriver k m
-  more_driver k m more =
-      let e = more.rest in
-      record {
-        started = sym (ap (λ (x : Known). x.started) e);
-        stopped = sym (ap (λ (x : Known). x.stopped) e);
-        register = sym (ap (λ (x : Known). x.register) e);
-        memory = sym (ap (λ (x : Known). x.memory) e);
-        soiled = sym (ap (λ (x : Known). x.soiled) e);
-        reads = sym (ap (λ (x : Known). x.reads) e);
-        dequeue = sym (ap (λ (x : Known). x.dequeue) e);
-        rings = λ r. let v = (more.rings r).rest in record {
-          queue = sym (ap (λ (x : RingView). x.queue) v);
-          lengths = sym (ap (λ (x : RingView). x.lengths) v);
-          given = sym (ap (λ (x : RingView). x.given) v);
-          crossed = sym (ap (λ (x : RingView). x.crossed) v);
-          withdrawn = sym (ap (λ (x : RingView). x.withdrawn) v);
-          free = sym (ap (λ (x : RingView). x.free) v);
-        };
-      }
+  more_driver k m more = search rules
 
   more_alike : (k m : Known) → HeldMore k m → Alike EverySlot k m
-  more_alike k m more =
-      let e = more.rest in
-      record {
-        rings = λ r. let v = (more.rings r).rest in record {
-          floor = sym (ap (λ (x : RingView). x.floor) v);
-          held = (more.rings r).held;
-          more = record {
-            given = λ p yes. sym (ap (λ (x : RingView). x.given p) v) ∙ yes;
-            crossed = λ q yes. sym (ap (λ (x : RingView). x.crossed q) v) ∙ yes;
-          };
-        };
-        was_bound = sym (ap (λ (x : Known). x.was_bound) e);
-        slot_state = sym (ap (λ (x : Known). x.slot_state) e);
-        endpoint_state = sym (ap (λ (x : Known). x.endpoint_state) e);
-        ring_of = sym (ap (λ (x : Known). x.ring_of) e);
-        must_move = sym (ap (λ (x : Known). x.must_move) e);
-        stop_seen = sym (ap (λ (x : Known). x.stop_seen) e);
-        device = λ s _. sym (ap (λ (x : Known). x.device s) e);
-      }
+  more_alike k m more = search rules
 
   pub more_law : MoreLaw h
   more_law k m e keeps keeps_more more clean =

@@ -1,8 +1,7 @@
 -- Held at greater numbers, and again at greater ones
-use Rattle.std.proofs.Common.{◌∙◌, ℕ, Option, None, Some, arith, refl, ap}
-use Rattle.safety.proofs.Words.{RingView, Known, IsHeldMore, RingHeldMore, HeldMore}
+use Rattle.safety.proofs.Words.{◌∙◌, ℕ, Option, None, Some, arith, refl, ap, RingView, Known, IsHeldMore, RingHeldMore, HeldMore}
 
-held_same : (o : Option ℕ) → IsHeldMore o o
+pub held_same : (o : Option ℕ) → IsHeldMore o o
 held_same None = tt
 held_same (Some m) = omega arith
 

@@ -1,6 +1,5 @@
 -- A clean history keeps what the rules keep of each ring
-use Rattle.std.proofs.Common.{◌≡◌, ◌&&◌, ◌||◌, ◌==◌, ◌∷◌, not, true, false, List, [], refl}
-use Rattle.safety.proofs.Words.{or_parts, not-false, Block, BlockKind, TransferEvent, CommandCompletion, kind, cycle, is_transfer_event, is_command_completion, is_event, cycle_of, Header, Row, Sub, Write, Reg, Bell, Read, IsHeader, event_shape, Known, event_read, learned, known, is_in_profile, is_impossible_by_kind, is_past_room, is_impossible, event_tests, lenient_tests, lenient, IsLenient, command_id, IsRestored, MayCome, RingsKeep, RingsKept, EndpointsKeep, MayFinish, MayRead, MayReadAll, AreDriverRows}
+use Rattle.safety.proofs.Words.{◌≡◌, ◌&&◌, ◌||◌, ◌==◌, ◌∷◌, not, true, false, List, [], refl, or_parts, not-false, Block, BlockKind, TransferEvent, CommandCompletion, kind, cycle, is_transfer_event, is_command_completion, is_event, cycle_of, Header, Row, Sub, Write, Reg, Bell, Read, IsHeader, event_shape, Known, event_read, learned, known, is_in_profile, is_impossible_by_kind, is_past_room, is_impossible, event_tests, lenient_tests, lenient, IsLenient, command_id, IsRestored, MayCome, RingsKeep, RingsKept, EndpointsKeep, MayFinish, MayRead, MayReadAll}
 use Rattle.safety.proofs.TestsPassed.{AllFail, tests_fail}
 use Rattle.safety.proofs.NothingFree.{nothing_free, may_come}
 use Rattle.safety.proofs.DriverRows.{stands, same_keeps, nothing_keeps, declared_keeps, written_keeps, register_keeps, rung_keeps}
@@ -45,15 +44,3 @@ module _ (h : Header) (is : IsHeader h) where
   keeps_rings [] clean may = nothing_keeps h is
   keeps_rings (row ∷ past) clean may =
       row_keeps (known h past) row (keeps_rings past clean.0 may.0) (keeps_endpoints h is past) (nothing_free h past (command_id h)) (may_come h is past row clean.1) may.1
-
-  -- so of one without events
-  no_events : (past : List Row) → AreDriverRows past → MayReadAll h past
-  no_events [] none = tt
-  no_events (Sub r blocks ∷ past) none = (no_events past none.0, tt)
-  no_events (Write a w ∷ past) none = (no_events past none.0, tt)
-  no_events (Reg r x ∷ past) none = (no_events past none.0, tt)
-  no_events (Bell s t ∷ past) none = (no_events past none.0, tt)
-  no_events (Read b ∷ past) none = absurd none.1
-
-  pub keeps_driver_rings : (past : List Row) → IsLenient h past → AreDriverRows past → RingsKeep h (known h past)
-  keeps_driver_rings past clean none = keeps_rings past clean (no_events past none)

@@ -1,6 +1,5 @@
 -- No word of a ring is soiled, behind each row
-use Rattle.std.proofs.Common.{◌≡◌, ◌+◌, ◌%◌, ◌==◌, ◌&&◌, ◌∙◌, ℕ, not, Bool, true, false, [], Option, None, Some, is_none, option_and_then, refl, sym, ap, inl, inr, leb-true, ltb-true}
-use Rattle.safety.proofs.Words.{and_parts, and_left, or_from, or_parts, and_cases, false_from_ne_true, false≢true, none-some, same_Some, Block, kind, is_in, is_inside, Command, NoOp, EnableSlot, DisableSlot, AddressDevice, ConfigureEndpoint, EvaluateContext, ResetEndpoint, StopEndpoint, SetTrDequeue, ResetDevice, device_context_bytes, Header, Sub, Write, Reg, Bell, Read, shape_of, touches_ring, Known, device_named, no_device, taken_device, command_given, with_device, with_word, written, learned, is_bad_area, some_command, write_tests, lenient_tests, lenient, IsDriverRing, KeptByRows}
+use Rattle.safety.proofs.Words.{◌≡◌, ◌+◌, ◌%◌, ◌==◌, ◌&&◌, ◌∙◌, ℕ, not, Bool, true, false, [], Option, None, Some, is_none, option_and_then, refl, sym, ap, leb-true, ltb-true, rules, and_parts, and_left, or_from, or_parts, and_cases, false_from_ne_true, false≢true, none-some, same_Some, Block, kind, is_in, is_inside, Command, AddressDevice, device_context_bytes, Header, Sub, Write, Reg, Bell, Read, shape_of, touches_ring, Known, device_named, no_device, taken_device, command_given, with_device, with_word, written, learned, is_bad_area, some_command, write_tests, lenient_tests, lenient, IsDriverRing, KeptByRows}
 use Rattle.ownership_rules.specs.Commands as commands
 use Rattle.safety.proofs.Headers.{found_in, shape_is}
 use Rattle.safety.proofs.TestsPassed.{AllFail, tests_fail}
@@ -27,15 +26,7 @@ unfolding taken_device
 takes_is k (AddressDevice s bsr n) e at =
     let is = none_before (k.device s) s (device_named k s) e at in
     record { bsr = bsr; context = n; command = ap (λ t. AddressDevice t bsr n) is.1; fresh = ap k.device (sym is.1) ∙ is.0; named = ap (device_named k) (sym is.1) ∙ is.2 }
-takes_is k NoOp e at = absurd (none-some e at)
-takes_is k EnableSlot e at = absurd (none-some e at)
-takes_is k (DisableSlot s) e at = absurd (none-some e at)
-takes_is k (ConfigureEndpoint s dc n) e at = absurd (none-some e at)
-takes_is k (EvaluateContext s n) e at = absurd (none-some e at)
-takes_is k (ResetEndpoint s i) e at = absurd (none-some e at)
-takes_is k (StopEndpoint s i) e at = absurd (none-some e at)
-takes_is k (SetTrDequeue s i p cycle) e at = absurd (none-some e at)
-takes_is k (ResetDevice s) e at = absurd (none-some e at)
+takes_is k _ e at = absurd (none-some e at)
 
 given_some : (k : Known) (o : Option Command) (e : ℕ × ℕ) → option_and_then (taken_device k) o ≡ Some e → (c : Command) × (o ≡ Some c) × (taken_device k c ≡ Some e)
 given_some k None e at = absurd (none-some e at)
@@ -64,19 +55,7 @@ module _ (h : Header) where
   taken_area : (k : Known) (s n d : ℕ) (bsr : Bool) → commands.has_bad_content h k (AddressDevice s bsr n) ≡ false → k.device s ≡ None → device_named k s ≡ d →
       touches_ring h d (device_context_bytes h.context_size) ≡ false
   unfolding commands.has_bad_content commands.takes_bad_device commands.is_bad_device is_bad_area
-  taken_area k s n d bsr good fresh named =
-      let takes = (or_parts _ (commands.takes_bad_device h k s n) good).1 in
-      elim (and_cases (is_none (k.device s)) _ takes) [
-        | inl other ↦ absurd (false≢true (sym other ∙ ap (λ o. is_none o) fresh))
-        | inr apart ↦
-            let device = (or_parts _ (commands.is_bad_device h k s n (device_named k s)) apart).1 in
-            let five = (or_parts _ _ device).0 in
-            let four = (or_parts _ _ five).0 in
-            let three = (or_parts _ _ four).0 in
-            let area = (or_parts _ (is_bad_area h k (device_named k s) (device_context_bytes h.context_size)) three).1 in
-            let ends = (or_parts _ _ area).0 in
-            ap (λ x. touches_ring h x (device_context_bytes h.context_size)) (sym named) ∙ (or_parts _ _ ends).1
-      ]
+  taken_area k s n d bsr good fresh named = search (rules, or_parts, and_cases, is_none, false≢true)
 
   pub taking_apart : (k : Known) (a w s d : ℕ) → CleanTaking h k a w s d → touches_ring h d (device_context_bytes h.context_size) ≡ false
   taking_apart k a w s d t =

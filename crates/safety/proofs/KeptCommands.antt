@@ -1,6 +1,5 @@
 -- The command ring holds commands, each alone in its descriptor, and is open from its first doorbell on: kept by each row
-use Rattle.std.proofs.Common.{◌≡◌, ◌-◌, ◌<◌, ◌⊎◌, ◌==◌, ◌&&◌, ◌||◌, ◌++◌, ◌∙◌, ℕ, not, nat_lt, true, false, List, [], length, All, Option, None, Some, is_some, slice_get, arith, refl, sym, ap, subst, inl, inr, get_or, length-append, eqb-true, ltb-true}
-use Rattle.safety.proofs.Words.{list_any, list_all, cases_lt, cond_both, cond-false, and_cases, and_parts, or_parts, not-false, false≢true, slice_get_within, get_or_from_slice_get, get_or-append_right, All-push, All-get_or, Block, BlockKind, RingKind, Cmd, Evt, Xfer, kind, is_command, is_left_out_command, is_command_completion, is_badly_formed, is_no_command, is_command_left_out, has_left_out_field, is_bad_descriptor, is_left_out, Data, Shape, is_shape, RingView, Declares, Opens, Reaches, changed, after, ceiling, cases_option, slice_get-append, ceiling_held, command_of, command_by_kind, Header, Sub, Write, Reg, Bell, Read, IsHeader, may_stand_together, is_command_kind, ring_with, shape_of, command_ring, command_id, Known, on_ring, command_at, next_command, endpoint_rung, rung, finished, completed, event_read, learned, is_driver_ring, declaration_tests, lenient_tests, lenient, CommandRingKeeps, KeptByRows, EndpointsKeep}
+use Rattle.safety.proofs.Words.{◌≡◌, ◌-◌, ◌<◌, ◌⊎◌, ◌==◌, ◌&&◌, ◌++◌, ◌∙◌, ℕ, nat_lt, true, false, List, [], length, All, Option, None, Some, is_some, slice_get, arith, refl, sym, ap, subst, inl, inr, get_or, length-append, eqb-true, ltb-true, rules, list_all, cases_lt, cond_both, cond-false, and_cases, and_parts, or_parts, not-false, false≢true, slice_get_within, get_or_from_slice_get, get_or-append_right, All-push, All-get_or, Block, BlockKind, RingKind, Cmd, kind, is_command, is_command_completion, is_no_command, is_command_left_out, is_bad_descriptor, is_left_out, Data, Shape, is_shape, RingView, Declares, Opens, Reaches, changed, after, ceiling, cases_option, slice_get-append, ceiling_held, command_of, command_by_kind, Header, Sub, Write, Reg, Bell, Read, IsHeader, may_stand_together, is_command_kind, ring_with, shape_of, command_ring, command_id, Known, on_ring, command_at, next_command, endpoint_rung, rung, finished, completed, event_read, learned, is_driver_ring, declaration_tests, lenient_tests, lenient, CommandRingKeeps, KeptByRows, EndpointsKeep}
 use Rattle.trb.specs.declared.kind.BlockKind.TheVariants as kinds
 use Rattle.safety.specs.RingsKeep.{IsDriverRing}
 use Rattle.safety.proofs.TestsPassed.{AllFail, tests_fail, each_fails}
@@ -12,7 +11,7 @@ use Rattle.safety.proofs.EndpointHistories.{finish_elsewhere}
 use Rattle.safety.proofs.KeptCommandRing.{command_with}
 use Rattle.safety.proofs.KeptRings.{completion_facts}
 use Rattle.safety.proofs.DriverRings.{endpoints_of}
-use Rattle.safety.proofs.SameDriver.{SameGiven, view_after}
+use Rattle.safety.proofs.SameDriver.{view_after}
 use Rattle.safety.proofs.RowFrames.{register_leaves, written_view}
 use Rattle.safety.proofs.TransferFrames.{transfer_command}
 use Rattle.safety.proofs.CleanRows.{event_facts}
@@ -33,25 +32,12 @@ read_by_kind kinds.NoOpCommand b h = refl
 read_by_kind _ b h = absurd (false≢true h)
 
 is_read : (b : Block) → is_no_command b ≡ false → is_command_left_out b ≡ false → is_some (command_of b) ≡ true
-is_read b good inside =
-    let kept = (or_parts (is_left_out_command (kind b)) (has_left_out_field (kind b) b) inside).0 in
-    let is : is_command (kind b) ≡ true =
-    elim (and_cases (not (is_command (kind b))) (not (is_left_out_command (kind b))) good) [
-      | inl is ↦ not-false (is_command (kind b)) is
-      | inr left ↦ absurd (false≢true (sym kept ∙ not-false (is_left_out_command (kind b)) left))
-    ] in
-    ap (λ o. is_some o) (cond-false (is_command_left_out b) None (command_by_kind (kind b) b) inside) ∙ read_by_kind (kind b) b is
+is_read b good inside = search (rules, is_some, or_parts, and_cases, not-false, false≢true, cond-false, read_by_kind)
 
 command_blocks : (t : RingKind) (blocks : List Block) → t ≡ Cmd → is_bad_descriptor t blocks ≡ false → is_left_out t blocks ≡ false →
     (length blocks ≡ 1) × All (λ b. is_some (command_of b) ≡ true) blocks
-command_blocks Cmd blocks is good inside =
-    let two = or_parts (is_badly_formed blocks || not (length blocks == 1)) (list_any is_no_command blocks) good in
-    let one = or_parts (is_badly_formed blocks) (not (length blocks == 1)) two.0 in
-    let commands = each_fails is_no_command blocks two.1 in
-    let kept = each_fails is_command_left_out blocks inside in
-    (eqb-true (length blocks) 1 (not-false (length blocks == 1) one.1), λ i d within. is_read (get_or blocks i d) (commands i d within) (kept i d within))
-command_blocks Xfer blocks is good inside = cc
-command_blocks Evt blocks is good inside = absurd (false≢true (sym good))
+command_blocks Cmd blocks is good inside = search (rules, length, is_some, or_parts, each_fails, eqb-true, not-false, is_read, get_or, false≢true)
+command_blocks _ blocks is good inside = search (rules, length, is_some, or_parts, each_fails, eqb-true, not-false, is_read, get_or, false≢true)
 
 -- what is declared then is what was declared, or is declared now
 declared_then : (P : Block → Type 0) (xs ys : List Block) (p : ℕ) (d : Block) → ((p : ℕ) (d : Block) → slice_get xs p ≡ Some d → P d) → All P ys → slice_get (xs ++ ys) p ≡ Some d → P d
@@ -79,17 +65,9 @@ view_declares shape v blocks good keeps = record {
   held = keeps.held;
 }
 
-given_same : (v w : RingView) → SameGiven v w → ((w.held ≡ None) ⊎ ((w.held ≡ Some 0) × (w.floor ≡ Data 0))) → ViewOfCommands v → ViewOfCommands w
-given_same v w same held keeps = record {
-  commands = λ p d at. keeps.commands p d (ap (λ q. slice_get q p) (sym same.queue) ∙ at);
-  alone = subst (λ (ns : List ℕ). All (λ n. n ≡ 1) ns) (sym same.lengths) keeps.alone;
-  held = held;
-}
-
 command_is : (t : RingKind) → is_command_kind t ≡ true → t ≡ Cmd
 command_is Cmd h = refl
-command_is Evt h = absurd (false≢true h)
-command_is Xfer h = absurd (false≢true h)
+command_is _ h = absurd (false≢true h)
 
 module _ (h : Header) where
   pub view_of : (k : Known) → CommandRingKeeps h k → ViewOfCommands (k.ring (command_id h))
@@ -150,11 +128,7 @@ module _ (h : Header) where
 
   -- the next command can be finished where the ring is open alone
   pub open_now : (k : Known) → ViewOfCommands (k.ring (command_id h)) → next_command h k < ceiling (shape_of h (command_id h)) (k.ring (command_id h)) → (k.ring (command_id h)).held ≡ None
-  open_now k view below =
-      elim view.held [
-        | inl opened ↦ opened
-        | inr start ↦ absurd (omega (arith, ceiling_held (shape_of h (command_id h)) (k.ring (command_id h)) 0 start.0, below))
-      ]
+  open_now k view below = search (rules, ceiling_held)
 
   pub completed_view : IsHeader h → (k : Known) → EndpointsKeep h k → (b : Block) →
       (completed h k b).ring (command_id h) ≡ changed (shape_of h (command_id h)) (k.ring (command_id h)) (Reaches (after (shape_of h (command_id h)) (next_command h k)))

@@ -1,6 +1,5 @@
 -- How many events were read and where ERDP stands, behind each row
-use Rattle.std.proofs.Common.{◌≡◌, ◌+◌, ◌-◌, ◌<◌, ◌≤◌, ◌&&◌, ◌||◌, if◌then◌else◌, ◌∙◌, ℕ, not, true, false, arith, refl, sym, ap, ltb-false}
-use Rattle.safety.proofs.Words.{cond_both, cond-false, false≢true, Block, kind, shape_facts, place_count, Header, Register, Erdp, Usbcmd, Sub, Write, Reg, Bell, Read, event_shape, event_size, run_bit, reset_bit, Known, run_or_stop, valued, register_written, learned, may_pass, is_bad_erdp, is_past_room, Unstarted, KeptByRows}
+use Rattle.safety.proofs.Words.{◌≡◌, ◌+◌, ◌-◌, ◌<◌, ◌≤◌, ◌∙◌, ℕ, false, arith, refl, sym, ap, ltb-false, rules, cond_both, cond-false, false≢true, Block, kind, shape_facts, place_count, Header, Register, Usbcmd, Sub, Write, Reg, Bell, Read, event_shape, event_size, Known, run_or_stop, valued, register_written, learned, may_pass, is_bad_erdp, is_past_room, Unstarted, KeptByRows}
 use Rattle.safety.proofs.Headers.{EventRing, event_ring_is}
 use Rattle.safety.proofs.ErdpMoves.{erdp_within}
 use Rattle.safety.proofs.SameDriver.{event_same}
@@ -12,14 +11,7 @@ module _ (h : Header) where
 
   run_counts : (k : Known) (x : ℕ) → ((run_or_stop k x).dequeue ≡ k.dequeue) × ((run_or_stop k x).started ≡ false → k.started ≡ false)
   unfolding run_or_stop
-  run_counts k x =
-      let on : Known = record k { started = true } in
-      let off : Known = record k { stopped = true } in
-      cond_both (not k.started) (if run_bit x && not (reset_bit x) then on else k) (if not (run_bit x) || reset_bit x then off else k)
-      (λ l. (l.dequeue ≡ k.dequeue) × (l.started ≡ false → k.started ≡ false))
-      (λ _. cond_both (run_bit x && not (reset_bit x)) on k (λ l. (l.dequeue ≡ k.dequeue) × (l.started ≡ false → k.started ≡ false))
-      (λ _. (refl, λ e. absurd (false≢true (sym e)))) (λ _. (refl, λ e. e)))
-      (λ _. cond_both (not (run_bit x) || reset_bit x) off k (λ l. (l.dequeue ≡ k.dequeue) × (l.started ≡ false → k.started ≡ false)) (λ _. (refl, λ e. e)) (λ _. (refl, λ e. e)))
+  run_counts k x = search (rules, false≢true)
 
   -- the pointer goes on, no further than what may be passed
   pub record Dequeues (k l : Known) : Type 0 where
@@ -29,11 +21,8 @@ module _ (h : Header) where
 
   dequeues_by : (k : Known) (r : Register) (x : ℕ) → is_bad_erdp h k r x ≡ false → Dequeues k (register_written h k r x)
   unfolding register_written valued
-  dequeues_by k Usbcmd x good =
-      let counts = run_counts (valued k Usbcmd x) x in record { from = omega (arith, counts.0); to = omega (arith, counts.0); before = counts.1 }
-  dequeues_by k Erdp x good =
-      let within = erdp_within h k x good in record { from = within.0; to = within.1; before = λ e. e }
-  dequeues_by k r x good = record { from = omega arith; to = omega arith; before = λ e. e }
+  dequeues_by k Usbcmd x good = search (rules, run_counts, erdp_within)
+  dequeues_by k r x good = search (rules, run_counts, erdp_within)
 
   pub dequeues : (k : Known) (r : Register) (x : ℕ) → is_bad_erdp h k r x ≡ false → Dequeues k (learned h k (Reg r x))
   unfolding learned
@@ -89,15 +78,7 @@ module _ (h : Header) where
   -- ---- before the start
 
   unstarted_still : (k l : Known) → l.reads ≡ k.reads → l.dequeue ≡ k.dequeue → SameSlots k l → ((r : ℕ) → SamePointer (k.ring r) (l.ring r)) → Unstarted h k → Unstarted h l
-  unstarted_still k l reads dequeue slots pointers u = record {
-    reads = reads ∙ u.reads;
-    dequeue = dequeue ∙ u.dequeue;
-    slots = λ s. ap (λ f. f s) slots.slot_state ∙ u.slots s;
-    rings = λ s i. ap (λ f. f s i) slots.ring_of ∙ u.rings s i;
-    floors = λ r. (pointers r).floor ∙ u.floors r;
-    held = λ r. (pointers r).held ∙ u.held r;
-    seen = λ s i. ap (λ f. f s i) slots.stop_seen ∙ u.seen s i;
-  }
+  unstarted_still k l reads dequeue slots pointers u = search rules
 
   none_passed : (k : Known) → k.started ≡ false → may_pass k ≡ 0
   unfolding may_pass

@@ -1,6 +1,5 @@
 -- What is kept of device contexts under lease is kept by each row
-use Rattle.std.proofs.Common.{◌≡◌, ◌∙◌, ℕ, true, false, Some, refl, sym, ap, subst, inl, inr}
-use Rattle.safety.proofs.Words.{cases_Bool, or_parts, false≢true, none-some, Block, BlockKind, TransferEvent, CommandCompletion, kind, Header, Register, Dcbaap, Erstba, Sub, Write, Reg, Bell, Read, IsHeader, with_register, Known, event_read, learned, completed, is_impossible_by_kind, is_bad_register, DriverKeeps, DevicesKeep, KeptByRows}
+use Rattle.safety.proofs.Words.{◌≡◌, ◌∙◌, ℕ, true, false, Some, refl, sym, ap, subst, inl, inr, cases_Bool, or_parts, false≢true, none-some, Block, BlockKind, TransferEvent, CommandCompletion, kind, Header, Register, Dcbaap, Erstba, Sub, Write, Reg, Bell, Read, IsHeader, with_register, Known, event_read, learned, completed, is_impossible_by_kind, is_bad_register, DriverKeeps, DevicesKeep, KeptByRows}
 use Rattle.safety.proofs.EventRead.{learned_read}
 use Rattle.safety.proofs.WithReads.{with_reads}
 use Rattle.safety.proofs.CleanRows.{EventFacts, event_facts, register_facts}

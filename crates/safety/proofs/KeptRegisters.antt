@@ -1,33 +1,25 @@
 -- Which registers were written, and with what, is kept by each row
-use Rattle.std.proofs.Common.{◌≡◌, ◌&&◌, ◌||◌, ◌⊎◌, if◌then◌else◌, ◌∷◌, ◌∙◌, ℕ, not, true, false, [], Option, None, Some, is_some, is_none, refl, sym, ap, inl, inr}
-use Rattle.safety.proofs.Words.{list_any, cases_Bool, cond_both, cond-true, cond-false, or_parts, and_cases, not_from_false, false≢true, RingKind, Cmd, Evt, Xfer, Header, Register, Usbcmd, Crcr, Erstsz, Erstba, Erdp, Reg, is_command_kind, is_driver_kind, with_register, same_register, run_bit, reset_bit, Known, run_or_stop, valued, register_written, learned, is_unwritten, is_late_reset, is_early_start, is_wrong_start, is_bad_register}
+use Rattle.safety.proofs.Words.{◌≡◌, ◌&&◌, ◌⊎◌, ◌∙◌, ℕ, not, true, false, Option, None, Some, is_some, is_none, refl, sym, ap, inl, inr, rules, cond_both, cond-true, cond-false, or_parts, and_cases, not_from_false, false≢true, RingKind, Cmd, Header, Register, Usbcmd, Crcr, Erstsz, Reg, is_command_kind, is_driver_kind, with_register, same_register, run_bit, reset_bit, Known, run_or_stop, valued, register_written, learned, is_unwritten, is_early_start, is_bad_register}
 
 pub command_drives : (kind : RingKind) → is_command_kind kind ≡ true → is_driver_kind kind ≡ true
 command_drives Cmd is = refl
-command_drives Evt is = absurd (false≢true is)
-command_drives Xfer is = absurd (false≢true is)
+command_drives _ is = absurd (false≢true is)
 
 pub written_stays : (values : Register → Option ℕ) (r : Register) (v : ℕ) (q : Register) → is_some (values q) ≡ true → is_some (with_register values r v q) ≡ true
 written_stays values r v q is = cond_both (same_register q r) (Some v) (values q) (λ o. is_some o ≡ true) (λ _. refl) (λ _. is)
 
-some_is : (o : Option ℕ) → is_none o ≡ false → is_some o ≡ true
+pub some_is : (o : Option ℕ) → is_none o ≡ false → is_some o ≡ true
 some_is None e = absurd (false≢true (sym e))
 some_is (Some x) e = refl
 
 module _ (h : Header) where
   run_register : (k : Known) (x : ℕ) → (run_or_stop k x).register ≡ k.register
   unfolding run_or_stop
-  run_register k x =
-      let on : Known = record k { started = true } in
-      let off : Known = record k { stopped = true } in
-      cond_both (not k.started) (if run_bit x && not (reset_bit x) then on else k) (if not (run_bit x) || reset_bit x then off else k) (λ l. l.register ≡ k.register)
-      (λ _. cond_both (run_bit x && not (reset_bit x)) on k (λ l. l.register ≡ k.register) (λ _. refl) (λ _. refl))
-      (λ _. cond_both (not (run_bit x) || reset_bit x) off k (λ l. l.register ≡ k.register) (λ _. refl) (λ _. refl))
+  run_register k x = search rules
 
   registered_by : (k : Known) (r : Register) (v : ℕ) → (register_written h k r v).register ≡ with_register k.register r v
   unfolding register_written valued
   registered_by k Usbcmd v = run_register (valued k Usbcmd v) v
-  registered_by k Erdp v = refl
   registered_by k r v = refl
 
   -- the last value of each register
@@ -43,18 +35,7 @@ module _ (h : Header) where
 
   run_starts : (k : Known) (x : ℕ) → (run_or_stop k x).started ≡ true → (k.started ≡ true) ⊎ ((k.started ≡ false) × ((run_bit x && not (reset_bit x)) ≡ true))
   unfolding run_or_stop
-  run_starts k x on =
-      elim (cases_Bool k.started) [
-        | inl started ↦ inl started
-        | inr before ↦ elim (cases_Bool (run_bit x && not (reset_bit x))) [
-          | inl runs ↦ inr (before, runs)
-          | inr waits ↦
-              let starts : Known = record k { started = true } in
-              let stops : Known = record k { stopped = true } in
-              inl (sym (ap (λ (l : Known). l.started) (cond-true (not k.started) (if run_bit x && not (reset_bit x) then starts else k) (if not (run_bit x) || reset_bit x then stops else k) (not_from_false k.started before)
-              ∙ cond-false (run_bit x && not (reset_bit x)) starts k waits)) ∙ on)
-        ]
-      ]
+  run_starts k x on = search (rules, cond-true, not_from_false, cond-false)
 
   starts_by : (k : Known) (r : Register) (v : ℕ) → (register_written h k r v).started ≡ true → (k.started ≡ true) ⊎ Starts k r v
   unfolding register_written valued
@@ -63,7 +44,6 @@ module _ (h : Header) where
         | inl started ↦ inl started
         | inr starts ↦ inr (record { before = starts.0; register = refl; runs = starts.1 })
       ]
-  starts_by k Erdp v on = inl on
   starts_by k r v on = inl on
 
   pub register_starts : (k : Known) (r : Register) (v : ℕ) → (learned h k (Reg r v)).started ≡ true → (k.started ≡ true) ⊎ Starts k r v
@@ -74,19 +54,7 @@ module _ (h : Header) where
   all_written : (k : Known) (v : ℕ) → is_bad_register h k Usbcmd v ≡ false → k.started ≡ false → (run_bit v && not (reset_bit v)) ≡ true →
       (is_some (k.register Crcr) ≡ true) × (is_some (k.register Erstsz) ≡ true)
   unfolding is_bad_register is_early_start is_unwritten
-  all_written k v good before runs =
-      elim (and_cases (not k.started) (is_late_reset k v || is_early_start k v || is_wrong_start h k v) good) [
-        | inl on ↦ absurd (false≢true (sym on ∙ not_from_false k.started before))
-        | inr none ↦
-            let early = (or_parts (is_late_reset k v) (is_early_start k v) (or_parts (is_late_reset k v || is_early_start k v) (is_wrong_start h k v) none).0).1 in
-            elim (and_cases (run_bit v && not (reset_bit v)) (list_any (λ r. is_none (k.register r)) (Crcr ∷ Erstsz ∷ Erstba ∷ Erdp ∷ [])) early) [
-              | inl waits ↦ absurd (false≢true (sym waits ∙ runs))
-              | inr written ↦
-                  let first = or_parts (is_none (k.register Crcr)) (list_any (λ r. is_none (k.register r)) (Erstsz ∷ Erstba ∷ Erdp ∷ [])) written in
-                  let second = or_parts (is_none (k.register Erstsz)) (list_any (λ r. is_none (k.register r)) (Erstba ∷ Erdp ∷ [])) first.1 in
-                  (some_is (k.register Crcr) first.0, some_is (k.register Erstsz) second.0)
-            ]
-      ]
+  all_written k v good before runs = search (rules, is_some, and_cases, false≢true, not_from_false, or_parts, is_none, some_is)
 
   pub starts_written : (k : Known) (r : Register) (v : ℕ) → is_bad_register h k r v ≡ false → Starts k r v → (is_some (k.register Crcr) ≡ true) × (is_some (k.register Erstsz) ≡ true)
   starts_written k r v good s = all_written k v (ap (λ q. is_bad_register h k q v) (sym s.register) ∙ good) s.before s.runs

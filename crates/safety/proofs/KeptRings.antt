@@ -1,6 +1,5 @@
 -- What the rules keep of each ring is kept by each row: of a command that succeeds holds still what was tested when it was given
-use Rattle.std.proofs.Common.{◌≡◌, ◌<◌, ◌==◌, ◌∙◌, ℕ, not, true, false, [], Some, arith, sym, ap, ltb-true}
-use Rattle.safety.proofs.Words.{or_parts, not-false, Block, kind, pointer, code, is_command_completion, address_of, ceiling, RingKeeps, Command, NoOp, EnableSlot, DisableSlot, AddressDevice, ConfigureEndpoint, EvaluateContext, ResetEndpoint, StopEndpoint, SetTrDequeue, ResetDevice, Header, Row, Sub, Write, Reg, Bell, Read, IsHeader, shape_of, command_id, Known, command_at, next_command, may_be_taken, can_finish, is_impossible_completion, is_impossible_by_kind, lenient, IsDriverRing, IsUnfinished, CommandKeeps, MovesIf, StaysIf, DriverKeeps, KeptByRestoring, StillReads, MovesOn, StillHolds, RingsKeep}
+use Rattle.safety.proofs.Words.{◌≡◌, ◌<◌, ◌∙◌, ℕ, true, false, [], Some, arith, sym, ap, ltb-true, rules, or_parts, not-false, Block, kind, is_command_completion, ceiling, RingKeeps, Command, AddressDevice, SetTrDequeue, Header, Row, Read, IsHeader, shape_of, command_id, Known, command_at, next_command, may_be_taken, can_finish, is_impossible_completion, is_impossible_by_kind, lenient, IsDriverRing, IsUnfinished, CommandKeeps, MovesIf, StaysIf, DriverKeeps, KeptByRestoring, StillReads, MovesOn, StillHolds, RingsKeep}
 use Rattle.safety.proofs.Headers.{ring_shape}
 use Rattle.safety.proofs.GivenCommands.{content_good, are_free}
 use Rattle.safety.proofs.NoWait.{ceiling_given}
@@ -19,14 +18,7 @@ pub record CompletionFacts (h : Header) (k : Known) (b : Block) : Type 0 where
 module _ (h : Header) where
   pub by_completion : (k : Known) (b : Block) → is_impossible_completion h k b ≡ false → CompletionFacts h k b
   unfolding is_impossible_completion may_be_taken
-  by_completion k b possible =
-      let three = or_parts _ (not (can_finish k b (command_at h k (next_command h k)))) possible in
-      let two = or_parts _ (code b == 0) three.0 in
-      let one = or_parts (not (may_be_taken h k)) (not (pointer b == address_of (shape_of h (command_id h)) (next_command h k))) two.0 in
-      record {
-        below = ltb-true (next_command h k) (ceiling (shape_of h (command_id h)) (k.ring (command_id h))) (not-false _ one.0);
-        finishes = not-false (can_finish k b (command_at h k (next_command h k))) three.1;
-      }
+  by_completion k b possible = search (rules, or_parts, ltb-true, not-false)
 
   pub completion_facts : (k : Known) (b : Block) → is_command_completion (kind b) ≡ true → is_impossible_by_kind h k (kind b) b ≡ false → CompletionFacts h k b
   unfolding is_impossible_by_kind
@@ -47,35 +39,18 @@ module _ (h : Header) where
   moves_still : (k : Known) (c : Command) → MovesIf h k c → StaysIf h k c → MovesOn h k c
   moves_still k (SetTrDequeue s i p cycle) moves stays = moves
   moves_still k (AddressDevice s bsr n) moves stays = λ on r at. (stays r at).here
-  moves_still k NoOp moves stays = tt
-  moves_still k EnableSlot moves stays = tt
-  moves_still k (DisableSlot s) moves stays = tt
-  moves_still k (ConfigureEndpoint s dc n) moves stays = tt
-  moves_still k (EvaluateContext s n) moves stays = tt
-  moves_still k (ResetEndpoint s i) moves stays = tt
-  moves_still k (StopEndpoint s i) moves stays = tt
-  moves_still k (ResetDevice s) moves stays = tt
+  moves_still k _ moves stays = tt
 
   -- so what was tested of an unfinished command holds still
   pub command_holds : (k : Known) (p : ℕ) (c : Command) → CommandKeeps h k p c → StillHolds h k c
-  command_holds k p c keeps = record {
-    placed = keeps.binds;
-    repeats = keeps.repeats;
-    unkept = keeps.unkept;
-    free = are_free h k c (content_good h k c keeps.good);
-    moves_on = moves_still k c keeps.moves_on keeps.stays;
-    restored = keeps.restored;
-  }
+  command_holds k p c keeps = search (rules, are_free, content_good, moves_still)
 
   pub still_of : IsHeader h → (k : Known) (row : Row) → DriverKeeps h k → lenient h k row ≡ [] → StillReads h k row
-  still_of is k (Sub r blocks) d clean = tt
-  still_of is k (Write a w) d clean = tt
-  still_of is k (Reg r x) d clean = tt
-  still_of is k (Bell s t) d clean = tt
   still_of is k (Read b) d clean = λ completion c at success.
       let facts : EventFacts h k b = event_facts h k b clean in
       let finish : CompletionFacts h k b = completion_facts k b completion facts.possible in
       command_holds k (next_command h k) c (d.unfinished (next_command h k) c (next_unfinished is k d facts.started finish.below c at))
+  still_of is k _ d clean = tt
 
   -- the next row keeps the rings
   pub kept_rings : KeptByRestoring h (λ k. (r : ℕ) → IsDriverRing h r → RingKeeps (shape_of h r) k.memory (k.ring r))

@@ -1,6 +1,5 @@
 -- Each row keeps what is known of states
-use Rattle.std.proofs.Common.{◌≡◌, ◌&&◌, not, true, false, refl}
-use Rattle.safety.proofs.Words.{not-false, Block, BlockKind, kind, is_transfer_event, is_command_completion, Header, Sub, Write, Reg, Bell, Read, IsHeader, shape_of, command_id, Known, event_read, learned, is_in_profile, is_impossible_by_kind, StatesKeep, DriverKeeps, KeptByRows}
+use Rattle.safety.proofs.Words.{◌≡◌, ◌&&◌, not, true, false, refl, rules, not-false, Block, BlockKind, kind, is_transfer_event, is_command_completion, Header, Sub, Write, Reg, Bell, Read, IsHeader, Known, event_read, learned, is_in_profile, is_impossible_by_kind, StatesKeep, DriverKeeps, KeptByRows}
 use Rattle.trb.specs.declared.kind.BlockKind.TheVariants as kinds
 use Rattle.safety.proofs.EndpointHistories.{row_keeps}
 use Rattle.safety.proofs.DriverRings.{endpoints_of}
@@ -23,14 +22,7 @@ module _ (h : Header) where
   -- counted as read
   counted_parts : (k : Known) (b : Block) → PartsStand h (event_read h k (kind b) b) → PartsStand h (learned h k (Read b))
   unfolding learned
-  counted_parts k b parts =
-      let m : Known = event_read h k (kind b) b in
-      let l : Known = learned h k (Read b) in
-      record {
-        endpoints = endpoints_same m l refl refl (λ r. refl) parts.endpoints;
-        slots = slots_same m l refl refl refl parts.slots;
-        seen = seen_same h m l refl refl refl (λ r. refl) (stops_on h m l (view_same (shape_of h (command_id h)) (m.ring (command_id h)) (l.ring (command_id h)) refl)) parts.seen;
-      }
+  counted_parts k b parts = search (rules, endpoints_same, slots_same, seen_same, stops_on, view_same)
 
   states_read : IsHeader h → (k : Known) (b : Block) → DriverKeeps h k → EventFacts h k b → StatesKeep h (learned h k (Read b))
   states_read is k b d facts =

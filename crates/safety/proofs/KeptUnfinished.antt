@@ -1,6 +1,5 @@
 -- What is kept of unfinished commands is kept by each row
-use Rattle.std.proofs.Common.{◌≡◌, ◌&&◌, not, true, false, subst, sym}
-use Rattle.safety.proofs.Words.{not-false, Block, BlockKind, TransferEvent, CommandCompletion, kind, is_transfer_event, Header, Sub, Write, Reg, Bell, Read, IsHeader, Known, event_read, learned, is_in_profile, is_impossible_by_kind, DriverKeeps, CommandsKeep, KeptByRestoring}
+use Rattle.safety.proofs.Words.{◌≡◌, ◌&&◌, not, true, false, subst, sym, not-false, Block, BlockKind, TransferEvent, CommandCompletion, kind, is_transfer_event, Header, Sub, Write, Reg, Bell, Read, IsHeader, Known, event_read, learned, is_in_profile, is_impossible_by_kind, DriverKeeps, CommandsKeep, KeptByRestoring}
 use Rattle.safety.proofs.EventRead.{learned_read}
 use Rattle.safety.proofs.CleanRows.{EventFacts, event_facts}
 use Rattle.safety.proofs.CommandsRegister.{register_commands, reads_commands}

@@ -1,10 +1,6 @@
 -- A write changes no word under lease: each given block and Link keeps the Cycle bit that it shows, and a word that is written as it
 -- stands gives nothing
-use Rattle.std.proofs.Common.{◌≡◌, ◌%◌, ◌+◌, ◌-◌, ◌<◌, ◌≤◌, ◌==◌, ◌&&◌, ◌||◌, ◌∙◌, ℕ, not, Bool, true, false, nat_lt, arith, lt-ltb, eq-eqb, eqb-true, refl, sym, ap, subst, inl, inr}
-use Rattle.safety.proofs.Words.{fun_ext, and_from, cases_Bool, not-false, false_from_ne_true, ceiling, floor_number, flips_passed, unrestored, cases_eq, crossed_link, due_is, false≢true, All-contains, put, put_here, put_elsewhere, Shape, IsShape, address_of, cycle_of, link_address, overlap, RingView, Writes, changed, is_due, is_crossing_due, gives, gives_crossing, gives_is, gives_crossing_is, leased_positions, leased_crossings, leased_position, leased_crossing, RingKeeps, MayWrite}
-use Rattle.segments.proofs.DueLists.{none_passes_at, unrestored_position}
-use Rattle.segments.proofs.Giving.{crossing_due_is}
-use Rattle.segments.proofs.Reaching.{kept_cycle}
+use Rattle.safety.proofs.Words.{◌≡◌, ◌%◌, ◌+◌, ◌-◌, ◌<◌, ◌≤◌, ◌==◌, ◌&&◌, ◌||◌, ◌∙◌, ℕ, not, Bool, true, false, nat_lt, arith, lt-ltb, eq-eqb, eqb-true, refl, sym, ap, subst, inl, inr, rules, none_passes_at, unrestored_position, crossing_due_is, kept_cycle, fun_ext, and_from, cases_Bool, not-false, false_from_ne_true, ceiling, floor_number, flips_passed, unrestored, crossed_link, due_is, false≢true, put, put_here, put_elsewhere, Shape, IsShape, address_of, cycle_of, link_address, overlap, RingView, Writes, changed, is_due, is_crossing_due, gives, gives_crossing, gives_is, gives_crossing_is, leased_position, leased_crossing, RingKeeps, MayWrite}
 
 -- the control word of a block has a byte in common with it
 control_touches : (a b : ℕ) → a ≡ b + 12 → overlap a 4 b 16 ≡ true
@@ -31,27 +27,12 @@ passed_bit shape v a w p keeps due below free at =
 
 -- the word isn't under lease
 pub free_keeps_cycles : (shape : Shape) (memory : ℕ → ℕ) (v : RingView) (a w : ℕ) → MayWrite shape memory v a w → KeepsCycles shape v a w
-free_keeps_cycles shape memory v a w may =
-    record {
-      blocks = λ p due given below at. elim (cases_Bool (v.free p)) [
-        | inl free ↦ passed_bit shape v a w p may.flips due (below free) free at
-        | inr kept ↦
-            let none = All-contains (λ p. overlap a 4 (address_of shape p) 16 ≡ false) (leased_positions shape v) p may.blocks (leased_position shape v p due given kept) in
-            absurd (false≢true (sym none ∙ control_touches a (address_of shape p) at))
-      ];
-      links = λ q due given at.
-          let free = All-contains (λ q. overlap a 4 (link_address shape q) 16 ≡ false) (leased_crossings shape v) q may.links (leased_crossing shape v q due given) in
-          absurd (false≢true (sym free ∙ control_touches a (link_address shape q) at));
-    }
+free_keeps_cycles shape memory v a w may = search (rules, passed_bit, leased_position, false≢true, control_touches, leased_crossing)
 
 -- ---- the word is written as it stands
 
 pub put_same : (memory : ℕ → ℕ) (a w : ℕ) → memory a ≡ w → put memory a w ≡ memory
-put_same memory a w same =
-    fun_ext (λ x. elim (cases_eq x a) [
-      | inl here ↦ ap (λ y. put memory a w y) here ∙ put_here memory a w ∙ sym same ∙ ap memory (sym here)
-      | inr other ↦ put_elsewhere memory a w x other
-    ])
+put_same memory a w same = search (rules, put_here, put_elsewhere)
 
 module _ (shape : Shape) (memory : ℕ → ℕ) (v : RingView) (k : RingKeeps shape memory v) (a w : ℕ) (same : memory a ≡ w) where
   -- what is given shows its cycle, also where it is free and may be passed

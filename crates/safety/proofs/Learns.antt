@@ -1,6 +1,5 @@
 -- One ring about which more is known, and which has changed in the world: all else that is said of both stays
-use Rattle.std.proofs.Common.{◌≡◌, ◌≢◌, ◌+◌, ◌∙◌, ℕ, Option, Some, None, option_and_then, slice_get, refl, sym, ap, subst, inl, inr}
-use Rattle.safety.proofs.Words.{cases_eq, none-some, with_cycle, Spot, address_of, cycle_of, RingView, floor_number, is_due, Command, StopEndpoint, command_of, named_context, Header, shape_of, command_id, World, UnderWay, Known, command_at, next_command, was_stop_seen, DriverKeeps, IsUnfinished, Stands, RingState, state_of, RingMatches, BoundRing, FreeRing, EndpointRing, UnderWayMatches, TakenCommand, Matches}
+use Rattle.safety.proofs.Words.{◌≡◌, ◌≢◌, ◌+◌, ◌∙◌, ℕ, Option, Some, None, option_and_then, slice_get, refl, sym, ap, subst, inl, inr, rules, cases_eq, none-some, Spot, address_of, RingView, floor_number, Command, StopEndpoint, command_of, named_context, Header, shape_of, command_id, World, UnderWay, Known, command_at, next_command, was_stop_seen, DriverKeeps, IsUnfinished, Stands, RingState, state_of, RingMatches, BoundRing, EndpointRing, UnderWayMatches, TakenCommand, Matches}
 use Rattle.safety.proofs.OnlyRing.{OnlyRing, unchanged_only}
 
 pub record LearnsRing (k m : Known) (r : ℕ) (x : RingView) : Type 0 where
@@ -38,54 +37,25 @@ module _ (h : Header) (k m : Known) (ring : m.ring (command_id h) ≡ k.ring (co
   seen_same _ = refl
 
   taken_same : (u : UnderWay) → TakenCommand h k u → TakenCommand h m u
-  taken_same u t = record {
-    address = t.address ∙ ap (λ n. address_of (shape_of h (command_id h)) n) (sym next_same);
-    words = λ d at. t.words d (ap (λ n. slice_get (k.ring (command_id h)).queue n) (sym next_same) ∙ ap (λ v. slice_get v.queue (next_command h m)) (sym ring) ∙ at)
-        ∙ ap (λ n. with_cycle d (cycle_of (shape_of h (command_id h)) n)) (sym next_same);
-    stopped = λ c at. t.stopped c (ap (λ n. command_at h k n) (sym next_same) ∙ sym (command_same (next_command h m)) ∙ at) ∙ sym (seen_same c);
-  }
+  taken_same u t = search (rules, next_same, slice_get, command_same, seen_same)
 
   pub under_way_same : (t : Spot) (o : Option UnderWay) → UnderWayMatches h k t o → UnderWayMatches h m t o
   under_way_same t None under = (under.0 ∙ sym next_same, λ s i. ap (λ f. f s i) stop_seen ∙ under.1 s i)
   under_way_same t (Some u) under = (under.0 ∙ ap (λ n. n + 1) (sym next_same), taken_same u under.1)
 
   pub unfinished_same : (p : ℕ) (c : Command) → IsUnfinished h m p c → IsUnfinished h k p c
-  unfinished_same p c u = record {
-    due = ap (λ v. is_due (shape_of h (command_id h)) v.floor p) (sym ring) ∙ u.due;
-    given = ap (λ v. v.given p) (sym ring) ∙ u.given;
-    command = sym (command_same p) ∙ u.command;
-  }
+  unfinished_same p c u = search (rules, command_same)
 
 -- ---- what is said of the world
 
 module _ (h : Header) (k m : Known) (r : ℕ) (x : RingView) (l : LearnsRing k m r x) where
   pub stands_learns : (w : World) → Stands h k w → Stands h m w
-  stands_learns w s = record {
-    started = s.started ∙ sym l.started;
-    stopped = s.stopped ∙ sym l.stopped;
-    registers = λ q. s.registers q ∙ ap (λ f. f q) (sym l.register);
-    queues = λ q. elim (cases_eq q r) [
-      | inl same ↦ s.queues q ∙ ap (λ p. (k.ring p).queue) same ∙ sym l.queue ∙ ap (λ v. v.queue) (sym l.here) ∙ ap (λ p. (m.ring p).queue) (sym same)
-      | inr other ↦ s.queues q ∙ ap (λ v. v.queue) (sym (l.others q other))
-    ];
-    lengths = λ q. elim (cases_eq q r) [
-      | inl same ↦ s.lengths q ∙ ap (λ p. (k.ring p).lengths) same ∙ sym l.lengths ∙ ap (λ v. v.lengths) (sym l.here) ∙ ap (λ p. (m.ring p).lengths) (sym same)
-      | inr other ↦ s.lengths q ∙ ap (λ v. v.lengths) (sym (l.others q other))
-    ];
-    dequeue = s.dequeue ∙ sym l.dequeue;
-    quiet = λ a clean apart. s.quiet a (ap (λ f. f a) (sym l.soiled) ∙ clean) apart ∙ ap (λ f. f a) (sym l.memory);
-  }
+  stands_learns w s = search rules
 
   module _ (u v : World) (s : RingState) (o : OnlyRing u v r s) where
     other_ring : (q : ℕ) → q ≢ r → EndpointRing h k u q → EndpointRing h m v q
-    other_ring q other (inl bound) =
-        inl (subst (λ f. BoundRing (shape_of h q) f (m.ring q) (state_of v q) q) (sym l.ring_of)
-        (subst (λ y. BoundRing (shape_of h q) k.ring_of y (state_of v q) q) (sym (l.others q other))
-        (subst (λ y. BoundRing (shape_of h q) k.ring_of (k.ring q) y q) (sym (o.others q other)) bound)))
-    other_ring q other (inr free) =
-        inr (subst (λ f. FreeRing (shape_of h q) f (m.ring q) (state_of v q) q) (sym l.ring_of)
-        (subst (λ y. FreeRing (shape_of h q) k.ring_of y (state_of v q) q) (sym (l.others q other))
-        (subst (λ y. FreeRing (shape_of h q) k.ring_of (k.ring q) y q) (sym (o.others q other)) free)))
+    other_ring q other (inl bound) = search rules
+    other_ring q other (inr free) = search rules
 
     -- an endpoint's ring, of which more is known
     pub matches_learns : DriverKeeps h k → Matches h k u → r ≢ command_id h → BoundRing (shape_of h r) k.ring_of x s r →

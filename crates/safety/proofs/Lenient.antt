@@ -1,9 +1,5 @@
 -- What breaks no rule of the trace's version breaks no lenient rule
-use Rattle.std.proofs.Common.{◌≡◌, ◌||◌, ◌∷◌, ◌∙◌, Bool, true, false, List, [], map, refl, sym, inl, inr}
-use Rattle.safety.proofs.Words.{cases_Bool, cond-true, cond-false, Header, Row, Known, known, Refusal, AfterStop, Test, broken_of, lenient_tests, lenient, IsLenient}
-use Rattle.ownership_rules.specs.Clean.{IsClean}
-use Rattle.ownership_rules.specs.Older.{stricter}
-use Rattle.ownership_rules.specs.Rules.{broken, tests}
+use Rattle.safety.proofs.Words.{◌≡◌, ◌||◌, ◌∷◌, ◌∙◌, Bool, true, false, List, [], map, refl, sym, inl, inr, IsClean, stricter, broken, tests, cases_Bool, cond-true, cond-false, Header, Row, Known, known, Refusal, AfterStop, Test, broken_of, lenient_tests, lenient, IsLenient}
 
 -- tests that refuse besides: where they refuse nothing, neither do those that they are made of
 fewer : (more : Refusal → Bool) (ts : List Test) → broken_of (map (λ t. (t.0, more t.0 || t.1)) ts) ≡ [] → broken_of ts ≡ []
@@ -16,7 +12,7 @@ fewer more ((c, b) ∷ ts) clean = by (more c) b (fewer more ts) clean
     by false true rest clean = cc clean
     by false false rest clean = rest clean
 
-some_none : (c : Refusal) (cs : List Refusal) → c ∷ cs ≡ [] → ⊥
+pub some_none : (c : Refusal) (cs : List Refusal) → c ∷ cs ≡ [] → ⊥
 some_none c cs e = cc
 
 module _ (h : Header) where

@@ -1,6 +1,5 @@
 -- The controller looks at the block at a ring's pointer, and waits, follows a Link or takes it: the run goes on
-use Rattle.std.proofs.Common.{◌≡◌, ◌≢◌, ◌==◌, ◌||◌, ◌∙◌, ℕ, true, false, not, List, Option, arith, refl, sym, ap, subst, inl, inr, add-zero, ne_eqb}
-use Rattle.safety.proofs.Words.{cond-false, or_from, not_from_true, Block, Spot, Data, is_inside, after, spot_address, DeclaredBlock, declared_at, next_take, Header, IsHeader, shape_of, command_id, World, seen_by_look, crossed, taken, taken_on, counted, Known, IsDriverRing, DriverKeeps, RingState, state_of, RingMatches, Unreported, BoundRing, Matches, Agrees}
+use Rattle.safety.proofs.Words.{◌≡◌, ◌≢◌, ◌==◌, ◌||◌, ◌∙◌, ℕ, true, false, not, List, Option, arith, refl, sym, ap, subst, inl, inr, add-zero, ne_eqb, cond-false, or_from, not_from_true, Block, Spot, Data, is_inside, after, spot_address, DeclaredBlock, declared_at, next_take, Header, IsHeader, shape_of, command_id, World, seen_by_look, crossed, taken, taken_on, counted, Known, IsDriverRing, DriverKeeps, RingState, state_of, RingMatches, Unreported, BoundRing, Matches, Agrees}
 use Rattle.safety.proofs.Headers.{transfer_driver, ring_shape}
 use Rattle.safety.proofs.RingMemory.{spot_lies}
 use Rattle.safety.proofs.Counted.{agrees_counted}

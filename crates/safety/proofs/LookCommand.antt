@@ -1,6 +1,5 @@
 -- The controller looks at the command ring: it waits, follows a Link, or takes the next command
-use Rattle.std.proofs.Common.{◌≡◌, ◌≢◌, ◌+◌, ◌==◌, ◌&&◌, ◌||◌, ◌⊎◌, ◌∙◌, ℕ, Bool, true, false, not, List, Option, Some, None, is_some, slice_get, arith, refl, sym, ap, subst, inl, inr, eq-eqb, eqb-true}
-use Rattle.safety.proofs.Words.{false≢true, cond-true, and_cases, or_cases, same_Some, Block, with_cycle, Spot, Data, Link, address_of, cycle_of, is_inside, after, cycle_of_bit, Command, NoOp, EnableSlot, DisableSlot, AddressDevice, ConfigureEndpoint, EvaluateContext, ResetEndpoint, StopEndpoint, SetTrDequeue, ResetDevice, command_of, Header, IsHeader, shape_of, command_id, World, UnderWay, seen_by_look, crossed, taken, taken_on, command_begun, may_scribble, counted, Known, next_command, was_stop_seen, IsDriverRing, IsUnfinished, DriverKeeps, RingState, state_of, RingMatches, CommandMatches, UnderWayMatches, TakenCommand, Agrees}
+use Rattle.safety.proofs.Words.{◌≡◌, ◌≢◌, ◌==◌, ◌&&◌, ◌||◌, ◌⊎◌, ◌∙◌, ℕ, Bool, true, false, not, List, Option, Some, None, is_some, slice_get, arith, refl, sym, ap, subst, inl, inr, eq-eqb, eqb-true, rules, false≢true, cond-true, and_cases, or_cases, same_Some, Block, Spot, Data, Link, address_of, is_inside, cycle_of_bit, Command, AddressDevice, StopEndpoint, command_of, Header, IsHeader, shape_of, command_id, World, UnderWay, seen_by_look, crossed, taken, taken_on, command_begun, may_scribble, counted, Known, next_command, was_stop_seen, IsDriverRing, IsUnfinished, DriverKeeps, RingState, state_of, RingMatches, CommandMatches, UnderWayMatches, TakenCommand, Agrees}
 use Rattle.safety.proofs.SameCommand.{command_of-with_cycle}
 use Rattle.safety.proofs.SafeContext.{AtFloor, at_floor, command_is_ring, command_at_is}
 use Rattle.safety.proofs.OnlyRing.{OnlyRing, matches_command}
@@ -15,36 +14,19 @@ same_spot_number h k n (Some x) u = u
 
 not_seen : (k : Known) (c : Command) → ((s i : ℕ) → k.stop_seen s i ≡ false) → was_stop_seen k c ≡ false
 unfolding was_stop_seen
-not_seen k NoOp none = refl
-not_seen k EnableSlot none = refl
-not_seen k (DisableSlot s) none = refl
-not_seen k (AddressDevice s bsr c) none = refl
-not_seen k (ConfigureEndpoint s dc c) none = refl
-not_seen k (EvaluateContext s c) none = refl
-not_seen k (ResetEndpoint s i) none = refl
 not_seen k (StopEndpoint s i) none = none s i
-not_seen k (SetTrDequeue s i p c) none = refl
-not_seen k (ResetDevice s) none = refl
+not_seen k _ none = refl
 
 -- a command that is taken lets the controller write the device context of an Address Device's slot
 scribbles_more : (h : Header) (w : World) (o : Option Command) (q : ℕ) → may_scribble h o w q ≡ true →
     (w.scribbles q ≡ true) ⊎ ((n : ℕ) × (bsr : Bool) × (o ≡ Some (AddressDevice q bsr n)))
 unfolding may_scribble
-scribbles_more h w None q on = inl on
-scribbles_more h w (Some NoOp) q on = inl on
-scribbles_more h w (Some EnableSlot) q on = inl on
-scribbles_more h w (Some (DisableSlot s)) q on = inl on
 scribbles_more h w (Some (AddressDevice s bsr c)) q on =
     elim (or_cases (w.scribbles q) (q == s) on) [
       | inl old ↦ inl old
       | inr new ↦ inr (c, bsr, ap (λ x. Some (AddressDevice x bsr c)) (sym (eqb-true q s new)))
     ]
-scribbles_more h w (Some (ConfigureEndpoint s dc c)) q on = inl on
-scribbles_more h w (Some (EvaluateContext s c)) q on = inl on
-scribbles_more h w (Some (ResetEndpoint s i)) q on = inl on
-scribbles_more h w (Some (StopEndpoint s i)) q on = inl on
-scribbles_more h w (Some (SetTrDequeue s i p c)) q on = inl on
-scribbles_more h w (Some (ResetDevice s)) q on = inl on
+scribbles_more h w _ q on = inl on
 
 -- the world behind a command that is taken
 begun : Header → World → World
@@ -52,17 +34,8 @@ begun h w = command_begun h (taken_on h (seen_by_look h w (command_id h)) (comma
 
 scribble_same : (h : Header) (w u : World) (o : Option Command) (q : ℕ) → u.scribbles ≡ w.scribbles → may_scribble h o u q ≡ may_scribble h o w q
 unfolding may_scribble
-scribble_same h w u None q same = ap (λ f. f q) same
 scribble_same h w u (Some (AddressDevice s bsr c)) q same = ap (λ f. f q || q == s) same
-scribble_same h w u (Some NoOp) q same = ap (λ f. f q) same
-scribble_same h w u (Some EnableSlot) q same = ap (λ f. f q) same
-scribble_same h w u (Some (DisableSlot s)) q same = ap (λ f. f q) same
-scribble_same h w u (Some (ConfigureEndpoint s dc c)) q same = ap (λ f. f q) same
-scribble_same h w u (Some (EvaluateContext s c)) q same = ap (λ f. f q) same
-scribble_same h w u (Some (ResetEndpoint s i)) q same = ap (λ f. f q) same
-scribble_same h w u (Some (StopEndpoint s i)) q same = ap (λ f. f q) same
-scribble_same h w u (Some (SetTrDequeue s i p c)) q same = ap (λ f. f q) same
-scribble_same h w u (Some (ResetDevice s)) q same = ap (λ f. f q) same
+scribble_same h w u _ q same = ap (λ f. f q) same
 
 taken_scribbles : (h : Header) (w : World) (r : ℕ) (b : Block) → (taken_on h (seen_by_look h w r) r b).scribbles ≡ w.scribbles
 unfolding seen_by_look taken_on
@@ -94,12 +67,8 @@ only_begins h w = only_begun h w (command_id h) (taken_on h (seen_by_look h w (c
     (w.pointer_of (command_id h)) (seen w (command_id h)) (only_taken h w (command_id h) (seen w (command_id h)))
 
 no_one : (o : Option UnderWay) (c : ℕ) → (c == c && is_some o) ≡ false → o ≡ None
-no_one None c free = refl
-no_one (Some u) c free =
-    elim (and_cases (c == c) true free) [
-      | inl other ↦ absurd (false≢true (sym other ∙ eq-eqb c c refl))
-      | inr none ↦ absurd (false≢true (sym none))
-    ]
+no_one None c free = search rules
+no_one (Some u) c free = search (rules, is_some, and_cases, false≢true, eq-eqb)
 
 module _ (h : Header) (is : IsHeader h) (k : Known) (unread : List Block) (w : World) (d : DriverKeeps h k) (g : Agrees h k unread w) (on : k.started ≡ true) where
   ring : IsDriverRing h (command_id h)
@@ -147,13 +116,7 @@ module _ (h : Header) (is : IsHeader h) (k : Known) (unread : List Block) (w : W
     pointer_here = (subst (λ t. RingMatches (shape_of h (command_id h)) (k.ring (command_id h)) (state_of w (command_id h)) t) x.was c.ring).pointer
 
     taken_command : TakenCommand h k (record { address = w.pointer_of (command_id h); block = seen w (command_id h); has_stopped = false })
-    taken_command = record {
-      address = pointer_here ∙ ap (λ n. address_of (shape_of h (command_id h)) n) here;
-      words = λ b at.
-          let same : x.block.block ≡ b = same_Some x.block.block b (sym x.block.queued ∙ ap (λ n. slice_get (k.ring (command_id h)).queue n) here ∙ at) in
-          x.found ∙ x.block.stands ∙ ap (λ n. with_cycle x.block.block (cycle_of (shape_of h (command_id h)) n)) here ∙ ap (λ e. with_cycle e (cycle_of (shape_of h (command_id h)) (next_command h k))) same;
-      stopped = λ e at. sym (not_seen k e none_before.1);
-    }
+    taken_command = search (rules, seen, pointer_here, here, same_Some, slice_get, ring, not_seen, none_before)
 
     -- it is unfinished, so what its giving asked for still holds
     floor : AtFloor h k
@@ -177,16 +140,9 @@ module _ (h : Header) (is : IsHeader h) (k : Known) (unread : List Block) (w : W
         ]
 
     command_takes : Agrees h k unread (counted h (begun h w))
-    command_takes =
-        command_now (begun h w) (behind_block h w (command_id h) (seen w (command_id h))) (after (shape_of h (command_id h)) x.number) (only_begins h w) x.matches
-        (subst (λ o. UnderWayMatches h k (after (shape_of h (command_id h)) x.number) o) (sym (begun_under_way h w))
-        (number_after (shape_of h (command_id h)) x.number ∙ ap (λ n. n + 1) here, taken_command))
-        may_still (begun_outside h w)
+    command_takes = search (rules, command_now, only_begins, begun_under_way, number_after, here, taken_command, may_still, begun_outside)
 
   pub command_looks : (v : World) → w.is_active (command_id h) ≡ true → LookEnds h w v (command_id h) → Agrees h k unread (counted h v)
-  command_looks v active (inl waits) = subst (λ u. Agrees h k unread (counted h u)) waits.is command_waits
-  command_looks v active (inr (inl link)) =
-      subst (λ u. Agrees h k unread (counted h u)) link.is (command_crosses (cross_done h is k w d g.stands (command_id h) ring c.spot c.ring active link.cycle_is link.link))
-  command_looks v active (inr (inr block)) =
-      subst (λ u. Agrees h k unread (counted h u)) (sym (begun_is h w) ∙ block.is)
-      (command_takes (take_done h is k w d g.stands (command_id h) ring c.spot c.ring active block.cycle_is block.link) (no_one w.under_way (command_id h) block.free))
+  command_looks v active (inl waits) = search (rules, command_waits, command_crosses, cross_done, ring, c, begun_is, command_takes, take_done, no_one)
+  command_looks v active (inr (inl link)) = search (rules, command_waits, command_crosses, cross_done, ring, c, begun_is, command_takes, take_done, no_one)
+  command_looks v active (inr (inr block)) = search (rules, command_waits, command_crosses, cross_done, ring, c, begun_is, command_takes, take_done, no_one)

@@ -1,6 +1,5 @@
 -- The three ways in which a look ends, and what each changes
-use Rattle.std.proofs.Common.{◌≡◌, ◌≢◌, ◌+◌, ◌-◌, ◌%◌, ◌^◌, ◌==◌, ◌&&◌, ◌⊎◌, if◌then◌else◌, ◌∷◌, ◌∙◌, ℕ, Bool, true, false, not, List, Some, None, is_some, refl, ap, inl, inr, cond, eq-eqb, ne_eqb, eqb-true}
-use Rattle.safety.proofs.Words.{cond-true, cond-false, not-false, same_Some, put, Block, is_set, aligned, block_at, cycle, kind, pointer, word, is_link, declared_at, Header, command_id, shape_of, World, RingEvent, Took, next_take, looked, looked_at, seen_by_look, crossed, taken, taken_on, command_begun, RingState, state_of}
+use Rattle.safety.proofs.Words.{◌≡◌, ◌≢◌, ◌+◌, ◌-◌, ◌%◌, ◌^◌, ◌==◌, ◌&&◌, ◌⊎◌, if◌then◌else◌, ◌∷◌, ℕ, Bool, true, false, List, Some, None, is_some, refl, inl, inr, cond, eq-eqb, ne_eqb, eqb-true, rules, cond-true, cond-false, not-false, same_Some, put, Block, is_set, aligned, block_at, cycle, kind, pointer, word, is_link, declared_at, Header, command_id, shape_of, World, RingEvent, Took, next_take, looked, looked_at, seen_by_look, crossed, taken, taken_on, command_begun, RingState, state_of}
 use Rattle.world_state.specs.Takes as of_takes
 use Rattle.safety.proofs.OnlyRing.{OnlyRing}
 
@@ -44,20 +43,7 @@ none_is x e = cc
 
 looked_at_is : (h : Header) (w v : World) (r : ℕ) → looked_at h w r (seen w r) ≡ Some v → LookEnds h w v r
 unfolding looked_at
-looked_at_is h w v r at =
-    elim (cond_is (not (cycle (seen w r) == w.cycle_state r)) _ _ (Some v) at) [
-      | inl waits ↦ inl (record { is = same_Some (seen_by_look h w r) v waits.1 })
-      | inr on ↦
-          let same = eqb-true (cycle (seen w r)) (w.cycle_state r) (not-false (cycle (seen w r) == w.cycle_state r) on.0) in
-          elim (cond_is (is_link (kind (seen w r))) _ _ (Some v) on.1) [
-            | inl link ↦ inr (inl (record { cycle_is = same; link = link.0; is = same_Some (crossed h (seen_by_look h w r) r (seen w r)) v link.1 }))
-            | inr block ↦
-                elim (cond_is (r == command_id h && is_some w.under_way) _ _ (Some v) block.1) [
-                  | inl busy ↦ absurd (none_is v busy.1)
-                  | inr free ↦ inr (inr (record { cycle_is = same; link = block.0; free = free.0; is = same_Some (taken h (seen_by_look h w r) r (seen w r)) v free.1 }))
-                ]
-          ]
-    ]
+looked_at_is h w v r at = search (rules, cond_is, same_Some, eqb-true, not-false, is_some, none_is)
 
 pub looked_is : (h : Header) (w v : World) (r : ℕ) → looked h w r ≡ Some v → (w.is_active r ≡ true) × LookEnds h w v r
 unfolding looked
@@ -76,25 +62,7 @@ state_eq p q c d a e f n x y z = cc
 module _ (h : Header) (w : World) (r : ℕ) where
   pub only_seen : OnlyRing w (seen_by_look h w r) r (state_of w r)
   unfolding seen_by_look
-  only_seen = record {
-    here = refl;
-    others = λ q other. refl;
-    steps = refl;
-    started = refl;
-    stopped = refl;
-    register = refl;
-    memory = refl;
-    changed = refl;
-    written = refl;
-    queue = refl;
-    lengths = refl;
-    slot_state = refl;
-    endpoint_state = refl;
-    ring_of = refl;
-    posted = refl;
-    reads = refl;
-    dequeue = refl;
-  }
+  only_seen = search rules
 
   -- the pointer and the cycle state behind a Link
   abbrev pub behind_link : Block → RingState
@@ -102,32 +70,7 @@ module _ (h : Header) (w : World) (r : ℕ) where
 
   pub only_crossed : (b : Block) → OnlyRing w (crossed h (seen_by_look h w r) r b) r (behind_link b)
   unfolding seen_by_look crossed
-  only_crossed b = record {
-    here = state_eq _ _ _ _ (w.is_active r) (w.events r) (w.events r) (w.reported r) (put_at w.pointer_of r (aligned (pointer b)))
-        (chosen_at (is_set (word b 3) 1) (put w.cycle_state r (1 - w.cycle_state r)) w.cycle_state r ∙ ap (λ n. if is_set (word b 3) 1 then n else w.cycle_state r) (put_at w.cycle_state r (1 - w.cycle_state r))) refl;
-    others = λ q other. state_eq _ _ _ _ (w.is_active q) (w.events q) (w.events q) (w.reported q) (put_off w.pointer_of r (aligned (pointer b)) q other)
-        (chosen_at (is_set (word b 3) 1) (put w.cycle_state r (1 - w.cycle_state r)) w.cycle_state q ∙ ap (λ n. if is_set (word b 3) 1 then n else w.cycle_state q) (put_off w.cycle_state r (1 - w.cycle_state r) q other)
-        ∙ both_same (is_set (word b 3) 1) (w.cycle_state q)) refl;
-    steps = refl;
-    started = refl;
-    stopped = refl;
-    register = refl;
-    memory = refl;
-    changed = refl;
-    written = refl;
-    queue = refl;
-    lengths = refl;
-    slot_state = refl;
-    endpoint_state = refl;
-    ring_of = refl;
-    posted = refl;
-    reads = refl;
-    dequeue = refl;
-  }
-    where
-      both_same : (t : Bool) (n : ℕ) → (if t then n else n) ≡ n
-      both_same true n = refl
-      both_same false n = refl
+  only_crossed b = search (rules, behind_link, state_eq, put_at, chosen_at, put_off)
 
   -- the pointer behind a taken block
   abbrev pub behind_block : Block → RingState
@@ -138,44 +81,8 @@ module _ (h : Header) (w : World) (r : ℕ) where
 
   pub only_taken : (b : Block) → OnlyRing w (taken_on h (seen_by_look h w r) r b) r (behind_block b)
   unfolding seen_by_look taken_on of_takes.declared_next
-  only_taken b = record {
-    here = state_eq _ _ _ _ (w.is_active r) _ _ (w.reported r) (put_at w.pointer_of r ((w.pointer_of r + 16) % 2 ^ 64)) refl (put_at w.events r _);
-    others = λ q other. state_eq _ _ _ _ (w.is_active q) _ _ (w.reported q) (put_off w.pointer_of r ((w.pointer_of r + 16) % 2 ^ 64) q other) refl (put_off w.events r _ q other);
-    steps = refl;
-    started = refl;
-    stopped = refl;
-    register = refl;
-    memory = refl;
-    changed = refl;
-    written = refl;
-    queue = refl;
-    lengths = refl;
-    slot_state = refl;
-    endpoint_state = refl;
-    ring_of = refl;
-    posted = refl;
-    reads = refl;
-    dequeue = refl;
-  }
+  only_taken b = search (rules, behind_block, state_eq, put_at, put_off)
 
   pub only_begun : (u : World) (s : RingState) (a : ℕ) (b : Block) → OnlyRing w u r s → OnlyRing w (command_begun h u a b) r s
   unfolding command_begun
-  only_begun u s a b o = record {
-    here = o.here;
-    others = o.others;
-    steps = o.steps;
-    started = o.started;
-    stopped = o.stopped;
-    register = o.register;
-    memory = o.memory;
-    changed = o.changed;
-    written = o.written;
-    queue = o.queue;
-    lengths = o.lengths;
-    slot_state = o.slot_state;
-    endpoint_state = o.endpoint_state;
-    ring_of = o.ring_of;
-    posted = o.posted;
-    reads = o.reads;
-    dequeue = o.dequeue;
-  }
+  only_begun u s a b o = search rules

@@ -1,6 +1,5 @@
 -- Behind a look the run goes on
-use Rattle.std.proofs.Common.{◌≡◌, ◌≢◌, ◌∙◌, ℕ, List, Some, sym, ap, inl, inr}
-use Rattle.safety.proofs.Words.{cases_Bool, cases_eq, false≢true, Block, Header, IsHeader, command_id, World, looked, counted, Known, DriverKeeps, Agrees, Runs, all_read}
+use Rattle.safety.proofs.Words.{◌≡◌, ◌≢◌, ◌∙◌, ℕ, List, Some, sym, ap, inl, inr, cases_Bool, cases_eq, false≢true, Block, Header, IsHeader, command_id, World, looked, counted, Known, DriverKeeps, Agrees, Runs, all_read}
 use Rattle.safety.proofs.LookKinds.{looked_is}
 use Rattle.safety.proofs.Look.{transfer_looks}
 use Rattle.safety.proofs.LookCommand.{command_looks}

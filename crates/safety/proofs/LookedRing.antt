@@ -1,6 +1,5 @@
 -- One ring behind a look: a Link that is followed, a block that is taken
-use Rattle.std.proofs.Common.{◌≡◌, ◌+◌, ◌-◌, ◌≤◌, ◌==◌, if◌then◌else◌, ◌∷◌, ◌++◌, ◌∙◌, ℕ, suc, zero, Bool, true, false, not, List, [], length, drop, map, Option, Some, arith, refl, sym, ap, inl, inr, length-append, eqb-true, eq-eqb}
-use Rattle.safety.proofs.Words.{range_with_len, cases_Bool, false≢true, cond-true, cond-false, or_parts, or_from, or_left, or_right, not_from_true, not_from_false, not-false, and_from, map-range_with_len_more, Evt, Block, is_set, aligned, block_at, kind, pointer, same_words, with_cycle, word, is_link, Data, Link, Shape, address_of, cycle_of, is_crossing, link_target, toggles, number, after, IsShape, DeclaredBlock, declared_at, is_border, RingView, floor_number, ceiling, is_way_given, is_wrong_link, same, cycle_of-crossed, link_target-crossed, next_is_spot, next_later, spot_address-after, spot_cycle-after, rank_least, RingEvent, Took, Placed, takes_of, next_take, was_placed, is_as_declared, is_right_place, is_out_of_order, has_other_words, Newest, RingState, RingMatches, Unreported, is_step_given, is_end}
+use Rattle.safety.proofs.Words.{◌≡◌, ◌+◌, ◌-◌, ◌≤◌, ◌==◌, if◌then◌else◌, ◌∷◌, ◌++◌, ◌∙◌, ℕ, suc, zero, Bool, true, false, not, List, [], length, drop, map, Option, Some, arith, refl, sym, ap, inl, inr, length-append, eqb-true, eq-eqb, rules, way_without, range_with_len, cases_Bool, false≢true, cond-true, cond-false, or_parts, or_from, or_right, not_from_true, not-false, and_from, map-range_with_len_more, Evt, Block, is_set, aligned, block_at, kind, pointer, same_words, with_cycle, word, is_link, Data, Link, Shape, address_of, cycle_of, is_crossing, link_target, toggles, number, after, IsShape, DeclaredBlock, declared_at, is_border, RingView, floor_number, ceiling, is_way_given, is_wrong_link, same, cycle_of-crossed, link_target-crossed, next_is_spot, next_later, spot_address-after, spot_cycle-after, rank_least, RingEvent, Took, takes_of, next_take, was_placed, is_as_declared, is_right_place, is_out_of_order, has_other_words, Newest, RingState, RingMatches, Unreported, is_step_given}
 use Rattle.safety.proofs.AtSpots.{Takeable, Crossable}
 use Rattle.safety.proofs.NoWait.{declared_some, end_is}
 
@@ -19,22 +18,11 @@ pub record LeadsOn (shape : Shape) (i : ℕ) (b : Block) : Type 0 where
 
 pub leads_on : (shape : Shape) (i : ℕ) (b : Block) → is_wrong_link shape i b ≡ false → LeadsOn shape i b
 unfolding is_wrong_link
-leads_on shape i b right =
-    let p = or_parts _ _ right in
-    let q = or_parts _ _ p.0 in
-    record {
-      target = eqb-true (aligned (pointer b)) (link_target shape i) (not-false (aligned (pointer b) == link_target shape i) q.0);
-      is_link = not-false (is_link (kind b)) q.1;
-      toggles_is = same_is (is_set (word b 3) 1) (toggles shape i) (not-false (same (is_set (word b 3) 1) (toggles shape i)) p.1);
-    }
+leads_on shape i b right = search (rules, or_parts, eqb-true, not-false, same_is)
 
 pub way_crossed : (shape : Shape) (v : RingView) (q : ℕ) → v.crossed q ≡ true → is_way_given shape v q ≡ true
 unfolding is_way_given
 way_crossed shape v q given = or_right (not (is_crossing shape q)) (v.crossed q) given
-
-pub way_plain : (shape : Shape) (v : RingView) (q : ℕ) → is_crossing shape q ≡ false → is_way_given shape v q ≡ true
-unfolding is_way_given
-way_plain shape v q none = or_left (not (is_crossing shape q)) (v.crossed q) (not_from_false (is_crossing shape q) none)
 
 same_number : (p q : ℕ) → Data p ≡ Data q → p ≡ q
 same_number p q e = cc
@@ -46,21 +34,7 @@ module _ (shape : Shape) (is : IsShape shape) (memory : ℕ → ℕ) (v : RingVi
   -- the pointer has followed the Link on the way to position q
   pub crossed_matches : RingMatches shape v s (Link q) → (c : Crossable shape memory v q) (p n : ℕ) → p ≡ link_target shape c.link →
       n ≡ (if toggles shape c.link then 1 - s.cycle else s.cycle) → RingMatches shape v (record s { pointer = p; cycle = n }) (Data q)
-  crossed_matches m c p n leads turned =
-      let turn = cycle_of-crossed shape is q c.link c.crosses in
-      record {
-        is_spot = refl;
-        pointer = leads ∙ sym (link_target-crossed shape is q c.link c.crosses);
-        cycle = turned ∙ ap (λ x. if toggles shape c.link then 1 - x else x) m.cycle ∙ sym turn;
-        reached = omega (arith, m.reached);
-        below = m.below;
-        way = λ p e. ap (λ x. is_way_given shape v x) (sym (same_number q p e)) ∙ way_crossed shape v q c.given;
-        opened = m.opened;
-        next = m.next;
-        newest = m.newest;
-        in_order = m.in_order;
-        as_declared = m.as_declared;
-      }
+  crossed_matches m c p n leads turned = search (rules, cycle_of-crossed, link_target-crossed, same_number, way_crossed)
 
   pub crossed_unreported : Unreported shape v s (Link q) → (p n : ℕ) → Unreported shape v (record s { pointer = p; cycle = n }) (Data q)
   crossed_unreported u p n = record { takes = u.takes; most = u.most }
@@ -68,11 +42,7 @@ module _ (shape : Shape) (is : IsShape shape) (memory : ℕ → ℕ) (v : RingVi
 -- ---- a block that is taken
 
 pub number_after : (shape : Shape) (p : ℕ) → number (after shape p) ≡ p + 1
-number_after shape p =
-    elim (cases_Bool (is_crossing shape (p + 1))) [
-      | inl link ↦ ap number (cond-true (is_crossing shape (p + 1)) (Link (p + 1)) (Data (p + 1)) link)
-      | inr none ↦ ap number (cond-false (is_crossing shape (p + 1)) (Link (p + 1)) (Data (p + 1)) none)
-    ]
+number_after shape p = search (rules, cond-true, cond-false)
 
 way_after : (shape : Shape) (v : RingView) (p q : ℕ) → after shape p ≡ Data q → is_way_given shape v q ≡ true
 way_after shape v p q e =
@@ -80,14 +50,13 @@ way_after shape v p q e =
       | inl link ↦ absurd (link_not_data (p + 1) q (sym (cond-true (is_crossing shape (p + 1)) (Link (p + 1)) (Data (p + 1)) link) ∙ e))
       | inr none ↦
           let at = same_number (p + 1) q (sym (cond-false (is_crossing shape (p + 1)) (Link (p + 1)) (Data (p + 1)) none) ∙ e) in
-          ap (λ x. is_way_given shape v x) (sym at) ∙ way_plain shape v (p + 1) none
+          ap (λ x. is_way_given shape v x) (sym at) ∙ way_without shape v (p + 1) none
     ]
 
 placed_begins : (shape : Shape) (v : RingView) (n : ℕ) (events : List RingEvent) → Newest shape v n events → was_placed events ≡ true → is_border v.lengths 0 n ≡ true
 unfolding was_placed
-placed_begins shape v n [] newest placed = newest
-placed_begins shape v n (Placed a ∷ older) newest placed = newest
 placed_begins shape v n (Took a b d ∷ older) newest placed = absurd (false≢true placed)
+placed_begins shape v n _ newest placed = newest
 
 next_behind : (shape : Shape) (a : ℕ) (b : Block) (d : Option DeclaredBlock) (older : List RingEvent) → next_take shape (Took a b d ∷ older) ≡ next_take shape older + 1
 unfolding next_take
@@ -129,26 +98,7 @@ module _ (shape : Shape) (is : IsShape shape) (other : shape.kind ≡ Evt → �
   pub taken_matches : (m : RingMatches shape v s (Data q)) (t : Takeable shape memory v q) (p : ℕ) (b : Block) → p ≡ address_of shape q + 16 →
       b ≡ block_at memory (address_of shape q) → q + 1 ≤ ceiling shape v → (is_border v.lengths 0 (q + 1) ≡ false → is_step_given shape v (q + 1) ≡ true) →
       RingMatches shape v (record s { pointer = p; events = Took s.pointer b (declared_at v.queue v.lengths q) ∷ s.events }) (after shape q)
-  taken_matches m t p b behind found high inside =
-      let d : DeclaredBlock = record { block = t.block; begins = is_border v.lengths 0 q; ends = is_border v.lengths 0 (q + 1) } in
-      let here : declared_at v.queue v.lengths q ≡ Some d = declared_some v.queue v.lengths q t.block t.queued in
-      let at : number (after shape q) ≡ q + 1 = number_after shape q in
-      record {
-        is_spot = next_is_spot shape (Data q);
-        pointer = behind ∙ sym (spot_address-after shape is other q);
-        cycle = m.cycle ∙ sym (spot_cycle-after shape is other q);
-        reached = let later = next_later shape (Data q) in omega (arith, m.reached);
-        below = omega arith;
-        way = λ n e. way_after shape v q n e;
-        opened = m.opened;
-        next = next_behind shape s.pointer b (declared_at v.queue v.lengths q) s.events ∙ ap (λ n. n + 1) m.next ∙ sym at;
-        newest = λ more. ap (λ n. is_step_given shape v n) at ∙ inside (sym (ap is_end here ∙ end_is d) ∙ more);
-        in_order = ap (λ o. is_out_of_order shape (Took s.pointer b o ∷ s.events)) here
-            ∙ order_kept shape s.pointer b (Some d) s.events (right_place (was_placed s.events) d (placed_begins shape v q s.events m.newest))
-            (ap (λ n. address_of shape n) m.next ∙ sym m.pointer) m.in_order;
-        as_declared = ap (λ o. has_other_words shape (Took s.pointer b o ∷ s.events)) here
-            ∙ words_kept shape s.pointer b d s.events (found ∙ t.stands ∙ ap (λ n. with_cycle t.block (cycle_of shape n)) (sym m.next)) m.as_declared;
-      }
+  taken_matches m t p b behind found high inside = search (rules, declared_some, number_after, next_is_spot, spot_address-after, spot_cycle-after, next_later, way_after, next_behind, end_is, order_kept, right_place, placed_begins, words_kept)
 
   pub taken_unreported : RingMatches shape v s (Data q) → Unreported shape v s (Data q) → (p : ℕ) (b : Block) (d : Option DeclaredBlock) →
       Unreported shape v (record s { pointer = p; events = Took s.pointer b d ∷ s.events }) (after shape q)

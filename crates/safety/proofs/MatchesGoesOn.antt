@@ -1,6 +1,5 @@
 -- Where more is known of rings whose pointers stay, and the controller did nothing, what it did is still what is known of it
-use Rattle.std.proofs.Common.{◌≡◌, ◌≢◌, ◌∙◌, ℕ, None, Some, refl, sym, ap, subst, inl, inr, arith}
-use Rattle.safety.proofs.Words.{address_of, number, Command, named_context, Header, shape_of, command_id, World, UnderWay, Known, IsUnfinished, state_of, RingMatches, BoundRing, FreeRing, EndpointRing, UnderWayMatches, CommandMatches, IsUnchanged, Matches}
+use Rattle.safety.proofs.Words.{◌≡◌, ◌≢◌, ◌∙◌, ℕ, None, Some, refl, sym, ap, subst, inl, inr, arith, address_of, number, Command, named_context, Header, shape_of, command_id, World, UnderWay, Known, IsUnfinished, state_of, RingMatches, BoundRing, FreeRing, EndpointRing, UnderWayMatches, CommandMatches, IsUnchanged, Matches}
 use Rattle.safety.proofs.RingGoesOn.{RingGoesOn, bound_on, matches_on}
 use Rattle.safety.proofs.UnderWayGoesOn.{NextStays, under_way_on}
 

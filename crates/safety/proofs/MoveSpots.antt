@@ -1,7 +1,6 @@
 -- The spot to which a ring may be moved is the one that its pointer and cycle state name
-use Rattle.std.proofs.Common.{◌≡◌, ◌+◌, ◌-◌, ◌*◌, ◌<◌, ◌≤◌, ◌==◌, ◌&&◌, if◌then◌else◌, ◌∷◌, ◌∙◌, ℕ, suc, zero, Bool, true, false, List, [], Some, find, arith, sym, ap, subst, inl, inr, eqb-true}
-use Rattle.safety.proofs.Words.{range_with_len, flat_map, cases_Bool, cases_lt, cases_eq, and_parts, cond-true, cond-false, false≢true, All-get_or, Any-from_list_any, Spot, Data, Link, Shape, IsSpot, is_spot, rank, number, spot_address, spot_cycle, IsShape, RingView, declared, floor_number, is_way_given, is_border, is_target, spots_between, target, is_reached, may_move_to, is_move, RingKeeps, rank_least, rank_most, same_spot, found_is, between, move_reached}
-use Rattle.safety.proofs.LookedRing.{way_crossed, way_plain}
+use Rattle.safety.proofs.Words.{◌≡◌, ◌+◌, ◌-◌, ◌*◌, ◌<◌, ◌≤◌, ◌==◌, ◌&&◌, if◌then◌else◌, ◌∷◌, ◌∙◌, ℕ, suc, zero, Bool, true, false, List, [], Some, find, arith, sym, ap, subst, inl, inr, eqb-true, rules, way_without, range_with_len, flat_map, cases_Bool, cases_lt, cases_eq, and_parts, cond-true, cond-false, false≢true, All-get_or, Any-from_list_any, Spot, Data, Link, Shape, IsSpot, is_spot, rank, number, spot_address, spot_cycle, IsShape, RingView, declared, floor_number, is_way_given, is_border, is_target, spots_between, target, is_reached, may_move_to, is_move, RingKeeps, rank_least, rank_most, same_spot, found_is, between, move_reached}
+use Rattle.safety.proofs.LookedRing.{way_crossed}
 
 -- among the spots of a range of numbers one that passes is found, if there is one
 found_between : (test : Spot → Bool) (a n : ℕ) (u : Spot) → a ≤ number u → number u < a + n → test u ≡ true →
@@ -61,18 +60,14 @@ way_reached shape v t is later reached q e =
     let may = move_reached shape v t is later reached in
     elim (cases_Bool (is_spot shape (Link q))) [
       | inl crossing ↦ let at : rank t ≡ 2 * q + 1 = ap rank e in way_crossed shape v q (may.passed_links q crossing (omega arith))
-      | inr none ↦ way_plain shape v q none
+      | inr none ↦ way_without shape v q none
     ]
 
 module _ (shape : Shape) (is : IsShape shape) (memory : ℕ → ℕ) (v : RingView) (k : RingKeeps shape memory v) where
   -- two spots at one address from the floor's number up to what is declared are one
   one_at : (s t : Spot) → IsSpot shape s → IsSpot shape t → floor_number v ≤ number s → floor_number v ≤ number t → number s ≤ declared v → number t ≤ declared v →
       spot_address shape s ≡ spot_address shape t → s ≡ t
-  one_at s t a b from_s from_t to_s to_t same =
-      elim (cases_lt (rank s) (rank t)) [
-        | inl lower ↦ same_spot shape is s t a b (omega arith) (omega (arith, rank_least s, rank_most t, k.room)) same
-        | inr upper ↦ sym (same_spot shape is t s b a upper (omega (arith, rank_least t, rank_most s, k.room)) (sym same))
-      ]
+  one_at s t a b from_s from_t to_s to_t same = search (rules, cases_lt, same_spot, rank_least, rank_most)
 
   -- the spot that passes is the one that is found
   module _ (address : ℕ) (cycle : Bool) (u : Spot) (here : IsTarget shape address cycle u) (from : floor_number v ≤ number u) (to : number u ≤ declared v) where

@@ -1,6 +1,5 @@
 -- A ring on which nothing more is declared or given may be moved where it could be before
-use Rattle.std.proofs.Common.{◌≡◌, ◌≤◌, ◌∙◌, ℕ, Bool, true, length, Some, option_and_then, slice_get, arith, sym, ap}
-use Rattle.safety.proofs.Words.{Shape, RingView, declared, floor_number, is_due, ceiling, is_border, is_move, GivesMore, move_more, ceiling_held, Command, command_of, Header, shape_of, command_id, Known, command_at, IsUnfinished}
+use Rattle.safety.proofs.Words.{◌≡◌, ◌≤◌, ◌∙◌, ℕ, Bool, true, length, Some, option_and_then, slice_get, arith, ap, rules, Shape, RingView, declared, floor_number, ceiling, is_border, is_move, GivesMore, move_more, ceiling_held, Command, Header, command_id, Known, command_at, IsUnfinished}
 use Rattle.safety.proofs.CommandsStay.{Standing, MovesAhead}
 use Rattle.safety.proofs.SameDriver.{SameGiven}
 
@@ -15,11 +14,7 @@ module _ (shape : Shape) (v w : RingView) (same : SameGiven v w) where
 
   -- the floor is where it was
   pub standing_same : floor_number w ≡ floor_number v → Standing shape v w
-  standing_same floor =
-      record {
-        here = λ p cycle moves. move_same p cycle (floor_number v) (floor_number v) (floor_number w) (floor_number w) (omega arith) (omega arith) moves;
-        nothing = λ none p low. ap (λ f. f p) same.given ∙ none p (omega arith);
-      }
+  standing_same floor = search (rules, move_same)
 
   -- the ring is held where it was
   pub ahead_held : (m : ℕ) → v.held ≡ Some m → w.held ≡ Some m → MovesAhead shape v w
@@ -32,9 +27,4 @@ module _ (h : Header) (k l : Known) where
   pub unfinished_view : let v : RingView = k.ring (command_id h) in let w : RingView = l.ring (command_id h) in
       SameGiven v w → w.floor ≡ v.floor → (p : ℕ) (c : Command) → IsUnfinished h l p c → IsUnfinished h k p c
   unfolding command_at
-  unfinished_view same floor p c u =
-      record {
-        due = ap (λ t. is_due (shape_of h (command_id h)) t p) (sym floor) ∙ u.due;
-        given = ap (λ f. f p) (sym same.given) ∙ u.given;
-        command = ap (λ q. option_and_then command_of (slice_get q p)) (sym same.queue) ∙ u.command;
-      }
+  unfinished_view same floor p c u = search (rules, option_and_then, slice_get)

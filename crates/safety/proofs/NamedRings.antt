@@ -1,6 +1,5 @@
 -- The ring that a pointer names: one that has it inside is the only one
-use Rattle.std.proofs.Common.{◌≡◌, ◌+◌, ◌==◌, ◌&&◌, ◌∙◌, ℕ, true, Option, None, Some, find, arith, refl, sym, ap, inl, inr, eqb-true}
-use Rattle.safety.proofs.Words.{and_parts, none-some, same_Some, Spot, Data, Link, Shape, address_of, is_inside, link_address, IsSpot, spot_address, IsShape, address_inside, link_address_inside, Header, Ring, IsHeader, shape_of, id_of, is_transfer_kind, ring_having, IsTransferRing}
+use Rattle.safety.proofs.Words.{◌≡◌, ◌+◌, ◌==◌, ◌&&◌, ◌∙◌, ℕ, true, Option, None, Some, find, arith, refl, sym, ap, inl, inr, eqb-true, and_parts, none-some, same_Some, Spot, Data, Link, Shape, address_of, is_inside, link_address, IsSpot, spot_address, IsShape, address_inside, link_address_inside, Header, Ring, IsHeader, shape_of, id_of, is_transfer_kind, ring_having, IsTransferRing}
 use Rattle.safety.proofs.Headers.{found_in, together, clash_apart, header_parts, shape_is, ring_shape, transfer_driver}
 
 -- the address of a spot is inside its ring

@@ -1,6 +1,5 @@
 -- Inside a descriptor the controller never waits: all of a descriptor whose first block is given is given
-use Rattle.std.proofs.Common.{◌≡◌, ◌+◌, ◌-◌, ◌≤◌, ◌∷◌, ℕ, true, false, List, [], Some, None, slice_get, arith, refl, inl, inr}
-use Rattle.safety.proofs.Words.{false≢true, not-true, Block, block_at, cycle, Spot, Data, Link, Shape, number, spot_address, spot_cycle, IsShape, DeclaredBlock, is_border, declared_at, length_from, RingView, ceiling, given_count, is_step_given, descriptor_length, RingKeeps, cases_option, given_below, step_is, whole_is, given_count_declared, RingEvent, Took, Placed, is_end, is_inside_descriptor, Newest}
+use Rattle.safety.proofs.Words.{◌≡◌, ◌+◌, ◌-◌, ◌≤◌, ◌∷◌, ℕ, true, false, List, Some, None, slice_get, arith, refl, inl, inr, false≢true, not-true, Block, block_at, cycle, Spot, Data, Link, Shape, number, spot_address, spot_cycle, IsShape, DeclaredBlock, is_border, declared_at, length_from, RingView, ceiling, given_count, is_step_given, descriptor_length, RingKeeps, cases_option, given_below, step_is, whole_is, given_count_declared, RingEvent, Took, is_end, is_inside_descriptor, Newest}
 use Rattle.safety.proofs.Descriptors.{Surrounds, surrounded}
 use Rattle.safety.proofs.AtSpots.{MayStand, takeable, crossable}
 
@@ -29,9 +28,8 @@ end_is d = refl
 -- where the last take doesn't end its descriptor, the next step is given
 pub inside_given : (shape : Shape) (v : RingView) (n : ℕ) (events : List RingEvent) → Newest shape v n events → is_inside_descriptor events ≡ true → is_step_given shape v n ≡ true
 unfolding is_inside_descriptor
-inside_given shape v n [] newest inside = absurd (false≢true inside)
-inside_given shape v n (Placed a ∷ older) newest inside = absurd (false≢true inside)
 inside_given shape v n (Took a b d ∷ older) newest inside = newest (not-true (is_end d) inside)
+inside_given shape v n _ newest inside = absurd (false≢true inside)
 
 module _ (shape : Shape) (is : IsShape shape) (memory : ℕ → ℕ) (v : RingView) (k : RingKeeps shape memory v) where
   pub ceiling_given : ceiling shape v ≤ given_count shape v

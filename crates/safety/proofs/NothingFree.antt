@@ -1,6 +1,5 @@
 -- No row of a trace makes anything free: so nothing is free behind any history of rows, and each row restores what it has to
-use Rattle.std.proofs.Common.{◌≡◌, ◌==◌, ◌&&◌, ◌||◌, if◌then◌else◌, ◌∷◌, ◌∙◌, ℕ, not, true, List, [], Option, None, Some, option_and_then, refl, sym, ap}
-use Rattle.safety.proofs.Words.{cond_both, no_flips, Block, Declares, Opens, IsRestored, Header, Register, Erdp, Usbcmd, Row, Sub, Write, Reg, Bell, Read, IsHeader, shape_of, command_id, run_bit, reset_bit, kind, Known, nothing, on_ring, with_device, with_word, written, command_given, taken_device, run_or_stop, valued, register_written, endpoint_rung, rung, learned, known, lenient, MayCome, AreRestored, IsRestoring, EndpointsKeep}
+use Rattle.safety.proofs.Words.{◌≡◌, ◌==◌, ◌∷◌, ◌∙◌, ℕ, List, [], Option, None, Some, option_and_then, refl, sym, ap, rules, cond_both, no_flips, Block, Declares, Opens, IsRestored, Header, Register, Usbcmd, Row, Sub, Write, Reg, Bell, Read, IsHeader, shape_of, command_id, Known, nothing, on_ring, with_device, with_word, written, command_given, taken_device, run_or_stop, valued, register_written, endpoint_rung, rung, learned, known, lenient, MayCome, AreRestored, IsRestoring, EndpointsKeep, kind}
 use Rattle.safety.proofs.RingIds.{transfer_driver}
 use Rattle.safety.proofs.EndpointHistories.{keeps_endpoints}
 use Rattle.safety.proofs.SameDriver.{view_after, on_ring_same, event_same}
@@ -30,17 +29,11 @@ module _ (h : Header) where
 
   run_free : (k : Known) (x : ℕ) → SameFree k (run_or_stop k x)
   unfolding run_or_stop
-  run_free k x =
-      let on : Known = record k { started = true } in
-      let off : Known = record k { stopped = true } in
-      cond_both (not k.started) (if run_bit x && not (reset_bit x) then on else k) (if not (run_bit x) || reset_bit x then off else k) (SameFree k)
-      (λ _. cond_both (run_bit x && not (reset_bit x)) on k (SameFree k) (λ _ r. refl) (λ _ r. refl))
-      (λ _. cond_both (not (run_bit x) || reset_bit x) off k (SameFree k) (λ _ r. refl) (λ _ r. refl))
+  run_free k x = search rules
 
   register_free : (k : Known) (q : Register) (x : ℕ) → SameFree k (register_written h k q x)
   unfolding register_written valued
   register_free k Usbcmd x r = run_free (valued k Usbcmd x) x r
-  register_free k Erdp x r = refl
   register_free k _ x r = refl
 
   endpoint_free : (k : Known) (s t : ℕ) (o : Option ℕ) → SameFree k (endpoint_rung h k s t o)
@@ -70,12 +63,10 @@ module _ (h : Header) where
 
   -- where nothing is free each row restores what it has to
   pub restoring_where_restored : IsHeader h → (k : Known) (row : Row) → EndpointsKeep h k → AreRestored h k → IsRestoring h k row
-  restoring_where_restored is k (Sub r blocks) endpoints restored = tt
   restoring_where_restored is k (Write a w) endpoints restored =
       (λ r driver. no_flips (shape_of h r) (k.ring r) a w (restored r driver), λ c given s i p cycle at r has. restored r (transfer_driver h r (endpoints.transfer s i r has)))
-  restoring_where_restored is k (Reg r x) endpoints restored = tt
   restoring_where_restored is k (Bell s t) endpoints restored = λ r has. restored r (transfer_driver h r (endpoints.transfer s t r has))
-  restoring_where_restored is k (Read b) endpoints restored = tt
+  restoring_where_restored is k _ endpoints restored = tt
 
   -- so a row of a trace may come where it breaks no rule
   pub may_come : IsHeader h → (past : List Row) (row : Row) → lenient h (known h past) row ≡ [] → MayCome h (known h past) row

@@ -1,9 +1,9 @@
 -- The endpoints that a command names have numbers of slots and endpoints, and so has each endpoint that a success gives a ring
-use Rattle.std.proofs.Common.{◌≡◌, ◌+◌, ◌<◌, ◌≤◌, ◌==◌, ◌&&◌, if◌then◌else◌, ◌∷◌, ◌∙◌, ℕ, suc, zero, Bool, true, false, List, [], map, filter, Option, None, Some, arith, refl, sym, ap, subst, inl, inr, eqb-true}
-use Rattle.safety.proofs.Words.{range_with_len, cond_both, and_parts, none-some, same_Some, Block, BlockKind, kind, slot, endpoint, is_command_left_out, Spot, target, Command, NoOp, EnableSlot, DisableSlot, AddressDevice, ConfigureEndpoint, EvaluateContext, ResetEndpoint, StopEndpoint, SetTrDequeue, ResetDevice, Stopped, is_off, command_by_kind, command_of, Change, SlotGoesOn, DeviceLeft, Disables, Places, Stops, Resets, changes, placed_by_context, ContextSize, input_add_flag, added_endpoints, Header, shape_of, ring_having, Known, on_ring, set_to, bound_to, moved_to, moved, pointed, disabled, in_state, held_at_ceiling, changed_by, changed_by_all}
+use Rattle.safety.proofs.Words.{◌≡◌, ◌+◌, ◌<◌, ◌≤◌, ◌==◌, ◌&&◌, if◌then◌else◌, ◌∷◌, ◌∙◌, ℕ, suc, zero, Bool, true, false, List, [], map, filter, Option, None, Some, arith, refl, sym, ap, subst, inl, inr, eqb-true, range_with_len, cond_both, and_parts, none-some, same_Some, Block, BlockKind, kind, endpoint, is_command_left_out, Spot, target, Command, NoOp, EnableSlot, DisableSlot, AddressDevice, ConfigureEndpoint, EvaluateContext, ResetEndpoint, StopEndpoint, SetTrDequeue, ResetDevice, Stopped, is_off, command_by_kind, command_of, Change, SlotGoesOn, DeviceLeft, Disables, Places, Stops, Resets, changes, placed_by_context, ContextSize, input_add_flag, added_endpoints, Header, shape_of, ring_having, Known, on_ring, set_to, bound_to, moved_to, moved, pointed, disabled, in_state, held_at_ceiling, changed_by, changed_by_all}
 use Rattle.trb.specs.declared.kind.BlockKind.TheVariants as kinds
 use Rattle.safety.proofs.LookKinds.{cond_is}
 use Rattle.safety.proofs.FinishChanges.{AreNumbered}
+use Rattle.safety.proofs.WrittenKnown.{slot_low}
 
 -- ---- what commands name
 
@@ -13,9 +13,6 @@ IsNumbered (ConfigureEndpoint s dc n) = s < 256
 IsNumbered (SetTrDequeue s i p cycle) = (s < 256) × (i < 32)
 IsNumbered _ = Unit {0}
 
-slot_number : (b : Block) → slot b < 256
-slot_number b = omega arith
-
 endpoint_number : (b : Block) → endpoint b < 32
 endpoint_number b = omega arith
 
@@ -23,12 +20,12 @@ by_kind_numbered : (t : BlockKind) (b : Block) (c : Command) → command_by_kind
 by_kind_numbered kinds.NoOpCommand b c at = subst IsNumbered (same_Some _ c at) tt
 by_kind_numbered kinds.EnableSlot b c at = subst IsNumbered (same_Some _ c at) tt
 by_kind_numbered kinds.DisableSlot b c at = subst IsNumbered (same_Some _ c at) tt
-by_kind_numbered kinds.AddressDevice b c at = subst IsNumbered (same_Some _ c at) (slot_number b)
-by_kind_numbered kinds.ConfigureEndpoint b c at = subst IsNumbered (same_Some _ c at) (slot_number b)
+by_kind_numbered kinds.AddressDevice b c at = subst IsNumbered (same_Some _ c at) (slot_low b)
+by_kind_numbered kinds.ConfigureEndpoint b c at = subst IsNumbered (same_Some _ c at) (slot_low b)
 by_kind_numbered kinds.EvaluateContext b c at = subst IsNumbered (same_Some _ c at) tt
 by_kind_numbered kinds.ResetEndpoint b c at = subst IsNumbered (same_Some _ c at) tt
 by_kind_numbered kinds.StopEndpoint b c at = subst IsNumbered (same_Some _ c at) tt
-by_kind_numbered kinds.SetTrDequeue b c at = subst IsNumbered (same_Some _ c at) (slot_number b, endpoint_number b)
+by_kind_numbered kinds.SetTrDequeue b c at = subst IsNumbered (same_Some _ c at) (slot_low b, endpoint_number b)
 by_kind_numbered kinds.ResetDevice b c at = subst IsNumbered (same_Some _ c at) tt
 by_kind_numbered _ b c at = absurd (none-some c at)
 
@@ -61,16 +58,14 @@ added_numbered size memory s n added low a (suc len) high = chosen (added a) (ad
 pub changes_numbered : (size : ContextSize) (memory : ℕ → ℕ) (n : ℕ) (c : Command) → IsNumbered c → AllNumbered (changes size memory n c)
 unfolding changes added_endpoints
 changes_numbered size memory n NoOp c = tt
-changes_numbered size memory n EnableSlot c = (tt, tt)
 changes_numbered size memory n (DisableSlot s) c = (tt, (tt, (tt, tt)))
 changes_numbered size memory n (AddressDevice s bsr a) c = (tt, ((c, omega arith), tt))
 changes_numbered size memory n (ConfigureEndpoint s false a) c = (tt, (tt, added_numbered size memory s a (input_add_flag memory a) c 2 30 (omega arith)))
 changes_numbered size memory n (ConfigureEndpoint s true a) c = (tt, (tt, tt))
 changes_numbered size memory n (EvaluateContext s a) c = tt
-changes_numbered size memory n (ResetEndpoint s i) c = (tt, tt)
-changes_numbered size memory n (StopEndpoint s i) c = (tt, tt)
 changes_numbered size memory n (SetTrDequeue s i p cycle) c = (c, tt)
 changes_numbered size memory n (ResetDevice s) c = (tt, (tt, tt))
+changes_numbered size memory n _ c = (tt, tt)
 
 -- ---- what is known behind it
 

@@ -1,6 +1,5 @@
 -- In any history the endpoints that have rings have numbers of slots and endpoints
-use Rattle.std.proofs.Common.{◌≡◌, ◌==◌, if◌then◌else◌, ◌∷◌, List, [], Option, None, Some, option_and_then, slice_get, refl}
-use Rattle.safety.proofs.Words.{cond_both, none-some, Block, BlockKind, TransferEvent, CommandCompletion, kind, code, slot, Declares, Command, command_of, changes, Header, Row, Sub, Write, Reg, Bell, Read, command_id, Known, nothing, on_ring, command_at, next_command, written, register_written, rung, transfer_read, succeeded, stop_ended, finished, completed, event_read, learned, known}
+use Rattle.safety.proofs.Words.{◌≡◌, Option, None, Some, option_and_then, slice_get, refl, rules, none-some, Block, BlockKind, TransferEvent, CommandCompletion, Command, command_of, Header, Row, Sub, Write, Reg, Bell, Read, command_id, Known, on_ring, command_at, next_command, transfer_read, succeeded, finished, completed, event_read, learned, kind, Declares, written, register_written, rung}
 use Rattle.safety.proofs.FinishChanges.{AreNumbered}
 use Rattle.safety.proofs.SameRings.{written_same, register_same, rung_same, transfer_same, stop_same}
 use Rattle.safety.proofs.NumberedChanges.{IsNumbered, command_numbered, changes_numbered, same_numbered, all_numbered}
@@ -12,12 +11,8 @@ module _ (h : Header) where
 
   finished_numbered : (k : Known) (b : Block) (o : Option Command) → ((c : Command) → o ≡ Some c → IsNumbered c) → AreNumbered k → AreNumbered (finished h k b o)
   unfolding finished succeeded
-  finished_numbered k b None fits all = all
-  finished_numbered k b (Some c) fits all =
-      same_numbered h (if code b == 1 then succeeded h k (slot b) c else k) (stop_ended h (if code b == 1 then succeeded h k (slot b) c else k) c)
-      (stop_same h (if code b == 1 then succeeded h k (slot b) c else k) c)
-      (cond_both (code b == 1) (succeeded h k (slot b) c) k AreNumbered
-      (λ one. all_numbered h c k (changes h.context_size k.memory (slot b) c) all (changes_numbered h.context_size k.memory (slot b) c (fits c refl))) (λ other. all))
+  finished_numbered k b None fits all = search rules
+  finished_numbered k b (Some c) fits all = search (rules, same_numbered, stop_same, all_numbered, changes_numbered)
 
   completed_numbered : (k : Known) (b : Block) → AreNumbered k → AreNumbered (completed h k b)
   unfolding completed on_ring command_at
@@ -40,8 +35,3 @@ module _ (h : Header) where
   row_numbered k (Reg r x) all = same_numbered h k (register_written h k r x) (register_same h k r x) all
   row_numbered k (Bell s t) all = same_numbered h k (rung h k s t) (rung_same h k s t) all
   row_numbered k (Read b) all = same_numbered h (event_read h k (kind b) b) (learned h k (Read b)) refl (event_numbered k b (kind b) all)
-
-  pub are_numbered : (past : List Row) → AreNumbered (known h past)
-  unfolding known nothing
-  are_numbered [] = λ s i r at. absurd (none-some r at)
-  are_numbered (row ∷ past) = row_numbered (known h past) row (are_numbered past)

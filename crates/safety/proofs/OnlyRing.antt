@@ -1,6 +1,5 @@
 -- A world in which one ring alone has changed: all else that is said of it stays
-use Rattle.std.proofs.Common.{◌≡◌, ◌≢◌, ◌+◌, ◌*◌, ◌∙◌, ℕ, true, false, List, length, Option, Some, None, arith, sym, ap, subst, inl, inr}
-use Rattle.safety.proofs.Words.{cases_eq, false≢true, none-some, Block, block_at, address_of, named_context, Header, shape_of, command_id, event_shape, World, Known, DriverKeeps, Stands, EventsStand, RingState, state_of, RingMatches, BoundRing, FreeRing, EndpointRing, CommandMatches, UnderWayMatches, IsUnchanged, Matches}
+use Rattle.safety.proofs.Words.{◌≡◌, ◌≢◌, ◌+◌, ◌*◌, ◌∙◌, ℕ, true, false, List, length, Option, Some, None, arith, sym, ap, subst, inl, inr, rules, cases_eq, false≢true, none-some, Block, block_at, address_of, named_context, Header, shape_of, command_id, event_shape, World, Known, DriverKeeps, Stands, EventsStand, RingState, state_of, RingMatches, BoundRing, FreeRing, EndpointRing, CommandMatches, UnderWayMatches, IsUnchanged, Matches}
 use Rattle.world_state.specs.World.{event_at}
 use Rattle.safety.proofs.Stored.{Late}
 
@@ -25,28 +24,14 @@ pub record OnlyRing (w v : World) (r : ℕ) (s : RingState) : Type 0 where
 
 module _ (h : Header) (k : Known) (w v : World) (r : ℕ) (s : RingState) (o : OnlyRing w v r s) where
   pub stands_only : Stands h k w → Stands h k v
-  stands_only x = record {
-    started = o.started ∙ x.started;
-    stopped = o.stopped ∙ x.stopped;
-    registers = λ q. ap (λ f. f q) o.register ∙ x.registers q;
-    queues = λ q. ap (λ f. f q) o.queue ∙ x.queues q;
-    lengths = λ q. ap (λ f. f q) o.lengths ∙ x.lengths q;
-    dequeue = o.dequeue ∙ x.dequeue;
-    quiet = λ a clean apart. ap (λ f. f a) o.memory ∙ x.quiet a clean apart;
-  }
+  stands_only x = search rules
 
   event_same : (p : ℕ) → event_at h v p ≡ event_at h w p
   unfolding event_at
   event_same p = ap (λ m. block_at m (address_of (event_shape h) p)) o.memory
 
   pub events_only : (unread : List Block) → EventsStand h w unread → EventsStand h v unread
-  events_only unread x = record {
-    order = record { dequeued = omega (arith, x.order.dequeued, o.dequeue, o.reads); read = omega (arith, x.order.read, o.posted, o.reads); room = λ some. let high = x.order.room (omega (arith, o.posted)) in omega (arith, o.posted, o.dequeue) };
-    count = o.posted ∙ x.count ∙ ap (λ n. n + length unread) (sym o.reads);
-    places = λ i e at. ap (λ n. event_at h v (n + i)) o.reads ∙ event_same (w.reads + i) ∙ x.places i e at;
-    started = λ some. o.started ∙ x.started (omega (arith, o.posted));
-    ring = λ some. x.ring (omega (arith, o.posted));
-  }
+  events_only unread x = search (rules, length, event_same)
 
   pub late_only : Late w → Late v
   late_only late a = omega (arith, ap (λ f. f a) o.changed, o.steps, late a)
@@ -89,15 +74,4 @@ module _ (h : Header) (k : Known) (w v : World) (r : ℕ) (s : RingState) (o : O
   -- where the command ring has
   pub matches_command : Matches h k w → r ≡ command_id h → k.started ≡ true → CommandMatches h k v →
       ((q : ℕ) → v.scribbles q ≡ true → k.device q ≢ None) → v.looked_outside ≡ false → Matches h k v
-  matches_command m command on new scribbles inside =
-      record {
-        slots = λ q. ap (λ f. f q) o.slot_state ∙ m.slots q;
-        endpoints = λ q i. ap (λ f. f q i) o.endpoint_state ∙ m.endpoints q i;
-        ring_of = λ q i. ap (λ f. f q i) o.ring_of ∙ m.ring_of q i;
-        rings = λ q not_command. other_ring q (λ e. not_command (e ∙ command)) (m.rings q not_command);
-        before = λ off. absurd (false≢true (sym off ∙ on));
-        command = λ yes. new;
-        scribbles = scribbles;
-        contexts = λ p c u. unchanged_only (address_of (shape_of h (command_id h)) p) (named_context c) (m.contexts p c u);
-        inside = inside;
-      }
+  matches_command m command on new scribbles inside = search (rules, other_ring, false≢true, unchanged_only)

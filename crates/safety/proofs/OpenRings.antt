@@ -1,8 +1,7 @@
 -- A ring is open where it is held nowhere
-use Rattle.std.proofs.Common.{◌≡◌, ℕ, true, Option, None, Some, is_none, refl}
-use Rattle.safety.proofs.Words.{false≢true, RingView, is_open}
+use Rattle.safety.proofs.Words.{◌≡◌, ℕ, true, Option, None, Some, is_none, refl, false≢true, RingView, is_open}
 
-none_is : (o : Option ℕ) → is_none o ≡ true → o ≡ None
+pub none_is : (o : Option ℕ) → is_none o ≡ true → o ≡ None
 none_is None is = refl
 none_is (Some n) is = absurd (false≢true is)
 

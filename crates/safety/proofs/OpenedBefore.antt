@@ -1,6 +1,5 @@
 -- An event opens no ring: one that is open behind it was open before
-use Rattle.std.proofs.Common.{◌≡◌, ◌+◌, ◌==◌, if◌then◌else◌, ◌∷◌, ◌∙◌, ℕ, Bool, true, List, [], Option, None, Some, sym, ap}
-use Rattle.safety.proofs.Words.{cond_both, none-some, put_pair, Block, BlockKind, TransferEvent, CommandCompletion, kind, code, slot, endpoint, is_success, is_halting, is_trb_error, is_stopping, Spot, number, after, Reaches, Holds, ceiling, stopped_number, target, is_open, Command, StopEndpoint, EndpointState, Halted, Error, Stopped, is_off, Change, SlotGoesOn, DeviceLeft, Disables, Places, Stops, Resets, changes, Header, Read, shape_of, command_id, ring_having, Known, RingSpot, on_ring, event_at, command_at, next_command, passed, broken_off, stopped_at, transferred, transferred_at, transfer_read, set_to, bound_to, moved_to, moved, pointed, disabled, in_state, held_at_ceiling, changed_by, changed_by_all, succeeded, stop_ended, finished, completed, event_read, learned}
+use Rattle.safety.proofs.Words.{◌≡◌, ◌+◌, ◌∷◌, ◌∙◌, ℕ, Bool, true, List, [], Option, None, Some, sym, ap, rules, cond_both, none-some, Block, BlockKind, TransferEvent, CommandCompletion, kind, code, slot, endpoint, Spot, number, after, Reaches, Holds, ceiling, stopped_number, target, is_open, Command, StopEndpoint, EndpointState, Stopped, is_off, Change, Places, Stops, Header, Read, shape_of, command_id, ring_having, Known, RingSpot, on_ring, event_at, command_at, next_command, passed, broken_off, stopped_at, transferred, transferred_at, transfer_read, set_to, bound_to, moved_to, moved, pointed, disabled, in_state, held_at_ceiling, changed_by, changed_by_all, succeeded, stop_ended, finished, completed, event_read, learned}
 use Rattle.safety.proofs.SameDriver.{view_after}
 use Rattle.safety.proofs.OpenRings.{open_held, held_open}
 
@@ -40,15 +39,7 @@ module _ (h : Header) where
 
     transferred_opens : (c s i : ℕ) → OpensNone k (transferred h k c s i r t)
     unfolding transferred
-    transferred_opens c s i =
-        let halts : Known = record (broken_off h k s i r t Halted) { must_move = put_pair k.must_move s i true } in
-        let fails : Known = broken_off h k s i r t Error in
-        let stopped : Known = if is_stopping c then stopped_at h k s i r t else k in
-        cond_both (is_success c) (passed h k r t) (if is_halting c then halts else if is_trb_error c then fails else stopped) (OpensNone k)
-        (λ _. passed_opens)
-        (λ _. cond_both (is_halting c) halts (if is_trb_error c then fails else stopped) (OpensNone k) (λ _. broken_opens s i Halted)
-        (λ _. cond_both (is_trb_error c) fails stopped (OpensNone k) (λ _. broken_opens s i Error)
-        (λ _. cond_both (is_stopping c) (stopped_at h k s i r t) k (OpensNone k) (λ _. stopped_opens s i) (λ _. same_opens k))))
+    transferred_opens c s i = search (rules, passed_opens, broken_opens, stopped_opens, same_opens)
 
   at_opens : (k : Known) (b : Block) (o : Option RingSpot) → OpensNone k (transferred_at h k b o)
   unfolding transferred_at
@@ -89,12 +80,9 @@ module _ (h : Header) where
 
   change_opens : (c : Command) (k : Known) (change : Change) → OpensNone k (changed_by h c k change)
   unfolding changed_by disabled in_state
-  change_opens c k (SlotGoesOn s) = λ r none. none
-  change_opens c k (DeviceLeft s) = λ r none. none
-  change_opens c k (Disables s which) = λ r none. none
   change_opens c k (Places s i p cycle state) = pointed_opens k s i p cycle
   change_opens c k (Stops s i) = held_opens (in_state h k s i Stopped) (k.ring_of s i)
-  change_opens c k (Resets s i) = λ r none. none
+  change_opens c k _ = λ r none. none
 
   changes_open : (c : Command) (k : Known) (all : List Change) → OpensNone k (changed_by_all h c k all)
   unfolding changed_by_all
@@ -109,11 +97,8 @@ module _ (h : Header) where
 
   finish_opens : (k : Known) (b : Block) (o : Option Command) → OpensNone k (finished h k b o)
   unfolding finished succeeded
-  finish_opens k b None = same_opens k
-  finish_opens k b (Some c) =
-      let all : List Change = changes h.context_size k.memory (slot b) c in
-      let l : Known = if code b == 1 then changed_by_all h c k all else k in
-      both_open k l (stop_ended h l c) (cond_both (code b == 1) (changed_by_all h c k all) k (OpensNone k) (λ _. changes_open c k all) (λ _. same_opens k)) (stop_opens l c)
+  finish_opens k b None = search (rules, same_opens)
+  finish_opens k b (Some c) = search (rules, same_opens, both_open, changes_open, stop_opens)
 
   completion_opens : (k : Known) (b : Block) → OpensNone k (completed h k b)
   unfolding completed

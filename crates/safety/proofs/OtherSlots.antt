@@ -1,6 +1,5 @@
 -- The success of a command leaves other slots, and the rings that it doesn't name; one of an endpoint leaves the slot's other endpoints too
-use Rattle.std.proofs.Common.{◌≡◌, ◌==◌, ◌&&◌, ◌∷◌, ◌∙◌, ℕ, Bool, true, false, List, [], Option, None, Some, refl, sym, ap, subst, ne_eqb}
-use Rattle.safety.proofs.Words.{cond_both, cond-false, and_left, none-some, put_pair, Spot, number, RingChange, Reaches, Holds, ceiling, target, Command, EndpointState, Off, Stopped, is_off, Change, SlotGoesOn, DeviceLeft, Disables, Places, Stops, Resets, Header, shape_of, ring_having, Known, on_ring, set_to, bound_to, moved_to, moved, pointed, disabled, in_state, held_at_ceiling, changed_by, changed_by_all}
+use Rattle.safety.proofs.Words.{◌≡◌, ◌==◌, ◌&&◌, ◌∷◌, ◌∙◌, ℕ, Bool, true, false, List, [], Option, None, Some, refl, sym, ap, subst, ne_eqb, cond_both, cond-false, and_left, none-some, put_pair, Spot, number, RingChange, Reaches, Holds, ceiling, target, Command, EndpointState, Off, Stopped, is_off, Change, SlotGoesOn, DeviceLeft, Disables, Places, Stops, Resets, Header, shape_of, ring_having, Known, on_ring, set_to, bound_to, moved_to, moved, pointed, disabled, in_state, held_at_ceiling, changed_by, changed_by_all}
 use Rattle.safety.proofs.DriverRows.{ring_elsewhere}
 use Rattle.safety.proofs.EndpointPut.{at_pair, at_number}
 

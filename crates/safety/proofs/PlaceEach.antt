@@ -1,6 +1,5 @@
 -- A command's success places the rings of several endpoints, one after the other
-use Rattle.std.proofs.Common.{◌≡◌, ◌≢◌, ◌<◌, ◌==◌, ◌&&◌, ◌∷◌, ◌∙◌, ℕ, Bool, false, List, [], map, All, Option, Some, refl, sym, ap, get_or, eq-eqb, ne_eqb, None}
-use Rattle.safety.proofs.Words.{list_any, and_right, or_parts, cond-false, false≢true, All-head, All-tail, Command, Running, Change, Places, placed_by_context, context_pointer, context_cycle, Header, IsHeader, is_ring, World, Known, is_among, has_repeats}
+use Rattle.safety.proofs.Words.{◌≡◌, ◌≢◌, ◌<◌, ◌==◌, ◌&&◌, ◌∷◌, ◌∙◌, ℕ, Bool, false, List, [], map, All, Option, Some, refl, sym, ap, get_or, eq-eqb, ne_eqb, None, list_any, and_right, or_parts, cond-false, false≢true, All-head, All-tail, Command, Running, Change, Places, placed_by_context, context_pointer, context_cycle, Header, IsHeader, is_ring, World, Known, is_among, has_repeats}
 use Rattle.ring_knowledge.specs.Completions as completions
 use Rattle.safety.proofs.TestsPassed.{each_fails, any_of_map}
 use Rattle.safety.proofs.Placings.{ReadyAt, BoundThere, ring_at, ready_next, placed_there}

@@ -1,6 +1,5 @@
 -- A command's success places the ring of an endpoint, in the world as in what is known
-use Rattle.std.proofs.Common.{◌≡◌, ◌≢◌, ◌<◌, ◌≤◌, if◌then◌else◌, ◌∙◌, ℕ, Bool, true, false, Some, None, arith, refl, sym, ap, subst, inl, inr}
-use Rattle.safety.proofs.Words.{none-some, same_Some, Spot, IsSpot, spot_address, spot_cycle, IsShape, declared, floor_number, ceiling, is_move, is_placement, ceiling_within, floor_given, given_count_declared, RingKeeps, place_count_pos, rank_least, rank_most, Command, EndpointState, Places, is_off, Header, IsHeader, shape_of, command_id, ring_having, World, Known, IsTransferRing, state_of, RingMatches, BoundRing, FreeRing}
+use Rattle.safety.proofs.Words.{◌≡◌, ◌≢◌, ◌<◌, ◌≤◌, if◌then◌else◌, ◌∙◌, ℕ, Bool, true, false, Some, None, arith, refl, sym, ap, subst, inl, inr, none-some, same_Some, Spot, IsSpot, spot_address, spot_cycle, IsShape, declared, floor_number, ceiling, is_move, is_placement, ceiling_within, floor_given, given_count_declared, RingKeeps, place_count_pos, rank_least, rank_most, Command, EndpointState, Places, is_off, Header, IsHeader, shape_of, command_id, ring_having, World, Known, IsTransferRing, state_of, RingMatches, BoundRing, FreeRing}
 use Rattle.controller_model.specs.Bindings as bindings
 use Rattle.ring_knowledge.specs.Completions as completions
 use Rattle.safety.proofs.Headers.{ring_shape, transfer_driver, transfer_not_command}

@@ -1,6 +1,5 @@
 -- What is known of an endpoint whose ring a command placed: it is bound anew, or moved
-use Rattle.std.proofs.Common.{◌≡◌, ◌≢◌, ◌==◌, ◌&&◌, ◌∙◌, ℕ, Bool, true, false, Option, Some, refl, sym, ap, subst, inl, inr, eqb-true}
-use Rattle.safety.proofs.Words.{cases_Bool, and_parts, cond-true, cond-false, put, put_pair, Spot, RingView, number, target, Command, EndpointState, Places, is_off, Header, IsHeader, shape_of, ring_having, Known, on_ring, set_to, bound_to, moved_to, moved, pointed, in_state, changed_by}
+use Rattle.safety.proofs.Words.{◌≡◌, ◌≢◌, ◌∙◌, ℕ, Bool, true, false, Option, Some, refl, sym, ap, subst, eqb-true, rules, and_parts, cond-true, cond-false, put, put_pair, Spot, RingView, number, target, Command, EndpointState, Places, is_off, Header, IsHeader, shape_of, ring_having, Known, on_ring, set_to, bound_to, moved_to, moved, pointed, in_state, changed_by}
 use Rattle.safety.proofs.LookKinds.{put_at, put_off}
 use Rattle.safety.proofs.Placings.{pointed_is}
 use Rattle.safety.proofs.PlacedRing.{set_view}
@@ -26,26 +25,12 @@ module _ (h : Header) (k : Known) (s i r : ℕ) (t : Spot) where
 
   -- the pair has the ring already
   had_still : k.ring_of s i ≡ Some r → (x j : ℕ) → k.ring_of x j ≡ put_pair k.ring_of s i (Some r) x j
-  had_still had x j =
-      elim (cases_Bool (x == s && j == i)) [
-        | inl here ↦
-            let parts = and_parts (x == s) (j == i) here in
-            ap (λ n. k.ring_of n j) (eqb-true x s parts.0) ∙ ap (λ n. k.ring_of s n) (eqb-true j i parts.1) ∙ had ∙ sym (cond-true (x == s && j == i) (Some r) (k.ring_of x j) here)
-        | inr there ↦ sym (cond-false (x == s && j == i) (Some r) (k.ring_of x j) there)
-      ]
+  had_still had x j = search (rules, and_parts, eqb-true, cond-true, cond-false)
 
   -- its ring is moved
   moved_placed : (state : EndpointState) (must : ℕ → ℕ → Bool) → k.ring_of s i ≡ Some r → PlacedTo k (in_place h (set_to h k r t) s i state must) s i r t state
   unfolding set_to on_ring in_state
-  moved_placed state must had = record {
-    here = set_here;
-    others = set_elsewhere;
-    ring_of = had_still had;
-    endpoint_state = refl;
-    slot_state = refl;
-    device = refl;
-    rest = refl;
-  }
+  moved_placed state must had = search (rules, set_here, set_elsewhere, had_still)
 
   -- a ring is bound
   abbrev bound : Known
@@ -53,15 +38,7 @@ module _ (h : Header) (k : Known) (s i r : ℕ) (t : Spot) where
 
   bound_placed : (state : EndpointState) (must : ℕ → ℕ → Bool) → PlacedTo k (in_place h bound s i state must) s i r t state
   unfolding set_to on_ring in_state
-  bound_placed state must = record {
-    here = set_here;
-    others = set_elsewhere;
-    ring_of = λ x j. refl;
-    endpoint_state = refl;
-    slot_state = refl;
-    device = refl;
-    rest = refl;
-  }
+  bound_placed state must = search (rules, set_here, set_elsewhere)
 
   bound_is : (p : ℕ) (cycle : Bool) → target (shape_of h r) (k.ring r) p cycle ≡ Some t → bound_to h k s i (Some r) p cycle ≡ bound
   unfolding bound_to moved moved_to

@@ -1,6 +1,5 @@
 -- A ring whose dequeue pointer is set to a spot: what the pointer names, and the ring behind it
-use Rattle.std.proofs.Common.{◌≡◌, ◌+◌, ◌-◌, ◌<◌, ◌≤◌, ◌==◌, ◌&&◌, ◌∷◌, ◌∙◌, ℕ, true, false, List, length, map, Some, arith, refl, ap, inl, inr, eq-eqb, eqb-true}
-use Rattle.safety.proofs.Words.{range_with_len, false≢true, false_from_ne_true, or_cases, or_left, or_right, and_parts, and_from, drop_all, Spot, Data, Link, Shape, place_count, address_of, is_crossing, link_address, IsSpot, number, spot_address, spot_cycle, IsShape, is_border, RingView, is_way_given, rank_least, rank_most, same_spot, RingEvent, Placed, takes_of, is_place, first_at, next_take, is_out_of_order, has_other_words, first_at-found, RingState, RingMatches, Unreported}
+use Rattle.safety.proofs.Words.{◌≡◌, ◌+◌, ◌-◌, ◌<◌, ◌≤◌, ◌==◌, ◌&&◌, ◌∷◌, ℕ, true, false, List, length, map, Some, arith, refl, ap, inl, inr, eq-eqb, eqb-true, rules, false≢true, false_from_ne_true, or_cases, or_left, or_right, and_parts, and_from, drop_all, Spot, Data, Link, Shape, place_count, address_of, is_crossing, link_address, IsSpot, number, spot_address, spot_cycle, IsShape, is_border, RingView, is_way_given, rank_least, rank_most, same_spot, RingEvent, Placed, takes_of, is_place, first_at, next_take, is_out_of_order, has_other_words, first_at-found, RingState, RingMatches, Unreported}
 use Rattle.safety.proofs.NoWait.{ceiling_held}
 
 -- the pointer is known to be at a spot, and the ring is held there
@@ -70,27 +69,8 @@ module _ (shape : Shape) (is : IsShape shape) (t : Spot) (is_spot : IsSpot shape
   pub placed_matches : (v : RingView) (s : RingState) → next_take shape s.events ≤ number t → number t < next_take shape s.events + place_count shape →
       is_border v.lengths 0 (number t) ≡ true → ((q : ℕ) → t ≡ Data q → is_way_given shape v q ≡ true) → is_out_of_order shape s.events ≡ false → has_other_words shape s.events ≡ false →
       RingMatches shape (set_view v t) (placed_state s (spot_address shape t) (spot_cycle shape t)) t
-  placed_matches v s low near border way in_order as_declared = record {
-    is_spot = is_spot;
-    pointer = refl;
-    cycle = refl;
-    reached = omega arith;
-    below = omega (arith, ceiling_held shape (set_view v t) (number t) refl);
-    way = λ q e. way_still v q ∙ way q e;
-    opened = λ on. absurd (false≢true on);
-    next = next_placed s.events low near;
-    newest = border;
-    in_order = order_placed (spot_address shape t) s.events ∙ in_order;
-    as_declared = words_placed (spot_address shape t) s.events ∙ as_declared;
-  }
+  placed_matches v s low near border way in_order as_declared = search (rules, ceiling_held, way_still, false≢true, next_placed, order_placed, words_placed)
 
   -- nothing is left to be reported
   pub placed_unreported : (v : RingView) (s : RingState) (a c : ℕ) → Unreported shape (set_view v t) (placed_state s a c) t
-  placed_unreported v s a c =
-      let none : 0 ≡ number t - number t = omega arith in
-      let all = takes_placed a s.events in
-      record {
-        takes = drop_all (length (takes_of s.events)) (takes_of (Placed a ∷ s.events)) (omega (arith, ap (λ l. length l) all))
-            ∙ ap (λ n. map (address_of shape) (range_with_len (number t) n)) none;
-        most = omega (arith, ap (λ l. length l) all);
-      }
+  placed_unreported v s a c = search (rules, takes_placed, drop_all, length, map)

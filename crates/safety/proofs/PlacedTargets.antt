@@ -1,6 +1,5 @@
 -- Where more is declared of rings, an unfinished command places endpoints at the same targets
-use Rattle.std.proofs.Common.{◌≡◌, ◌≤◌, ◌==◌, ◌&&◌, if◌then◌else◌, ◌∷◌, ◌∙◌, ℕ, not, Bool, true, false, List, [], map, All, Option, Some, None, arith, refl, sym, ap, eq-eqb, subst, get_or, ◌≢◌}
-use Rattle.safety.proofs.Words.{cond_both, false≢true, or_parts, not-false, All-head, All-tail, Spot, declared, floor_number, ceiling, target, is_move, given_count_declared, floor_given, ceiling_within, Command, NoOp, EnableSlot, DisableSlot, AddressDevice, ConfigureEndpoint, EvaluateContext, ResetEndpoint, StopEndpoint, SetTrDequeue, ResetDevice, EndpointState, Off, Running, is_off, is_at_rest, Change, SlotGoesOn, Disables, changes, placed_by_context, added_endpoints, is_dropped, context_pointer, context_cycle, Header, IsHeader, shape_of, ring_having, Known, on_ring, set_to, bound_to, moved_to, moved, pointed, disabled, changed_by, is_bad_dequeue, is_bad_move, IsDriverRing, DriverKeeps, StillHolds, RingView, binds, has_repeats, is_placement, binding_in, is_among, same_Some, list_any, ring_bound, is_ring, put_pair}
+use Rattle.safety.proofs.Words.{◌≡◌, ◌≤◌, ◌==◌, ◌&&◌, if◌then◌else◌, ◌∷◌, ◌∙◌, ℕ, not, Bool, true, false, List, [], map, All, Some, arith, refl, sym, ap, eq-eqb, subst, get_or, ◌≢◌, false≢true, or_parts, not-false, All-head, All-tail, declared, floor_number, ceiling, target, is_move, given_count_declared, floor_given, ceiling_within, Command, NoOp, DisableSlot, AddressDevice, ConfigureEndpoint, EvaluateContext, SetTrDequeue, ResetDevice, EndpointState, Off, Running, is_off, is_at_rest, Change, SlotGoesOn, Disables, changes, placed_by_context, added_endpoints, is_dropped, context_pointer, context_cycle, Header, IsHeader, shape_of, ring_having, Known, disabled, changed_by, is_bad_dequeue, is_bad_move, IsDriverRing, DriverKeeps, StillHolds, RingView, binds, has_repeats, is_placement, binding_in, is_among, same_Some, list_any, ring_bound, is_ring, put_pair}
 use Rattle.safety.proofs.Headers.{ring_shape, transfer_driver}
 use Rattle.safety.proofs.AlikeChanges.{TargetsAre}
 use Rattle.safety.proofs.TestsPassed.{each_fails, any_of_map}
@@ -10,32 +9,6 @@ use Rattle.safety.proofs.Placings.{Ready, ReadyAt, BoundThere, ring_at, at_rest_
 use Rattle.safety.proofs.DeclaredTargets.{target_still}
 
 module _ (h : Header) where
-  -- a ring that is placed leaves the states of endpoints
-  set_states : (k : Known) (r : ℕ) (t : Spot) → (set_to h k r t).endpoint_state ≡ k.endpoint_state
-  unfolding set_to on_ring
-  set_states k r t = refl
-
-  target_states : (k : Known) (r : ℕ) (o : Option Spot) → (moved_to h k r o).endpoint_state ≡ k.endpoint_state
-  unfolding moved_to
-  target_states k r None = refl
-  target_states k r (Some t) = set_states k r t
-
-  moved_states : (k : Known) (o : Option ℕ) (p : ℕ) (cycle : Bool) → (moved h k o p cycle).endpoint_state ≡ k.endpoint_state
-  unfolding moved
-  moved_states k None p cycle = refl
-  moved_states k (Some r) p cycle = target_states k r (target (shape_of h r) (k.ring r) p cycle)
-
-  bound_states : (k : Known) (s i : ℕ) (o : Option ℕ) (p : ℕ) (cycle : Bool) → (bound_to h k s i o p cycle).endpoint_state ≡ k.endpoint_state
-  unfolding bound_to
-  bound_states k s i None p cycle = refl
-  bound_states k s i (Some r) p cycle = moved_states k (Some r) p cycle
-
-  pointed_states : (k : Known) (s i p : ℕ) (cycle : Bool) → (pointed h k s i p cycle).endpoint_state ≡ k.endpoint_state
-  unfolding pointed
-  pointed_states k s i p cycle =
-      cond_both (is_off (k.endpoint_state s i)) (bound_to h k s i (ring_having h p) p cycle) (moved h k (k.ring_of s i) p cycle) (λ x. x.endpoint_state ≡ k.endpoint_state)
-      (λ _. bound_states k s i (ring_having h p) p cycle) (λ _. moved_states k (k.ring_of s i) p cycle)
-
   slot_on : (c : Command) (k : Known) (s : ℕ) → ((changed_by h c k (SlotGoesOn s)).endpoint_state ≡ k.endpoint_state) × ((changed_by h c k (SlotGoesOn s)).ring_of ≡ k.ring_of)
       × ((changed_by h c k (SlotGoesOn s)).ring ≡ k.ring)
   unfolding changed_by
@@ -148,7 +121,6 @@ module _ (h : Header) where
     pub placed_targets : (n : ℕ) (c : Command) → StillHolds h k c → TargetsAre h c k l (changes h.context_size k.memory n c)
     unfolding changes
     placed_targets n NoOp still = tt
-    placed_targets n EnableSlot still = (tt, tt)
     placed_targets n (DisableSlot s) still = (tt, (tt, (tt, tt)))
     placed_targets n (AddressDevice s bsr a) still =
         let c : Command = AddressDevice s bsr a in
@@ -191,7 +163,6 @@ module _ (h : Header) where
         )
     placed_targets n (ConfigureEndpoint s true a) still = (tt, (tt, tt))
     placed_targets n (EvaluateContext s a) still = tt
-    placed_targets n (ResetEndpoint s i) still = (tt, tt)
-    placed_targets n (StopEndpoint s i) still = (tt, tt)
     placed_targets n (SetTrDequeue s i p cycle) still = (record { binds = λ off. absurd (rest_on s i p cycle still.moves_on off); moves = λ on r has. dequeue_target s i p cycle still.moves_on r has }, tt)
     placed_targets n (ResetDevice s) still = (tt, (tt, tt))
+    placed_targets n _ still = (tt, tt)

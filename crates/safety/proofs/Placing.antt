@@ -1,6 +1,5 @@
 -- One endpoint's ring is placed in the world as it is in what is known: both match still
-use Rattle.std.proofs.Common.{◌≡◌, ◌≢◌, ◌<◌, ◌⊎◌, ◌==◌, ◌&&◌, if◌then◌else◌, ◌∙◌, ℕ, Bool, Option, Some, arith, refl, sym, ap, subst, inl, inr, eqb-true, eq-eqb}
-use Rattle.safety.proofs.Words.{cases_Bool, cases_eq, and_parts, and_from, cond-true, cond-false, same_Some, put_pair, Spot, EndpointState, SlotState, RingView, Header, shape_of, command_id, World, Known, state_of, RingMatches, Unreported, BoundRing, FreeRing, EndpointRing}
+use Rattle.safety.proofs.Words.{◌≡◌, ◌≢◌, ◌<◌, ◌⊎◌, if◌then◌else◌, ◌∙◌, ℕ, Bool, Option, Some, arith, sym, ap, subst, inl, inr, eqb-true, rules, put_pair_same, cases_eq, and_parts, cond-true, cond-false, same_Some, put_pair, Spot, EndpointState, SlotState, Header, shape_of, command_id, World, Known, state_of, RingMatches, Unreported, BoundRing, EndpointRing}
 use Rattle.safety.proofs.SlotChanges.{same_put_pair}
 use Rattle.safety.proofs.FinishChanges.{known_changed, StatesMatch, LeavesRest, ChangeKeeps}
 use Rattle.safety.proofs.PlacedRing.{set_view, placed_state}
@@ -16,9 +15,6 @@ pub record PlacedTo (k l : Known) (s i r : ℕ) (t : Spot) (state : EndpointStat
   pub device : l.device ≡ k.device
   pub rest : l ≡ known_changed k l
 
-pair_here : {A : Type 0} (f : ℕ → ℕ → A) (s i : ℕ) (y : A) → put_pair f s i y s i ≡ y
-pair_here f s i y = cond-true (s == s && i == i) y (f s i) (and_from (s == s) (i == i) (eq-eqb s s refl) (eq-eqb i i refl))
-
 module _ (h : Header) (k l : Known) (w : World) (s i r a : ℕ) (c : Bool) (state : EndpointState) (active : ℕ → Bool) (t : Spot) (x : PlacedTo k l s i r t state)
     (not_command : r ≢ command_id h) (had : (q : ℕ) → k.ring_of s i ≡ Some q → q ≡ r) (still : (q : ℕ) → q ≢ r → active q ≡ w.is_active q)
     (only : (y j : ℕ) → k.ring_of y j ≡ Some r → (y ≡ s) × (j ≡ i)) (numbered : (0 < s) × (s < 256) × (0 < i) × (i < 32)) where
@@ -27,38 +23,14 @@ module _ (h : Header) (k l : Known) (w : World) (s i r a : ℕ) (c : Bool) (stat
 
   -- another ring's endpoint has it still
   kept : (y j q : ℕ) → q ≢ r → k.ring_of y j ≡ Some q → l.ring_of y j ≡ Some q
-  kept y j q other at =
-      elim (cases_Bool (y == s && j == i)) [
-        | inl here ↦
-            let parts = and_parts (y == s) (j == i) here in
-            absurd (other (had q (ap (λ n. k.ring_of n i) (sym (eqb-true y s parts.0)) ∙ ap (λ n. k.ring_of y n) (sym (eqb-true j i parts.1)) ∙ at)))
-        | inr there ↦ x.ring_of y j ∙ cond-false (y == s && j == i) (Some r) (k.ring_of y j) there ∙ at
-      ]
+  kept y j q other at = search (rules, and_parts, eqb-true, cond-false)
 
   none_still : (q : ℕ) → q ≢ r → ((y j : ℕ) → k.ring_of y j ≢ Some q) → (y j : ℕ) → l.ring_of y j ≢ Some q
-  none_still q other none y j at =
-      elim (cases_Bool (y == s && j == i)) [
-        | inl here ↦ other (sym (same_Some r q (sym (x.ring_of y j ∙ cond-true (y == s && j == i) (Some r) (k.ring_of y j) here) ∙ at)))
-        | inr there ↦ none y j (sym (x.ring_of y j ∙ cond-false (y == s && j == i) (Some r) (k.ring_of y j) there) ∙ at)
-      ]
+  none_still q other none y j at = search (rules, same_Some, cond-true, cond-false)
 
   other_ring : (q : ℕ) → q ≢ r → EndpointRing h k w q → EndpointRing h l v q
-  other_ring q other (inl b) =
-      let here : state_of v q ≡ state_of w q = placed_elsewhere w s i r a c state active q other (still q other) in
-      inl (record {
-        slot = b.slot;
-        index = b.index;
-        bound = kept b.slot b.index q other b.bound;
-        spot = b.spot;
-        matches = subst (λ z. RingMatches (shape_of h q) z (state_of v q) b.spot) (sym (x.others q other))
-            (subst (λ z. RingMatches (shape_of h q) (k.ring q) z b.spot) (sym here) b.matches);
-        takes = subst (λ z. Unreported (shape_of h q) z (state_of v q) b.spot) (sym (x.others q other))
-            (subst (λ z. Unreported (shape_of h q) (k.ring q) z b.spot) (sym here) b.takes);
-      })
-  other_ring q other (inr f) =
-      let here : state_of v q ≡ state_of w q = placed_elsewhere w s i r a c state active q other (still q other) in
-      inr (subst (λ z. FreeRing (shape_of h q) l.ring_of z (state_of v q) q) (sym (x.others q other))
-      (subst (λ z. FreeRing (shape_of h q) l.ring_of (k.ring q) z q) (sym here) (record { none = none_still q other f.none; rests = f.rests; from = f.from; to = f.to })))
+  other_ring q other (inl b) = search (rules, v, placed_elsewhere, kept, none_still)
+  other_ring q other (inr f) = search (rules, v, placed_elsewhere, kept, none_still)
 
   -- the ring that is placed
   this_ring : RingMatches (shape_of h r) (set_view (k.ring r) t) (placed_state (state_of w r) a (if c then 1 else 0)) t →
@@ -68,7 +40,7 @@ module _ (h : Header) (k l : Known) (w : World) (s i r a : ℕ) (c : Bool) (stat
       record {
         slot = s;
         index = i;
-        bound = x.ring_of s i ∙ pair_here k.ring_of s i (Some r);
+        bound = x.ring_of s i ∙ put_pair_same k.ring_of s i (Some r);
         spot = t;
         matches = subst (λ z. RingMatches (shape_of h r) z (state_of v r) t) (sym x.here)
             (subst (λ z. RingMatches (shape_of h r) (set_view (k.ring r) t) z t) (sym here) m);
@@ -78,13 +50,7 @@ module _ (h : Header) (k l : Known) (w : World) (s i r a : ℕ) (c : Bool) (stat
 
   -- whose an endpoint's ring is: the one placed, or the one it had
   whose : (y j q : ℕ) → l.ring_of y j ≡ Some q → ((y ≡ s) × (j ≡ i) × (q ≡ r)) ⊎ (k.ring_of y j ≡ Some q)
-  whose y j q at =
-      elim (cases_Bool (y == s && j == i)) [
-        | inl here ↦
-            let parts = and_parts (y == s) (j == i) here in
-            inl (eqb-true y s parts.0, eqb-true j i parts.1, sym (same_Some r q (sym (x.ring_of y j ∙ cond-true (y == s && j == i) (Some r) (k.ring_of y j) here) ∙ at)))
-        | inr there ↦ inr (sym (x.ring_of y j ∙ cond-false (y == s && j == i) (Some r) (k.ring_of y j) there) ∙ at)
-      ]
+  whose y j q at = search (rules, and_parts, eqb-true, same_Some, cond-true, cond-false)
 
   one_still : ((y j z n q : ℕ) → k.ring_of y j ≡ Some q → k.ring_of z n ≡ Some q → (y ≡ z) × (j ≡ n)) → (y j z n q : ℕ) → l.ring_of y j ≡ Some q → l.ring_of z n ≡ Some q → (y ≡ z) × (j ≡ n)
   one_still one y j z n q a b =
@@ -102,28 +68,13 @@ module _ (h : Header) (k l : Known) (w : World) (s i r a : ℕ) (c : Bool) (stat
       ]
 
   queue_still : (q : ℕ) → (l.ring q).queue ≡ (k.ring q).queue
-  queue_still q =
-      elim (cases_eq q r) [
-        | inl same ↦ ap (λ n. (l.ring n).queue) same ∙ ap (λ (z : RingView). z.queue) x.here ∙ ap (λ n. (k.ring n).queue) (sym same)
-        | inr apart ↦ ap (λ (z : RingView). z.queue) (x.others q apart)
-      ]
+  queue_still q = search rules
 
   lengths_still : (q : ℕ) → (l.ring q).lengths ≡ (k.ring q).lengths
-  lengths_still q =
-      elim (cases_eq q r) [
-        | inl same ↦ ap (λ n. (l.ring n).lengths) same ∙ ap (λ (z : RingView). z.lengths) x.here ∙ ap (λ n. (k.ring n).lengths) (sym same)
-        | inr apart ↦ ap (λ (z : RingView). z.lengths) (x.others q apart)
-      ]
+  lengths_still q = search rules
 
   leaves_rest : LeavesRest h k l w v
-  leaves_rest = record {
-    known = x.rest;
-    world = refl;
-    queues = queue_still;
-    lengths = lengths_still;
-    command_known = x.others (command_id h) (λ e. not_command (sym e));
-    command_world = placed_elsewhere w s i r a c state active (command_id h) (λ e. not_command (sym e)) (still (command_id h) (λ e. not_command (sym e)));
-  }
+  leaves_rest = search (rules, v, queue_still, lengths_still, placed_elsewhere)
 
   pub placed_keeps : RingMatches (shape_of h r) (set_view (k.ring r) t) (placed_state (state_of w r) a (if c then 1 else 0)) t →
       Unreported (shape_of h r) (set_view (k.ring r) t) (placed_state (state_of w r) a (if c then 1 else 0)) t → StatesMatch h k w → ChangeKeeps h k l w v

@@ -1,6 +1,5 @@
 -- A command of which what was tested still holds places endpoints where it may
-use Rattle.std.proofs.Common.{◌≡◌, ◌≢◌, ◌<◌, ◌≤◌, ◌==◌, ◌&&◌, ◌||◌, if◌then◌else◌, ◌∷◌, ◌∙◌, ℕ, not, Bool, true, false, List, [], map, length, All, Option, None, Some, arith, refl, sym, ap, get_or, eq-eqb, ne_eqb, inl, subst, inr}
-use Rattle.safety.proofs.Words.{EndpointRestored, IsShape, IsShownTo, Shape, shown_where_restored, list_any, cases_Bool, cases_option, none-some, same_Some, cond-true, cond-false, and_from, and_right, or_parts, or_left, not-false, false≢true, All-head, All-tail, list_any_at, length-map, get_or-map, put, put_pair, Spot, number, RingView, RingKeeps, Reaches, Holds, is_placement, declared, floor_number, ceiling, target, is_move, is_reached, floor_given, given_count_declared, ceiling_within, move_target, added_endpoints, is_dropped, context_pointer, context_cycle, Command, NoOp, EnableSlot, DisableSlot, AddressDevice, ConfigureEndpoint, EvaluateContext, ResetEndpoint, StopEndpoint, SetTrDequeue, ResetDevice, EndpointState, Off, Running, is_off, is_at_rest, Change, SlotGoesOn, Disables, Places, changes, placed_by_context, Header, IsHeader, shape_of, is_ring, ring_having, Known, on_ring, set_to, bound_to, moved_to, moved, pointed, disabled, in_state, changed_by, Binding, drops, is_placed, is_among, has_repeats, binding_in, binds, ring_bound, binds_ring, is_bad_dequeue, is_bad_move, RingsKeep, EndpointsKeep, MayPoint, MayChangeAll, StillHolds}
+use Rattle.safety.proofs.Words.{◌≡◌, ◌≢◌, ◌<◌, ◌≤◌, ◌==◌, ◌&&◌, ◌||◌, if◌then◌else◌, ◌∷◌, ◌∙◌, ℕ, Bool, true, false, List, [], map, length, All, Option, None, Some, arith, refl, sym, ap, get_or, eq-eqb, ne_eqb, inl, subst, inr, rules, EndpointRestored, IsShape, IsShownTo, Shape, shown_where_restored, list_any, cases_Bool, cases_option, none-some, same_Some, cond-true, cond-false, and_from, and_right, or_parts, or_left, not-false, false≢true, All-head, All-tail, list_any_at, length-map, get_or-map, put_pair, Spot, number, RingView, RingKeeps, Reaches, Holds, is_placement, declared, floor_number, ceiling, target, is_move, is_reached, floor_given, given_count_declared, ceiling_within, move_target, added_endpoints, is_dropped, context_pointer, context_cycle, Command, NoOp, DisableSlot, AddressDevice, ConfigureEndpoint, EvaluateContext, SetTrDequeue, ResetDevice, EndpointState, Off, Running, is_off, is_at_rest, Change, SlotGoesOn, Disables, Places, changes, placed_by_context, Header, IsHeader, shape_of, is_ring, ring_having, Known, on_ring, set_to, bound_to, moved_to, moved, pointed, disabled, in_state, changed_by, Binding, drops, is_placed, is_among, has_repeats, binding_in, binds, ring_bound, binds_ring, is_bad_dequeue, is_bad_move, RingsKeep, EndpointsKeep, MayPoint, MayChangeAll, StillHolds}
 use Rattle.safety.specs.RingsKeep.{IsDriverRing}
 use Rattle.safety.proofs.TestsPassed.{each_fails, any_of_map}
 use Rattle.safety.proofs.RingsOfHeader.{shape_allowed}
@@ -42,15 +41,7 @@ module _ (h : Header) (is : IsHeader h) where
 
   dequeue_points : (k : Known) → RingsKeep h k → EndpointsKeep h k → (s i p : ℕ) (cycle : Bool) → is_bad_move h k (SetTrDequeue s i p cycle) ≡ false → EndpointRestored k s i → MayPoint h k s i p cycle
   unfolding is_bad_move
-  dequeue_points k rings endpoints s i p cycle good restored =
-      let parts = or_parts (not (is_at_rest (k.endpoint_state s i))) (is_bad_dequeue h k (k.ring_of s i) p cycle) good in
-      let rest : is_at_rest (k.endpoint_state s i) ≡ true = not-false (is_at_rest (k.endpoint_state s i)) parts.0 in
-      record {
-        binds = λ off r at. absurd (at_rest_on (k.endpoint_state s i) rest off);
-        moves = λ on r t at named. moves_to k rings endpoints s i p cycle r t (sym (ap (λ o. is_bad_dequeue h k o p cycle) at) ∙ parts.1) at named;
-        bound_shown = λ off r t at. absurd (at_rest_on (k.endpoint_state s i) rest off);
-        moved_shown = λ on r t at named. shown_where_restored (shape_of h r) (k.ring r) (restored r at) (number t);
-      }
+  dequeue_points k rings endpoints s i p cycle good restored = search (rules, or_parts, not-false, at_rest_on, moves_to, shown_where_restored)
 
   -- ---- where a binding is placed
 
@@ -62,11 +53,7 @@ module _ (h : Header) (is : IsHeader h) where
 
   pub placed_at : (k : Known) (b : Binding) → is_placed h k (ring_bound h b) b ≡ true → Placed k b
   unfolding is_placed
-  placed_at k b placed =
-      elim (cases_option (ring_bound h b)) [
-        | inl none ↦ absurd (false≢true (sym (ap (λ o. is_placed h k o b) none) ∙ placed))
-        | inr some ↦ record { ring = some.0; named = some.1; placed = sym (ap (λ o. is_placed h k o b) some.1) ∙ placed }
-      ]
+  placed_at k b placed = search (rules, cases_option, false≢true)
 
   having_driver : (p r : ℕ) → ring_having h p ≡ Some r → IsDriverRing h r
   having_driver p r at = transfer_driver h r (having_transfer h is p r at)
@@ -158,23 +145,7 @@ module _ (h : Header) (is : IsHeader h) where
       }
 
   same_points : (k l : Known) (s i p : ℕ) (cycle : Bool) → k.endpoint_state ≡ l.endpoint_state → k.ring_of ≡ l.ring_of → k.ring ≡ l.ring → MayPoint h k s i p cycle → MayPoint h l s i p cycle
-  same_points k l s i p cycle states ring_of rings may =
-      record {
-        binds = λ off r t at named.
-            ap (λ (f : ℕ → RingView). is_reached (shape_of h r) (f r) t) (sym rings)
-            ∙ may.binds (ap (λ (f : ℕ → ℕ → EndpointState). is_off (f s i)) states ∙ off) r t at (ap (λ (f : ℕ → RingView). target (shape_of h r) (f r) p cycle) rings ∙ named);
-        moves = λ on r t at named.
-            ap (λ (f : ℕ → RingView). is_reached (shape_of h r) (f r) t) (sym rings)
-            ∙ may.moves (ap (λ (f : ℕ → ℕ → EndpointState). is_off (f s i)) states ∙ on) r t (ap (λ (f : ℕ → ℕ → Option ℕ). f s i) ring_of ∙ at)
-            (ap (λ (f : ℕ → RingView). target (shape_of h r) (f r) p cycle) rings ∙ named);
-        bound_shown = λ off r t at named.
-            subst (λ (f : ℕ → RingView). IsShownTo (shape_of h r) (f r) (number t)) rings
-            (may.bound_shown (ap (λ (f : ℕ → ℕ → EndpointState). is_off (f s i)) states ∙ off) r t at (ap (λ (f : ℕ → RingView). target (shape_of h r) (f r) p cycle) rings ∙ named));
-        moved_shown = λ on r t at named.
-            subst (λ (f : ℕ → RingView). IsShownTo (shape_of h r) (f r) (number t)) rings
-            (may.moved_shown (ap (λ (f : ℕ → ℕ → EndpointState). is_off (f s i)) states ∙ on) r t (ap (λ (f : ℕ → ℕ → Option ℕ). f s i) ring_of ∙ at)
-            (ap (λ (f : ℕ → RingView). target (shape_of h r) (f r) p cycle) rings ∙ named));
-      }
+  same_points k l s i p cycle states ring_of rings may = search rules
 
   -- ---- Configure Endpoint
 
@@ -203,11 +174,7 @@ module _ (h : Header) (is : IsHeader h) where
 
   bound_there : (c : Command) (l : Known) (s i p r : ℕ) (cycle : Bool) → BoundThere l (let m : Known = bound_to h l s i (Some r) p cycle in in_state h m s i Running) s i r
   unfolding bound_to moved moved_to in_state set_to on_ring
-  bound_there c l s i p r cycle = by (target (shape_of h r) (l.ring r) p cycle)
-    where
-      by : (o : Option Spot) → BoundThere l (let m : Known = record (moved_to h l r o) { ring_of = put_pair l.ring_of s i (Some r); was_bound = put l.was_bound r true } in in_state h m s i Running) s i r
-      by None = record { states = refl; ring_of = refl; rings = λ q other. refl }
-      by (Some t) = record { states = refl; ring_of = refl; rings = λ q other. set_elsewhere l r q t other }
+  bound_there c l s i p r cycle = search (rules, set_elsewhere)
 
   pub placed_there : (c : Command) (l : Known) (s i p r : ℕ) (cycle : Bool) → is_off (l.endpoint_state s i) ≡ true → ring_having h p ≡ Some r → BoundThere l (changed_by h c l (Places s i p cycle Running)) s i r
   unfolding changed_by
@@ -290,14 +257,7 @@ module _ (h : Header) (is : IsHeader h) where
   none_left : (k : Known) (s a r : ℕ) → StillHolds h k (ConfigureEndpoint s false a) → binds_ring h k r (ConfigureEndpoint s false a) ≡ true → (t j : ℕ) →
       (dropped (ConfigureEndpoint s false a) k s a).ring_of t j ≢ Some r
   unfolding drops
-  none_left k s a r still bound t j has =
-      elim (cases_Bool (t == s && is_dropped k.memory a j)) [
-        | inl gone ↦ none-some r (sym (cond-true (t == s && is_dropped k.memory a j) None (k.ring_of t j) gone) ∙ sym (dropped_ring (ConfigureEndpoint s false a) k s a t j) ∙ has)
-        | inr stays ↦
-            let had : k.ring_of t j ≡ Some r =
-            sym (cond-false (t == s && is_dropped k.memory a j) None (k.ring_of t j) stays) ∙ sym (dropped_ring (ConfigureEndpoint s false a) k s a t j) ∙ has in
-            false≢true (sym stays ∙ still.unkept r t j bound had)
-      ]
+  none_left k s a r still bound t j has = search (rules, dropped, none-some, cond-true, dropped_ring, cond-false, false≢true)
 
   pub all_ready : (k : Known) → RingsKeep h k → (s a : ℕ) → StillHolds h k (ConfigureEndpoint s false a) →
       All (ReadyAt (dropped (ConfigureEndpoint s false a) k s a) k.memory s a) (added_endpoints k.memory a)
@@ -342,7 +302,6 @@ module _ (h : Header) (is : IsHeader h) where
   pub still_places : (k : Known) → RingsKeep h k → EndpointsKeep h k → (n : ℕ) (c : Command) → StillHolds h k c → MayChangeAll h c k (changes h.context_size k.memory n c)
   unfolding changes
   still_places k rings endpoints n NoOp still = tt
-  still_places k rings endpoints n EnableSlot still = (tt, tt)
   still_places k rings endpoints n (DisableSlot s) still = (tt, (tt, (tt, tt)))
   still_places k rings endpoints n (AddressDevice s bsr a) still =
       let c : Command = AddressDevice s bsr a in
@@ -357,7 +316,6 @@ module _ (h : Header) (is : IsHeader h) where
   still_places k rings endpoints n (ConfigureEndpoint s false a) still = (tt, (tt, configures k rings s a still))
   still_places k rings endpoints n (ConfigureEndpoint s true a) still = (tt, (tt, tt))
   still_places k rings endpoints n (EvaluateContext s a) still = tt
-  still_places k rings endpoints n (ResetEndpoint s i) still = (tt, tt)
-  still_places k rings endpoints n (StopEndpoint s i) still = (tt, tt)
   still_places k rings endpoints n (SetTrDequeue s i p cycle) still = (dequeue_points k rings endpoints s i p cycle still.moves_on (still.restored s i p cycle refl), tt)
   still_places k rings endpoints n (ResetDevice s) still = (tt, (tt, tt))
+  still_places k rings endpoints n _ still = (tt, tt)

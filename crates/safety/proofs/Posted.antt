@@ -1,6 +1,5 @@
 -- Behind a post: the event lies behind the unread ones, and nothing else that the driver or the controller did has changed
-use Rattle.std.proofs.Common.{◌≡◌, ◌+◌, ◌<◌, ◌≤◌, ◌⊎◌, ◌∷◌, ◌++◌, ◌∙◌, ℕ, suc, zero, true, List, [], length, Some, slice_get, arith, refl, ap, inl, inr, length-append}
-use Rattle.safety.proofs.Words.{same_Some, none-some, Block, IsBlock, block_at, place_count, address_of, shape_facts, posted_in_order, Header, IsHeader, event_shape, event_size, World, stored_block, can_post, posted, Known, AreInOrder, DriverKeeps, Stands, EventsStand, Matches, Agrees}
+use Rattle.safety.proofs.Words.{◌≡◌, ◌+◌, ◌<◌, ◌≤◌, ◌⊎◌, ◌∷◌, ◌++◌, ◌∙◌, ℕ, suc, zero, true, List, [], length, Some, slice_get, arith, refl, ap, inl, inr, length-append, rules, same_Some, none-some, Block, IsBlock, block_at, place_count, address_of, shape_facts, posted_in_order, Header, IsHeader, event_shape, event_size, World, stored_block, can_post, posted, Known, AreInOrder, DriverKeeps, Stands, EventsStand, Matches, Agrees}
 use Rattle.world_state.specs.World.{event_at}
 use Rattle.world_state.specs.World as of_world
 use Rattle.safety.proofs.Headers.{EventRing, event_ring_is}
@@ -104,15 +103,7 @@ module _ (h : Header) (k : Known) (unread : List Block) (w : World) (b : Block) 
   posted_count = omega (arith, g.read)
 
   keeps_at : IsBlock b → PostKeeps h k unread w b
-  keeps_at is = record {
-    stands = stands_posted;
-    events = events_posted is;
-    matches = matches_posted;
-    late = late_posted;
-    posted_is = posted_count;
-    can = can;
-    room = let high : w.posted + 1 + 1 ≤ w.dequeue + event_size h = after_posted.room (omega arith) in omega arith;
-  }
+  keeps_at is = search (rules, stands_posted, events_posted, matches_posted, late_posted, posted_count, after_posted)
 
 -- a post that is possible keeps all that was known of the controller, with its event as the last unread one
 pub post_keeps : (h : Header) → IsHeader h → (k : Known) (unread : List Block) (w : World) (b : Block) → IsBlock b → DriverKeeps h k → Agrees h k unread w →

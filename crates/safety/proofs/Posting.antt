@@ -1,6 +1,5 @@
 -- An event that is posted: it lies behind the unread ones, and nothing else that the driver or the controller did changes
-use Rattle.std.proofs.Common.{◌≡◌, ◌≢◌, ◌+◌, ◌%◌, ◌<◌, ◌==◌, ◌&&◌, ◌∷◌, ◌∙◌, ℕ, true, List, [], length, nat_lt, slice_index, arith, refl, sym, ap, inr, add-zero, ltb-true, eqb-true}
-use Rattle.safety.proofs.Words.{and_parts, Block, IsBlock, block_at, cycle, word, place_count, address_of, cycle_of, is_inside, address_aligned, place_count_pos, same_in_lap, same_place_of, address_inside, touches-word, has_room, Header, event_shape, event_size, input_context_bytes, World, stored, stored_block, can_post, Known, DriverKeeps, Stands, touches_events, Matches}
+use Rattle.safety.proofs.Words.{◌≡◌, ◌≢◌, ◌+◌, ◌%◌, ◌<◌, ◌==◌, ◌&&◌, ◌∷◌, ◌∙◌, ℕ, true, List, [], length, nat_lt, slice_index, arith, refl, sym, ap, inr, add-zero, ltb-true, eqb-true, and_parts, Block, IsBlock, block_at, cycle, word, place_count, address_of, cycle_of, is_inside, address_aligned, place_count_pos, same_in_lap, same_place_of, address_inside, touches-word, has_room, Header, event_shape, event_size, input_context_bytes, World, stored, stored_block, can_post, Known, DriverKeeps, Stands, touches_events, Matches}
 use Rattle.safety.proofs.Headers.{EventRing}
 use Rattle.safety.proofs.Stored.{Late, IsInNoContext, late_stored, matches_stored, stands_stored, memory_stored, memory_here}
 use Rattle.safety.proofs.Areas.{byte_apart, context_lies, ring_untouched}
@@ -8,12 +7,8 @@ use Rattle.safety.proofs.Areas.{byte_apart, context_lies, ring_untouched}
 -- ---- four words
 
 pub four_of : (l : List ℕ) → length l ≡ 4 → slice_index l 0 ∷ slice_index l 1 ∷ slice_index l 2 ∷ slice_index l 3 ∷ [] ≡ l
-four_of [] h = absurd (omega arith)
-four_of (a ∷ []) h = absurd (omega arith)
-four_of (a ∷ b ∷ []) h = absurd (omega arith)
-four_of (a ∷ b ∷ c ∷ []) h = absurd (omega arith)
 four_of (a ∷ b ∷ c ∷ d ∷ []) h = refl
-four_of (a ∷ b ∷ c ∷ d ∷ e ∷ l) h = absurd (omega arith)
+four_of _ h = absurd (omega arith)
 
 same_word_list : (a b c d e f g h : ℕ) → a ≡ e → b ≡ f → c ≡ g → d ≡ h →
     ◌≡◌ {A = List ℕ} (a ∷ b ∷ c ∷ d ∷ []) (e ∷ f ∷ g ∷ h ∷ [])

@@ -1,6 +1,5 @@
 -- The driver reads an event: it is the oldest unread one, and the run goes on
-use Rattle.std.proofs.Common.{◌≡◌, ◌+◌, ◌<◌, ◌==◌, ◌&&◌, ◌∷◌, ◌∙◌, ℕ, true, false, List, [], nat_lt, Some, All, slice_get, arith, refl, sym, ap, subst, eqb-true, ltb-true}
-use Rattle.safety.proofs.Words.{and_parts, All-head, All-tail, cond_some, Block, IsBlock, kind, same_words, word, Header, Read, World, counted, Known, learned, EventsStand, Agrees, ArePossible, Runs, all_read}
+use Rattle.safety.proofs.Words.{◌≡◌, ◌+◌, ◌<◌, ◌&&◌, ◌∷◌, ◌∙◌, ℕ, true, false, List, [], nat_lt, Some, All, slice_get, arith, refl, ap, subst, eqb-true, ltb-true, rules, and_parts, All-head, All-tail, cond_some, Block, IsBlock, kind, same_words, Header, Read, World, counted, Known, learned, EventsStand, Agrees, ArePossible, Runs, all_read}
 use native.Mathlib.Numerals.{unary_clauses}
 use Rattle.world_state.specs.World.{event_at}
 use Rattle.world_state.specs.World as of_world
@@ -12,21 +11,7 @@ use Rattle.safety.proofs.SameDriver.{event_same}
 
 -- blocks with the same four words are the same
 same_block : (a b : Block) → IsBlock a → IsBlock b → same_words a b ≡ true → a ≡ b
-same_block a b is_a is_b same =
-    let three = and_parts (word a 0 == word b 0 && word a 1 == word b 1 && word a 2 == word b 2) (word a 3 == word b 3) same in
-    let two = and_parts (word a 0 == word b 0 && word a 1 == word b 1) (word a 2 == word b 2) three.0 in
-    let one = and_parts (word a 0 == word b 0) (word a 1 == word b 1) two.0 in
-    let w0 : word a 0 ≡ word b 0 = eqb-true (word a 0) (word b 0) one.0 in
-    let w1 : word a 1 ≡ word b 1 = eqb-true (word a 1) (word b 1) one.1 in
-    let w2 : word a 2 ≡ word b 2 = eqb-true (word a 2) (word b 2) two.1 in
-    let w3 : word a 3 ≡ word b 3 = eqb-true (word a 3) (word b 3) three.1 in
-    ap (λ l. let x : Block = record { w = l } in x)
-    (sym (four_of a.w is_a.0)
-    ∙ ap (λ x. x ∷ word a 1 ∷ word a 2 ∷ word a 3 ∷ []) w0
-    ∙ ap (λ x. word b 0 ∷ x ∷ word a 2 ∷ word a 3 ∷ []) w1
-    ∙ ap (λ x. word b 0 ∷ word b 1 ∷ x ∷ word a 3 ∷ []) w2
-    ∙ ap (λ x. word b 0 ∷ word b 1 ∷ word b 2 ∷ x ∷ []) w3
-    ∙ four_of b.w is_b.0)
+same_block a b is_a is_b same = search (rules, and_parts, eqb-true, four_of)
 
 module _ (h : Header) where
   read_is : (w v : World) (e : Block) → driver.event_read h w e ≡ Some v →

@@ -1,6 +1,5 @@
 -- A register write beneath an event that isn't read yet: the two may change places
-use Rattle.std.proofs.Common.{◌≡◌, ◌+◌, ◌-◌, ◌≤◌, ◌==◌, ◌&&◌, ◌||◌, if◌then◌else◌, ◌∷◌, ◌∙◌, ℕ, zero, suc, Bool, true, false, not, [], nat_lt, Some, unwrap_or, arith, refl, sym, ap, subst, inl, inr}
-use Rattle.safety.proofs.Words.{list_any, range_with_len, cases_Bool, and_parts, and_from, or_parts, or_cases, or_left, or_right, cond-true, cond-false, not-false, not_from_true, false≢true, Block, kind, cycle, is_event, Shape, place_count, address_of, cycle_of, position_from, is_reached_within, erdp_address, Header, Register, Usbcmd, Crcr, Dcbaap, Config, Erstsz, Erstba, Erdp, Reg, Read, event_shape, with_register, same_register, run_bit, reset_bit, Known, run_or_stop, valued, register_written, command_at, next_command, learned, changes, may_pass, is_late_reset, is_early_start, is_wrong_start, is_bad_register, is_bad_erdp, register_tests, is_impossible_by_kind, is_past_room, is_impossible, event_tests, lenient_tests, lenient, broken_of, AfterStop, BadRegister, BadErdp, HeldMore, Square}
+use Rattle.safety.proofs.Words.{◌≡◌, ◌+◌, ◌-◌, ◌≤◌, ◌==◌, ◌||◌, ◌∷◌, ◌∙◌, ℕ, zero, suc, Bool, true, false, not, [], nat_lt, Some, unwrap_or, arith, refl, sym, ap, subst, inl, inr, rules, ◌&&◌, list_any, range_with_len, and_parts, and_from, or_parts, or_cases, or_left, or_right, cond-true, cond-false, not-false, not_from_true, false≢true, Block, kind, cycle, is_event, cycle_of, position_from, erdp_address, Header, Register, Usbcmd, Crcr, Dcbaap, Config, Erstsz, Erstba, Erdp, Reg, Read, event_shape, with_register, same_register, run_bit, reset_bit, Known, run_or_stop, valued, register_written, command_at, next_command, learned, changes, may_pass, is_bad_register, is_bad_erdp, register_tests, is_impossible_by_kind, is_past_room, is_impossible, event_tests, lenient_tests, lenient, broken_of, AfterStop, BadRegister, BadErdp, HeldMore, Square, is_late_reset, is_early_start, is_wrong_start}
 use Rattle.safety.proofs.TestsPassed.{AllFail, clean_tests, tests_fail}
 use Rattle.safety.proofs.ErdpMoves.{erdp_says, erdp_within, reached_is_good}
 use Rattle.safety.proofs.SameDriver.{SameDriver, both_drivers}
@@ -47,21 +46,11 @@ module _ (h : Header) where
 
   run_on : (k : Known) (v : ℕ) → k.started ≡ true → (not (run_bit v) || reset_bit v) ≡ false → run_or_stop k v ≡ k
   unfolding run_or_stop
-  run_on k v on goes =
-      let starts : Known = if run_bit v && not (reset_bit v) then (let x : Known = record k { started = true } in x) else k in
-      let off : Known = record k { stopped = true } in
-      cond-false (not k.started) starts (if not (run_bit v) || reset_bit v then off else k) (not_from_true k.started on) ∙ cond-false (not (run_bit v) || reset_bit v) off k goes
+  run_on k v on goes = search (rules, cond-false, not_from_true)
 
   run_stops : (k : Known) (v : ℕ) → k.started ≡ true → (run_or_stop k v).stopped ≡ false → (not (run_bit v) || reset_bit v) ≡ false
   unfolding run_or_stop
-  run_stops k v on still =
-      let starts : Known = if run_bit v && not (reset_bit v) then (let x : Known = record k { started = true } in x) else k in
-      let off : Known = record k { stopped = true } in
-      elim (cases_Bool (not (run_bit v) || reset_bit v)) [
-        | inl stop ↦ absurd (false≢true (sym still ∙ ap (λ (x : Known). x.stopped) (cond-false (not k.started) starts (if not (run_bit v) || reset_bit v then off else k) (not_from_true k.started on)
-            ∙ cond-true (not (run_bit v) || reset_bit v) off k stop)))
-        | inr goes ↦ goes
-      ]
+  run_stops k v on still = search (rules, false≢true, cond-false, not_from_true, cond-true)
 
   goes_on : (k : Known) (r : Register) (v : ℕ) → k.started ≡ true → (learned h k (Reg r v)).stopped ≡ false → stops r v ≡ false
   unfolding learned register_written valued
@@ -71,7 +60,6 @@ module _ (h : Header) where
   value_is : (k : Known) (r : Register) (v : ℕ) → k.started ≡ true → stops r v ≡ false → learned h k (Reg r v) ≡ with_value k r v
   unfolding learned register_written valued
   value_is k Usbcmd v on goes = run_on (valued k Usbcmd v) v on goes
-  value_is k Erdp v on goes = refl
   value_is k _ v on goes = refl
 
   -- ---- the write is allowed behind the event
@@ -88,25 +76,8 @@ module _ (h : Header) where
 
   erdp_still : (k l : Known) (r : Register) (v : ℕ) → k.started ≡ true → l.started ≡ k.started → l.dequeue ≡ k.dequeue → k.reads ≤ l.reads → is_bad_erdp h k r v ≡ false → is_bad_erdp h l r v ≡ false
   unfolding is_bad_erdp may_pass
-  erdp_still k l Erdp v on started dequeue reads good =
-      let shape : Shape = event_shape h in
-      let test : ℕ → Bool = λ q. address_of shape q == erdp_address v in
-      let reached_before : is_reached_within shape k.dequeue (may_pass k) (erdp_address v) ≡ true =
-      elim (erdp_says h k v good) [ inl reached ↦ reached | inr waits ↦ absurd (false≢true (sym waits.0 ∙ on)) ] in
-      let m : ℕ = if k.started then k.reads - k.dequeue else 0 in
-      let n : ℕ = if l.started then l.reads - l.dequeue else 0 in
-      let further : m ≤ n =
-      subst (λ b. m ≤ (if b then l.reads - l.dequeue else 0)) (sym started)
-      (both_below k.started (k.reads - k.dequeue) (l.reads - l.dequeue) (omega arith)) in
-      let parts = and_parts (nat_lt 0 (place_count shape)) (list_any test (range_with_len k.dequeue (m + 1))) reached_before in
-      reached_is_good h l v
-      (ap (λ p. is_reached_within shape p n (erdp_address v)) dequeue
-      ∙ and_from (nat_lt 0 (place_count shape)) (list_any test (range_with_len k.dequeue (n + 1))) parts.0 (any_longer test k.dequeue (m + 1) (n + 1) (omega arith) parts.1))
-    where
-      both_below : (b : Bool) (x y : ℕ) → x ≤ y → (if b then x else 0) ≤ (if b then y else 0)
-      both_below true x y less = less
-      both_below false x y less = omega arith
-  erdp_still k l _ v on started dequeue reads good = refl
+  erdp_still k l Erdp v on started dequeue reads good = search (rules, erdp_says, false≢true, and_parts, nat_lt, reached_is_good, and_from, any_longer)
+  erdp_still k l _ v on started dequeue reads good = search rules
 
   none_broken : (x y : Bool) → x ≡ false → y ≡ false → broken_of ((BadRegister, x) ∷ (BadErdp, y) ∷ []) ≡ []
   none_broken x y one two = rw (one, two) refl
@@ -127,16 +98,7 @@ module _ (h : Header) where
   -- ---- the two
 
   value_alike : (k : Known) (r : Register) (v : ℕ) → Alike EverySlot k (with_value k r v)
-  value_alike k r v = record {
-    rings = λ q. record { floor = refl; held = held_same (k.ring q).held (k.ring q).held refl; more = record { given = λ p yes. yes; crossed = λ q yes. yes } };
-    was_bound = refl;
-    slot_state = refl;
-    endpoint_state = refl;
-    ring_of = refl;
-    must_move = refl;
-    stop_seen = refl;
-    device = λ s _. refl;
-  }
+  value_alike k r v = search (rules, held_same)
 
   value_events : (k : Known) (r : Register) (v : ℕ) → same_register Config r ≡ false → k.dequeue ≤ dequeue_after k.dequeue r v → EventAlike h k (with_value k r v)
   unfolding command_at next_command
@@ -156,16 +118,7 @@ module _ (h : Header) where
       }
 
   value_driver : (k l : Known) (r : Register) (v : ℕ) → SameDriver k l → SameDriver (with_value k r v) (with_value l r v)
-  value_driver k l r v d = record {
-    started = d.started;
-    stopped = d.stopped;
-    register = ap (λ x. with_register x r v) d.register;
-    memory = d.memory;
-    soiled = d.soiled;
-    reads = d.reads;
-    dequeue = ap (λ x. dequeue_after x r v) d.dequeue;
-    rings = d.rings;
-  }
+  value_driver k l r v d = search (rules, with_value)
 
   pub register_square : (k : Known) (r : Register) (v : ℕ) (e : Block) → lenient h k (Reg r v) ≡ [] → lenient h k (Read e) ≡ [] → (learned h k (Reg r v)).stopped ≡ false →
       Square h k (Reg r v) e

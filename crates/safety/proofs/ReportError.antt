@@ -1,6 +1,5 @@
 -- The controller reports that an endpoint has halted, or gone to Error: the run goes on
-use Rattle.std.proofs.Common.{◌≡◌, ◌≢◌, ◌+◌, ◌<◌, ◌==◌, ◌&&◌, ◌||◌, if◌then◌else◌, ◌∷◌, ◌++◌, ◌∙◌, ℕ, Bool, true, false, not, List, [], length, drop, Some, None, arith, refl, sym, ap, subst, inl, inr}
-use Rattle.safety.proofs.Words.{cases_Bool, false≢true, and_parts, and_from, and_right, or_from, or_left, or_right, cond-true, cond-false, not_from_true, none-some, same_Some, put, put_pair, Block, IsBlock, code, endpoint, kind, pointer, slot, is_transfer_event, is_command_completion, is_other_event, is_success, is_halting, is_trb_error, is_transfer_code, Data, after, RingView, Holds, ceiling, is_data_below, is_open, EndpointState, Off, Halted, Error, is_off, is_running, Header, Read, IsHeader, shape_of, command_id, World, RingEvent, takes_of, unreported, posted, is_last, with_reported, report_error, report_code, reported, counted, Known, event_read, learned, event_at, on_ring, passed, broken_off, transferred, transferred_at, transfer_read, is_in_profile, is_working, is_impossible_by_kind, is_impossible_transfer, can_report, can_report_at, DriverKeeps, RingState, state_of, BoundRing, Agrees, Runs, all_read}
+use Rattle.safety.proofs.Words.{◌≡◌, ◌≢◌, ◌+◌, ◌<◌, ◌==◌, ◌&&◌, ◌||◌, if◌then◌else◌, ◌∷◌, ◌++◌, ◌∙◌, ℕ, Bool, true, false, not, List, [], length, drop, Some, None, arith, refl, sym, ap, subst, inl, inr, rules, cases_Bool, false≢true, and_parts, and_from, and_right, or_from, or_left, or_right, cond-true, cond-false, not_from_true, none-some, same_Some, put, put_pair, Block, IsBlock, code, endpoint, kind, pointer, slot, is_transfer_event, is_command_completion, is_other_event, is_success, is_halting, is_trb_error, is_transfer_code, Data, Holds, ceiling, is_data_below, is_open, EndpointState, Off, Halted, Error, is_off, is_running, Header, Read, IsHeader, shape_of, command_id, World, RingEvent, unreported, posted, is_last, with_reported, report_error, report_code, reported, counted, Known, event_read, learned, event_at, on_ring, passed, broken_off, transferred, transferred_at, transfer_read, is_in_profile, is_working, is_impossible_by_kind, is_impossible_transfer, can_report, can_report_at, DriverKeeps, RingState, state_of, BoundRing, Agrees, Runs, all_read}
 use Rattle.safety.proofs.Headers.{transfer_driver, transfer_not_command, ring_shape}
 use Rattle.safety.proofs.Counted.{agrees_counted}
 use Rattle.safety.proofs.WithReads.{with_reads}
@@ -12,7 +11,9 @@ use Rattle.safety.proofs.Learns.{LearnsRing, stands_learns, matches_learns}
 use Rattle.safety.proofs.EndpointStates.{known_states, world_states, stands_states, events_states, matches_states}
 use Rattle.safety.proofs.ReportedRing.{open_takes}
 use Rattle.safety.proofs.BrokenRing.{broken_at, last_is, last_take, broken_matches, broken_unreported}
-use Rattle.safety.proofs.ReportSuccess.{IsReport, report_is, ReportKeeps, transfer_kind, not_off, spot_named, in_profile_is, below_is}
+use Rattle.safety.proofs.ReportSuccess.{IsReport, report_is, ReportKeeps, transfer_kind, spot_named, in_profile_is, below_is}
+use Rattle.safety.proofs.StatesPlaced.{on_is}
+use Rattle.safety.proofs.OpenRings.{held_open}
 
 -- the ring at rest, its takes reported
 abbrev pub ended_ring : World → ℕ → ℕ → World
@@ -26,39 +27,14 @@ pub record Breaks (h : Header) (u v : World) (s i r a : ℕ) (state : EndpointSt
 
 breaks_is : (h : Header) (u v : World) (s i r a : ℕ) (state : EndpointState) → report_error h u s i r a state ≡ Some v → Breaks h u v s i r a state
 unfolding report_error with_reported unreported
-breaks_is h u v s i r a state at =
-    elim (cond_is (is_running (u.endpoint_state s i) && u.is_active r && is_last h a (drop (u.reported r) (takes_of (u.events r)))) _ None (Some v) at) [
-      | inl on ↦
-          let p = and_parts (is_running (u.endpoint_state s i) && u.is_active r) (is_last h a (drop (u.reported r) (takes_of (u.events r)))) on.0 in
-          let q = and_parts (is_running (u.endpoint_state s i)) (u.is_active r) p.0 in
-          record { runs = q.0; active = q.1; last = p.1; is = same_Some _ v on.1 }
-      | inr off ↦ absurd (none-some v off.1)
-    ]
+breaks_is h u v s i r a state at = search (rules, cond_is, drop, and_parts, same_Some, none-some)
 
 state_ended : (p c : ℕ) (a b : Bool) (e : List RingEvent) (m n : ℕ) → a ≡ b → m ≡ n →
     ◌≡◌ {A = RingState} (record { pointer = p; cycle = c; active = a; events = e; reported = m }) (record { pointer = p; cycle = c; active = b; events = e; reported = n })
 state_ended p c a b e m n x y = cc
 
 pub only_ended : (u : World) (r c : ℕ) → OnlyRing u (ended_ring u r c) r (record (state_of u r) { active = false; reported = c })
-only_ended u r c = record {
-  here = state_ended (u.pointer_of r) (u.cycle_state r) _ false (u.events r) _ c (put_at u.is_active r false) (put_at u.reported r c);
-  others = λ q other. state_ended (u.pointer_of q) (u.cycle_state q) _ (u.is_active q) (u.events q) _ (u.reported q) (put_off u.is_active r false q other) (put_off u.reported r c q other);
-  steps = refl;
-  started = refl;
-  stopped = refl;
-  register = refl;
-  memory = refl;
-  changed = refl;
-  written = refl;
-  queue = refl;
-  lengths = refl;
-  slot_state = refl;
-  endpoint_state = refl;
-  ring_of = refl;
-  posted = refl;
-  reads = refl;
-  dequeue = refl;
-}
+only_ended u r c = search (rules, state_ended, put_at, put_off)
 
 -- what is known of the ring once the event is read
 pub held_behind : (h : Header) → Known → ℕ → ℕ → Known
@@ -66,28 +42,7 @@ held_behind h k r p = on_ring h (passed h k r (Data p)) r (Holds (p + 1))
 
 learns_held : (h : Header) (k : Known) (r p n : ℕ) → LearnsRing k (with_reads (held_behind h k r p) n) r (broken_at (shape_of h r) (k.ring r) p)
 unfolding held_behind passed on_ring
-learns_held h k r p n =
-    let x : RingView = record (k.ring r) { floor = after (shape_of h r) p } in
-    let f : ℕ → RingView = put k.ring r x in
-    let y : RingView = record (f r) { held = Some (p + 1) } in
-    record {
-      here = put_at f r y ∙ ap (λ (z : RingView). let e : RingView = record z { held = Some (p + 1) } in e) (put_at k.ring r x);
-      others = λ q other. put_off f r y q other ∙ put_off k.ring r x q other;
-      queue = refl;
-      lengths = refl;
-      started = refl;
-      stopped = refl;
-      register = refl;
-      memory = refl;
-      soiled = refl;
-      device = refl;
-      dequeue = refl;
-      was_bound = refl;
-      slot_state = refl;
-      endpoint_state = refl;
-      ring_of = refl;
-      stop_seen = refl;
-    }
+learns_held h k r p n = search (rules, with_reads, held_behind, broken_at, put_at, put_off)
 
 broken_is : (h : Header) (k : Known) (s i r p : ℕ) (state : EndpointState) → broken_off h k s i r (Data p) state ≡ known_states (held_behind h k r p) (put_pair k.endpoint_state s i state) k.must_move
 unfolding broken_off held_behind passed on_ring
@@ -96,13 +51,9 @@ broken_is h k s i r p state = refl
 pair_same : (f g : ℕ → ℕ → EndpointState) (s i : ℕ) (x : EndpointState) → ((t j : ℕ) → f t j ≡ g t j) → (t j : ℕ) → put_pair f s i x t j ≡ put_pair g s i x t j
 pair_same f g s i x same t j = ap (λ y. if t == s && j == i then x else y) (same t j)
 
-open_is : (v : RingView) → v.held ≡ None → is_open v ≡ true
-unfolding is_open
-open_is v none = rw none refl
-
 pub works : (h : Header) (k : Known) (s i r : ℕ) → is_running (k.endpoint_state s i) ≡ true → (k.ring r).held ≡ None → is_working k s i r ≡ true
 unfolding is_working
-works h k s i r runs none = and_from (is_running (k.endpoint_state s i)) (is_open (k.ring r)) runs (open_is (k.ring r) none)
+works h k s i r runs none = and_from (is_running (k.endpoint_state s i)) (is_open (k.ring r)) runs (held_open (k.ring r) none)
 
 -- what the rules and what is known say of the event's code
 pub record BreaksBy (h : Header) (k : Known) (b : Block) (state : EndpointState) (must : ℕ → ℕ → Bool) : Type 0 where
@@ -149,7 +100,7 @@ unfolding is_impossible_by_kind is_impossible_transfer
 possible h k b r p transfer at may on =
     ap (λ n. is_impossible_by_kind h k n b) (transfer_kind (kind b) transfer)
     ∙ and_right (is_in_profile b) (is_off (k.endpoint_state (slot b) (endpoint b)) || not (can_report_at h k b (event_at h k b)))
-    (or_from (is_off (k.endpoint_state (slot b) (endpoint b))) (not (can_report_at h k b (event_at h k b))) (not_off (k.endpoint_state (slot b) (endpoint b)) on)
+    (or_from (is_off (k.endpoint_state (slot b) (endpoint b))) (not (can_report_at h k b (event_at h k b))) (on_is (k.endpoint_state (slot b) (endpoint b)) on)
     (not_from_true (can_report_at h k b (event_at h k b)) (ap (λ o. can_report_at h k b o) at ∙ may)))
 
 module _ (h : Header) (is : IsHeader h) (k : Known) (unread : List Block) (w v : World) (b : Block) (block : IsBlock b) (running : w.stopped ≡ false) (d : DriverKeeps h k) (g : Agrees h k unread w)

@@ -1,6 +1,5 @@
 -- Whatever the controller reports of a take, the run goes on
-use Rattle.std.proofs.Common.{◌≡◌, ◌∙◌, ℕ, false, List, Some, sym, inl, inr}
-use Rattle.safety.proofs.Words.{cases_Bool, cond-false, or_left, or_right, none-some, Block, IsBlock, code, endpoint, pointer, slot, is_success, is_halting, is_trb_error, is_stopping, Header, IsHeader, World, posted, report_code, reported, counted, DriverKeeps, Runs, all_read, Known}
+use Rattle.safety.proofs.Words.{◌≡◌, ◌∙◌, ℕ, false, List, Some, sym, inl, inr, cases_Bool, cond-false, or_left, or_right, none-some, Block, IsBlock, code, endpoint, pointer, slot, is_success, is_halting, is_trb_error, is_stopping, Header, IsHeader, World, posted, report_code, reported, counted, DriverKeeps, Runs, all_read, Known}
 use Rattle.safety.proofs.ReportSuccess.{report_is, report_success_runs}
 use Rattle.safety.proofs.ReportError.{report_error_runs}
 use Rattle.safety.proofs.ReportStop.{report_stop_runs}

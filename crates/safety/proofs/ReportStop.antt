@@ -1,7 +1,5 @@
 -- The controller reports that an endpoint has stopped: the run goes on
-use Rattle.std.proofs.Common.{◌≡◌, ◌≢◌, ◌+◌, ◌-◌, ◌<◌, ◌==◌, ◌&&◌, ◌||◌, ◌∷◌, ◌++◌, ◌∙◌, ℕ, Bool, true, false, not, List, [], length, Option, Some, None, arith, refl, sym, ap, subst, inl, inr, eq-eqb, lt-ltb}
-use Rattle.safety.proofs.Words.{false≢true, and_right, and_from, or_left, cond-false, cond-true, not_from_true, put_pair, Block, IsBlock, code, endpoint, kind, pointer, slot, is_transfer_event, is_command_completion, is_other_event, Spot, Data, Shape, RingView, Reaches, Holds, floor_number, ceiling, given_count, is_stop_spot, named, stopped_number, cycle_of_bit, rank_least, command_of, is_stop_of, is_running, Header, Read, IsHeader, shape_of, command_id, World, UnderWay, is_stop_under_way, with_stopped, posted, report_code, report_stop, reported, counted, Known, learned, command_at, next_command, on_ring, is_in_profile, DriverKeeps, RingState, state_of, BoundRing, RingMatches, Unreported, UnderWayMatches, CommandMatches, Agrees, Runs, all_read}
-use Rattle.world_state.specs.World as of_world
+use Rattle.safety.proofs.Words.{◌≡◌, ◌≢◌, ◌+◌, ◌-◌, ◌<◌, ◌==◌, ◌&&◌, ◌||◌, ◌∷◌, ◌++◌, ◌∙◌, ℕ, Bool, true, false, not, List, [], length, Option, Some, None, arith, refl, sym, ap, subst, inl, inr, eq-eqb, lt-ltb, false≢true, and_right, and_from, or_left, cond-false, cond-true, not_from_true, put_pair, Block, IsBlock, code, endpoint, kind, pointer, slot, is_transfer_event, is_command_completion, is_other_event, Spot, Data, Shape, RingView, Reaches, Holds, floor_number, ceiling, given_count, is_stop_spot, named, stopped_number, cycle_of_bit, rank_least, command_of, is_stop_of, is_running, Header, Read, IsHeader, shape_of, command_id, World, UnderWay, is_stop_under_way, with_stopped, posted, report_code, report_stop, reported, counted, Known, learned, command_at, next_command, on_ring, is_in_profile, DriverKeeps, RingState, state_of, BoundRing, RingMatches, Unreported, UnderWayMatches, CommandMatches, Agrees, Runs, all_read}
 use Rattle.safety.proofs.Headers.{transfer_driver, transfer_not_command, ring_shape}
 use Rattle.safety.proofs.SameCommand.{command_of-with_cycle}
 use Rattle.safety.proofs.NoWait.{ceiling_given}
@@ -19,7 +17,7 @@ use Rattle.safety.proofs.ReportSuccess.{IsReport, report_is, ReportKeeps, spot_n
 use Rattle.safety.proofs.ReportError.{ended_ring, only_ended, works}
 use Rattle.safety.proofs.StopKinds.{IsStop, stop_is, stopped_world, stopped_world_is, learns_stopped, may_stop_at, taken_stopped, next_seen, with_seen, stands_seen, events_seen, matches_seen}
 use Rattle.safety.proofs.StopRead.{StopCode, stop_transfer_code, stop_read, stop_possible}
-use Rattle.safety.proofs.FinishFails.{taken_now}
+use Rattle.safety.proofs.FinishFails.{taken_now, posted_under_way}
 
 code_stops : (h : Header) (u v : World) (c s i r a : ℕ) → StopCode c → report_code h u c s i r a ≡ Some v → report_stop h u s i r a ≡ Some v
 unfolding report_code
@@ -34,10 +32,6 @@ under_way_is h s i (Some x) at = (x, refl, at)
 with_stopped_some : (h : Header) (x : UnderWay) → with_stopped h (Some x) ≡ Some (let y : UnderWay = record x { has_stopped = true } in y)
 unfolding with_stopped
 with_stopped_some h x = refl
-
-posted_under_way : (h : Header) (w : World) (b : Block) → (posted h w b).under_way ≡ w.under_way
-unfolding posted of_world.stored_block of_world.stored
-posted_under_way h w b = refl
 
 below_stop : (shape : Shape) (v : RingView) (p : ℕ) → p < given_count shape v → is_stop_spot shape v (Data p) ≡ true
 unfolding is_stop_spot

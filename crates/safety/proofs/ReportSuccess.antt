@@ -1,6 +1,6 @@
 -- The controller reports that a take has succeeded: the run goes on
-use Rattle.std.proofs.Common.{◌≡◌, ◌≢◌, ◌+◌, ◌<◌, ◌==◌, ◌&&◌, ◌||◌, ◌∷◌, ◌++◌, ◌∙◌, ℕ, Bool, true, false, not, List, [], drop, Option, Some, None, position, option_map, arith, refl, sym, ap, subst, inl, inr, lt-ltb}
-use Rattle.safety.proofs.Words.{false≢true, and_parts, and_from, and_right, or_from, or_left, cond-true, not-true, not_from_true, not_from_false, none-some, same_Some, Block, BlockKind, is_set, IsBlock, code, endpoint, kind, pointer, slot, word, is_transfer_event, is_command_completion, is_other_event, is_success, is_halting, is_trb_error, is_stopping, is_transfer_code, Spot, Data, after, number, floor_number, ceiling, named, is_data_below, EndpointState, Off, Running, Halted, Stopped, Error, is_off, Header, Read, IsHeader, shape_of, command_id, World, RingEvent, takes_of, unreported, can_post, posted, with_reported, report_success, report_code, reported_on, reported, counted, Known, event_read, learned, RingSpot, event_at, on_ring, spot_on, passed, transferred, transferred_at, transfer_read, lenient, is_in_profile, is_impossible_by_kind, is_impossible_transfer, can_report, can_report_at, DriverKeeps, RingState, state_of, BoundRing, Agrees, Runs, all_read}
+use Rattle.std.proofs.Common.{◌≡◌, ◌≢◌, ◌+◌, ◌<◌, ◌==◌, ◌||◌, ◌∷◌, ◌++◌, ◌∙◌, ℕ, Bool, true, false, not, List, [], drop, Option, Some, None, position, option_map, arith, refl, sym, ap, subst, inl, inr, lt-ltb, rules}
+use Rattle.safety.proofs.Words.{false≢true, and_parts, and_from, and_right, or_from, or_left, cond-true, not-true, not_from_true, not_from_false, none-some, same_Some, Block, BlockKind, is_set, IsBlock, code, endpoint, kind, pointer, slot, word, is_transfer_event, is_command_completion, is_other_event, is_success, is_halting, is_trb_error, is_stopping, is_transfer_code, Spot, Data, after, number, floor_number, ceiling, named, is_data_below, Off, is_off, Header, Read, IsHeader, shape_of, command_id, World, RingEvent, takes_of, unreported, can_post, posted, with_reported, report_success, report_code, reported_on, reported, counted, Known, event_read, learned, RingSpot, event_at, on_ring, spot_on, passed, transferred, transferred_at, transfer_read, lenient, is_in_profile, is_impossible_by_kind, is_impossible_transfer, can_report, can_report_at, DriverKeeps, RingState, state_of, BoundRing, Agrees, Runs, all_read}
 use Rattle.trb.specs.declared.kind.BlockKind.TheVariants as kinds
 use Rattle.safety.proofs.Headers.{transfer_driver, transfer_not_command, ring_shape}
 use Rattle.safety.proofs.Counted.{agrees_counted}
@@ -11,19 +11,13 @@ use Rattle.safety.proofs.OnlyRing.{OnlyRing, stands_only, events_only, late_only
 use Rattle.safety.proofs.LookKinds.{cond_is, put_at, put_off}
 use Rattle.safety.proofs.Learns.{LearnsRing, stands_learns, matches_learns}
 use Rattle.safety.proofs.ReportedRing.{open_takes, reported_is, reported_matches, reported_unreported}
+use Rattle.safety.proofs.StatesPlaced.{on_is}
 
 pub transfer_kind : (t : BlockKind) → is_transfer_event t ≡ true → t ≡ kinds.TransferEvent
 transfer_kind kinds.TransferEvent h = refl
 transfer_kind _ h = absurd (false≢true h)
 
-pub not_off : (e : EndpointState) → e ≢ Off → is_off e ≡ false
-not_off Off h = absurd (h refl)
-not_off Running h = refl
-not_off Halted h = refl
-not_off Stopped h = refl
-not_off Error h = refl
-
-mapped : {A B : Type 0} (f : A → B) (o : Option A) (y : B) → option_map f o ≡ Some y → (x : A) × (o ≡ Some x) × (f x ≡ y)
+pub mapped : {A B : Type 0} (f : A → B) (o : Option A) (y : B) → option_map f o ≡ Some y → (x : A) × (o ≡ Some x) × (f x ≡ y)
 mapped f None y at = absurd (none-some y at)
 mapped f (Some x) y at = (x, refl, same_Some (f x) y at)
 
@@ -42,15 +36,7 @@ on_ring_is h w v b (Some r) at = (r, refl, at)
 
 pub report_is : (h : Header) (w v : World) (b : Block) → reported h w b ≡ Some v → IsReport h w v b
 unfolding reported
-report_is h w v b at =
-    elim (cond_is (can_post h w b && is_transfer_event (kind b) && not (is_set (word b 3) 2)) (reported_on h w b (w.ring_of (slot b) (endpoint b))) None (Some v) at) [
-      | inl on ↦
-          let p = and_parts (can_post h w b && is_transfer_event (kind b)) (not (is_set (word b 3) 2)) on.0 in
-          let q = and_parts (can_post h w b) (is_transfer_event (kind b)) p.0 in
-          let r = on_ring_is h w v b (w.ring_of (slot b) (endpoint b)) on.1 in
-          record { can = q.0; transfer = q.1; no_data = not-true (is_set (word b 3) 2) p.1; ring = r.0; had = r.1; by_code = r.2 }
-      | inr off ↦ absurd (none-some v off.1)
-    ]
+report_is h w v b at = search (rules, cond_is, and_parts, on_ring_is, not-true, none-some)
 
 -- ---- a success
 
@@ -67,25 +53,7 @@ state_reported p c a e m n x = cc
 
 only_reported : (h : Header) (u : World) (r n : ℕ) → OnlyRing u (with_reported h u r n) r (record (state_of u r) { reported = n })
 unfolding with_reported
-only_reported h u r n = record {
-  here = state_reported (u.pointer_of r) (u.cycle_state r) (u.is_active r) (u.events r) _ n (put_at u.reported r n);
-  others = λ q other. state_reported (u.pointer_of q) (u.cycle_state q) (u.is_active q) (u.events q) _ (u.reported q) (put_off u.reported r n q other);
-  steps = refl;
-  started = refl;
-  stopped = refl;
-  register = refl;
-  memory = refl;
-  changed = refl;
-  written = refl;
-  queue = refl;
-  lengths = refl;
-  slot_state = refl;
-  endpoint_state = refl;
-  ring_of = refl;
-  posted = refl;
-  reads = refl;
-  dequeue = refl;
-}
+only_reported h u r n = search (rules, state_reported, put_at, put_off)
 
 reported_under : (h : Header) (u : World) (r n : ℕ) → (with_reported h u r n).under_way ≡ u.under_way
 unfolding with_reported
@@ -102,24 +70,7 @@ reported_inside h u r n = refl
 -- what is known once the success of the block at a spot is read
 learns_passed : (h : Header) (k : Known) (r n : ℕ) (t : Spot) → LearnsRing k (with_reads (passed h k r t) n) r (record (k.ring r) { floor = after (shape_of h r) (number t) })
 unfolding passed on_ring
-learns_passed h k r n t = record {
-  here = put_at k.ring r _;
-  others = λ q other. put_off k.ring r _ q other;
-  queue = refl;
-  lengths = refl;
-  started = refl;
-  stopped = refl;
-  register = refl;
-  memory = refl;
-  soiled = refl;
-  device = refl;
-  dequeue = refl;
-  was_bound = refl;
-  slot_state = refl;
-  endpoint_state = refl;
-  ring_of = refl;
-  stop_seen = refl;
-}
+learns_passed h k r n t = search (rules, put_at, put_off)
 
 pub spot_named : (h : Header) (k : Known) (b : Block) (r : ℕ) (t : Spot) → k.ring_of (slot b) (endpoint b) ≡ Some r → named (shape_of h r) (k.ring r) (pointer b) ≡ Some t →
     event_at h k b ≡ Some (record { ring = r; spot = t })
@@ -147,7 +98,7 @@ unfolding is_impossible_by_kind is_impossible_transfer
 success_possible h k b r p transfer success at below on =
     ap (λ n. is_impossible_by_kind h k n b) (transfer_kind (kind b) transfer)
     ∙ and_right (is_in_profile b) (is_off (k.endpoint_state (slot b) (endpoint b)) || not (can_report_at h k b (event_at h k b)))
-    (or_from (is_off (k.endpoint_state (slot b) (endpoint b))) (not (can_report_at h k b (event_at h k b))) (not_off (k.endpoint_state (slot b) (endpoint b)) on)
+    (or_from (is_off (k.endpoint_state (slot b) (endpoint b))) (not (can_report_at h k b (event_at h k b))) (on_is (k.endpoint_state (slot b) (endpoint b)) on)
     (not_from_true (can_report_at h k b (event_at h k b)) (ap (λ o. can_report_at h k b o) at ∙ may_report h k b r p success below)))
 
 pub in_profile_is : (b : Block) → is_set (word b 3) 2 ≡ false → is_transfer_code (code b) ≡ true → is_in_profile b ≡ true

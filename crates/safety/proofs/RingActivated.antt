@@ -1,6 +1,5 @@
 -- A ring that is opened, and that the controller may look at
-use Rattle.std.proofs.Common.{◌≡◌, ℕ, Bool, true, List, Option, None, refl}
-use Rattle.safety.proofs.Words.{Spot, RingView, Opens, changed, Header, shape_of, World, RingEvent, Known, on_ring, RingState, state_of, RingMatches, BoundRing}
+use Rattle.safety.proofs.Words.{◌≡◌, ℕ, Bool, true, List, Option, None, refl, rules, Spot, RingView, Opens, changed, Header, shape_of, World, RingEvent, Known, on_ring, RingState, state_of, RingMatches, BoundRing}
 use Rattle.controller_model.specs.DriverRows as driver
 use Rattle.safety.proofs.LookKinds.{put_at, put_off}
 use Rattle.safety.proofs.OnlyRing.{OnlyRing}
@@ -15,25 +14,7 @@ activated_ring w r = record (state_of w r) { active = true }
 
 pub only_activated : (h : Header) (w : World) (r : ℕ) → OnlyRing w (driver.activated h w r) r (activated_ring w r)
 unfolding driver.activated
-only_activated h w r = record {
-  here = state_active (w.pointer_of r) (w.cycle_state r) _ true (w.events r) (w.reported r) (put_at w.is_active r true);
-  others = λ q other. state_active (w.pointer_of q) (w.cycle_state q) _ (w.is_active q) (w.events q) (w.reported q) (put_off w.is_active r true q other);
-  steps = refl;
-  started = refl;
-  stopped = refl;
-  register = refl;
-  memory = refl;
-  changed = refl;
-  written = refl;
-  queue = refl;
-  lengths = refl;
-  slot_state = refl;
-  endpoint_state = refl;
-  ring_of = refl;
-  posted = refl;
-  reads = refl;
-  dequeue = refl;
-}
+only_activated h w r = search (rules, state_active, put_at, put_off)
 
 pub record ActivatedRest (w v : World) : Type 0 where
   pub under_way : v.under_way ≡ w.under_way
@@ -46,24 +27,7 @@ activated_rest h w r = record { under_way = refl; scribbles = refl; inside = ref
 
 pub learns_opened : (h : Header) (k : Known) (r : ℕ) → LearnsRing k (on_ring h k r Opens) r (changed (shape_of h r) (k.ring r) Opens)
 unfolding on_ring
-learns_opened h k r = record {
-  here = put_at k.ring r (changed (shape_of h r) (k.ring r) Opens);
-  others = λ q other. put_off k.ring r (changed (shape_of h r) (k.ring r) Opens) q other;
-  queue = refl;
-  lengths = refl;
-  started = refl;
-  stopped = refl;
-  register = refl;
-  memory = refl;
-  soiled = refl;
-  device = refl;
-  dequeue = refl;
-  was_bound = refl;
-  slot_state = refl;
-  endpoint_state = refl;
-  ring_of = refl;
-  stop_seen = refl;
-}
+learns_opened h k r = search (rules, put_at, put_off)
 
 pub opened_reads : (h : Header) (k : Known) (r : ℕ) → (on_ring h k r Opens).reads ≡ k.reads
 unfolding on_ring
@@ -71,26 +35,7 @@ opened_reads h k r = refl
 
 -- an active ring that is known to be open
 pub active_matches : (h : Header) (r : ℕ) (v : RingView) (s : RingState) (t : Spot) → v.held ≡ None → RingMatches (shape_of h r) v s t → RingMatches (shape_of h r) v (record s { active = true }) t
-active_matches h r v s t none m = record {
-  is_spot = m.is_spot;
-  pointer = m.pointer;
-  cycle = m.cycle;
-  reached = m.reached;
-  below = m.below;
-  way = m.way;
-  opened = λ on. none;
-  next = m.next;
-  newest = m.newest;
-  in_order = m.in_order;
-  as_declared = m.as_declared;
-}
+active_matches h r v s t none m = search rules
 
 pub active_bound : (h : Header) (r : ℕ) (f : ℕ → ℕ → Option ℕ) (v : RingView) (s : RingState) → v.held ≡ None → BoundRing (shape_of h r) f v s r → BoundRing (shape_of h r) f v (record s { active = true }) r
-active_bound h r f v s none b = record {
-  slot = b.slot;
-  index = b.index;
-  bound = b.bound;
-  spot = b.spot;
-  matches = active_matches h r v s b.spot none b.matches;
-  takes = record { takes = b.takes.takes; most = b.takes.most };
-}
+active_bound h r f v s none b = search (rules, active_matches)

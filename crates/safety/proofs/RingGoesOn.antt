@@ -1,6 +1,5 @@
 -- A ring of which more is known while its pointer stays: what is said of it in the world stays
-use Rattle.std.proofs.Common.{◌≡◌, ◌≤◌, ◌-◌, ◌||◌, ◌∷◌, ◌∙◌, ℕ, not, Bool, true, false, List, [], map, Option, None, Some, arith, refl, sym, ap, subst}
-use Rattle.safety.proofs.Words.{range_with_len, Shape, Spot, address_of, is_crossing, number, rank, is_border, RingView, floor_number, ceiling, is_way_given, is_step_given, given_count_same, RingEvent, Took, Placed, Newest, RingState, RingMatches, Unreported, BoundRing, IsHeldMore, GivesMore, step_more}
+use Rattle.safety.proofs.Words.{◌≡◌, ◌≤◌, ◌-◌, ◌∷◌, ◌∙◌, ℕ, true, List, [], map, Option, None, Some, arith, refl, sym, ap, rules, range_with_len, Shape, Spot, address_of, number, rank, is_border, RingView, floor_number, ceiling, is_way_given, is_step_given, given_count_same, RingEvent, Took, Newest, RingState, RingMatches, Unreported, BoundRing, IsHeldMore, GivesMore, step_more}
 use Rattle.safety.proofs.NoWait.{ceiling_open, ceiling_held}
 
 -- the floor is the same, no less is given, and where descriptors begin, they still do
@@ -12,25 +11,19 @@ pub record RingGoesOn (shape : Shape) (v x : RingView) : Type 0 where
   pub held : v.held ≡ None → x.held ≡ None
 
 newest_on : (shape : Shape) (v x : RingView) → RingGoesOn shape v x → (n : ℕ) (events : List RingEvent) → Newest shape v n events → Newest shape x n events
-newest_on shape v x g n [] y = g.borders n y
-newest_on shape v x g n (Placed a ∷ older) y = g.borders n y
 newest_on shape v x g n (Took a b d ∷ older) y = λ on. step_more shape v x g.more n (y on)
+newest_on shape v x g n _ y = g.borders n y
 
 -- wherever the floor is, and wherever the ring is held
 pub newest_still : (shape : Shape) (v : RingView) (f : Spot) (o : Option ℕ) (n : ℕ) (events : List RingEvent) →
     Newest shape v n events → Newest shape (record v { floor = f; held = o }) n events
 unfolding is_step_given is_way_given
 newest_still shape v f o n [] y = y
-newest_still shape v f o n (Placed a ∷ older) y = y
-newest_still shape v f o n (Took a b d ∷ older) y = y
+newest_still shape v f o n _ y = y
 
 way_stays : (shape : Shape) (v x : RingView) → ((q : ℕ) → v.crossed q ≡ true → x.crossed q ≡ true) → (q : ℕ) → is_way_given shape v q ≡ true → is_way_given shape x q ≡ true
 unfolding is_way_given
-way_stays shape v x crossed q way = by (is_crossing shape q) (v.crossed q) (x.crossed q) (crossed q) way
-  where
-    by : (c a b : Bool) → (a ≡ true → b ≡ true) → (not c || a) ≡ true → (not c || b) ≡ true
-    by true a b more h = more h
-    by false a b more h = refl
+way_stays shape v x crossed q way = search rules
 
 module _ (shape : Shape) (v x : RingView) (g : RingGoesOn shape v x) (s : RingState) where
   pub matches_on : (t : Spot) → RingMatches shape v s t → RingMatches shape x s t
@@ -55,14 +48,7 @@ module _ (shape : Shape) (v x : RingView) (g : RingGoesOn shape v x) (s : RingSt
       same e = ap (λ f. map (address_of shape) (range_with_len (number f) (number t - number f))) e
 
   pub bound_on : (ring_of : ℕ → ℕ → Option ℕ) (r : ℕ) → BoundRing shape ring_of v s r → BoundRing shape ring_of x s r
-  bound_on ring_of r b = record {
-    slot = b.slot;
-    index = b.index;
-    bound = b.bound;
-    spot = b.spot;
-    matches = matches_on b.spot b.matches;
-    takes = unreported_on b.spot b.takes;
-  }
+  bound_on ring_of r b = search (rules, matches_on, unreported_on)
 
 -- held at a greater number
 steps_same : (shape : Shape) (v : RingView) (o : Option ℕ) (q : ℕ) → is_step_given shape v q ≡ is_step_given shape (record v { held = o }) q
@@ -81,10 +67,4 @@ still_open None more = refl
 still_open (Some n) more = absurd more
 
 pub held_goes_on : (shape : Shape) (v : RingView) (o : Option ℕ) → IsHeldMore v.held o → RingGoesOn shape v (record v { held = o })
-held_goes_on shape v o more = record {
-  floor = refl;
-  ceiling = held_ceiling shape v v.held o refl more;
-  more = record { given = λ p g. g; crossed = λ q c. c };
-  borders = λ q b. b;
-  held = λ none. still_open o (subst (λ a. IsHeldMore a o) none more);
-}
+held_goes_on shape v o more = search (rules, held_ceiling, still_open)

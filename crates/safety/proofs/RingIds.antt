@@ -1,7 +1,5 @@
 -- No two rings of a header have one ID, so each is found by its own
-use Rattle.std.proofs.Common.{◌≡◌, ◌<◌, ◌==◌, ◌&&◌, ◌||◌, ◌∷◌, ◌∙◌, ℕ, not, Bool, true, false, List, [], nat_lt, Option, Some, None, find, arith, refl, sym, ap, subst, inl, inr, eq-eqb, eqb-true, ltb-true}
-use Rattle.safety.proofs.Words.{list_any, list_all, cases_Bool, cond-true, cond-false, false≢true, and_parts, or_parts, not-true, none-some, same_Some, RingKind, Cmd, Evt, Xfer, is_inside, is_shape, Header, Ring, IsHeader, clash, may_stand_together, is_command_kind, is_event_kind, is_transfer_kind, is_driver_kind, ring_with, id_of, id_or_none, command_ring, command_id, ring_having, is_driver_ring, is_transfer_ring}
-use Rattle.segments.specs.Shape.{rings_overlap}
+use Rattle.safety.proofs.Words.{◌≡◌, ◌==◌, ◌&&◌, ◌∷◌, ◌∙◌, ℕ, not, Bool, true, false, List, [], nat_lt, Option, Some, None, find, refl, sym, ap, subst, inl, inr, eq-eqb, eqb-true, ltb-true, rules, list_any, list_all, cases_Bool, cond-true, cond-false, false≢true, and_parts, or_parts, not-true, none-some, same_Some, RingKind, Cmd, is_inside, is_shape, Header, Ring, IsHeader, clash, may_stand_together, is_command_kind, is_transfer_kind, ring_with, id_of, id_or_none, command_ring, command_id, ring_having, is_driver_ring, is_transfer_ring}
 use Rattle.safety.specs.RingsKeep.{IsDriverRing}
 use Rattle.safety.specs.EndpointsKeep.{IsTransferRing}
 use Rattle.safety.proofs.RingsOfHeader.{found_passes, found_allowed}
@@ -16,12 +14,8 @@ found_fails test fails (q ∷ rest) r found none =
       | inr later ↦ found_fails test fails rest r (sym (cond-false (test q) (Some q) (find test rest) later) ∙ found) parts.1
     ]
 
-other_ids : (x r : Ring) → clash x r ≡ false → (x.id == r.id) ≡ false
-other_ids x r e =
-    let first = or_parts (x.id == r.id || rings_overlap x.shape r.shape || (is_command_kind x.shape.kind && is_command_kind r.shape.kind))
-    (is_event_kind x.shape.kind && is_event_kind r.shape.kind) e in
-    let second = or_parts (x.id == r.id || rings_overlap x.shape r.shape) (is_command_kind x.shape.kind && is_command_kind r.shape.kind) first.0 in
-    (or_parts (x.id == r.id) (rings_overlap x.shape r.shape) second.0).0
+pub other_ids : (x r : Ring) → clash x r ≡ false → (x.id == r.id) ≡ false
+other_ids x r e = search (rules, or_parts)
 
 -- what any test finds is found by its ID
 pub found_again : (test : Ring → Bool) (rs : List Ring) (r : Ring) → may_stand_together rs ≡ true → find test rs ≡ Some r → find (λ q. q.id == r.id) rs ≡ Some r
@@ -61,16 +55,11 @@ module _ (h : Header) (is : IsHeader h) where
 
   two_kinds : (kind : RingKind) → is_command_kind kind ≡ true → is_transfer_kind kind ≡ true → ⊥
   two_kinds Cmd c t = false≢true t
-  two_kinds Evt c t = false≢true c
-  two_kinds Xfer c t = false≢true c
+  two_kinds _ c t = false≢true c
 
   -- no ring has the ID of none
   pub none_has_256 : (q : Ring) → ring_with h 256 ≡ Some q → ⊥
-  none_has_256 q found =
-      let same : q.id ≡ 256 = eqb-true q.id 256 (found_passes (λ q. q.id == 256) h.rings q found) in
-      let below : q.id < 256 =
-      ltb-true q.id 256 (and_parts (nat_lt q.id 256) (is_shape q.shape) (found_allowed (λ q. q.id == 256) (λ q. nat_lt q.id 256 && is_shape q.shape) h.rings q found allowed)).0 in
-      omega arith
+  none_has_256 q found = search (rules, eqb-true, found_passes, ltb-true, and_parts, nat_lt, found_allowed, allowed)
 
   no_ring : (o : Option Ring) → ring_with h 256 ≡ o → is_transfer_ring o ≡ true → ⊥
   no_ring None found transfer = false≢true transfer
@@ -90,13 +79,8 @@ module _ (h : Header) (is : IsHeader h) where
 -- a transfer ring is one of the driver's
 transfer_is_driver : (o : Option Ring) → is_transfer_ring o ≡ true → is_driver_ring o ≡ true
 unfolding is_driver_ring
-transfer_is_driver None t = absurd (false≢true t)
-transfer_is_driver (Some q) t = driver_kind q.shape.kind t
-  where
-    driver_kind : (kind : RingKind) → is_transfer_kind kind ≡ true → is_driver_kind kind ≡ true
-    driver_kind Cmd t = refl
-    driver_kind Evt t = absurd (false≢true t)
-    driver_kind Xfer t = refl
+transfer_is_driver None t = search rules
+transfer_is_driver (Some q) t = search (rules, false≢true)
 
 pub transfer_driver : (h : Header) (r : ℕ) → IsTransferRing h r → IsDriverRing h r
 transfer_driver h r t = transfer_is_driver (ring_with h r) t

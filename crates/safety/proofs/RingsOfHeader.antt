@@ -1,6 +1,5 @@
 -- The command and transfer rings of a header, each found by its ID
-use Rattle.std.proofs.Common.{◌≡◌, ◌==◌, ◌&&◌, ◌++◌, ◌∷◌, ◌∙◌, ℕ, Bool, true, false, List, [], nat_lt, Option, Some, None, find, filter, refl, sym, ap, inl, inr, eqb-true}
-use Rattle.safety.proofs.Words.{list_any, list_all, flat_map, cases_Bool, cond-true, cond-false, false≢true, and_parts, or_parts, none-some, same_Some, list_any-append, IsShape, is_shape, Xfer, Header, Ring, IsHeader, may_stand_together, is_driver_kind, ring_with, shape_of, shape_or, driver_rings, is_driver_ring}
+use Rattle.safety.proofs.Words.{◌≡◌, ◌==◌, ◌&&◌, ◌++◌, ◌∷◌, ◌∙◌, ℕ, Bool, true, false, List, [], nat_lt, Option, Some, None, find, filter, refl, sym, ap, inl, inr, eqb-true, rules, list_any, list_all, flat_map, cases_Bool, cond-true, cond-false, false≢true, and_parts, or_parts, none-some, same_Some, list_any-append, IsShape, is_shape, Xfer, Header, Ring, IsHeader, may_stand_together, is_driver_kind, ring_with, shape_of, shape_or, driver_rings, is_driver_ring}
 use Rattle.safety.specs.RingsKeep.{IsDriverRing}
 
 -- what is found passes the test, and whatever each ring passes
@@ -59,21 +58,13 @@ shape_found : (h : Header) (r : ℕ) (ring : Ring) → ring_with h r ≡ Some ri
 unfolding shape_of
 shape_found h r ring found = ap (λ o. shape_or Xfer o) found
 
-driver_is : (o : Option Ring) → is_driver_ring o ≡ true → (ring : Ring) × (o ≡ Some ring) × (is_driver_kind ring.shape.kind ≡ true)
+pub driver_is : (o : Option Ring) → is_driver_ring o ≡ true → (ring : Ring) × (o ≡ Some ring) × (is_driver_kind ring.shape.kind ≡ true)
 unfolding is_driver_ring
 driver_is None h = absurd (false≢true h)
 driver_is (Some ring) h = (ring, refl, h)
 
 pub has_ring : (h : Header) (r : ℕ) → IsDriverRing h r → HasRing h r
-has_ring h r driver =
-    let is = driver_is (ring_with h r) driver in
-    record {
-      ring = is.0;
-      found = is.1;
-      id = eqb-true is.0.id r (found_passes (λ q. q.id == r) h.rings is.0 is.1);
-      shape = shape_found h r is.0 is.1;
-      driver = is.2;
-    }
+has_ring h r driver = search (rules, driver_is, eqb-true, found_passes, shape_found)
 
 pub none_of_ring : {X : Type 0} (h : Header) (r : ℕ) (has : HasRing h r) (passes : X → Bool) (f : Ring → List X) →
     list_any passes (flat_map f (driver_rings h)) ≡ false → list_any passes (f has.ring) ≡ false

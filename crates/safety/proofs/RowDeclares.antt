@@ -1,6 +1,5 @@
 -- A declaration where all events are read: what is known agrees with the world
-use Rattle.std.proofs.Common.{◌≡◌, ◌≢◌, ◌<◌, ◌++◌, ◌∷◌, ◌∙◌, ℕ, true, List, [], length, Option, None, Some, option_and_then, slice_get, arith, refl, sym, ap, subst, inl, inr}
-use Rattle.safety.proofs.Words.{cases_Bool, none-some, put, Block, address_of, RingView, Declares, changed, declared, is_due, slice_get-append, ceiling_within, given_count_declared, Command, command_of, named_context, Header, Sub, IsHeader, shape_of, command_id, World, UnderWay, counted, Known, learned, on_ring, command_at, next_command, lenient, IsDriverRing, IsUnfinished, DriverKeeps, Stands, EventsStand, UnderWayMatches, IsUnchanged, Matches, Agrees}
+use Rattle.safety.proofs.Words.{◌≡◌, ◌≢◌, ◌<◌, ◌++◌, ◌∷◌, ◌∙◌, ℕ, true, List, [], length, Option, None, Some, option_and_then, slice_get, arith, refl, sym, ap, subst, inl, inr, cases_Bool, none-some, put, Block, address_of, RingView, Declares, changed, declared, is_due, slice_get-append, ceiling_within, given_count_declared, Command, command_of, named_context, Header, Sub, IsHeader, shape_of, command_id, World, UnderWay, counted, Known, learned, on_ring, command_at, next_command, lenient, IsDriverRing, IsUnfinished, DriverKeeps, Stands, EventsStand, UnderWayMatches, IsUnchanged, Matches, Agrees}
 use Rattle.world_state.specs.World as of_world
 use Rattle.world_state.specs.Harms as of_harms
 use Rattle.controller_model.specs.DriverRows as driver

@@ -1,6 +1,5 @@
 -- What each row of the driver leaves as it is
-use Rattle.std.proofs.Common.{◌≡◌, ◌==◌, ◌&&◌, ◌||◌, if◌then◌else◌, ℕ, not, true, List, Option, None, Some, option_and_then, refl, sym, subst}
-use Rattle.safety.proofs.Words.{cond_both, Block, RingView, Declares, Opens, Writes, changed, Header, Register, Erdp, Usbcmd, Sub, Write, Reg, Bell, shape_of, command_id, run_bit, reset_bit, Known, on_ring, with_device, with_word, written, command_given, taken_device, run_or_stop, valued, register_written, endpoint_rung, rung, learned}
+use Rattle.safety.proofs.Words.{◌≡◌, ◌==◌, ℕ, List, Option, None, Some, option_and_then, refl, rules, cond_both, Block, RingView, Opens, Writes, changed, Header, Register, Erdp, Usbcmd, Sub, Write, Reg, Bell, shape_of, command_id, Known, on_ring, with_device, with_word, written, command_given, taken_device, run_or_stop, valued, register_written, endpoint_rung, rung, learned}
 use Rattle.safety.proofs.SameDriver.{view_after}
 
 pub record SameRegisters (k l : Known) : Type 0 where
@@ -58,35 +57,16 @@ pub record BellLeaves (k l : Known) : Type 0 where
 module _ (h : Header) where
   pub declaration_leaves : (k : Known) (r : ℕ) (blocks : List Block) → DeclarationLeaves k (learned h k (Sub r blocks))
   unfolding learned on_ring
-  declaration_leaves k r blocks = record {
-    registers = record { started = refl; stopped = refl; register = refl; reads = refl; dequeue = refl };
-    memory = record { memory = refl; soiled = refl; device = refl };
-    slots = record { slot_state = refl; ring_of = refl; was_bound = refl; stop_seen = refl };
-    endpoint_state = refl;
-    pointers = λ q.
-        view_after h (SamePointer (k.ring q)) k r (Declares blocks) q
-        (λ same. subst (λ n. SamePointer (k.ring n) (changed (shape_of h r) (k.ring r) (Declares blocks))) (sym same) (record { floor = refl; held = refl }))
-        (λ other. same_pointer (k.ring q));
-  }
+  declaration_leaves k r blocks = search (rules, view_after, same_pointer)
 
   word_leaves : (k : Known) (a w : ℕ) → WriteLeaves k (with_word h k a w)
   unfolding with_word
-  word_leaves k a w = record {
-    registers = record { started = refl; stopped = refl; register = refl; reads = refl; dequeue = refl };
-    slots = record { slot_state = refl; ring_of = refl; was_bound = refl; stop_seen = refl };
-    endpoint_state = refl;
-    pointers = λ q. record { floor = refl; held = refl };
-  }
+  word_leaves k a w = search rules
 
   device_leaves : (k l : Known) (taken : Option (ℕ × ℕ)) → WriteLeaves k l → WriteLeaves k (with_device h l taken)
   unfolding with_device
-  device_leaves k l None leaves = leaves
-  device_leaves k l (Some e) leaves = record {
-    registers = record { started = leaves.registers.started; stopped = leaves.registers.stopped; register = leaves.registers.register; reads = leaves.registers.reads; dequeue = leaves.registers.dequeue };
-    slots = record { slot_state = leaves.slots.slot_state; ring_of = leaves.slots.ring_of; was_bound = leaves.slots.was_bound; stop_seen = leaves.slots.stop_seen };
-    endpoint_state = leaves.endpoint_state;
-    pointers = leaves.pointers;
-  }
+  device_leaves k l None leaves = search rules
+  device_leaves k l (Some e) leaves = search rules
 
   pub write_leaves : (k : Known) (a w : ℕ) → WriteLeaves k (learned h k (Write a w))
   unfolding learned written
@@ -104,48 +84,17 @@ module _ (h : Header) where
 
   run_leaves : (k l : Known) (x : ℕ) → RegisterLeaves k l → RegisterLeaves k (run_or_stop l x)
   unfolding run_or_stop
-  run_leaves k l x leaves =
-      let on : Known = record l { started = true } in
-      let off : Known = record l { stopped = true } in
-      let starts : RegisterLeaves k on = record {
-        reads = leaves.reads;
-        memory = record { memory = leaves.memory.memory; soiled = leaves.memory.soiled; device = leaves.memory.device };
-        slots = record { slot_state = leaves.slots.slot_state; ring_of = leaves.slots.ring_of; was_bound = leaves.slots.was_bound; stop_seen = leaves.slots.stop_seen };
-        endpoint_state = leaves.endpoint_state;
-        ring = leaves.ring;
-      } in
-      let stops : RegisterLeaves k off = record {
-        reads = leaves.reads;
-        memory = record { memory = leaves.memory.memory; soiled = leaves.memory.soiled; device = leaves.memory.device };
-        slots = record { slot_state = leaves.slots.slot_state; ring_of = leaves.slots.ring_of; was_bound = leaves.slots.was_bound; stop_seen = leaves.slots.stop_seen };
-        endpoint_state = leaves.endpoint_state;
-        ring = leaves.ring;
-      } in
-      cond_both (not l.started) (if run_bit x && not (reset_bit x) then on else l) (if not (run_bit x) || reset_bit x then off else l) (RegisterLeaves k)
-      (λ _. cond_both (run_bit x && not (reset_bit x)) on l (RegisterLeaves k) (λ _. starts) (λ _. leaves))
-      (λ _. cond_both (not (run_bit x) || reset_bit x) off l (RegisterLeaves k) (λ _. stops) (λ _. leaves))
+  run_leaves k l x leaves = search rules
 
   value_leaves : (k : Known) (r : Register) (x : ℕ) → RegisterLeaves k (valued k r x)
   unfolding valued
-  value_leaves k r x = record {
-    reads = refl;
-    memory = record { memory = refl; soiled = refl; device = refl };
-    slots = record { slot_state = refl; ring_of = refl; was_bound = refl; stop_seen = refl };
-    endpoint_state = refl;
-    ring = refl;
-  }
+  value_leaves k r x = search rules
 
   register_leaves_by : (k : Known) (r : Register) (x : ℕ) → RegisterLeaves k (register_written h k r x)
   unfolding register_written valued
-  register_leaves_by k Usbcmd x = run_leaves k (valued k Usbcmd x) x (value_leaves k Usbcmd x)
-  register_leaves_by k Erdp x = record {
-    reads = refl;
-    memory = record { memory = refl; soiled = refl; device = refl };
-    slots = record { slot_state = refl; ring_of = refl; was_bound = refl; stop_seen = refl };
-    endpoint_state = refl;
-    ring = refl;
-  }
-  register_leaves_by k r x = value_leaves k r x
+  register_leaves_by k Usbcmd x = search (rules, run_leaves, value_leaves)
+  register_leaves_by k Erdp x = search (rules, run_leaves, value_leaves)
+  register_leaves_by k r x = search (rules, value_leaves)
 
   pub register_leaves : (k : Known) (r : Register) (x : ℕ) → RegisterLeaves k (learned h k (Reg r x))
   unfolding learned
@@ -153,24 +102,12 @@ module _ (h : Header) where
 
   open_leaves : (k : Known) (r : ℕ) → BellLeaves k (on_ring h k r Opens)
   unfolding on_ring
-  open_leaves k r = record {
-    registers = record { started = refl; stopped = refl; register = refl; reads = refl; dequeue = refl };
-    memory = record { memory = refl; soiled = refl; device = refl };
-    slots = record { slot_state = refl; ring_of = refl; was_bound = refl; stop_seen = refl };
-  }
+  open_leaves k r = search rules
 
   rung_leaves : (k : Known) (s t : ℕ) (o : Option ℕ) → BellLeaves k (endpoint_rung h k s t o)
   unfolding endpoint_rung on_ring
-  rung_leaves k s t None = record {
-    registers = record { started = refl; stopped = refl; register = refl; reads = refl; dequeue = refl };
-    memory = record { memory = refl; soiled = refl; device = refl };
-    slots = record { slot_state = refl; ring_of = refl; was_bound = refl; stop_seen = refl };
-  }
-  rung_leaves k s t (Some r) = record {
-    registers = record { started = refl; stopped = refl; register = refl; reads = refl; dequeue = refl };
-    memory = record { memory = refl; soiled = refl; device = refl };
-    slots = record { slot_state = refl; ring_of = refl; was_bound = refl; stop_seen = refl };
-  }
+  rung_leaves k s t None = search rules
+  rung_leaves k s t (Some r) = search rules
 
   pub bell_leaves : (k : Known) (s t : ℕ) → BellLeaves k (learned h k (Bell s t))
   unfolding learned rung

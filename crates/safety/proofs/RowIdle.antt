@@ -1,6 +1,5 @@
 -- The doorbell of a ring that is open: nothing is learned, and where all events are read the world agrees with what is known as before
-use Rattle.std.proofs.Common.{◌≡◌, ◌==◌, ◌||◌, ◌∙◌, ℕ, not, nat_lt, true, false, List, [], Option, None, Some, refl, sym, ap, subst, inl, inr}
-use Rattle.safety.proofs.Words.{cases_Bool, cases_eq, cond-true, cond-false, or_parts, not-false, false≢true, put, put_pair, Block, RingView, Opens, changed, is_open, EndpointState, Off, Running, Halted, Error, is_running, is_stopped, Header, Bell, IsHeader, shape_of, command_id, World, counted, Known, learned, on_ring, endpoint_rung, rung, is_bad_bell, is_touched, lenient, DriverKeeps, Agrees, is_open_if, is_idle, MayRing}
+use Rattle.safety.proofs.Words.{◌≡◌, ◌==◌, ◌||◌, ◌∙◌, ℕ, not, nat_lt, true, false, List, [], Option, None, Some, refl, sym, ap, subst, inl, inr, rules, cond-true, cond-false, or_parts, not-false, false≢true, put, put_pair, Block, RingView, Opens, changed, is_open, EndpointState, Off, Running, Halted, Error, is_running, is_stopped, Header, Bell, IsHeader, shape_of, command_id, World, counted, Known, learned, on_ring, endpoint_rung, rung, is_bad_bell, is_touched, lenient, DriverKeeps, Agrees, is_open_if, is_idle, MayRing}
 use Rattle.controller_model.specs.DriverRows as driver
 use Rattle.safety.proofs.CleanRows.{BellFacts, bell_facts}
 use Rattle.safety.proofs.RowRegister.{agrees_once_counted}
@@ -16,12 +15,7 @@ same_view v o same = ap (λ a. with_held v a) (sym same)
     with_held z a = record z { held = a }
 
 rings_same : (h : Header) (k : Known) (r : ℕ) → (k.ring r).held ≡ None → (q : ℕ) → put k.ring r (changed (shape_of h r) (k.ring r) Opens) q ≡ k.ring q
-rings_same h k r none q =
-    elim (cases_eq q r) [
-      | inl same ↦
-          ap (λ n. put k.ring r (changed (shape_of h r) (k.ring r) Opens) n) same ∙ put_at k.ring r (changed (shape_of h r) (k.ring r) Opens) ∙ same_view (k.ring r) None none ∙ ap (λ n. k.ring n) (sym same)
-      | inr other ↦ put_off k.ring r (changed (shape_of h r) (k.ring r) Opens) q other
-    ]
+rings_same h k r none q = search (rules, put_at, same_view, put_off)
 
 pub opens_same : (h : Header) (k : Known) (r : ℕ) → (k.ring r).held ≡ None → on_ring h k r Opens ≡ k
 unfolding on_ring
@@ -35,12 +29,7 @@ not_stopped e runs = ap is_stopped runs
 
 rung_same : (h : Header) (k : Known) (s t r : ℕ) → (k.ring r).held ≡ None → k.endpoint_state s t ≡ Running → endpoint_rung h k s t (Some r) ≡ k
 unfolding endpoint_rung
-rung_same h k s t r none runs =
-    ap (λ e. with_states (on_ring h k r Opens) e) (cond-false (is_stopped (k.endpoint_state s t)) (put_pair k.endpoint_state s t Running) k.endpoint_state (not_stopped (k.endpoint_state s t) runs))
-    ∙ ap (λ z. with_states z k.endpoint_state) (opens_same h k r none)
-  where
-    with_states : Known → (ℕ → ℕ → EndpointState) → Known
-    with_states z e = record z { endpoint_state = e }
+rung_same h k s t r none runs = search (rules, cond-false, not_stopped, opens_same)
 
 -- no doorbell changes an endpoint that has halted or failed
 record AtRest (e : EndpointState) : Type 0 where
@@ -67,15 +56,7 @@ module _ (h : Header) (k : Known) (d : DriverKeeps h k) (s t : ℕ) where
 
   pub idle : is_idle h k (Bell s t) ≡ true → learned h k (Bell s t) ≡ k
   unfolding learned rung
-  idle is =
-      elim (cases_Bool (s == 0)) [
-        | inl command ↦
-            cond-true (s == 0) (on_ring h k (command_id h) Opens) (endpoint_rung h k s t (k.ring_of s t)) command
-            ∙ opens_same h k (command_id h) (open_held (k.ring (command_id h)) (sym (cond-true (s == 0) (is_open (k.ring (command_id h))) (is_open_if k (k.ring_of s t)) command) ∙ is))
-        | inr endpoint ↦
-            cond-false (s == 0) (on_ring h k (command_id h) Opens) (endpoint_rung h k s t (k.ring_of s t)) endpoint
-            ∙ endpoint_idle (k.ring_of s t) refl (sym (cond-false (s == 0) (is_open (k.ring (command_id h))) (is_open_if k (k.ring_of s t)) endpoint) ∙ is)
-      ]
+  idle is = search (rules, cond-true, opens_same, open_held, cond-false, endpoint_idle)
 
   pub bell_untouched : is_bad_bell h k s t ≡ false → is_touched h k s t ≡ false
   unfolding is_bad_bell
@@ -83,11 +64,7 @@ module _ (h : Header) (k : Known) (d : DriverKeeps h k) (s t : ℕ) where
 
   pub bell_state : is_bad_bell h k s t ≡ false → (is_running (k.endpoint_state s t) || is_stopped (k.endpoint_state s t)) ≡ true
   unfolding is_bad_bell
-  bell_state good =
-      let four = or_parts _ (is_touched h k s t) good in
-      let three = or_parts _ (k.must_move s t) four.0 in
-      let two = or_parts (t == 0 || nat_lt 31 t) (not (is_running (k.endpoint_state s t) || is_stopped (k.endpoint_state s t))) three.0 in
-      not-false _ two.1
+  bell_state good = search (rules, or_parts, nat_lt, not-false)
 
   -- the endpoint may be rung, and works
   may_ring_by : (o : Option ℕ) → k.ring_of s t ≡ o → is_open_if k o ≡ true → is_bad_bell h k s t ≡ false → MayRing h k s t

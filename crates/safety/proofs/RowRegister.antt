@@ -1,11 +1,9 @@
 -- A write of a register where all events are read: what is known agrees with the world
-use Rattle.std.proofs.Common.{◌≡◌, ◌+◌, ◌*◌, ◌≤◌, ◌==◌, if◌then◌else◌, ◌∙◌, ℕ, nat_lt, true, false, List, Option, None, Some, option_and_then, slice_get, arith, refl, sym, ap, subst, ltb-true}
-use Rattle.safety.proofs.Words.{list_any, range_with_len, some_of, and_parts, cond-true, cond-false, Block, Command, command_of, named_context, Shape, is_due, Header, Register, shape_of, command_id, event_shape, event_size, with_register, same_register, address_of, place_count, AreInOrder, position_from, is_reached_within, is_event_place, World, counted, Known, IsUnfinished, IsUnchanged, Matches, Agrees}
+use Rattle.safety.proofs.Words.{◌≡◌, ◌+◌, ◌*◌, ◌≤◌, ◌==◌, if◌then◌else◌, ℕ, nat_lt, true, false, List, Option, None, Some, option_and_then, slice_get, arith, refl, sym, ap, subst, ltb-true, rules, list_any, range_with_len, some_of, and_parts, cond-true, cond-false, Block, Command, named_context, Shape, Header, Register, shape_of, command_id, event_shape, event_size, with_register, same_register, address_of, place_count, AreInOrder, position_from, is_reached_within, is_event_place, World, counted, Known, IsUnfinished, IsUnchanged, Matches, Agrees}
 use Rattle.world_state.specs.World as of_world
 use Rattle.controller_model.specs.DriverRows as driver
 use Rattle.ring_knowledge.specs.Rings as of_rings
 use Rattle.ring_knowledge.specs.Registers as registers
-use Rattle.safety.proofs.RingGoesOn.{RingGoesOn}
 use Rattle.safety.proofs.DriverGoesOn.{goes_same}
 use Rattle.safety.proofs.ErdpMoves.{no_place_stays, place_of, position_within}
 use Rattle.safety.proofs.Counted.{agrees_counted}
@@ -27,24 +25,11 @@ pub record SameRings (k m : Known) : Type 0 where
 
 module _ (h : Header) (k m : Known) (w v : World) (s : SameRings k m) (c : SameController w v) where
   same_goes_on : KnownGoesOn h k m
-  same_goes_on = record {
-    started = s.started;
-    slot_state = s.slot_state;
-    endpoint_state = s.endpoint_state;
-    ring_of = s.ring_of;
-    was_bound = s.was_bound;
-    stop_seen = s.stop_seen;
-    device = λ q some none. some (ap (λ f. f q) (sym s.device) ∙ none);
-    rings = λ r. subst (λ f. RingGoesOn (shape_of h r) (k.ring r) (f r)) (sym s.rings) (goes_same (shape_of h r) (k.ring r));
-  }
+  same_goes_on = search (rules, goes_same)
 
   same_before : (p : ℕ) (d : Command) → IsUnfinished h m p d → IsUnfinished h k p d
   unfolding of_rings.command_at
-  same_before p d u = record {
-    due = ap (λ f. is_due (shape_of h (command_id h)) (f (command_id h)).floor p) (sym s.rings) ∙ u.due;
-    given = ap (λ f. (f (command_id h)).given p) (sym s.rings) ∙ u.given;
-    command = ap (λ f. option_and_then command_of (slice_get (f (command_id h)).queue p)) (sym s.rings) ∙ u.command;
-  }
+  same_before p d u = search (rules, option_and_then, slice_get)
 
   still_unchanged : v.changed ≡ w.changed → v.written ≡ w.written → (at : ℕ) (o : Option ℕ) → IsUnchanged h w at o → IsUnchanged h v at o
   still_unchanged changed written at None same = tt
@@ -70,16 +55,7 @@ module _ (h : Header) (k : Known) (unread : List Block) (w : World) (g : Agrees 
 
   pub valued_agrees : (r : Register) (x : ℕ) → Agrees h (registers.valued k r x) unread (driver.valued w r x)
   unfolding registers.valued driver.valued of_world.event_at
-  valued_agrees r x =
-      let s = g.stands in
-      let e = g.events in
-      record {
-        stands = record { started = s.started; stopped = s.stopped; registers = λ q. with_same r q x; queues = s.queues; lengths = s.lengths; dequeue = s.dequeue; quiet = s.quiet };
-        events = record { order = e.order; count = e.count; places = e.places; started = e.started; ring = e.ring };
-        matches = valued_matches r x;
-        read = g.read;
-        stamps = g.stamps;
-      }
+  valued_agrees r x = search (rules, with_same, valued_matches)
 
 -- ---- ERDP
 
@@ -120,16 +96,7 @@ module _ (h : Header) (k : Known) (unread : List Block) (w : World) (g : Agrees 
 
   moved_agrees : Agrees h moved_known unread moved_world
   unfolding moved_known moved_world of_world.event_at
-  moved_agrees =
-      let s = g.stands in
-      let e = g.events in
-      record {
-        stands = record { started = s.started; stopped = s.stopped; registers = s.registers; queues = s.queues; lengths = s.lengths; dequeue = ap (λ n. position_from (event_shape h) n a) s.dequeue; quiet = s.quiet };
-        events = record { order = order; count = e.count; places = e.places; started = e.started; ring = e.ring };
-        matches = moved_matches;
-        read = g.read;
-        stamps = g.stamps;
-      }
+  moved_agrees = search (rules, moved_known, moved_world, order, moved_matches)
 
   pub erdp_agrees : Agrees h (record k { dequeue = position_from (event_shape h) k.dequeue a }) unread (driver.with_dequeue h w a)
   unfolding moved_known moved_world driver.with_dequeue

@@ -1,6 +1,5 @@
 -- A doorbell where all events are read: what is known agrees with the world
-use Rattle.std.proofs.Common.{◌≡◌, ◌==◌, ◌&&◌, ◌||◌, if◌then◌else◌, ◌∙◌, ℕ, not, nat_lt, true, false, List, [], Option, None, Some, option_and_then, slice_get, arith, refl, sym, ap, subst, inl, inr}
-use Rattle.safety.proofs.Words.{cases_Bool, cond_both, cond-true, cond-false, and_from, or_parts, or_cases, not-false, false≢true, put_pair, Block, RingView, Opens, changed, is_due, Command, command_of, EndpointState, Running, is_running, is_stopped, Header, Bell, IsHeader, shape_of, command_id, World, counted, Known, learned, on_ring, command_at, next_command, endpoint_rung, rung, is_bad_bell, is_touched, lenient, IsDriverRing, IsUnfinished, DriverKeeps, Stands, EventsStand, state_of, RingMatches, BoundRing, UnderWayMatches, CommandMatches, Matches, Agrees}
+use Rattle.safety.proofs.Words.{◌≡◌, ◌==◌, ◌&&◌, ◌||◌, if◌then◌else◌, ◌∙◌, ℕ, not, nat_lt, true, false, List, [], Option, None, Some, option_and_then, slice_get, arith, refl, sym, ap, subst, inl, inr, rules, cases_Bool, cond-true, cond-false, and_from, or_parts, or_cases, not-false, false≢true, put_pair, Block, RingView, Opens, changed, Command, EndpointState, Running, is_running, is_stopped, Header, Bell, IsHeader, shape_of, command_id, World, counted, Known, learned, on_ring, command_at, next_command, endpoint_rung, rung, is_bad_bell, lenient, IsDriverRing, IsUnfinished, DriverKeeps, Stands, EventsStand, state_of, RingMatches, BoundRing, UnderWayMatches, CommandMatches, Matches, Agrees}
 use Rattle.controller_model.specs.DriverRows as driver
 use Rattle.safety.proofs.Headers.{transfer_driver, transfer_not_command, ring_shape}
 use Rattle.safety.proofs.SafeContext.{command_is_ring}
@@ -42,21 +41,7 @@ module _ (h : Header) (is : IsHeader h) (k : Known) (unread : List Block) (w : W
 
   states_rung : (s t r : ℕ) → (is_running (k.endpoint_state s t) || is_stopped (k.endpoint_state s t)) ≡ true → (q j : ℕ) →
       put_pair w.endpoint_state s t Running q j ≡ (if is_stopped (k.endpoint_state s t) then put_pair k.endpoint_state s t Running else k.endpoint_state) q j
-  states_rung s t r may q j =
-      at_pair (λ e. e ≡ (if is_stopped (k.endpoint_state s t) then put_pair k.endpoint_state s t Running else k.endpoint_state) q j) w.endpoint_state s t Running q j
-      (λ a b. here a b)
-      (λ other. cond_both (is_stopped (k.endpoint_state s t)) (put_pair k.endpoint_state s t Running) k.endpoint_state (λ f. w.endpoint_state q j ≡ f q j)
-      (λ stopped. at_pair (λ e. w.endpoint_state q j ≡ e) k.endpoint_state s t Running q j (λ a b. absurd (other a b)) (λ apart. g.matches.endpoints q j))
-      (λ on. g.matches.endpoints q j))
-    where
-      here : q ≡ s → j ≡ t → Running ≡ (if is_stopped (k.endpoint_state s t) then put_pair k.endpoint_state s t Running else k.endpoint_state) q j
-      here a b =
-          cond_both (is_stopped (k.endpoint_state s t)) (put_pair k.endpoint_state s t Running) k.endpoint_state (λ f. Running ≡ f q j)
-          (λ stopped. at_pair (λ e. Running ≡ e) k.endpoint_state s t Running q j (λ x y. refl) (λ other. absurd (other a b)))
-          (λ on. elim (or_cases (is_running (k.endpoint_state s t)) (is_stopped (k.endpoint_state s t)) may) [
-            | inl runs ↦ sym (ap (λ n. k.endpoint_state n j) a ∙ ap (λ n. k.endpoint_state s n) b ∙ running_is (k.endpoint_state s t) runs)
-            | inr stopped ↦ absurd (false≢true (sym on ∙ stopped))
-          ])
+  states_rung s t r may q j = search (rules, at_pair, or_cases, running_is, false≢true)
 
   -- ---- the row
 
@@ -110,12 +95,8 @@ module _ (h : Header) (is : IsHeader h) (k : Known) (unread : List Block) (w : W
   pub endpoint_agrees : (s t : ℕ) (o : Option ℕ) → k.ring_of s t ≡ o → (is_running (k.endpoint_state s t) || is_stopped (k.endpoint_state s t)) ≡ true →
       Agrees h (endpoint_rung h k s t o) unread (counted h (driver.endpoint_bell h w s t o))
   unfolding endpoint_rung driver.endpoint_bell
-  endpoint_agrees s t None at may = agrees_counted h k unread w g.stands g.events g.matches g.read late
-  endpoint_agrees s t (Some r) at may =
-      subst (λ m. Agrees h m unread (counted h (driver.endpoint_bell h w s t (Some r)))) (sym (rung_is s t r))
-      (subst (λ v. Agrees h (known_states (on_ring h k r Opens) (states_of s t) (on_ring h k r Opens).must_move) unread (counted h v)) (sym (bell_is s t r may))
-      (parts_agree r (states_of s t) (put_pair w.endpoint_state s t Running)
-      (opened_agrees r (endpoint_opened s t r at) (states_of s t) (put_pair w.endpoint_state s t Running) (rung_same s t r may))))
+  endpoint_agrees s t None at may = search (rules, agrees_counted, late)
+  endpoint_agrees s t (Some r) at may = search (rules, agrees_counted, rung_is, bell_is, parts_agree, opened_agrees, endpoint_opened, rung_same)
 
   -- ---- the command ring
 
@@ -149,13 +130,7 @@ module _ (h : Header) (is : IsHeader h) (k : Known) (unread : List Block) (w : W
 
   command_before : (p : ℕ) (c : Command) → IsUnfinished h (on_ring h k (command_id h) Opens) p c → IsUnfinished h k p c
   unfolding command_at
-  command_before p c u =
-      let same = command_stays (command_id h) in
-      record {
-        due = ap (λ t. is_due (shape_of h (command_id h)) t p) (sym same.floor) ∙ u.due;
-        given = ap (λ f. f p) (sym same.given) ∙ u.given;
-        command = ap (λ q. option_and_then command_of (slice_get q p)) (sym same.queue) ∙ u.command;
-      }
+  command_before p c u = search (rules, command_stays, option_and_then, slice_get)
 
   command_known : k.started ≡ true → Matches h (on_ring h k (command_id h) Opens) w
   command_known on =
@@ -196,11 +171,7 @@ module _ (h : Header) (is : IsHeader h) (k : Known) (unread : List Block) (w : W
 
   good_state : (s t : ℕ) → is_bad_bell h k s t ≡ false → (is_running (k.endpoint_state s t) || is_stopped (k.endpoint_state s t)) ≡ true
   unfolding is_bad_bell
-  good_state s t good =
-      let four = or_parts _ (is_touched h k s t) good in
-      let three = or_parts _ (k.must_move s t) four.0 in
-      let two = or_parts (t == 0 || nat_lt 31 t) (not (is_running (k.endpoint_state s t) || is_stopped (k.endpoint_state s t))) three.0 in
-      not-false _ two.1
+  good_state s t good = search (rules, or_parts, nat_lt, not-false)
 
   pub rings_agree : (s t : ℕ) → lenient h k (Bell s t) ≡ [] → Agrees h (learned h k (Bell s t)) unread (counted h (driver.bell_row h w s t))
   unfolding learned rung driver.bell_row

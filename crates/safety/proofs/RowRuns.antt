@@ -1,6 +1,5 @@
 -- Behind a row of the driver the run goes on, whatever is unread
-use Rattle.std.proofs.Common.{◌≡◌, ◌==◌, ◌&&◌, if◌then◌else◌, ◌∷◌, ◌∙◌, ℕ, not, true, false, List, [], Some, refl, sym, subst, inl, inr}
-use Rattle.safety.proofs.Words.{cases_Bool, cond-true, and_from, not-false, same_Some, Block, is_open, Header, Row, Sub, Write, Reg, Bell, Read, IsHeader, MayCome, command_id, IsRow, World, counted, Known, learned, is_bad_bell, lenient, DriverKeeps, KeptByRestoring, IsDriverRow, Agrees, ArePossible, Runs, all_read, is_idle, is_open_if, MayRing, SquareLaw, MoreLaw}
+use Rattle.safety.proofs.Words.{◌≡◌, ◌==◌, ◌&&◌, if◌then◌else◌, ◌∷◌, ◌∙◌, ℕ, not, true, false, List, [], Some, refl, sym, subst, inl, inr, rules, cases_Bool, cond-true, and_from, not-false, same_Some, Block, is_open, Header, Row, Sub, Write, Reg, Bell, Read, IsHeader, MayCome, command_id, IsRow, World, counted, Known, learned, is_bad_bell, lenient, DriverKeeps, KeptByRestoring, IsDriverRow, Agrees, ArePossible, Runs, all_read, is_idle, is_open_if, MayRing, SquareLaw, MoreLaw}
 use Rattle.controller_model.specs.DriverRows as driver
 use Rattle.safety.proofs.CleanRows.{BellFacts, bell_facts}
 use Rattle.safety.proofs.KeptCounts.{read_counts}
@@ -58,15 +57,7 @@ module _ (h : Header) where
 
       pub idle_runs : driver.row_done h w (Bell s t) ≡ Some v → Runs h (learned h now (Bell s t)) (counted h v)
       unfolding later driver.row_done
-      idle_runs at =
-          subst (λ k. Runs h k (counted h v)) nothing_more
-          (record {
-            unread = run.unread;
-            possible = run.possible;
-            blocks = run.blocks;
-            on = run.on;
-            agrees = subst (λ u. Agrees h (all_read h now run.unread) run.unread (counted h u)) (same_Some (driver.bell_row h w s t) v at) agrees_still;
-          })
+      idle_runs at = search (rules, later, nothing_more, same_Some, agrees_still)
 
     -- any row of the driver that doesn't stop the controller
     module _ (square : SquareLaw h) (more : MoreLaw h) where

@@ -1,6 +1,5 @@
 -- The start of the controller: what is known agrees with the world
-use Rattle.std.proofs.Common.{◌≡◌, ◌≢◌, ◌∷◌, ◌∙◌, ℕ, Bool, true, false, List, [], None, Some, arith, refl, sym, ap, subst, inl, inr}
-use Rattle.safety.proofs.Words.{false≢true, Block, Shape, Data, address_of, cycle_of, rank, number, is_border, RingView, is_way_given, place_count_pos, cycle_of-first, Command, Header, Crcr, IsHeader, shape_of, command_id, register_or_zero, base_address, ring_cycle_state, World, RingEvent, Known, IsUnfinished, Unstarted, CommandRingNamed, Newest, RingState, state_of, RingMatches, BoundRing, FreeRing, EndpointRing, UnderWayMatches, CommandMatches, NotStarted, Matches, Agrees}
+use Rattle.safety.proofs.Words.{◌≡◌, ◌≢◌, ◌∷◌, ◌∙◌, ℕ, Bool, true, false, List, [], None, Some, refl, sym, ap, subst, inl, inr, rules, false≢true, Block, Shape, Data, address_of, cycle_of, number, is_border, RingView, is_way_given, place_count_pos, cycle_of-first, Command, Header, Crcr, IsHeader, shape_of, command_id, register_or_zero, base_address, ring_cycle_state, World, RingEvent, Known, IsUnfinished, Unstarted, CommandRingNamed, Newest, RingState, state_of, RingMatches, BoundRing, FreeRing, EndpointRing, UnderWayMatches, CommandMatches, NotStarted, Matches, Agrees}
 use Rattle.world_state.specs.World as of_world
 use Rattle.world_state.specs.Takes as takes
 use Rattle.world_state.specs.Harms as harms
@@ -81,21 +80,7 @@ module _ (h : Header) (is : IsHeader h) (k : Known) (unread : List Block) (w : W
   none = before.none
 
   first : RingMatches (shape_of h (command_id h)) (k.ring (command_id h)) (state_of v (command_id h)) (Data 0)
-  first =
-      let shape : Shape = shape_of h (command_id h) in
-      record {
-        is_spot = refl;
-        pointer = pointer;
-        cycle = cycle;
-        reached = omega (arith, ap rank (u.floors (command_id h)));
-        below = omega arith;
-        way = λ q same. way_first shape (k.ring (command_id h)) q same;
-        opened = λ on. absurd (false≢true (sym inactive ∙ on));
-        next = next_none shape (v.events (command_id h)) events_none;
-        newest = newest_none shape (k.ring (command_id h)) (v.events (command_id h)) events_none;
-        in_order = order_none shape (v.events (command_id h)) events_none;
-        as_declared = words_none shape (v.events (command_id h)) events_none;
-      }
+  first = search (rules, v, pointer, cycle, way_first, false≢true, inactive, next_none, events_none, newest_none, order_none, words_none)
 
   next_zero : of_rings.next_command h m ≡ 0
   unfolding of_rings.next_command m
@@ -135,13 +120,4 @@ module _ (h : Header) (is : IsHeader h) (k : Known) (unread : List Block) (w : W
 
   pub start_agrees : Agrees h (record k { started = true }) unread (driver.started_with h w)
   unfolding m v driver.started_with of_world.event_at
-  start_agrees =
-      let s = g.stands in
-      let e = g.events in
-      record {
-        stands = record { started = refl; stopped = s.stopped; registers = s.registers; queues = s.queues; lengths = s.lengths; dequeue = s.dequeue; quiet = s.quiet };
-        events = record { order = e.order; count = e.count; places = e.places; started = λ some. refl; ring = e.ring };
-        matches = matches;
-        read = g.read;
-        stamps = g.stamps;
-      }
+  start_agrees = search (rules, matches)

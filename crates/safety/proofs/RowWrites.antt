@@ -1,24 +1,19 @@
 -- A write of memory where all events are read: what is known agrees with the world
-use Rattle.std.proofs.Common.{◌≡◌, ◌≢◌, ◌+◌, ◌*◌, ◌/◌, ◌<◌, ◌⊎◌, ◌==◌, ◌&&◌, ◌||◌, ◌++◌, ◌∙◌, ℕ, not, Bool, true, false, List, [], Option, None, Some, option_and_then, slice_get, arith, refl, sym, ap, subst, inl, inr, add-zero, ne_eqb}
-use Rattle.safety.proofs.Words.{list_any, cases_eq, or_parts, or_cases, false≢true, not_from_false, list_any-append, slice_get_within, put, Block, address_of, is_in, is_inside, Writes, changed, is_due, gives, put_here, put_elsewhere, gives_is, address_inside, Command, command_of, named_context, device_context_bytes, input_context_bytes, Header, Write, IsHeader, shape_of, command_id, event_shape, World, stored, counted, Known, learned, command_at, next_command, with_device, with_word, written, command_given, taken_device, covers, lease_start, lease_bytes, segment_ranges, device_ranges, lenient, IsUnfinished, DriverKeeps, Stands, EventsStand, touches_events, IsUnchanged, Matches, Agrees, is_the_controllers}
+use Rattle.safety.proofs.Words.{◌≡◌, ◌≢◌, ◌+◌, ◌*◌, ◌/◌, ◌<◌, ◌⊎◌, ◌∙◌, ℕ, false, List, [], Option, None, Some, option_and_then, slice_get, arith, refl, sym, ap, inl, inr, add-zero, ne_eqb, rules, list_any, cases_eq, or_parts, or_cases, false≢true, not_from_false, slice_get_within, put, Block, address_of, is_in, is_inside, Writes, changed, put_here, put_elsewhere, gives_is, address_inside, Command, named_context, device_context_bytes, input_context_bytes, Header, Write, IsHeader, shape_of, command_id, event_shape, World, stored, counted, Known, learned, command_at, next_command, with_device, with_word, written, command_given, taken_device, covers, lease_start, lease_bytes, segment_ranges, device_ranges, lenient, IsUnfinished, DriverKeeps, Stands, EventsStand, touches_events, IsUnchanged, Matches, Agrees, is_the_controllers}
 use Rattle.world_state.specs.World.{event_at}
 use Rattle.world_state.specs.World as of_world
 use Rattle.safety.proofs.TestsPassed.{any_of_map}
 use Rattle.safety.proofs.Headers.{EventRing, event_ring_is}
 use Rattle.safety.proofs.Areas.{byte_apart, clean_word, context_lies}
 use Rattle.safety.proofs.AreaFacts.{context_free, word_elsewhere, word_free}
-use Rattle.safety.proofs.Writing.{free_or_same, not_the_controllers}
+use Rattle.safety.proofs.Writing.{free_or_same, not_the_controllers, none_of_both}
 use Rattle.safety.proofs.RingMemory.{same_block_at}
 use Rattle.safety.proofs.EndpointPut.{at_number}
 use Rattle.safety.proofs.RowFrames.{WriteLeaves, write_leaves}
 use Rattle.safety.proofs.Stored.{Late, late_stored, memory_stored, unchanged_stored}
 use Rattle.safety.proofs.Counted.{agrees_counted}
-use Rattle.safety.proofs.RingGoesOn.{RingGoesOn}
 use Rattle.safety.proofs.DriverGoesOn.{writes_goes_on}
 use Rattle.safety.proofs.MatchesGoesOn.{KnownGoesOn, SameController, matches_go_on}
-
-none_of_both : {X : Type 0} (test : X → Bool) (xs ys : List X) → list_any test (xs ++ ys) ≡ false → (list_any test xs ≡ false) × (list_any test ys ≡ false)
-none_of_both test xs ys none = or_parts (list_any test xs) (list_any test ys) (sym (list_any-append test xs ys) ∙ none)
 
 -- ---- what the write adds
 
@@ -48,12 +43,7 @@ device_soiled h l (Some e) b none = (or_parts (is_in b e.1 (device_context_bytes
 -- a word that isn't soiled then is the one that is written, or wasn't soiled
 written_soiled : (h : Header) (k : Known) (a x b : ℕ) → (learned h k (Write a x)).soiled b ≡ false → b ≢ a → k.soiled b ≡ false
 unfolding learned written with_word
-written_soiled h k a x b none other =
-    by (k.soiled b) (b == a) (ne_eqb b a other) (device_soiled h (with_word h k a x) (option_and_then (taken_device k) (command_given h k a x)) b none)
-  where
-    by : (s t : Bool) → t ≡ false → (s && not t) ≡ false → s ≡ false
-    by true t off none = absurd (false≢true (sym none ∙ not_from_false t off))
-    by false t off none = refl
+written_soiled h k a x b none other = search (rules, ne_eqb, device_soiled, option_and_then, false≢true, not_from_false)
 
 device_kept : (h : Header) (l : Known) (taken : Option (ℕ × ℕ)) (s : ℕ) → l.device s ≢ None → (with_device h l taken).device s ≢ None
 unfolding with_device
@@ -129,18 +119,7 @@ module _ (h : Header) (is : IsHeader h) (k : Known) (unread : List Block) (w : W
 
   goes_on : KnownGoesOn h k m
   unfolding m
-  goes_on =
-      let l : WriteLeaves k m = write_leaves h k a x in
-      record {
-        started = l.registers.started;
-        slot_state = l.slots.slot_state;
-        endpoint_state = l.endpoint_state;
-        ring_of = l.slots.ring_of;
-        was_bound = l.slots.was_bound;
-        stop_seen = l.slots.stop_seen;
-        device = written_device h k a x;
-        rings = λ r. subst (λ y. RingGoesOn (shape_of h r) (k.ring r) y) (sym (written_rings h k a x r)) (writes_goes_on (shape_of h r) (k.ring r) a x);
-      }
+  goes_on = search (rules, m, write_leaves, written_device, written_rings, writes_goes_on)
 
   controller : SameController w v
   unfolding v of_world.stored
@@ -157,24 +136,13 @@ module _ (h : Header) (is : IsHeader h) (k : Known) (unread : List Block) (w : W
   -- a command that is unfinished then was so before, or is given by this write
   was_or_now : (p : ℕ) (c : Command) → IsUnfinished h m p c → IsUnfinished h k p c ⊎ (a ≡ address_of (shape_of h (command_id h)) p + 12)
   unfolding command_at m
-  was_or_now p c u =
-      let r : ℕ = command_id h in
-      let ring = written_rings h k a x r in
-      let due : is_due (shape_of h r) (k.ring r).floor p ≡ true = sym (ap (λ y. is_due (shape_of h r) y.floor p) ring) ∙ u.due in
-      let given : ((k.ring r).given p || gives (shape_of h r) (k.ring r).floor p a x) ≡ true = sym (ap (λ y. y.given p) ring) ∙ u.given in
-      elim (or_cases ((k.ring r).given p) (gives (shape_of h r) (k.ring r).floor p a x) given) [
-        | inl was ↦ inl (record { due = due; given = was; command = ap (λ q. option_and_then command_of (slice_get q p)) (sym (queue_same r)) ∙ u.command })
-        | inr now ↦ inr (gives_is (shape_of h r) (k.ring r).floor p a x now).at
-      ]
+  was_or_now p c u = search (rules, m, written_rings, or_cases, option_and_then, slice_get, queue_same, gives_is)
 
   -- what is given now was changed before now
   given_now : (at : ℕ) (o : Option ℕ) → a ≡ at + 12 → IsUnchanged h v at o
   unfolding v of_world.stored
-  given_now at None same = tt
-  given_now at (Some n) same = λ i low.
-      let late_now = late_stored h w a x late (n + 4 * i) in
-      let here : put w.written a (w.steps + 1) (at + 12) ≡ w.steps + 1 = ap (λ b. put w.written a (w.steps + 1) b) (sym same) ∙ put_here w.written a (w.steps + 1) in
-      omega arith
+  given_now at None same = search rules
+  given_now at (Some n) same = search (rules, v, late_stored, late, put_here)
 
   contexts : (p : ℕ) (c : Command) → IsUnfinished h m p c → IsUnchanged h v (address_of (shape_of h (command_id h)) p) (named_context c)
   unfolding v

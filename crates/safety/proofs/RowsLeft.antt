@@ -1,7 +1,6 @@
 -- The rows still to come are those that no row was made of: no step of the controller touches them, and a row takes the first
-use Rattle.std.proofs.Common.{◌≡◌, ◌+◌, ◌==◌, ◌&&◌, if◌then◌else◌, ◌∷◌, ◌||◌, ◌-◌, ◌∙◌, ℕ, Bool, true, false, not, List, [], Option, Some, None, option_map, option_and_then, is_some, position, length, nat_lt, refl, sym, ap}
-use Rattle.safety.proofs.Words.{list_any, range_with_len, none-some, same_Some, Block, is_set, block_at, code, cycle, endpoint, kind, pointer, same_words, slot, word, is_success, is_halting, is_trb_error, is_stopping, is_command_completion, is_link, is_other_event, is_transfer_event, put, put_pair, Command, EndpointState, Running, Stopped, Halted, Error, command_of, may_answer_slot, named_context, can_succeed, is_running, is_stopped, Change, SlotGoesOn, DeviceLeft, Disables, Places, Stops, Resets, changes, slot_gone_on, position_from, erdp_address, is_event_place, Header, Row, Sub, Write, Reg, Bell, Read, Register, Usbcmd, Usbsts, Dnctrl, Crcr, Dcbaap, Config, Iman, Imod, Erstsz, Erstba, Erdp, command_id, event_shape, ring_having, register_or_zero, run_bit, reset_bit, World, UnderWay, unreported}
-use Rattle.world_state.specs.World.{event_at}
+use Rattle.std.proofs.Common.{◌≡◌, ◌+◌, ◌==◌, ◌&&◌, if◌then◌else◌, ◌∷◌, ◌||◌, ◌-◌, ◌∙◌, ℕ, Bool, true, false, not, List, [], Option, Some, None, option_map, option_and_then, position, refl, sym, ap, rules}
+use Rattle.safety.proofs.Words.{list_any, range_with_len, none-some, same_Some, Block, is_set, block_at, code, cycle, endpoint, kind, pointer, slot, word, is_command_completion, is_other_event, is_transfer_event, put_pair, Command, EndpointState, Running, named_context, can_succeed, is_running, is_stopped, Change, Places, Stops, changes, Header, Row, Reg, Bell, Read, Register, Usbcmd, Config, Erdp, command_id, register_or_zero, World, UnderWay, unreported}
 use Rattle.world_state.specs.World as of_world
 use Rattle.controller_model.specs.DriverRows as driver
 use Rattle.controller_model.specs.Looks as looks
@@ -66,12 +65,7 @@ module _ (h : Header) where
 
   looked_at_left : (w : World) (r : ℕ) (b : Block) → RowsLeft w (looks.looked_at h w r b)
   unfolding looks.looked_at looks.seen_by_look looks.crossed
-  looked_at_left w r b =
-      let seen : World = looks.seen_by_look h w r in
-      to_if w (not (cycle b == w.cycle_state r)) seen
-      (if is_link (kind b) then Some (looks.crossed h seen r b) else if r == command_id h && is_some w.under_way then None else Some (looks.taken h seen r b)) refl
-      (to_if w (is_link (kind b)) (looks.crossed h seen r b) (if r == command_id h && is_some w.under_way then None else Some (looks.taken h seen r b)) refl
-      (either w (r == command_id h && is_some w.under_way) None (Some (looks.taken h seen r b)) (nowhere w) (to w (looks.taken h seen r b) (taken_left seen r b))))
+  looked_at_left w r b = search (rules, to_if, either, nowhere, to, taken_left)
 
   pub looked_left : (w : World) (r : ℕ) → RowsLeft w (looks.looked h w r)
   unfolding looks.looked
@@ -91,32 +85,15 @@ module _ (h : Header) where
 
   error_left : (w : World) (s i r a : ℕ) (state : EndpointState) → RowsLeft w (posts.report_error h w s i r a state)
   unfolding posts.report_error posts.with_reported
-  error_left w s i r a state =
-      let v : World = record (posts.with_reported h w r (w.reported r + length (unreported w r))) {
-        is_active = put w.is_active r false;
-        endpoint_state = put_pair w.endpoint_state s i state;
-      } in
-      only_if w (is_running (w.endpoint_state s i) && w.is_active r && posts.is_last h a (unreported w r)) (Some v) (to w v refl)
+  error_left w s i r a state = search (rules, only_if, to)
 
   stop_left : (w : World) (s i r a : ℕ) → RowsLeft w (posts.report_stop h w s i r a)
   unfolding posts.report_stop posts.stopped_with posts.with_reported
-  stop_left w s i r a =
-      let one : World = posts.stopped_with h w r (w.reported r + length (unreported w r) - 1) in
-      let two : World = posts.stopped_with h w r (w.reported r + length (unreported w r)) in
-      either w (not (posts.is_stop_under_way h s i w.under_way && is_running (w.endpoint_state s i) && w.is_active r)) None
-      (if posts.is_last h a (unreported w r) then Some one else if a == w.pointer_of r then Some two else None) (nowhere w)
-      (to_if w (posts.is_last h a (unreported w r)) one (if a == w.pointer_of r then Some two else None) refl (only_if w (a == w.pointer_of r) (Some two) (to w two refl)))
+  stop_left w s i r a = search (rules, either, nowhere, to_if, only_if, to)
 
   report_left : (w : World) (c s i r a : ℕ) → RowsLeft w (posts.report_code h w c s i r a)
   unfolding posts.report_code
-  report_left w c s i r a =
-      let stop : Option World = if is_stopping c then posts.report_stop h w s i r a else None in
-      let error : Option World = if is_trb_error c then posts.report_error h w s i r a Error else stop in
-      let halt : Option World = if is_halting c then posts.report_error h w s i r a Halted else error in
-      either w (is_success c) (posts.report_success h w r a) halt (success_left w r a)
-      (either w (is_halting c) (posts.report_error h w s i r a Halted) error (error_left w s i r a Halted)
-      (either w (is_trb_error c) (posts.report_error h w s i r a Error) stop (error_left w s i r a Error)
-      (only_if w (is_stopping c) (posts.report_stop h w s i r a) (stop_left w s i r a))))
+  report_left w c s i r a = search (rules, either, success_left, error_left, only_if, stop_left)
 
   reported_on_left : (w : World) (b : Block) (o : Option ℕ) → RowsLeft w (posts.reported_on h w b o)
   unfolding posts.reported_on
@@ -145,13 +122,9 @@ module _ (h : Header) where
 
   changed_left : (c : Command) (w : World) (change : Change) → RowsLeft w (bindings.changed_by h c w change)
   unfolding bindings.changed_by bindings.disabled bindings.in_state
-  changed_left c w (SlotGoesOn s) = to w (record w { slot_state = slot_gone_on c w.slot_state s }) refl
-  changed_left c w (DeviceLeft s) = to w (record w { scribbles = put w.scribbles s false }) refl
-  changed_left c w (Disables s which) = to w (bindings.disabled w s which) refl
-  changed_left c w (Places s i p cycle state) = placed_left w s i p cycle state (ring_having h p)
-  changed_left c w (Stops s i) =
-      to w (bindings.inactive (bindings.in_state w s i Stopped) (w.ring_of s i)) (inactive_left (bindings.in_state w s i Stopped) (w.ring_of s i))
-  changed_left c w (Resets s i) = to w (bindings.in_state w s i Stopped) refl
+  changed_left c w (Places s i p cycle state) = search (rules, placed_left)
+  changed_left c w (Stops s i) = search (rules, to, inactive_left)
+  changed_left c w _ = search (rules, to)
 
   all_left : (c : Command) (l : List Change) (w : World) → RowsLeft w (bindings.changed_by_all h c w l)
   unfolding bindings.changed_by_all
@@ -169,14 +142,8 @@ module _ (h : Header) where
 
   finished_as_left : (w : World) (b : Block) (o : Option UnderWay) → RowsLeft w (finishes.finished_as h w b o)
   unfolding finishes.finished_as finishes.ended_with finishes.ended
-  finished_as_left w b None = nowhere w
-  finished_as_left w b (Some u) =
-      let did : Option World = option_map (λ v. finishes.ended h v b) (finishes.succeeded h w (slot b) (command_of u.block)) in
-      let failed : Option World = if u.has_stopped then None else Some (finishes.ended h w b) in
-      only_if w (pointer b == u.address && may_answer_slot (command_of u.block) (slot b)) (finishes.ended_with h w b u)
-      (either w (code b == 1) did failed
-      (after w (λ v. finishes.ended h v b) (finishes.succeeded h w (slot b) (command_of u.block)) (succeeded_left w (slot b) (command_of u.block)) (λ v. posted_left v b))
-      (either w u.has_stopped None (Some (finishes.ended h w b)) (nowhere w) (to w (finishes.ended h w b) (posted_left w b))))
+  finished_as_left w b None = search (rules, nowhere)
+  finished_as_left w b (Some u) = search (rules, nowhere, only_if, either, after, succeeded_left, posted_left, to)
 
   pub finished_left : (w : World) (b : Block) → RowsLeft w (finishes.finished h w b)
   unfolding finishes.finished
@@ -191,30 +158,13 @@ module _ (h : Header) where
 
   run_left : (w : World) (v : ℕ) → (driver.run_or_stop h w v).rows ≡ w.rows
   unfolding driver.run_or_stop driver.started_with
-  run_left w v =
-      let begun : World = driver.started_with h w in
-      let ended : World = record w { stopped = true } in
-      let first : World = if run_bit v && not (reset_bit v) then begun else w in
-      let later : World = if not (run_bit v) || reset_bit v then ended else w in
-      (one_of w (not w.started) first later (one_of w (run_bit v && not (reset_bit v)) begun w (kept w begun refl) (kept w w refl))
-      (one_of w (not (run_bit v) || reset_bit v) ended w (kept w ended refl) (kept w w refl))).same
+  run_left w v = search (rules, one_of, kept)
 
   register_left : (w : World) (r : Register) (v : ℕ) → (driver.register_row h w r v).rows ≡ w.rows
   unfolding driver.register_row driver.with_dequeue driver.valued
-  register_left w Usbcmd v = run_left (driver.valued w Usbcmd v) v
-  register_left w Erdp v =
-      let u : World = driver.valued w Erdp v in
-      let moved : World = record u { dequeue = position_from (event_shape h) u.dequeue (erdp_address v) } in
-      (one_of w (is_event_place (event_shape h) (erdp_address v)) moved u (kept w moved refl) (kept w u refl)).same
-  register_left w Usbsts v = refl
-  register_left w Dnctrl v = refl
-  register_left w Crcr v = refl
-  register_left w Dcbaap v = refl
-  register_left w Config v = refl
-  register_left w Iman v = refl
-  register_left w Imod v = refl
-  register_left w Erstsz v = refl
-  register_left w Erstba v = refl
+  register_left w Usbcmd v = search (rules, run_left)
+  register_left w Erdp v = search (rules, run_left, one_of, kept)
+  register_left w _ v = search rules
 
   bell_on_left : (w : World) (s t : ℕ) (o : Option ℕ) → (driver.endpoint_bell h w s t o).rows ≡ w.rows
   unfolding driver.endpoint_bell driver.activated
@@ -225,18 +175,11 @@ module _ (h : Header) where
 
   bell_left : (w : World) (s t : ℕ) → (driver.bell_row h w s t).rows ≡ w.rows
   unfolding driver.bell_row driver.activated
-  bell_left w s t =
-      let on : World = driver.activated h w (command_id h) in
-      let first : World = if t == 0 && w.started then on else w in
-      (one_of w (s == 0) first (driver.endpoint_bell h w s t (w.ring_of s t)) (one_of w (t == 0 && w.started) on w (kept w on refl) (kept w w refl))
-      (kept w (driver.endpoint_bell h w s t (w.ring_of s t)) (bell_on_left w s t (w.ring_of s t)))).same
+  bell_left w s t = search (rules, one_of, kept, bell_on_left)
 
   pub row_left : (w : World) (row : Row) → RowsLeft w (driver.row_done h w row)
   unfolding driver.row_done driver.declared of_world.stored driver.event_read
-  row_left w (Sub r blocks) = to w (driver.declared h w r blocks) refl
-  row_left w (Write a x) = to w (of_world.stored w a x) refl
-  row_left w (Reg r v) = to w (driver.register_row h w r v) (register_left w r v)
-  row_left w (Bell s t) = to w (driver.bell_row h w s t) (bell_left w s t)
-  row_left w (Read e) =
-      let read : World = record w { reads = w.reads + 1 } in
-      only_if w (nat_lt w.reads w.posted && same_words (event_at h w w.reads) e) (Some read) (to w read refl)
+  row_left w (Reg r v) = search (rules, to, register_left)
+  row_left w (Bell s t) = search (rules, to, bell_left)
+  row_left w (Read e) = search (rules, to, only_if)
+  row_left w _ = search (rules, to)

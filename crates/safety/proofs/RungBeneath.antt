@@ -1,6 +1,5 @@
 -- The doorbell of an endpoint whose ring is held beneath an event that isn't read yet: the two may change places
-use Rattle.std.proofs.Common.{◌≡◌, ◌==◌, ◌||◌, ◌∙◌, ℕ, true, false, not, [], Option, None, Some, refl, sym, ap, subst}
-use Rattle.safety.proofs.Words.{MayCome, cond-false, false≢true, Block, Opens, is_open, is_running, is_stopped, Header, Bell, Read, IsHeader, command_id, Known, on_ring, endpoint_rung, rung, learned, is_touched, is_bad_bell, lenient, DriverKeeps, HeldMore, is_open_if, is_idle, Square}
+use Rattle.safety.proofs.Words.{◌≡◌, ◌==◌, ◌||◌, ◌∙◌, ℕ, true, false, not, [], Option, None, Some, refl, sym, ap, subst, MayCome, cond-false, false≢true, Block, Opens, is_open, is_running, is_stopped, Header, Bell, Read, IsHeader, command_id, Known, on_ring, endpoint_rung, rung, learned, is_touched, is_bad_bell, lenient, DriverKeeps, HeldMore, is_open_if, is_idle, Square}
 use Rattle.safety.proofs.TestsPassed.{clean_tests}
 use Rattle.safety.proofs.CleanRows.{EventFacts, event_facts, BellFacts, bell_facts}
 use Rattle.safety.proofs.SameDriver.{SameDriver, both_drivers}

@@ -1,5 +1,5 @@
 -- A world that agrees with what a rule-keeping driver's rows lead to is safe: harm by harm
-use Rattle.std.proofs.Common.{◌≡◌, ◌+◌, ◌-◌, ◌<◌, ◌≤◌, ◌==◌, ◌&&◌, ◌∷◌, ◌∙◌, ℕ, Bool, false, not, List, [], nat_lt, nat_le, None, find, option_map, arith, refl, sym, ap, inl, inr, eq-eqb, le-ltb}
+use Rattle.std.proofs.Common.{◌≡◌, ◌+◌, ◌-◌, ◌<◌, ◌≤◌, ◌==◌, ◌&&◌, ◌∷◌, ◌∙◌, ℕ, Bool, false, not, List, [], nat_lt, nat_le, None, find, option_map, arith, refl, sym, ap, inl, inr, eq-eqb, le-ltb, rules}
 use Rattle.safety.proofs.Words.{list_any, cases_Bool, cases_eq, and_left, and_right, or_from, lt-leb, not_from_true, Block, block_at, cycle, number, spot_address, Spot, Header, Ring, IsHeader, shape_of, command_id, event_size, some_ring, Harm, TakenOutOfOrder, TakenOtherWords, WaitsInsideDescriptor, LooksOutside, PostsOverUnread, InputContextChanged, World, is_out_of_order, has_other_words, is_inside_descriptor, waits, harms, harm_of, IsSafe, has_changed_context, Known, IsDriverRing, DriverKeeps, Stands, RingMatches, state_of, Agrees, Runs, all_read}
 use Rattle.safety.proofs.Headers.{transfer_driver, ring_shape}
 use Rattle.safety.proofs.AtSpots.{MayStand}
@@ -35,16 +35,7 @@ waits_inactive w r off = and_left (w.is_active r) (not (cycle (block_at w.memory
 
 -- events posted and not yet read are fewer than the ring has places
 room_left : (size posted reads dequeue : ℕ) → dequeue ≤ reads → reads ≤ posted → (0 < posted → posted + 1 ≤ dequeue + size) → (nat_lt 0 size && nat_le size (posted - reads)) ≡ false
-room_left size posted reads dequeue low read room =
-    elim (cases_eq posted 0) [
-      | inl none ↦ elim (cases_eq size 0) [
-        | inl empty ↦ and_left (nat_lt 0 size) (nat_le size (posted - reads)) (le-ltb 0 size (omega arith))
-        | inr some ↦ and_right (nat_lt 0 size) (nat_le size (posted - reads)) (lt-leb size (posted - reads) (omega arith))
-      ]
-      | inr some ↦
-          let high : posted + 1 ≤ dequeue + size = room (omega arith) in
-          and_right (nat_lt 0 size) (nat_le size (posted - reads)) (lt-leb size (posted - reads) (omega arith))
-    ]
+room_left size posted reads dequeue low read room = search (rules, nat_lt, nat_le, and_left, le-ltb, and_right, lt-leb)
 
 module _ (h : Header) (is : IsHeader h) (k : Known) (w : World) (d : DriverKeeps h k) (s : Stands h k w) where
   -- the pointer of a ring stands where it may
@@ -120,18 +111,10 @@ module _ (h : Header) (is : IsHeader h) (k : Known) (unread : List Block) (w : W
       ]
 
   context_kept : has_changed_context h w w.under_way ≡ false
-  context_kept =
-      elim (cases_Bool k.started) [
-        | inl on ↦ let c = g.matches.command on in under_way_unchanged h is k d w g.matches c.spot (command_is_ring h k d on) c.ring w.under_way c.under_way
-        | inr off ↦ ap (λ o. has_changed_context h w o) (g.matches.before off).none ∙ changed_none h w
-      ]
+  context_kept = search (rules, under_way_unchanged, command_is_ring, changed_none)
 
   pub agreed_safe : IsSafe h w
-  agreed_safe =
-      safe_from h w (no_some_ring h (λ r. is_out_of_order (shape_of h r) (w.events r)) in_order)
-      (no_some_ring h (λ r. has_other_words (shape_of h r) (w.events r)) as_declared)
-      (no_some_ring h (λ r. waits w r && is_inside_descriptor (w.events r)) no_wait)
-      g.matches.inside (room_left (event_size h) w.posted w.reads w.dequeue g.events.order.dequeued g.events.order.read g.events.order.room) context_kept
+  agreed_safe = search (rules, safe_from, no_some_ring, in_order, as_declared, no_wait, room_left, context_kept)
 
 -- each world of a run is safe
 pub safe : (h : Header) → IsHeader h → (now : Known) (w : World) (r : Runs h now w) → DriverKeeps h (all_read h now r.unread) → IsSafe h w

@@ -1,6 +1,5 @@
 -- The input context of the command under way is as it was when the command was given
-use Rattle.std.proofs.Common.{◌≡◌, ◌+◌, ◌*◌, ◌/◌, ◌<◌, ◌≤◌, ◌∙◌, ℕ, suc, zero, Bool, true, false, [], nat_lt, Option, Some, None, is_some, option_and_then, slice_get, arith, refl, sym, ap, inl, inr, get_or, le-ltb}
-use Rattle.safety.proofs.Words.{list_any, range_with_len, false≢true, or_from, slice_get-get_or, Block, Spot, address_of, floor_number, is_due, given_count, cases_option, cycle_of_bit, due_from, given_below, step_is, given_count_declared, given_count_near, Command, command_of, named_context, input_context_bytes, Header, Crcr, IsHeader, shape_of, command_id, World, UnderWay, is_changed_since, is_context_changed, has_changed_context, Known, command_at, next_command, IsDriverRing, DriverKeeps, RingMatches, state_of, UnderWayMatches, IsUnchanged, Matches}
+use Rattle.safety.proofs.Words.{◌≡◌, ◌+◌, ◌*◌, ◌/◌, ◌<◌, ◌≤◌, ◌∙◌, ℕ, suc, zero, Bool, true, false, [], nat_lt, Option, Some, None, is_some, option_and_then, slice_get, arith, refl, sym, ap, inl, inr, get_or, le-ltb, rules, list_any, range_with_len, false≢true, or_from, slice_get-get_or, Block, Spot, floor_number, is_due, given_count, cases_option, cycle_of_bit, due_from, given_below, step_is, given_count_declared, given_count_near, Command, command_of, named_context, input_context_bytes, Header, Crcr, IsHeader, shape_of, command_id, World, UnderWay, is_changed_since, is_context_changed, has_changed_context, Known, command_at, next_command, IsDriverRing, DriverKeeps, RingMatches, state_of, UnderWayMatches, IsUnchanged, Matches}
 use Rattle.safety.proofs.Headers.{ring_shape}
 use Rattle.safety.proofs.SameCommand.{command_of-with_cycle}
 use Rattle.safety.proofs.NoWait.{ceiling_given}
@@ -73,16 +72,8 @@ module _ (h : Header) (is : IsHeader h) (k : Known) (d : DriverKeeps h k) where
 
   unchanged_of : (w : World) → Matches h k w → (u : UnderWay) (t : Spot) (f : AtFloor h k) → UnderWayMatches h k t (Some u) → (o : Option Command) → command_of f.block ≡ o →
       has_changed_context h w (Some u) ≡ false
-  unchanged_of w m u t f under None none =
-      changed_some h w u None
-      (ap (λ b. command_of b) (under.1.words f.block f.queued) ∙ command_of-with_cycle f.block _ (cycle_of_bit (shape_of h (command_id h)) (next_command h k)) ∙ none)
-      ∙ no_context h w (w.written (u.address + 12))
-  unchanged_of w m u t f under (Some c) some =
-      changed_some h w u (Some c)
-      (ap (λ b. command_of b) (under.1.words f.block f.queued) ∙ command_of-with_cycle f.block _ (cycle_of_bit (shape_of h (command_id h)) (next_command h k)) ∙ some)
-      ∙ ap (λ a. is_context_changed h w (w.written (a + 12)) (named_context c)) under.1.address
-      ∙ unchanged_test h w (address_of (shape_of h (command_id h)) (next_command h k)) (named_context c)
-      (m.contexts (next_command h k) c (record { due = f.due; given = f.given; command = command_at_is h k (next_command h k) f.block f.queued ∙ some }))
+  unchanged_of w m u t f under None none = search (rules, changed_some, command_of-with_cycle, cycle_of_bit, no_context, unchanged_test, command_at_is)
+  unchanged_of w m u t f under (Some c) some = search (rules, changed_some, command_of-with_cycle, cycle_of_bit, no_context, unchanged_test, command_at_is)
 
   -- the input context of the command under way wasn't changed
   pub under_way_unchanged : (w : World) → Matches h k w → (t : Spot) → IsDriverRing h (command_id h) → RingMatches (shape_of h (command_id h)) (k.ring (command_id h)) (state_of w (command_id h)) t →

@@ -1,6 +1,5 @@
 -- A block is the same command with either Cycle bit
-use Rattle.std.proofs.Common.{◌≡◌, ◌<◌, ◌||◌, if◌then◌else◌, ◌∙◌, ℕ, None, refl, ap}
-use Rattle.safety.proofs.Words.{Block, BlockKind, with_cycle, kind, is_left_out_command, has_left_out_field, is_command_left_out, kind-with_cycle, slot-with_cycle, endpoint-with_cycle, is_set-with_cycle, command_of, command_by_kind}
+use Rattle.safety.proofs.Words.{◌≡◌, ◌<◌, ℕ, refl, rules, Block, BlockKind, with_cycle, has_left_out_field, kind-with_cycle, slot-with_cycle, endpoint-with_cycle, is_set-with_cycle, command_of, command_by_kind}
 use Rattle.trb.specs.declared.kind.BlockKind.TheVariants as kinds
 
 module _ (b : Block) (c : ℕ) (is_bit : c < 2) where
@@ -20,11 +19,4 @@ module _ (b : Block) (c : ℕ) (is_bit : c < 2) where
   command_same _ = refl
 
   pub command_of-with_cycle : command_of (with_cycle b c) ≡ command_of b
-  command_of-with_cycle =
-      let k = kind-with_cycle b c is_bit in
-      let left_out : is_command_left_out (with_cycle b c) ≡ is_command_left_out b =
-      ap (λ k. is_left_out_command k || has_left_out_field k (with_cycle b c)) k ∙ ap (λ f. is_left_out_command (kind b) || f) (fields_same (kind b)) in
-      let same : command_by_kind (kind (with_cycle b c)) (with_cycle b c) ≡ command_by_kind (kind b) b =
-      ap (λ k. command_by_kind k (with_cycle b c)) k ∙ command_same (kind b) in
-      ap (λ t. if t then None else command_by_kind (kind (with_cycle b c)) (with_cycle b c)) left_out
-      ∙ ap (λ o. if is_command_left_out b then None else o) same
+  command_of-with_cycle = search (rules, kind-with_cycle, fields_same, command_same)

@@ -1,6 +1,5 @@
 -- What events leave as it is: registers, memory, and what is declared and given of each ring
-use Rattle.std.proofs.Common.{◌≡◌, ◌≢◌, ◌+◌, ◌==◌, if◌then◌else◌, ◌∷◌, ◌∙◌, ℕ, Bool, true, List, [], Option, None, Some, refl, sym, ap, subst, inl, inr}
-use Rattle.safety.proofs.Words.{cases_eq, cond_both, put_pair, Block, BlockKind, TransferEvent, CommandCompletion, code, slot, endpoint, is_success, is_halting, is_trb_error, is_stopping, Spot, number, after, RingView, RingChange, Reaches, Opens, Holds, changed, ceiling, stopped_number, target, Command, StopEndpoint, EndpointState, Halted, Error, Stopped, is_off, Change, SlotGoesOn, DeviceLeft, Disables, Places, Stops, Resets, changes, Header, shape_of, command_id, ring_having, Known, RingSpot, on_ring, event_at, command_at, next_command, passed, broken_off, stopped_at, transferred, transferred_at, transfer_read, set_to, bound_to, moved_to, moved, pointed, disabled, in_state, held_at_ceiling, changed_by, changed_by_all, succeeded, stop_ended, finished, completed, event_read}
+use Rattle.safety.proofs.Words.{◌≡◌, ◌≢◌, ◌∷◌, ◌∙◌, ℕ, Bool, List, [], Option, None, Some, refl, sym, subst, rules, cond_both, Block, BlockKind, TransferEvent, CommandCompletion, code, slot, endpoint, Spot, number, after, RingView, RingChange, Reaches, Opens, Holds, changed, ceiling, target, Command, StopEndpoint, EndpointState, is_off, Change, Resets, Header, shape_of, command_id, ring_having, Known, RingSpot, on_ring, event_at, command_at, next_command, passed, broken_off, stopped_at, transferred, transferred_at, transfer_read, set_to, bound_to, moved_to, moved, pointed, disabled, in_state, held_at_ceiling, changed_by, changed_by_all, succeeded, stop_ended, finished, completed, event_read}
 use Rattle.safety.proofs.DriverRows.{ring_here, ring_elsewhere}
 
 -- what is declared and given of a ring
@@ -33,16 +32,7 @@ same_driver k =
     record { started = refl; stopped = refl; register = refl; memory = refl; soiled = refl; reads = refl; dequeue = refl; rings = λ r. same_given (k.ring r) }
 
 pub both_drivers : (k l m : Known) → SameDriver k l → SameDriver l m → SameDriver k m
-both_drivers k l m a b = record {
-  started = b.started ∙ a.started;
-  stopped = b.stopped ∙ a.stopped;
-  register = b.register ∙ a.register;
-  memory = b.memory ∙ a.memory;
-  soiled = b.soiled ∙ a.soiled;
-  reads = b.reads ∙ a.reads;
-  dequeue = b.dequeue ∙ a.dequeue;
-  rings = λ r. both_given (k.ring r) (l.ring r) (m.ring r) (a.rings r) (b.rings r);
-}
+both_drivers k l m a b = search (rules, both_given)
 
 -- the pointer of a ring, or where it is held
 abbrev pub IsPointerChange : RingChange → Type 0
@@ -55,11 +45,7 @@ module _ (h : Header) where
   -- what holds of the view of a ring behind something that happens on some ring
   pub view_after : (P : RingView → Type 0) (k : Known) (r : ℕ) (change : RingChange) (q : ℕ) → (q ≡ r → P (changed (shape_of h r) (k.ring r) change)) → (q ≢ r → P (k.ring q)) →
       P ((on_ring h k r change).ring q)
-  view_after P k r change q here there =
-      elim (cases_eq q r) [
-        | inl same ↦ subst P (sym (ap (λ n. (on_ring h k r change).ring n) same ∙ ring_here h k r change)) (here same)
-        | inr other ↦ subst P (sym (ring_elsewhere h k r q change other)) (there other)
-      ]
+  view_after P k r change q here there = search (rules, ring_here, ring_elsewhere)
 
   pointer_same : (r : ℕ) (v : RingView) (change : RingChange) → IsPointerChange change → SameGiven v (changed (shape_of h r) v change)
   pointer_same r v (Reaches t) is = record { queue = refl; lengths = refl; given = refl; crossed = refl; withdrawn = refl; free = refl }
@@ -85,37 +71,15 @@ module _ (h : Header) where
 
   broken_same : (k : Known) (s i r : ℕ) (t : Spot) (state : EndpointState) → SameDriver k (broken_off h k s i r t state)
   unfolding broken_off
-  broken_same k s i r t state =
-      let l : Known = passed h k r t in
-      let m : Known = on_ring h l r (Holds (number t + 1)) in
-      let same : SameDriver k m = both_drivers k l m (passed_same k r t) (on_ring_same l r (Holds (number t + 1)) tt) in
-      both_drivers k m (broken_off h k s i r t state) same
-      (record { started = refl; stopped = refl; register = refl; memory = refl; soiled = refl; reads = refl; dequeue = refl; rings = λ q. same_given (m.ring q) })
+  broken_same k s i r t state = search (rules, both_drivers, passed_same, on_ring_same, same_given)
 
   stopped_same : (k : Known) (s i r : ℕ) (t : Spot) → SameDriver k (stopped_at h k s i r t)
   unfolding stopped_at
-  stopped_same k s i r t =
-      let n : ℕ = stopped_number (shape_of h r) (k.ring r) t in
-      let l : Known = on_ring h k r (Holds n) in
-      let m : Known = on_ring h l r (Reaches t) in
-      both_drivers k m (stopped_at h k s i r t) (both_drivers k l m (on_ring_same k r (Holds n) tt) (on_ring_same l r (Reaches t) tt))
-      (record { started = refl; stopped = refl; register = refl; memory = refl; soiled = refl; reads = refl; dequeue = refl; rings = λ q. same_given (m.ring q) })
+  stopped_same k s i r t = search (rules, both_drivers, on_ring_same, same_given)
 
   transferred_same : (k : Known) (c s i r : ℕ) (t : Spot) → SameDriver k (transferred h k c s i r t)
   unfolding transferred
-  transferred_same k c s i r t =
-      let broken : Known = broken_off h k s i r t Halted in
-      let halts : Known = record broken { must_move = put_pair k.must_move s i true } in
-      let fails : Known = broken_off h k s i r t Error in
-      let stopped : Known = if is_stopping c then stopped_at h k s i r t else k in
-      cond_both (is_success c) (passed h k r t) (if is_halting c then halts else if is_trb_error c then fails else stopped) (SameDriver k)
-      (λ _. passed_same k r t)
-      (λ _. cond_both (is_halting c) halts (if is_trb_error c then fails else stopped) (SameDriver k)
-      (λ _. both_drivers k broken halts (broken_same k s i r t Halted)
-      (record { started = refl; stopped = refl; register = refl; memory = refl; soiled = refl; reads = refl; dequeue = refl; rings = λ q. same_given (broken.ring q) }))
-      (λ _. cond_both (is_trb_error c) fails stopped (SameDriver k)
-      (λ _. broken_same k s i r t Error)
-      (λ _. cond_both (is_stopping c) (stopped_at h k s i r t) k (SameDriver k) (λ _. stopped_same k s i r t) (λ _. same_driver k))))
+  transferred_same k c s i r t = search (rules, passed_same, both_drivers, broken_same, same_given, stopped_same, same_driver)
 
   at_same : (k : Known) (b : Block) (o : Option RingSpot) → SameDriver k (transferred_at h k b o)
   unfolding transferred_at
@@ -146,11 +110,8 @@ module _ (h : Header) where
 
   bound_same : (k : Known) (s i : ℕ) (o : Option ℕ) (p : ℕ) (cycle : Bool) → SameDriver k (bound_to h k s i o p cycle)
   unfolding bound_to
-  bound_same k s i None p cycle = same_driver k
-  bound_same k s i (Some r) p cycle =
-      let l : Known = moved h k (Some r) p cycle in
-      both_drivers k l (bound_to h k s i (Some r) p cycle) (moved_same k (Some r) p cycle)
-      (record { started = refl; stopped = refl; register = refl; memory = refl; soiled = refl; reads = refl; dequeue = refl; rings = λ q. same_given (l.ring q) })
+  bound_same k s i None p cycle = search (rules, same_driver)
+  bound_same k s i (Some r) p cycle = search (rules, same_driver, both_drivers, moved_same, same_given)
 
   pointed_same : (k : Known) (s i p : ℕ) (cycle : Bool) → SameDriver k (pointed h k s i p cycle)
   unfolding pointed
@@ -170,20 +131,8 @@ module _ (h : Header) where
 
   pub change_same : (c : Command) (k : Known) (change : Change) → SameDriver k (changed_by h c k change)
   unfolding changed_by disabled in_state
-  change_same c k (SlotGoesOn s) =
-      record { started = refl; stopped = refl; register = refl; memory = refl; soiled = refl; reads = refl; dequeue = refl; rings = λ q. same_given (k.ring q) }
-  change_same c k (DeviceLeft s) =
-      record { started = refl; stopped = refl; register = refl; memory = refl; soiled = refl; reads = refl; dequeue = refl; rings = λ q. same_given (k.ring q) }
-  change_same c k (Disables s which) =
-      record { started = refl; stopped = refl; register = refl; memory = refl; soiled = refl; reads = refl; dequeue = refl; rings = λ q. same_given (k.ring q) }
-  change_same c k (Places s i p cycle state) =
-      let l : Known = pointed h k s i p cycle in
-      both_drivers k l (changed_by h c k (Places s i p cycle state)) (pointed_same k s i p cycle)
-      (record { started = refl; stopped = refl; register = refl; memory = refl; soiled = refl; reads = refl; dequeue = refl; rings = λ q. same_given (l.ring q) })
-  change_same c k (Stops s i) =
-      let l : Known = in_state h k s i Stopped in
-      both_drivers k l (held_at_ceiling h l (k.ring_of s i)) (state_same k s i Stopped) (held_same l (k.ring_of s i))
-  change_same c k (Resets s i) = state_same k s i Stopped
+  change_same c k (Resets s i) = search (rules, state_same)
+  change_same c k _ = search (rules, same_given, both_drivers, pointed_same, state_same, held_same)
 
   pub changes_same : (c : Command) (k : Known) (all : List Change) → SameDriver k (changed_by_all h c k all)
   unfolding changed_by_all
@@ -200,12 +149,8 @@ module _ (h : Header) where
 
   finish_same : (k : Known) (b : Block) (o : Option Command) → SameDriver k (finished h k b o)
   unfolding finished succeeded
-  finish_same k b None = same_driver k
-  finish_same k b (Some c) =
-      let all : List Change = changes h.context_size k.memory (slot b) c in
-      let l : Known = if code b == 1 then changed_by_all h c k all else k in
-      both_drivers k l (stop_ended h l c)
-      (cond_both (code b == 1) (changed_by_all h c k all) k (SameDriver k) (λ _. changes_same c k all) (λ _. same_driver k)) (stop_same l c)
+  finish_same k b None = search (rules, same_driver)
+  finish_same k b (Some c) = search (rules, same_driver, both_drivers, changes_same, stop_same)
 
   pub completion_same : (k : Known) (b : Block) → SameDriver k (completed h k b)
   unfolding completed

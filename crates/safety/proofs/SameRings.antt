@@ -1,6 +1,5 @@
 -- Rows that give no endpoint another ring than it had
-use Rattle.std.proofs.Common.{◌≡◌, ◌==◌, ◌&&◌, ◌||◌, if◌then◌else◌, ℕ, not, Bool, true, Option, None, Some, option_and_then, refl}
-use Rattle.safety.proofs.Words.{cond_both, put_pair, Block, code, slot, endpoint, is_success, is_halting, is_trb_error, is_stopping, Spot, Opens, Command, StopEndpoint, Halted, Error, Header, Register, Erdp, Usbcmd, command_id, run_bit, reset_bit, Known, RingSpot, on_ring, event_at, with_device, with_word, written, command_given, taken_device, run_or_stop, valued, register_written, endpoint_rung, rung, passed, broken_off, stopped_at, transferred, transferred_at, transfer_read, stop_ended}
+use Rattle.safety.proofs.Words.{◌≡◌, ◌==◌, if◌then◌else◌, ℕ, Bool, Option, None, Some, option_and_then, refl, rules, cond_both, Block, Spot, Opens, Command, StopEndpoint, Header, Register, Usbcmd, command_id, Known, on_ring, with_device, with_word, written, command_given, taken_device, run_or_stop, valued, register_written, endpoint_rung, rung, passed, broken_off, stopped_at, transferred, transferred_at, transfer_read, stop_ended}
 
 -- the same endpoints have rings, and the same ones
 abbrev pub SameRings : Known → Known → Type 0
@@ -21,16 +20,11 @@ module _ (h : Header) where
 
   run_same : (k : Known) (x : ℕ) → SameRings k (run_or_stop k x)
   unfolding run_or_stop
-  run_same k x =
-      let on : Known = record k { started = true } in
-      let off : Known = record k { stopped = true } in
-      either_same k (not k.started) (if run_bit x && not (reset_bit x) then on else k) (if not (run_bit x) || reset_bit x then off else k)
-      (either_same k (run_bit x && not (reset_bit x)) on k refl refl) (either_same k (not (run_bit x) || reset_bit x) off k refl refl)
+  run_same k x = search (rules, either_same)
 
   pub register_same : (k : Known) (r : Register) (x : ℕ) → SameRings k (register_written h k r x)
   unfolding register_written valued
   register_same k Usbcmd x = run_same (valued k Usbcmd x) x
-  register_same k Erdp x = refl
   register_same k r x = refl
 
   endpoint_same : (k : Known) (s t : ℕ) (o : Option ℕ) → SameRings k (endpoint_rung h k s t o)
@@ -44,21 +38,11 @@ module _ (h : Header) where
 
   transferred_same : (k : Known) (c s i r : ℕ) (t : Spot) → SameRings k (transferred h k c s i r t)
   unfolding transferred passed broken_off stopped_at on_ring
-  transferred_same k c s i r t =
-      let halts : Known = record (broken_off h k s i r t Halted) { must_move = put_pair k.must_move s i true } in
-      let fails : Known = broken_off h k s i r t Error in
-      let stopped : Known = if is_stopping c then stopped_at h k s i r t else k in
-      either_same k (is_success c) (passed h k r t) (if is_halting c then halts else if is_trb_error c then fails else stopped) refl
-      (either_same k (is_halting c) halts (if is_trb_error c then fails else stopped) refl
-      (either_same k (is_trb_error c) fails stopped refl (either_same k (is_stopping c) (stopped_at h k s i r t) k refl refl)))
+  transferred_same k c s i r t = search (rules, either_same)
 
   pub transfer_same : (k : Known) (b : Block) → SameRings k (transfer_read h k b)
   unfolding transfer_read transferred_at
-  transfer_same k b = by (event_at h k b)
-    where
-      by : (o : Option RingSpot) → SameRings k (transferred_at h k b o)
-      by None = refl
-      by (Some at) = transferred_same k (code b) (slot b) (endpoint b) at.ring at.spot
+  transfer_same k b = search (rules, transferred_same)
 
   pub stop_same : (k : Known) (c : Command) → SameRings k (stop_ended h k c)
   unfolding stop_ended

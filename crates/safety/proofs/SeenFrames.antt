@@ -1,6 +1,5 @@
 -- Behind a completion no Stopped event is known: that of the finished Stop Endpoint was the only one
-use Rattle.std.proofs.Common.{◌≡◌, ◌∷◌, ◌∙◌, ℕ, Bool, true, false, List, [], Option, None, Some, refl, sym, ap}
-use Rattle.safety.proofs.Words.{cond_both, false≢true, Spot, target, Command, StopEndpoint, Stopped, is_off, Change, SlotGoesOn, DeviceLeft, Disables, Places, Stops, Resets, Header, shape_of, ring_having, Known, on_ring, set_to, bound_to, moved_to, moved, pointed, disabled, in_state, held_at_ceiling, changed_by, changed_by_all, stop_ended}
+use Rattle.safety.proofs.Words.{◌≡◌, ◌∷◌, ◌∙◌, ℕ, Bool, true, List, [], Option, None, Some, refl, rules, cond_both, false≢true, Spot, target, Command, StopEndpoint, Stopped, is_off, Change, Places, Stops, Header, shape_of, ring_having, Known, on_ring, set_to, bound_to, moved_to, moved, pointed, disabled, in_state, held_at_ceiling, changed_by, changed_by_all, stop_ended}
 use Rattle.safety.proofs.EndpointPut.{at_pair}
 
 module _ (h : Header) where
@@ -32,12 +31,9 @@ module _ (h : Header) where
 
   change_seen : (c : Command) (k : Known) (change : Change) → (changed_by h c k change).stop_seen ≡ k.stop_seen
   unfolding changed_by disabled in_state
-  change_seen c k (SlotGoesOn s) = refl
-  change_seen c k (DeviceLeft s) = refl
-  change_seen c k (Disables s which) = refl
   change_seen c k (Places s i p cycle state) = pointed_seen k s i p cycle
   change_seen c k (Stops s i) = held_seen (in_state h k s i Stopped) (k.ring_of s i)
-  change_seen c k (Resets s i) = refl
+  change_seen c k _ = refl
 
   pub changes_seen : (c : Command) (k : Known) (all : List Change) → (changed_by_all h c k all).stop_seen ≡ k.stop_seen
   unfolding changed_by_all
@@ -47,11 +43,5 @@ module _ (h : Header) where
   -- where only the finished command's can have been known
   pub none_seen : (k m : Known) (c : Command) → m.stop_seen ≡ k.stop_seen → ((t j : ℕ) → k.stop_seen t j ≡ true → c ≡ StopEndpoint t j) → (t j : ℕ) → (stop_ended h m c).stop_seen t j ≡ true → ⊥
   unfolding stop_ended
-  none_seen k m (StopEndpoint s i) same was t j =
-      at_pair (λ x. x ≡ true → ⊥) m.stop_seen s i false t j (λ a b seen. false≢true seen)
-      (λ apart seen.
-      let named : StopEndpoint s i ≡ StopEndpoint t j = was t j (ap (λ f. f t j) (sym same) ∙ seen) in
-      let slot : t ≡ s = cc in
-      let index : j ≡ i = cc in
-      apart slot index)
-  none_seen k m _ same was t j = λ seen. let named = was t j (ap (λ f. f t j) (sym same) ∙ seen) in cc
+  none_seen k m (StopEndpoint s i) same was t j = search (rules, at_pair, false≢true)
+  none_seen k m _ same was t j = search (rules, at_pair, false≢true)

@@ -1,6 +1,5 @@
 -- The changes of a success that touch no ring: a slot's state goes on, its device context is left, an endpoint is reset
-use Rattle.std.proofs.Common.{◌≡◌, ◌==◌, ◌&&◌, if◌then◌else◌, ◌∙◌, ℕ, false, Some, None, unwrap_or, refl, sym, ap, subst, inl, inr}
-use Rattle.safety.proofs.Words.{cases_eq, false≢true, same_Some, put, put_pair, Command, EndpointState, Stopped, slot_success, SlotGoesOn, DeviceLeft, Resets, slot_gone_on, Header, World, Known}
+use Rattle.safety.proofs.Words.{◌≡◌, ◌==◌, ◌&&◌, if◌then◌else◌, ◌∙◌, ℕ, false, Some, unwrap_or, ap, subst, rules, false≢true, same_Some, put, put_pair, Command, EndpointState, Stopped, SlotGoesOn, DeviceLeft, Resets, slot_gone_on, Header, World, Known}
 use Rattle.controller_model.specs.Bindings as bindings
 use Rattle.ring_knowledge.specs.Completions as completions
 use Rattle.safety.proofs.LookKinds.{put_at, put_off}
@@ -15,55 +14,16 @@ same_put_pair f g s i x same t j = ap (λ z. if t == s && j == i then x else z) 
 module _ (h : Header) (c : Command) (k : Known) (w : World) (m : StatesMatch h k w) where
   slot_made : (s : ℕ) → ChangeKeeps h k (completions.changed_by h c k (SlotGoesOn s)) w (let v : World = record w { slot_state = slot_gone_on c w.slot_state s } in v)
   unfolding completions.changed_by
-  slot_made s = record {
-    states = record {
-      slots = same_put w.slot_state k.slot_state s _ _ m.slots (ap (λ x. unwrap_or (slot_success c x) x) (m.slots s));
-      endpoints = m.endpoints;
-      ring_of = m.ring_of;
-      rings = m.rings;
-      scribbles = m.scribbles;
-      apart = m.apart;
-      one_endpoint = m.one_endpoint;
-      within = m.within;
-    };
-    rest = record { known = refl; world = refl; queues = λ r. refl; lengths = λ r. refl; command_known = refl; command_world = refl };
-  }
+  slot_made s = search (rules, same_put, unwrap_or)
 
   device_made : (s : ℕ) → ChangeKeeps h k (completions.changed_by h c k (DeviceLeft s)) w (let v : World = record w { scribbles = put w.scribbles s false } in v)
   unfolding completions.changed_by
-  device_made s = record {
-    states = record {
-      slots = m.slots;
-      endpoints = m.endpoints;
-      ring_of = m.ring_of;
-      rings = m.rings;
-      scribbles = λ t may none. elim (cases_eq t s) [
-        | inl same ↦ absurd (false≢true (sym (put_at w.scribbles s false) ∙ ap (λ x. put w.scribbles s false x) (sym same) ∙ may))
-        | inr other ↦ m.scribbles t (sym (put_off w.scribbles s false t other) ∙ may) (sym (put_off k.device s None t other) ∙ none)
-      ];
-      apart = m.apart;
-      one_endpoint = m.one_endpoint;
-      within = m.within;
-    };
-    rest = record { known = refl; world = refl; queues = λ r. refl; lengths = λ r. refl; command_known = refl; command_world = refl };
-  }
+  device_made s = search (rules, false≢true, put_at, put_off)
 
   -- an endpoint is in a new state
   pub state_made : (s i : ℕ) (state : EndpointState) → ChangeKeeps h k (completions.in_state h k s i state) w (bindings.in_state w s i state)
   unfolding completions.in_state bindings.in_state
-  state_made s i state = record {
-    states = record {
-      slots = m.slots;
-      endpoints = same_put_pair w.endpoint_state k.endpoint_state s i state m.endpoints;
-      ring_of = m.ring_of;
-      rings = m.rings;
-      scribbles = m.scribbles;
-      apart = m.apart;
-      one_endpoint = m.one_endpoint;
-      within = m.within;
-    };
-    rest = record { known = refl; world = refl; queues = λ r. refl; lengths = λ r. refl; command_known = refl; command_world = refl };
-  }
+  state_made s i state = search (rules, same_put_pair)
 
   pub slot_keeps : (s : ℕ) (v : World) → bindings.changed_by h c w (SlotGoesOn s) ≡ Some v → ChangeKeeps h k (completions.changed_by h c k (SlotGoesOn s)) w v
   unfolding bindings.changed_by

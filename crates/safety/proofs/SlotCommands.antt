@@ -1,8 +1,8 @@
 -- The success of an unfinished command changes its own slot alone, or its own endpoint, and binds only rings that it names
-use Rattle.std.proofs.Common.{◌≡◌, if◌then◌else◌, ◌∷◌, ◌∙◌, ℕ, not, Bool, true, false, List, [], map, Some, refl, ap, inl, inr, eq-eqb, Option, None}
-use Rattle.safety.proofs.Words.{list_any, or_parts, or_left, not-false, false≢true, Command, NoOp, EnableSlot, DisableSlot, AddressDevice, ConfigureEndpoint, EvaluateContext, ResetEndpoint, StopEndpoint, SetTrDequeue, ResetDevice, EndpointState, Off, Running, Halted, Stopped, Error, is_off, is_at_rest, changes, placed_by_context, added_endpoints, context_pointer, Header, command_id, is_ring, ring_having, Known, changed_by, succeeded, binding_in, binds, ring_bound, binds_ring, is_bad_dequeue, is_bad_move, IsIn, any_of, MovesIf}
+use Rattle.safety.proofs.Words.{◌≡◌, if◌then◌else◌, ◌∷◌, ◌∙◌, ℕ, not, Bool, true, false, List, [], map, Some, refl, ap, inl, inr, eq-eqb, Option, None, list_any, or_parts, or_left, not-false, Command, NoOp, EnableSlot, DisableSlot, AddressDevice, ConfigureEndpoint, EvaluateContext, ResetEndpoint, StopEndpoint, SetTrDequeue, ResetDevice, is_off, is_at_rest, changes, placed_by_context, added_endpoints, context_pointer, Header, command_id, is_ring, ring_having, Known, changed_by, succeeded, binding_in, binds, ring_bound, binds_ring, is_bad_dequeue, is_bad_move, IsIn, any_of, MovesIf}
 use Rattle.safety.proofs.TestsPassed.{any_of_map}
 use Rattle.safety.proofs.OtherSlots.{IsPart, OtherSlots, Within, AllOnly, changes_others}
+use Rattle.safety.proofs.Placings.{at_rest_on}
 
 -- the slot that the success of a command changes; n is that of its completion
 abbrev pub changed_slot : Command → ℕ → ℕ
@@ -23,13 +23,6 @@ changed_part (ResetEndpoint s i) = Some i
 changed_part (StopEndpoint s i) = Some i
 changed_part (SetTrDequeue s i p cycle) = Some i
 changed_part _ = None
-
-rest_not_off : (e : EndpointState) → is_at_rest e ≡ true → is_off e ≡ true → ⊥
-rest_not_off Off rests off = false≢true rests
-rest_not_off Running rests off = false≢true rests
-rest_not_off Halted rests off = false≢true rests
-rest_not_off Stopped rests off = false≢true off
-rest_not_off Error rests off = false≢true off
 
 module _ (h : Header) (k : Known) where
   -- the rings of slot s or of a part of it, those that a command binds, and the command ring
@@ -72,7 +65,6 @@ module _ (h : Header) (k : Known) where
       AllOnly (changed_slot e n) (changed_part e) (OfCommand (changed_slot e n) (changed_part e) e) h e k (changes h.context_size k.memory n e)
   unfolding changes changed_by
   only_own n NoOp moves = tt
-  only_own n EnableSlot moves = ((refl, refl), tt)
   only_own n (DisableSlot s) moves = ((refl, refl), ((refl, refl), ((refl, refl), tt)))
   only_own n (AddressDevice s bsr c) moves = ((refl, refl), ((refl, tt, λ off r at. Binds (address_binds s c r bsr off at)), tt))
   only_own n (ConfigureEndpoint s false c) moves = (
@@ -85,10 +77,9 @@ module _ (h : Header) (k : Known) where
   )
   only_own n (ConfigureEndpoint s true c) moves = ((refl, refl), ((refl, refl), tt))
   only_own n (EvaluateContext s c) moves = tt
-  only_own n (ResetEndpoint s i) moves = ((refl, refl), tt)
-  only_own n (StopEndpoint s i) moves = ((refl, refl), tt)
-  only_own n (SetTrDequeue s i p cycle) moves = ((refl, refl, λ off r at. absurd (rest_not_off (k.endpoint_state s i) (set_rests s i p cycle moves) off)), tt)
+  only_own n (SetTrDequeue s i p cycle) moves = ((refl, refl, λ off r at. absurd (at_rest_on (k.endpoint_state s i) (set_rests s i p cycle moves) off)), tt)
   only_own n (ResetDevice s) moves = ((refl, refl), ((refl, refl), tt))
+  only_own n _ moves = ((refl, refl), tt)
 
   pub success_others : (n : ℕ) (e : Command) → MovesIf h k e →
       OtherSlots k (succeeded h k n e) (changed_slot e n) (changed_part e) (OfCommand (changed_slot e n) (changed_part e) e)

@@ -1,6 +1,5 @@
 -- What the success of a command changes keeps what is kept of endpoints, change by change
-use Rattle.std.proofs.Common.{◌≡◌, ◌≢◌, ◌==◌, ◌&&◌, if◌then◌else◌, ◌∷◌, ◌∙◌, ℕ, Bool, true, false, List, [], Option, None, Some, refl, sym, ap, inl, inr}
-use Rattle.safety.proofs.Words.{none-some, Holds, ceiling, Command, EndpointState, Off, Running, Stopped, Change, SlotGoesOn, DeviceLeft, Disables, Places, Stops, Resets, Header, IsHeader, shape_of, Known, on_ring, disabled, in_state, held_at_ceiling, changed_by, changed_by_all, EndpointsKeep}
+use Rattle.safety.proofs.Words.{◌≡◌, ◌≢◌, ◌==◌, ◌&&◌, if◌then◌else◌, ◌∷◌, ◌∙◌, ℕ, Bool, true, false, List, [], Option, None, Some, refl, sym, ap, inl, inr, none-some, Holds, ceiling, Command, EndpointState, Off, Running, Stopped, Change, SlotGoesOn, DeviceLeft, Disables, Places, Stops, Resets, Header, IsHeader, shape_of, Known, on_ring, disabled, in_state, held_at_ceiling, changed_by, changed_by_all, EndpointsKeep}
 use Rattle.safety.proofs.DriverRows.{ring_here, ring_elsewhere}
 use Rattle.safety.proofs.Endpoints.{change_keeps}
 use Rattle.safety.proofs.EndpointPut.{at_pair}

@@ -1,6 +1,5 @@
 -- Declarations, writes of memory and of registers keep what is known of states
-use Rattle.std.proofs.Common.{◌≡◌, ◌≢◌, ◌≤◌, ◌⊎◌, ◌==◌, ◌∙◌, ℕ, false, Bool, List, [], Option, None, Some, option_and_then, slice_get, arith, refl, sym, ap, subst, inl, inr, ne_eqb}
-use Rattle.safety.proofs.Words.{cond-false, or_parts, false≢true, none-some, slice_get_within, Block, Shape, RingView, Declares, Writes, changed, floor_number, ceiling, cases_option, slice_get-append, given_count-writes, ceiling_held, ceiling_open, Command, AddressDevice, StopEndpoint, SlotState, Disabled, Enabled, Configured, command_of, named_slot, is_disabled, Header, Register, Sub, Write, Reg, IsHeader, shape_of, command_id, Known, command_at, next_command, with_device, with_word, written, command_given, taken_device, learned, names_disabled_slot, is_bad_command, lenient, StatesKeep, DriverKeeps}
+use Rattle.safety.proofs.Words.{◌≡◌, ◌≢◌, ◌≤◌, ◌⊎◌, ◌==◌, ◌∙◌, ℕ, false, Bool, List, [], Option, None, Some, option_and_then, slice_get, arith, refl, sym, ap, subst, inl, inr, ne_eqb, rules, cond-false, or_parts, false≢true, none-some, slice_get_within, Block, Shape, RingView, Declares, Writes, changed, floor_number, ceiling, cases_option, slice_get-append, given_count-writes, ceiling_held, ceiling_open, Command, AddressDevice, SlotState, Disabled, Enabled, Configured, command_of, Header, Register, Sub, Write, Reg, IsHeader, shape_of, command_id, Known, command_at, with_device, with_word, written, command_given, taken_device, learned, names_disabled_slot, is_bad_command, lenient, StatesKeep, DriverKeeps}
 use Rattle.safety.proofs.EndpointHistories.{row_keeps}
 use Rattle.safety.proofs.DeclaredMoves.{ceiling_declares}
 use Rattle.safety.proofs.DriverRings.{endpoints_of}
@@ -21,11 +20,7 @@ view_same shape v w same =
     subst (λ u. ViewGoesOn shape v u) (sym same) (record { floor = refl; ceiling = omega arith; queue = λ p d at. at })
 
 view_declares : (h : Header) (shape : Shape) (v : RingView) (blocks : List Block) → ViewGoesOn shape v (changed shape v (Declares blocks))
-view_declares h shape v blocks = record {
-  floor = refl;
-  ceiling = omega (arith, ceiling_declares shape v blocks);
-  queue = λ p d at. slice_get-append v.queue blocks p (slice_get_within v.queue p d at) ∙ at;
-}
+view_declares h shape v blocks = search (rules, ceiling_declares, slice_get-append, slice_get_within)
 
 view_writes : (shape : Shape) (v : RingView) (a w : ℕ) → ViewGoesOn shape v (changed shape v (Writes a w))
 view_writes shape v a w = record {
@@ -50,12 +45,7 @@ module _ (h : Header) where
       ap (λ o. option_and_then command_of o) (goes.queue p found.0 found.1) ∙ found.2
 
   pub stops_on : (k l : Known) → ViewGoesOn (shape_of h (command_id h)) (k.ring (command_id h)) (l.ring (command_id h)) → (s i : ℕ) → StopsNext h k s i → StopsNext h l s i
-  stops_on k l goes s i stops =
-      let next : next_command h l ≡ next_command h k = next_is h l ∙ goes.floor ∙ sym (next_is h k) in
-      record {
-        below = omega (arith, stops.below, goes.ceiling, next);
-        command = ap (λ n. command_at h l n) next ∙ command_stays k l goes (next_command h k) (StopEndpoint s i) stops.command;
-      }
+  stops_on k l goes s i stops = search (rules, next_is, command_stays)
 
   declared_view : (k : Known) (r : ℕ) (blocks : List Block) → ViewGoesOn (shape_of h (command_id h)) (k.ring (command_id h)) ((learned h k (Sub r blocks)).ring (command_id h))
   unfolding learned
@@ -93,11 +83,7 @@ module _ (h : Header) where
   -- a slot whose device context comes under lease isn't Disabled
   enabled : (k : Known) (s n : ℕ) (bsr : Bool) (c : Command) → c ≡ AddressDevice s bsr n → is_bad_command h k c ≡ false → k.slot_state s ≡ Disabled → ⊥
   unfolding is_bad_command names_disabled_slot
-  enabled k s n bsr c is good disabled =
-      let two = (or_parts _ _ good).0 in
-      let one = (or_parts _ _ two).0 in
-      let none : names_disabled_slot k (named_slot c) ≡ false = (or_parts _ _ one).0 in
-      false≢true (sym none ∙ ap (λ e. names_disabled_slot k (named_slot e)) is ∙ ap (λ e. is_disabled e) disabled)
+  enabled k s n bsr c is good disabled = search (rules, or_parts, false≢true)
 
   -- which slots have a device context under lease
   taken_by : (k : Known) (a w : ℕ) (o : Option (ℕ × ℕ)) (s : ℕ) → ((e : ℕ × ℕ) → o ≡ Some e → s ≢ e.0) → (with_device h (with_word h k a w) o).device s ≡ k.device s

@@ -1,13 +1,13 @@
 -- What the success of an unfinished command changes fits the endpoints
-use Rattle.std.proofs.Common.{◌≡◌, ◌≢◌, ◌≤◌, ◌∷◌, ◌∙◌, ℕ, nat_le, Bool, true, false, List, [], map, All, Some, is_some, arith, refl, sym, ap, inl, inr, get_or, leb-true}
-use Rattle.safety.proofs.Words.{list_any, and_parts, or_parts, false≢true, All-head, All-tail, Command, NoOp, EnableSlot, DisableSlot, AddressDevice, ConfigureEndpoint, EvaluateContext, ResetEndpoint, StopEndpoint, SetTrDequeue, ResetDevice, SlotState, Disabled, EndpointState, Running, Halted, Stopped, Error, Change, SlotGoesOn, changes, placed_by_context, named_slot, named_endpoint, is_disabled, slot_success, endpoint_success, slot_meant, endpoint_meant, is_slot_enabled, can_succeed, added_endpoints, context_pointer, Header, IsHeader, is_ring, Known, changed_by, is_among, has_repeats, binding_in, binds, ring_bound, RingsKeep, StillHolds}
+use Rattle.safety.proofs.Words.{◌≡◌, ◌≢◌, ◌≤◌, ◌∷◌, ◌∙◌, ℕ, nat_le, Bool, true, false, List, [], map, All, Some, is_some, arith, refl, sym, ap, get_or, leb-true, rules, list_any, and_parts, or_parts, false≢true, All-head, All-tail, Command, EnableSlot, DisableSlot, AddressDevice, ConfigureEndpoint, ResetEndpoint, StopEndpoint, SetTrDequeue, ResetDevice, SlotState, Disabled, EndpointState, Running, Halted, Stopped, Error, Change, SlotGoesOn, changes, placed_by_context, named_slot, named_endpoint, slot_success, endpoint_success, slot_meant, endpoint_meant, is_slot_enabled, can_succeed, added_endpoints, context_pointer, Header, IsHeader, is_ring, Known, changed_by, is_among, has_repeats, binding_in, binds, ring_bound, RingsKeep, StillHolds}
 use Rattle.ownership_rules.specs.Commands as commands
 use Rattle.safety.proofs.TestsPassed.{each_fails, any_of_map}
 use Rattle.safety.proofs.GivenCommands.{added_above}
 use Rattle.safety.proofs.Placings.{ring_at, ReadyAt, ready_next, map_map, dropped, address_ready, all_ready}
 use Rattle.safety.proofs.StatesParts.{EndpointsStand}
-use Rattle.safety.proofs.StatesPlaced.{MayPlace, off_is}
+use Rattle.safety.proofs.StatesPlaced.{MayPlace}
 use Rattle.safety.proofs.StatesChanges.{RestsThere, FitAll}
+use Rattle.safety.proofs.EndpointsOff.{off_is}
 
 -- a command that can succeed
 pub record Succeeds (slots : ℕ → SlotState) (endpoints : ℕ → ℕ → EndpointState) (config n : ℕ) (c : Command) : Type 0 where
@@ -39,11 +39,7 @@ module _ (h : Header) (is : IsHeader h) where
   -- a command that names a slot names none that is Disabled
   pub slot_there : (k : Known) (c : Command) (s : ℕ) → commands.is_bad_command h k c ≡ false → named_slot c ≡ Some s → k.slot_state s ≢ Disabled
   unfolding commands.is_bad_command commands.names_disabled_slot
-  slot_there k c s good named disabled =
-      let two = (or_parts _ _ good).0 in
-      let one = (or_parts _ _ two).0 in
-      let none : commands.names_disabled_slot k (named_slot c) ≡ false = (or_parts _ _ one).0 in
-      false≢true (sym none ∙ ap (λ o. commands.names_disabled_slot k o) named ∙ ap (λ e. is_disabled e) disabled)
+  slot_there k c s good named disabled = search (rules, or_parts, false≢true)
 
   pub no_slot_zero : (k : Known) (s : ℕ) → k.slot_state 0 ≡ Disabled → k.slot_state s ≢ Disabled → s ≢ 0
   no_slot_zero k s zero there same = there (ap k.slot_state same ∙ zero)
@@ -53,14 +49,7 @@ module _ (h : Header) (is : IsHeader h) where
   address_fits : (k : Known) → RingsKeep h k → (s n : ℕ) (bsr : Bool) → StillHolds h k (AddressDevice s bsr n) → s ≢ 0 →
       MayPlace h (changed_by h (AddressDevice s bsr n) k (SlotGoesOn s)) s 1 (context_pointer h.context_size k.memory n 1) Running
   unfolding changed_by
-  address_fits k rings s n bsr still slot = record {
-    slot = slot;
-    index = λ same. omega arith;
-    on = λ off. cc;
-    binds = λ off. let ready = address_ready h is k rings s n bsr still off in record { ring = ready.ring; named = ready.named; free = ready.free };
-    starts = λ off. refl;
-    runs = λ r at none. refl;
-  }
+  address_fits k rings s n bsr still slot = search (rules, address_ready)
 
   -- ---- Configure Endpoint
 
@@ -94,21 +83,13 @@ module _ (h : Header) (is : IsHeader h) where
   -- ---- Set TR Dequeue
 
   dequeue_fits : (k : Known) (s i p : ℕ) → EndpointsStand k → RestsThere (k.endpoint_state s i) → MayPlace h k s i p Stopped
-  dequeue_fits k s i p e rests = record {
-    slot = λ zero. rests.on (e.off s i (e.no_endpoint s i (inl zero)));
-    index = λ zero. rests.on (e.off s i (e.no_endpoint s i (inr zero)));
-    on = λ off. cc;
-    binds = λ off. absurd (rests.on (off_is (k.endpoint_state s i) off));
-    starts = λ off. absurd (rests.on (off_is (k.endpoint_state s i) off));
-    runs = λ r at none. absurd (rests.rests (e.open_runs s i r at none));
-  }
+  dequeue_fits k s i p e rests = search (rules, off_is)
 
   -- ---- any command
 
   pub success_fits : (k : Known) (config n : ℕ) (c : Command) → k.slot_state 0 ≡ Disabled → RingsKeep h k → EndpointsStand k → commands.is_bad_command h k c ≡ false → StillHolds h k c →
       Succeeds k.slot_state k.endpoint_state config n c → FitAll h c k (changes h.context_size k.memory n c)
   unfolding changes
-  success_fits k config n NoOp zero rings e good still may = tt
   success_fits k config n EnableSlot zero rings e good still may = (tt, tt)
   success_fits k config n (DisableSlot s) zero rings e good still may = (tt, (tt, (tt, tt)))
   success_fits k config n (AddressDevice s bsr a) zero rings e good still may =
@@ -116,9 +97,9 @@ module _ (h : Header) (is : IsHeader h) where
   success_fits k config n (ConfigureEndpoint s false a) zero rings e good still may =
       (tt, (tt, configure_fits k rings s a still (no_slot_zero k s zero (slot_there k (ConfigureEndpoint s false a) s good refl))))
   success_fits k config n (ConfigureEndpoint s true a) zero rings e good still may = (tt, (tt, tt))
-  success_fits k config n (EvaluateContext s a) zero rings e good still may = tt
   success_fits k config n (ResetEndpoint s i) zero rings e good still may =
       let halted = resetting_halted s i (k.endpoint_state s i) may.endpoint in (record { on = λ off. cc; rests = λ runs. cc }, tt)
   success_fits k config n (StopEndpoint s i) zero rings e good still may = let runs = stopping_runs s i (k.endpoint_state s i) may.endpoint in (λ off. cc, tt)
   success_fits k config n (SetTrDequeue s i p cycle) zero rings e good still may = (dequeue_fits k s i p e (moving_rests s i p cycle (k.endpoint_state s i) may.endpoint), tt)
   success_fits k config n (ResetDevice s) zero rings e good still may = (tt, (tt, tt))
+  success_fits k config n _ zero rings e good still may = tt

@@ -1,6 +1,5 @@
 -- Only one endpoint and its ring change: what is kept of states is kept
-use Rattle.std.proofs.Common.{◌≡◌, ◌≢◌, ◌⊎◌, ◌∙◌, ℕ, true, None, Some, sym, ap, subst, inl, inr}
-use Rattle.safety.proofs.Words.{cases_eq, same_Some, none-some, Off, Running, Header, Known}
+use Rattle.safety.proofs.Words.{◌≡◌, ◌≢◌, ◌⊎◌, ◌∙◌, ℕ, true, None, Some, sym, ap, subst, inl, inr, rules, same_Some, none-some, Off, Running, Header, Known}
 use Rattle.safety.proofs.StatesParts.{EndpointsStand, StopsNext, SeenStand}
 
 -- that of slot s with index i, which has ring r
@@ -18,11 +17,7 @@ pub record OneSeen (h : Header) (k l : Known) (s i r : ℕ) : Type 0 where
   pub here : l.stop_seen s i ≡ true → StopsNext h k s i × (l.endpoint_state s i ≡ Running) × ((l.ring r).held ≢ None)
 
 pub same_pair : (t j s i : ℕ) → ((t ≡ s) × (j ≡ i)) ⊎ (t ≡ s → j ≡ i → ⊥)
-same_pair t j s i =
-    elim (cases_eq t s) [
-      | inl a ↦ elim (cases_eq j i) [ inl b ↦ inl (a, b) | inr b ↦ inr (λ x y. b y) ]
-      | inr a ↦ inr (λ x y. a x)
-    ]
+same_pair t j s i = search rules
 
 module _ (k l : Known) (s i r : ℕ) (e : EndpointsStand k) (one : OneEndpoint k l s i r) where
   was : (t j q : ℕ) → l.ring_of t j ≡ Some q → k.ring_of t j ≡ Some q
@@ -34,29 +29,7 @@ module _ (k l : Known) (s i r : ℕ) (e : EndpointsStand k) (one : OneEndpoint k
       let pair = e.one_endpoint t j s i q (was t j q at) (one.bound ∙ ap (λ n. Some n) (sym same)) in other pair.0 pair.1
 
   pub one_stands : EndpointsStand l
-  one_stands = record {
-    no_endpoint = λ t j zero. ap (λ f. f t j) one.ring_of ∙ e.no_endpoint t j zero;
-    off = λ t j none.
-        elim (same_pair t j s i) [
-          | inl here ↦
-              absurd (none-some r (sym none ∙ ap (λ f. f t j) one.ring_of ∙ ap (λ n. k.ring_of n j) here.0 ∙ ap (λ n. k.ring_of s n) here.1 ∙ one.bound))
-          | inr other ↦ one.others t j other ∙ e.off t j (ap (λ f. f t j) (sym one.ring_of) ∙ none)
-        ];
-    on = λ t j q at off.
-        elim (same_pair t j s i) [
-          | inl here ↦ one.on (sym (ap (λ n. l.endpoint_state n j) here.0 ∙ ap (λ n. l.endpoint_state s n) here.1) ∙ off)
-          | inr other ↦ e.on t j q (was t j q at) (sym (one.others t j other) ∙ off)
-        ];
-    one_endpoint = λ t j u m q a b. e.one_endpoint t j u m q (was t j q a) (was u m q b);
-    open_runs = λ t j q at none.
-        elim (same_pair t j s i) [
-          | inl here ↦
-              let named : k.ring_of s i ≡ Some q = ap (λ n. k.ring_of s n) (sym here.1) ∙ ap (λ n. k.ring_of n j) (sym here.0) ∙ was t j q at in
-              let ring : r ≡ q = same_Some r q (sym one.bound ∙ named) in
-              ap (λ n. l.endpoint_state n j) here.0 ∙ ap (λ n. l.endpoint_state s n) here.1 ∙ one.runs (ap (λ n. (l.ring n).held) ring ∙ none)
-          | inr other ↦ one.others t j other ∙ e.open_runs t j q (was t j q at) (sym (one.held q (other_ring t j q other at)) ∙ none)
-        ];
-  }
+  one_stands = search (rules, same_pair, none-some, was, same_Some, other_ring)
 
   pub one_seen : (h : Header) → SeenStand h k → OneSeen h k l s i r → ((t j : ℕ) → StopsNext h k t j → StopsNext h l t j) → SeenStand h l
   one_seen h seen own stops = record {

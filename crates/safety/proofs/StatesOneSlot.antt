@@ -1,6 +1,5 @@
 -- One slot behind the success of a command that concerns it
-use Rattle.std.proofs.Common.{◌≡◌, ◌≢◌, ◌⊎◌, ◌∙◌, ℕ, Bool, true, false, Option, None, Some, is_some, unwrap_or, refl, sym, inl, inr}
-use Rattle.safety.proofs.Words.{false≢true, none-some, Command, EnableSlot, DisableSlot, AddressDevice, ConfigureEndpoint, ResetDevice, SlotState, Disabled, Enabled, Default, Addressed, Configured, slot_success}
+use Rattle.safety.proofs.Words.{◌≡◌, ◌≢◌, ◌⊎◌, ◌∙◌, ℕ, Bool, true, false, Option, None, Some, is_some, unwrap_or, refl, sym, inl, inr, false≢true, none-some, Command, EnableSlot, DisableSlot, AddressDevice, ConfigureEndpoint, ResetDevice, SlotState, Disabled, Enabled, Default, Addressed, Configured, slot_success}
 use Rattle.safety.proofs.StatesParts.{SlotStands}
 
 -- the state behind it
@@ -64,22 +63,17 @@ module _ (rings after : ℕ → Option ℕ) (device left : Option ℕ) where
       SlotStands (state_after (ConfigureEndpoint s false n) state) after left
   slot_configured s n Addressed may was first = all_there (first (first_there Addressed (λ is. cc) (λ is. cc) was))
   slot_configured s n Configured may was first = all_there (first (first_there Configured (λ is. cc) (λ is. cc) was))
-  slot_configured s n Disabled may was first = absurd (false≢true may)
-  slot_configured s n Enabled may was first = absurd (false≢true may)
-  slot_configured s n Default may was first = absurd (false≢true may)
+  slot_configured s n _ may was first = absurd (false≢true may)
 
   pub slot_deconfigured : (s n : ℕ) (state : SlotState) → is_some (slot_success (ConfigureEndpoint s true n) state) ≡ true → SlotStands state rings device →
       ((i r : ℕ) → after i ≡ Some r → i ≡ 1) → (rings 1 ≢ None → after 1 ≢ None) → SlotStands (state_after (ConfigureEndpoint s true n) state) after left
   slot_deconfigured s n Configured may was one first = one_there Addressed (λ is. cc) (λ is. cc) one (first (first_there Configured (λ is. cc) (λ is. cc) was))
   slot_deconfigured s n Addressed may was one first = one_there Addressed (λ is. cc) (λ is. cc) one (first (first_there Addressed (λ is. cc) (λ is. cc) was))
-  slot_deconfigured s n Disabled may was one first = absurd (false≢true may)
-  slot_deconfigured s n Enabled may was one first = absurd (false≢true may)
-  slot_deconfigured s n Default may was one first = absurd (false≢true may)
+  slot_deconfigured s n _ may was one first = absurd (false≢true may)
 
   pub slot_reset : (s : ℕ) (state : SlotState) → is_some (slot_success (ResetDevice s) state) ≡ true → SlotStands state rings device → ((i r : ℕ) → after i ≡ Some r → i ≡ 1) →
       (rings 1 ≢ None → after 1 ≢ None) → SlotStands (state_after (ResetDevice s) state) after left
   slot_reset s Addressed may was one first = one_there Default (λ is. cc) (λ is. cc) one (first (first_there Addressed (λ is. cc) (λ is. cc) was))
   slot_reset s Configured may was one first = one_there Default (λ is. cc) (λ is. cc) one (first (first_there Configured (λ is. cc) (λ is. cc) was))
   slot_reset s Default may was one first = one_there Default (λ is. cc) (λ is. cc) one (first (first_there Default (λ is. cc) (λ is. cc) was))
-  slot_reset s Disabled may was one first = absurd (false≢true may)
-  slot_reset s Enabled may was one first = absurd (false≢true may)
+  slot_reset s _ may was one first = absurd (false≢true may)

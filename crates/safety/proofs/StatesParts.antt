@@ -1,6 +1,5 @@
 -- What is kept of states, in three parts: endpoints and their rings, slots, and Stopped events that were read
-use Rattle.std.proofs.Common.{◌≡◌, ◌≢◌, ◌<◌, ◌⊎◌, ◌∙◌, ℕ, nat_lt, true, Option, None, Some, refl, sym, ap, subst, ltb-true, lt-ltb, eqb-true, eq-eqb}
-use Rattle.safety.proofs.Words.{and_parts, and_from, false≢true, ceiling, Command, StopEndpoint, SlotState, Disabled, Enabled, Configured, Off, Running, is_stop_of, Header, shape_of, command_id, Known, command_at, next_command, may_be_taken, is_stopping_now, StatesKeep, EndpointsKeep}
+use Rattle.safety.proofs.Words.{◌≡◌, ◌≢◌, ◌<◌, ◌⊎◌, ◌∙◌, ℕ, nat_lt, true, Option, None, Some, refl, sym, ap, subst, ltb-true, lt-ltb, eqb-true, eq-eqb, and_parts, and_from, false≢true, ceiling, Command, StopEndpoint, SlotState, Disabled, Enabled, Configured, Off, Running, is_stop_of, Header, shape_of, command_id, Known, command_at, next_command, may_be_taken, is_stopping_now, StatesKeep, EndpointsKeep}
 use Rattle.safety.proofs.DriverRings.{transfer_ring}
 
 pub record EndpointsStand (k : Known) : Type 0 where
@@ -30,7 +29,7 @@ pub record SeenStand (h : Header) (k : Known) : Type 0 where
   pub runs : (s i : ℕ) → k.stop_seen s i ≡ true → k.endpoint_state s i ≡ Running
   pub held : (s i r : ℕ) → k.stop_seen s i ≡ true → k.ring_of s i ≡ Some r → (k.ring r).held ≢ None
 
-stop_is : (s i : ℕ) (o : Option Command) → is_stop_of s i o ≡ true → o ≡ Some (StopEndpoint s i)
+pub stop_is : (s i : ℕ) (o : Option Command) → is_stop_of s i o ≡ true → o ≡ Some (StopEndpoint s i)
 stop_is s i (Some (StopEndpoint t j)) is =
     let parts = and_parts _ _ is in
     ap (λ n. Some (StopEndpoint n j)) (sym (eqb-true s t parts.0)) ∙ ap (λ n. Some (StopEndpoint s n)) (sym (eqb-true i j parts.1))

@@ -1,6 +1,5 @@
 -- An endpoint that is placed on a ring: what is kept of endpoints is kept
-use Rattle.std.proofs.Common.{◌≡◌, ◌≢◌, ◌⊎◌, ◌∙◌, ℕ, Bool, true, false, Option, None, Some, refl, sym, ap, subst, inl, inr}
-use Rattle.safety.proofs.Words.{cond-true, cond-false, false≢true, none-some, same_Some, put_pair, Spot, number, Reaches, Holds, target, Command, EndpointState, Off, Running, is_off, Places, Header, shape_of, ring_having, Known, on_ring, set_to, bound_to, moved_to, moved, pointed, in_state, changed_by, EndpointsKeep}
+use Rattle.safety.proofs.Words.{◌≡◌, ◌≢◌, ◌⊎◌, ◌∙◌, ℕ, Bool, true, false, Option, None, Some, refl, sym, ap, subst, inl, inr, rules, cond-true, cond-false, none-some, same_Some, put_pair, Spot, number, Reaches, Holds, target, Command, EndpointState, Off, Running, is_off, Places, Header, shape_of, ring_having, Known, on_ring, set_to, bound_to, moved_to, moved, pointed, in_state, changed_by, EndpointsKeep}
 use Rattle.safety.proofs.DriverRows.{ring_here, ring_elsewhere}
 use Rattle.safety.proofs.EndpointPut.{at_pair}
 use Rattle.safety.proofs.StatesParts.{EndpointsStand}
@@ -34,10 +33,6 @@ pub record IsMoved (k m : Known) (r : ℕ) : Type 0 where
   pub held : (m.ring r).held ≡ None → (k.ring r).held ≡ None
   pub others : (q : ℕ) → q ≢ r → (m.ring q).held ≡ (k.ring q).held
 
-pub off_is : (e : EndpointState) → is_off e ≡ true → e ≡ Off
-off_is Off is = refl
-off_is _ is = absurd (false≢true is)
-
 pub is_off_of : (e : EndpointState) → e ≡ Off → is_off e ≡ true
 is_off_of e off = ap is_off off
 
@@ -61,13 +56,8 @@ module _ (h : Header) where
 
   target_is : (k : Known) (r : ℕ) (o : Option Spot) → IsMoved k (moved_to h k r o) r
   unfolding moved_to
-  target_is k r None = record { states = refl; ring_of = refl; held = λ none. none; others = λ q other. refl }
-  target_is k r (Some t) = record {
-    states = (set_rest k r t).0;
-    ring_of = (set_rest k r t).1;
-    held = λ none. absurd (none-some (number t) (sym none ∙ set_here k r t));
-    others = set_other k r t;
-  }
+  target_is k r None = search (rules, set_rest, none-some, set_here, set_other)
+  target_is k r (Some t) = search (rules, set_rest, none-some, set_here, set_other)
 
   moved_is : (k : Known) (r p : ℕ) (cycle : Bool) → IsMoved k (moved h k (Some r) p cycle) r
   unfolding moved
@@ -115,16 +105,7 @@ module _ (k m l : Known) (s i r : ℕ) (state : EndpointState) (e : EndpointsSta
   -- ---- on the ring that it had
 
   pub moved_stands : IsMoved k m r → k.ring_of s i ≡ Some r → state ≢ Off → ((k.ring r).held ≡ None → state ≡ Running) → EndpointsStand l
-  moved_stands moved at on runs =
-      one_stands k l s i r e
-      (record {
-        ring_of = placed.ring_of ∙ moved.ring_of;
-        bound = at;
-        on = λ off. on (sym (state_here s i refl refl) ∙ off);
-        others = λ t j other. state_at t j moved.states other;
-        held = λ q other. held_at q ∙ moved.others q other;
-        runs = λ none. state_here s i refl refl ∙ runs (moved.held (sym (held_at r) ∙ none));
-      })
+  moved_stands moved at on runs = search (rules, one_stands, state_here, state_at, held_at)
 
   -- ---- on a free ring
 

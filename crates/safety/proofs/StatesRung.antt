@@ -1,6 +1,5 @@
 -- A doorbell keeps what is known of states
-use Rattle.std.proofs.Common.{◌≡◌, ◌≢◌, ◌==◌, ◌&&◌, ◌||◌, ◌∙◌, ℕ, not, nat_lt, true, false, [], Option, None, Some, arith, refl, sym, ap, subst, inl, inr, eq-eqb}
-use Rattle.safety.proofs.Words.{cond_both, cond-false, or_parts, or_cases, or_left, and_from, not-false, false≢true, put_pair, Shape, RingView, Opens, changed, is_step_given, is_way_given, given_count_same, ceiling_open, StopEndpoint, EndpointState, Off, Running, changes, is_running, is_stopped, Header, Bell, IsHeader, shape_of, command_id, Known, on_ring, next_command, endpoint_rung, rung, learned, touches_endpoint, is_touched, is_bad_bell, lenient, StatesKeep, DriverKeeps}
+use Rattle.safety.proofs.Words.{◌≡◌, ◌≢◌, ◌==◌, ◌&&◌, ◌||◌, ◌∙◌, ℕ, not, nat_lt, true, false, [], Option, None, Some, refl, sym, ap, subst, eq-eqb, rules, cond_both, cond-false, or_parts, or_cases, or_left, and_from, not-false, false≢true, put_pair, Shape, RingView, Opens, changed, is_step_given, is_way_given, given_count_same, ceiling_open, StopEndpoint, EndpointState, Off, Running, changes, is_running, is_stopped, Header, Bell, IsHeader, shape_of, command_id, Known, on_ring, next_command, endpoint_rung, rung, learned, touches_endpoint, is_touched, is_bad_bell, lenient, StatesKeep, DriverKeeps}
 use Rattle.safety.proofs.RingIds.{command_not_transfer}
 use Rattle.safety.proofs.DriverRows.{ring_here, ring_elsewhere}
 use Rattle.safety.proofs.EndpointHistories.{row_keeps}
@@ -25,11 +24,7 @@ running_not_off e runs off = cc
 -- an open ring that is opened
 opens_open : (shape : Shape) (v : RingView) → v.held ≡ None → ViewGoesOn shape v (changed shape v Opens)
 unfolding is_step_given is_way_given
-opens_open shape v none = record {
-  floor = refl;
-  ceiling = omega (arith, ceiling_open shape v none, ceiling_open shape (changed shape v Opens) refl, given_count_same shape v (changed shape v Opens) refl (λ p. refl));
-  queue = λ p d at. at;
-}
+opens_open shape v none = search (rules, ceiling_open, given_count_same)
 
 module _ (h : Header) where
   -- ---- the command ring's doorbell
@@ -91,14 +86,7 @@ module _ (h : Header) where
 
     rung_state : (s t r : ℕ) → (is_running (k.endpoint_state s t) || is_stopped (k.endpoint_state s t)) ≡ true → (endpoint_rung h k s t (Some r)).endpoint_state s t ≡ Running
     unfolding endpoint_rung
-    rung_state s t r may =
-        cond_both (is_stopped (k.endpoint_state s t)) (put_pair k.endpoint_state s t Running) k.endpoint_state (λ f. f s t ≡ Running)
-        (λ stopped. at_pair (λ e. e ≡ Running) k.endpoint_state s t Running s t (λ a b. refl) (λ other. absurd (other refl refl)))
-        (λ on.
-        elim (or_cases (is_running (k.endpoint_state s t)) (is_stopped (k.endpoint_state s t)) may) [
-          | inl runs ↦ running_is (k.endpoint_state s t) runs
-          | inr stopped ↦ absurd (false≢true (sym on ∙ stopped))
-        ])
+    rung_state s t r may = search (rules, at_pair, or_cases, running_is, false≢true)
 
     rung_others : (s t r q j : ℕ) → (q ≡ s → j ≡ t → ⊥) → (endpoint_rung h k s t (Some r)).endpoint_state q j ≡ k.endpoint_state q j
     unfolding endpoint_rung
@@ -116,17 +104,7 @@ module _ (h : Header) where
       pub untouched : is_touched h k s t ≡ false
 
     rung_one : (s t r : ℕ) → k.ring_of s t ≡ Some r → MayRing s t → OneEndpoint k (endpoint_rung h k s t (Some r)) s t r
-    rung_one s t r at may =
-        let l : Known = endpoint_rung h k s t (Some r) in
-        let rest = rung_rest s t r in
-        record {
-          ring_of = rest.0;
-          bound = at;
-          on = running_not_off (l.endpoint_state s t) (rung_state s t r may.state);
-          others = λ q j other. rung_others s t r q j other;
-          held = λ q other. ap (λ f. (f q).held) rest.2 ∙ ap (λ v. v.held) (ring_elsewhere h k r q Opens other);
-          runs = λ none. rung_state s t r may.state;
-        }
+    rung_one s t r at may = search (rules, rung_rest, running_not_off, rung_state, rung_others, ring_elsewhere)
 
     endpoint_stands : (s t : ℕ) (o : Option ℕ) → k.started ≡ true → k.ring_of s t ≡ o → MayRing s t → EndpointsStand (endpoint_rung h k s t o) × SeenStand h (endpoint_rung h k s t o)
     unfolding endpoint_rung
@@ -146,11 +124,7 @@ module _ (h : Header) where
 
     may_ring : (s t : ℕ) → is_bad_bell h k s t ≡ false → MayRing s t
     unfolding is_bad_bell
-    may_ring s t good =
-        let four = or_parts _ (is_touched h k s t) good in
-        let three = or_parts _ (k.must_move s t) four.0 in
-        let two = or_parts (t == 0 || nat_lt 31 t) (not (is_running (k.endpoint_state s t) || is_stopped (k.endpoint_state s t))) three.0 in
-        record { state = not-false _ two.1; untouched = four.1 }
+    may_ring s t good = search (rules, or_parts, nat_lt, not-false)
 
     both_stand : (s t : ℕ) → lenient h k (Bell s t) ≡ [] → EndpointsStand (learned h k (Bell s t)) × SeenStand h (learned h k (Bell s t))
     unfolding learned rung

@@ -1,6 +1,5 @@
 -- The success of a command keeps what is kept of slots
-use Rattle.std.proofs.Common.{◌≡◌, ◌≢◌, ◌<◌, ◌==◌, ◌&&◌, if◌then◌else◌, ◌∷◌, ◌∙◌, ℕ, nat_le, nat_lt, Bool, true, false, List, [], map, Option, None, Some, arith, refl, sym, ap, subst, inl, inr, eq-eqb, leb-false, ltb-true}
-use Rattle.safety.proofs.Words.{cases_Bool, cases_eq, cond-true, cond-false, and_parts, and_from, and_right, none-some, Command, EnableSlot, DisableSlot, AddressDevice, ConfigureEndpoint, SlotState, EndpointState, Off, Running, Change, SlotGoesOn, DeviceLeft, Disables, Places, placed_by_context, is_above_control, added_endpoints, is_dropped, context_pointer, context_cycle, Header, Known, disabled, pointed, changed_by, changed_by_all}
+use Rattle.safety.proofs.Words.{◌≡◌, ◌≢◌, ◌==◌, ◌&&◌, if◌then◌else◌, ◌∷◌, ◌∙◌, ℕ, nat_le, nat_lt, Bool, true, false, List, [], map, Option, None, Some, refl, sym, ap, subst, inl, inr, eq-eqb, leb-false, ltb-true, rules, cond-true, cond-false, and_parts, and_from, and_right, none-some, Command, EnableSlot, DisableSlot, AddressDevice, ConfigureEndpoint, SlotState, EndpointState, Off, Running, Change, SlotGoesOn, DeviceLeft, Disables, Places, placed_by_context, is_above_control, added_endpoints, is_dropped, context_pointer, context_cycle, Header, Known, disabled, pointed, changed_by, changed_by_all}
 use Rattle.safety.proofs.EndpointPut.{at_pair}
 use Rattle.safety.proofs.StatesParts.{EndpointsStand, SlotStands, SlotsStand}
 use Rattle.safety.proofs.StatesPlaced.{IsPlaced, placed_is}
@@ -10,17 +9,7 @@ use Rattle.safety.proofs.SlotFrames.{GetsRing, SameSlot, KeepsRings, changes_els
 
 stands_as : (state after : SlotState) (rings fewer : ℕ → Option ℕ) (device left : Option ℕ) → after ≡ state → ((i : ℕ) → fewer i ≡ rings i) → left ≡ device → SlotStands state rings device →
     SlotStands after fewer left
-stands_as state after rings fewer device left one same gone was =
-    subst (λ x. SlotStands x fewer left) (sym one)
-    (record {
-      slots = λ i r at. was.slots i r (sym (same i) ∙ at);
-      first =
-          elim was.first [
-            | inl disabled ↦ inl disabled
-            | inr rest ↦ elim rest [ inl enabled ↦ inr (inl enabled) | inr first ↦ inr (inr (λ none. first (sym (same 1) ∙ none))) ]
-          ];
-      no_device = λ disabled. gone ∙ was.no_device disabled;
-    })
+stands_as state after rings fewer device left one same gone was = search rules
 
 pub slots_as : (k l : Known) → SlotsStand k → ((t : ℕ) → SameSlot k l t) → SlotsStand l
 slots_as k l was same = record {
@@ -30,15 +19,7 @@ slots_as k l was same = record {
 
 -- all slots but one are as they were
 but_one : (k l : Known) (s : ℕ) → s ≢ 0 → SlotsStand k → ((t : ℕ) → t ≢ s → SameSlot k l t) → SlotStands (l.slot_state s) (l.ring_of s) (l.device s) → SlotsStand l
-but_one k l s slot was others here = record {
-  no_slot = (others 0 (λ same. slot (sym same))).state ∙ was.no_slot;
-  each = λ t.
-      elim (cases_eq t s) [
-        | inl same ↦ subst (λ n. SlotStands (l.slot_state n) (l.ring_of n) (l.device n)) (sym same) here
-        | inr other ↦
-            stands_as (k.slot_state t) (l.slot_state t) (k.ring_of t) (l.ring_of t) (k.device t) (l.device t) (others t other).state (others t other).rings (others t other).device (was.each t)
-      ];
-}
+but_one k l s slot was others here = search (rules, stands_as)
 
 off_runs : {x : EndpointState} → x ≡ Off → x ≡ Running → ⊥
 off_runs a b = cc
@@ -48,14 +29,7 @@ first_stays : (s : ℕ) (drops : Bool) (o : Option ℕ) → drops ≡ false → 
 first_stays s drops o not has none = has (sym (cond-false (s == s && drops) None o (and_right (s == s) drops not)) ∙ none)
 
 only_first : (s i r : ℕ) (o : Option ℕ) → (i ≡ 0 → o ≡ None) → (if s == s && nat_le 2 i then None else o) ≡ Some r → i ≡ 1
-only_first s i r o zero at =
-    elim (cases_Bool (nat_le 2 i)) [
-      | inl high ↦ absurd (none-some r (sym (cond-true (s == s && nat_le 2 i) None o (and_from (s == s) (nat_le 2 i) (eq-eqb s s refl) high)) ∙ at))
-      | inr low ↦
-          let there : o ≡ Some r = sym (cond-false (s == s && nat_le 2 i) None o (and_right (s == s) (nat_le 2 i) low)) ∙ at in
-          let below : i < 2 = leb-false 2 i low in
-          elim (cases_eq i 0) [ inl first ↦ absurd (none-some r (sym (zero first) ∙ there)) | inr other ↦ omega arith ]
-    ]
+only_first s i r o zero at = search (rules, nat_le, none-some, cond-true, and_from, eq-eqb, cond-false, and_right, leb-false)
 
 module _ (h : Header) (k : Known) (was : SlotsStand k) (e : EndpointsStand k) where
   slot_goes : (c : Command) (s : ℕ) → (changed_by h c k (SlotGoesOn s)).slot_state s ≡ state_after c (k.slot_state s)
@@ -76,12 +50,7 @@ module _ (h : Header) (k : Known) (was : SlotsStand k) (e : EndpointsStand k) wh
 
   pub enabled_slots : (config n : ℕ) → Succeeds k.slot_state k.endpoint_state config n EnableSlot → SlotsStand (changed_by_all h EnableSlot k (SlotGoesOn n ∷ []))
   unfolding changed_by_all changed_by
-  enabled_slots config n may =
-      let l : Known = changed_by h EnableSlot k (SlotGoesOn n) in
-      let low : 0 < n = ltb-true 0 n (and_parts (nat_lt 0 n) _ may.enabled).0 in
-      but_one k l n (λ same. omega arith) was (λ t other. changes_elsewhere h EnableSlot k n (SlotGoesOn n ∷ []) t (refl, tt) other)
-      (subst (λ x. SlotStands x (k.ring_of n) (k.device n)) (sym (slot_goes EnableSlot n))
-      (slot_enabled (k.ring_of n) (k.ring_of n) (k.device n) (k.device n) (k.slot_state n) may.slot (was.each n)))
+  enabled_slots config n may = search (rules, ltb-true, and_parts, nat_lt, but_one, changes_elsewhere, slot_goes, slot_enabled)
 
   pub disabled_slots : (config n s : ℕ) → s ≢ 0 → Succeeds k.slot_state k.endpoint_state config n (DisableSlot s) →
       SlotsStand (changed_by_all h (DisableSlot s) k (SlotGoesOn s ∷ DeviceLeft s ∷ Disables s (λ i. true) ∷ []))

@@ -1,10 +1,9 @@
 -- The success of an unfinished command keeps what is kept of endpoints and slots
-use Rattle.std.proofs.Common.{◌≡◌, ◌≢◌, ◌∷◌, ◌∙◌, ℕ, Bool, true, false, List, [], Some, refl, inl, inr}
-use Rattle.safety.proofs.Words.{Command, NoOp, EnableSlot, DisableSlot, AddressDevice, ConfigureEndpoint, EvaluateContext, ResetEndpoint, StopEndpoint, SetTrDequeue, ResetDevice, Stopped, named_slot, Change, Places, Stops, Resets, changes, Header, IsHeader, Known, pointed, changed_by, changed_by_all, succeeded, RingsKeep, StillHolds, EndpointsKeep}
+use Rattle.safety.proofs.Words.{◌≡◌, ◌≢◌, ◌∷◌, ◌∙◌, ℕ, Bool, true, false, [], Some, refl, inl, inr, rules, Command, NoOp, EnableSlot, DisableSlot, AddressDevice, ConfigureEndpoint, EvaluateContext, ResetEndpoint, StopEndpoint, SetTrDequeue, ResetDevice, Stopped, named_slot, Places, Stops, Resets, changes, Header, IsHeader, Known, pointed, changed_by, changed_by_all, succeeded, RingsKeep, StillHolds, EndpointsKeep}
 use Rattle.ownership_rules.specs.Commands as commands
 use Rattle.safety.proofs.StatesParts.{EndpointsStand, SlotsStand, slots_same}
 use Rattle.safety.proofs.StatesPlaced.{IsPlaced, placed_is, IsMoved, pointed_on, on_is, some_ring}
-use Rattle.safety.proofs.StatesChanges.{RestsThere, FitAll, changes_stand}
+use Rattle.safety.proofs.StatesChanges.{RestsThere, changes_stand}
 use Rattle.safety.proofs.StatesFit.{Succeeds, moving_rests, slot_there, no_slot_zero, success_fits}
 use Rattle.safety.proofs.StatesOneSlot.{slot_deconfigured, slot_reset}
 use Rattle.safety.proofs.SlotFrames.{GetsRing, stops_slot, resets_slot, placed_leaves}
@@ -65,11 +64,4 @@ module _ (h : Header) (is : IsHeader h) where
   pub success_stands : (k : Known) (config n : ℕ) (c : Command) → EndpointsKeep h k → RingsKeep h k → EndpointsStand k → SlotsStand k → commands.is_bad_command h k c ≡ false → StillHolds h k c →
       Succeeds k.slot_state k.endpoint_state config n c → Stand (succeeded h k n c)
   unfolding succeeded
-  success_stands k config n c bound rings e was good still may =
-      let all : List Change = changes h.context_size k.memory n c in
-      let fits : FitAll h c k all = success_fits h is k config n c was.no_slot rings e good still may in
-      let after : EndpointsStand (changed_by_all h c k all) = changes_stand h is c k all bound e fits in
-      record {
-        endpoints = after;
-        slots = success_slots h k was e config n c (λ s named. no_slot_zero h is k s was.no_slot (slot_there h is k c s good named)) may after;
-      }
+  success_stands k config n c bound rings e was good still may = search (rules, success_fits, changes_stand, success_slots, no_slot_zero, slot_there)

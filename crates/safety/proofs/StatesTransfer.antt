@@ -1,6 +1,5 @@
 -- A Transfer Event keeps what is known of states
-use Rattle.std.proofs.Common.{◌≡◌, ◌≢◌, ◌+◌, ◌&&◌, ◌||◌, if◌then◌else◌, ◌∙◌, ℕ, not, Bool, true, false, Option, None, Some, is_none, refl, sym, ap, inl, inr}
-use Rattle.safety.proofs.Words.{cond_both, and_parts, and_cases, or_parts, or_left, or_right, or_from, not-false, false≢true, none-some, put_pair, Block, code, slot, endpoint, is_success, is_halting, is_trb_error, is_stopping, Spot, number, after, Reaches, Holds, ceiling, is_open, is_data_below, is_stop_spot, stopped_number, EndpointState, Off, Running, Halted, Error, is_off, is_running, Header, IsHeader, shape_of, command_id, Known, RingSpot, on_ring, event_at, passed, broken_off, stopped_at, transferred, transferred_at, transfer_read, is_in_profile, is_working, is_stopping_now, can_report, can_report_at, is_impossible_transfer, DriverKeeps}
+use Rattle.safety.proofs.Words.{◌≡◌, ◌≢◌, ◌+◌, ◌&&◌, ◌||◌, if◌then◌else◌, ◌∙◌, ℕ, Bool, true, false, Option, None, Some, is_none, refl, ap, rules, cond_both, and_parts, and_cases, or_parts, or_left, or_right, or_from, not-false, false≢true, none-some, put_pair, Block, code, slot, endpoint, is_success, is_halting, is_trb_error, is_stopping, Spot, number, after, Reaches, Holds, ceiling, is_open, is_data_below, is_stop_spot, stopped_number, EndpointState, Off, Running, Halted, Error, is_running, Header, IsHeader, shape_of, command_id, Known, RingSpot, on_ring, event_at, passed, broken_off, stopped_at, transferred, transferred_at, transfer_read, is_in_profile, is_working, is_stopping_now, can_report, can_report_at, is_impossible_transfer, DriverKeeps}
 use Rattle.safety.proofs.Transfers.{chain}
 use Rattle.safety.proofs.DriverRows.{ring_here, ring_elsewhere}
 use Rattle.safety.proofs.EndpointPut.{at_pair}
@@ -10,6 +9,7 @@ use Rattle.safety.proofs.StatesParts.{EndpointsStand, SlotsStand, StopsNext, See
 use Rattle.safety.proofs.StatesDriver.{view_same, stops_on}
 use Rattle.safety.proofs.StatesOneEndpoint.{OneEndpoint, OneSeen, one_stands, one_seen}
 use Rattle.safety.proofs.StatesRung.{running_is}
+use Rattle.safety.proofs.OpenRings.{none_is}
 
 pub record PartsStand (h : Header) (k : Known) : Type 0 where
   pub endpoints : EndpointsStand k
@@ -20,10 +20,6 @@ pub record PartsStand (h : Header) (k : Known) : Type 0 where
 record Works (k : Known) (s i r : ℕ) : Type 0 where
   pub runs : k.endpoint_state s i ≡ Running
   pub opened : (k.ring r).held ≡ None
-
-none_is : (o : Option ℕ) → is_none o ≡ true → o ≡ None
-none_is None is = refl
-none_is (Some n) is = absurd (false≢true is)
 
 works_is : (k : Known) (s i r : ℕ) → is_working k s i r ≡ true → Works k s i r
 unfolding is_working is_open
@@ -53,20 +49,7 @@ module _ (h : Header) (k : Known) (e : EndpointsStand k) (seen : SeenStand h k) 
 
   passed_only : (t : Spot) → OnlyThis (passed h k r t)
   unfolding passed on_ring
-  passed_only t = record {
-    one = record {
-      ring_of = refl;
-      bound = bound;
-      on = e.on s i r bound;
-      others = λ q j other. refl;
-      held = passed_other t;
-      runs = λ none. e.open_runs s i r bound (sym (passed_held t) ∙ none);
-    };
-    own = record {
-      others = λ q j other. refl;
-      here = λ is. (seen.command s i is, seen.runs s i is, λ none. seen.held s i r is bound (sym (passed_held t) ∙ none));
-    };
-  }
+  passed_only t = search (rules, passed_other, passed_held)
 
   broken_held : (t : Spot) (state : EndpointState) → ((broken_off h k s i r t state).ring r).held ≡ Some (number t + 1)
   unfolding broken_off
@@ -78,17 +61,7 @@ module _ (h : Header) (k : Known) (e : EndpointsStand k) (seen : SeenStand h k) 
 
   broken_only : (t : Spot) (state : EndpointState) → state ≢ Off → Works k s i r → OnlyThis (broken_off h k s i r t state)
   unfolding broken_off passed on_ring
-  broken_only t state on works = record {
-    one = record {
-      ring_of = refl;
-      bound = bound;
-      on = at_pair (λ x. x ≢ Off) k.endpoint_state s i state s i (λ a b. on) (λ other. absurd (other refl refl));
-      others = λ q j other. at_pair (λ x. x ≡ k.endpoint_state q j) k.endpoint_state s i state q j (λ a b. absurd (other a b)) (λ apart. refl);
-      held = broken_other t state;
-      runs = λ none. absurd (none-some (number t + 1) (sym none ∙ broken_held t state));
-    };
-    own = record { others = λ q j other. refl; here = λ is. absurd (seen.held s i r is bound works.opened) };
-  }
+  broken_only t state on works = search (rules, at_pair, broken_other, none-some, broken_held)
 
   stopped_held : (t : Spot) → ((stopped_at h k s i r t).ring r).held ≡ Some (stopped_number (shape_of h r) (k.ring r) t)
   unfolding stopped_at
@@ -104,22 +77,7 @@ module _ (h : Header) (k : Known) (e : EndpointsStand k) (seen : SeenStand h k) 
 
   stopped_only : (t : Spot) → Works k s i r → StopsNext h k s i → OnlyThis (stopped_at h k s i r t)
   unfolding stopped_at on_ring
-  stopped_only t works stops =
-      let n : ℕ = stopped_number (shape_of h r) (k.ring r) t in
-      record {
-        one = record {
-          ring_of = refl;
-          bound = bound;
-          on = e.on s i r bound;
-          others = λ q j other. refl;
-          held = stopped_other t;
-          runs = λ none. works.runs;
-        };
-        own = record {
-          others = λ q j other. at_pair (λ x. x ≡ k.stop_seen q j) k.stop_seen s i true q j (λ a b. absurd (other a b)) (λ apart. refl);
-          here = λ is. (stops, works.runs, λ none. none-some n (sym none ∙ stopped_held t));
-        };
-      }
+  stopped_only t works stops = search (rules, stopped_other, at_pair, none-some, stopped_held)
 
   must_only : (l : Known) (f : ℕ → ℕ → Bool) → OnlyThis l → OnlyThis (let m : Known = record l { must_move = f } in m)
   must_only l f only = record {
@@ -162,11 +120,7 @@ module _ (h : Header) (k : Known) (e : EndpointsStand k) (seen : SeenStand h k) 
 module _ (h : Header) (is : IsHeader h) (k : Known) (d : DriverKeeps h k) where
   pub reported : (b : Block) → is_impossible_transfer h k b ≡ false → is_in_profile b ≡ true → can_report_at h k b (event_at h k b) ≡ true
   unfolding is_impossible_transfer
-  reported b possible inside =
-      elim (and_cases (is_in_profile b) (is_off (k.endpoint_state (slot b) (endpoint b)) || not (can_report_at h k b (event_at h k b))) possible) [
-        | inl outside ↦ absurd (false≢true (sym outside ∙ inside))
-        | inr none ↦ not-false (can_report_at h k b (event_at h k b)) (or_parts (is_off (k.endpoint_state (slot b) (endpoint b))) (not (can_report_at h k b (event_at h k b))) none).1
-      ]
+  reported b possible inside = search (rules, and_cases, false≢true, not-false, or_parts)
 
   at_stands : (b : Block) (o : Option RingSpot) → event_at h k b ≡ o → can_report_at h k b o ≡ true → (transferred_at h k b o).ring (command_id h) ≡ k.ring (command_id h) →
       EndpointsStand (transferred_at h k b o) × SeenStand h (transferred_at h k b o)

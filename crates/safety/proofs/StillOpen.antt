@@ -1,6 +1,5 @@
 -- No event holds the command ring
-use Rattle.std.proofs.Common.{◌≡◌, ◌∙◌, true, None, ap}
-use Rattle.safety.proofs.Words.{Block, BlockKind, TransferEvent, CommandCompletion, kind, is_open, Header, Read, IsHeader, command_id, Known, event_read, learned, DriverKeeps, EndpointsKeep}
+use Rattle.safety.proofs.Words.{◌≡◌, ◌∙◌, true, None, ap, Block, BlockKind, TransferEvent, CommandCompletion, kind, is_open, Header, Read, IsHeader, command_id, Known, event_read, learned, DriverKeeps, EndpointsKeep}
 use Rattle.safety.proofs.DriverRings.{endpoints_of}
 use Rattle.safety.proofs.TransferFrames.{transfer_command}
 use Rattle.safety.proofs.KeptCommands.{completed_view}

@@ -1,6 +1,5 @@
 -- Behind an event an endpoint whose doorbell does nothing stays one
-use Rattle.std.proofs.Common.{◌≡◌, ◌==◌, ◌&&◌, ◌||◌, if◌then◌else◌, ◌∙◌, ℕ, not, Bool, true, false, [], Option, None, Some, refl, sym, ap, subst, inl, inr, eqb-true, eq-eqb}
-use Rattle.safety.proofs.Words.{list_any, cases_Bool, cond_both, and_parts, or_from, and_from, not-false, false≢true, false_from_ne_true, put_pair, Block, BlockKind, TransferEvent, CommandCompletion, kind, code, slot, endpoint, is_transfer_event, is_command_completion, is_success, is_halting, is_trb_error, is_stopping, Spot, number, after, ceiling, is_data_below, is_stop_spot, Command, StopEndpoint, EndpointState, Halted, Error, changes, touches, Header, Read, IsHeader, shape_of, Known, RingSpot, on_ring, event_at, next_command, unfinished, passed, broken_off, stopped_at, transferred, transferred_at, transfer_read, event_read, learned, touches_endpoint, is_touched, is_in_profile, is_working, is_stopping_now, can_report, can_report_at, is_impossible_by_kind, lenient, some_of, any_of, DriverKeeps, IsIdleEndpoint, MayRing}
+use Rattle.safety.proofs.Words.{◌≡◌, ◌==◌, ◌&&◌, ◌∙◌, ℕ, not, true, false, [], Option, None, Some, refl, sym, ap, subst, inl, inr, eqb-true, eq-eqb, rules, list_any, cases_Bool, and_parts, or_from, and_from, not-false, false≢true, false_from_ne_true, Block, BlockKind, TransferEvent, CommandCompletion, kind, code, slot, endpoint, is_transfer_event, is_command_completion, Spot, number, after, Command, StopEndpoint, EndpointState, changes, touches, Header, Read, IsHeader, shape_of, Known, RingSpot, on_ring, event_at, next_command, passed, broken_off, transferred, transferred_at, transfer_read, event_read, learned, touches_endpoint, is_touched, is_in_profile, is_stopping_now, can_report, can_report_at, is_impossible_by_kind, lenient, some_of, any_of, DriverKeeps, IsIdleEndpoint, MayRing}
 use Rattle.safety.proofs.CleanRows.{EventFacts, event_facts}
 use Rattle.safety.proofs.EndpointPut.{at_pair}
 use Rattle.safety.proofs.KeptRings.{completion_facts, next_unfinished}
@@ -21,11 +20,7 @@ use Rattle.safety.proofs.RowRuns.{StillRingsLaw}
 module _ (h : Header) where
   -- an endpoint that is left is idle still
   idle_held : (k l : Known) (s i : ℕ) → EndpointHolds k l s i → IsIdleEndpoint h k s i → IsIdleEndpoint h l s i
-  idle_held k l s i holds idle =
-      elim idle [
-        | inl works ↦ inl (holds.state ∙ works.0, λ r at. let was : k.ring_of s i ≡ Some r = sym holds.ring_of ∙ at in holds.held r was ∙ works.1 r was)
-        | inr rests ↦ inr (elim rests [ inl halted ↦ inl (holds.state ∙ halted) | inr failed ↦ inr (holds.state ∙ failed) ])
-      ]
+  idle_held k l s i holds idle = search rules
 
   -- ---- a Transfer Event, for the endpoint of slot s at index i and its ring r
 
@@ -48,24 +43,7 @@ module _ (h : Header) where
     -- on the endpoint itself, which isn't being stopped
     transferred_idle : (c : ℕ) (t : Spot) → can_report h k c s i r t ≡ true → (is_stopping_now h k s i ≡ true → ⊥) → IsIdleEndpoint h k s i → IsIdleEndpoint h (transferred h k c s i r t) s i
     unfolding transferred can_report
-    transferred_idle c t can never idle =
-        let below : Bool = is_data_below (ceiling (shape_of h r) (k.ring r)) t in
-        let stops : Bool = is_working k s i r && is_stopping_now h k s i && is_stop_spot (shape_of h r) (k.ring r) t in
-        let cases = chain (is_success c) (is_halting c || is_trb_error c) below (below && is_working k s i r) stops can in
-        let broken : Known = broken_off h k s i r t Halted in
-        let halts : Known = record broken { must_move = put_pair k.must_move s i true } in
-        let fails : Known = broken_off h k s i r t Error in
-        let stopped : Known = if is_stopping c then stopped_at h k s i r t else k in
-        cond_both (is_success c) (passed h k r t) (if is_halting c then halts else if is_trb_error c then fails else stopped) (λ l. IsIdleEndpoint h l s i)
-        (λ success. idle_held k (passed h k r t) s i (passed_holds t) idle)
-        (λ other. cond_both (is_halting c) halts (if is_trb_error c then fails else stopped) (λ l. IsIdleEndpoint h l s i)
-        (λ halting. inr (inl (broken_state t Halted)))
-        (λ not_halting. cond_both (is_trb_error c) fails stopped (λ l. IsIdleEndpoint h l s i)
-        (λ error. inr (inr (broken_state t Error)))
-        (λ not_error.
-        let spot = and_parts (is_working k s i r && is_stopping_now h k s i) (is_stop_spot (shape_of h r) (k.ring r) t)
-        (cases.2 other (or_from (is_halting c) (is_trb_error c) not_halting not_error)) in
-        absurd (never (and_parts (is_working k s i r) (is_stopping_now h k s i) spot.0).1))))
+    transferred_idle c t can never idle = search (rules, chain, idle_held, passed_holds, broken_state, and_parts, or_from)
 
   module _ (is : IsHeader h) (k : Known) (d : DriverKeeps h k) (s i : ℕ) where
     -- no unfinished command stops it
@@ -130,11 +108,7 @@ module _ (h : Header) where
 
   pub untouched_behind : IsHeader h → (k : Known) (d : DriverKeeps h k) (e : Block) → lenient h k (Read e) ≡ [] → (s i : ℕ) → is_touched h k s i ≡ false → is_touched h (learned h k (Read e)) s i ≡ false
   unfolding is_touched
-  untouched_behind is k d e clean s i none =
-      let l : Known = learned h k (Read e) in
-      false_from_ne_true (list_any (touches_endpoint h l s i) (unfinished h l)) (λ touched.
-      let found = some_of (touches_endpoint h l s i) (unfinished h l) touched in
-      false≢true (sym none ∙ any_of (touches_endpoint h k s i) (unfinished h k) found.0 (listed_before h is k d e clean found.0 found.1) (sym (touches_same k e s i found.0) ∙ found.2)))
+  untouched_behind is k d e clean s i none = search (rules, false_from_ne_true, some_of, false≢true, any_of, listed_before, touches_same)
 
   read_idle : (k : Known) (e : Block) (s i : ℕ) → IsIdleEndpoint h (event_read h k (kind e) e) s i → IsIdleEndpoint h (learned h k (Read e)) s i
   unfolding learned

@@ -1,6 +1,5 @@
 -- The change of a Stop Endpoint's success: the endpoint is Stopped, and its ring held at its ceiling and inactive
-use Rattle.std.proofs.Common.{◌≡◌, ◌≢◌, ◌∙◌, ℕ, false, Option, Some, None, arith, refl, sym, ap, subst, inl, inr}
-use Rattle.safety.proofs.Words.{cases_eq, false≢true, same_Some, put, Spot, Shape, ceiling, is_way_given, Command, Stopped, Stops, Header, shape_of, command_id, World, Known, RingState, state_of, RingMatches, BoundRing, FreeRing, EndpointRing}
+use Rattle.safety.proofs.Words.{◌≡◌, ◌≢◌, ℕ, false, Option, Some, None, refl, sym, ap, subst, inl, inr, rules, cases_eq, false≢true, same_Some, put, Spot, Shape, ceiling, is_way_given, Command, Stopped, Stops, Header, shape_of, command_id, World, Known, RingState, state_of, RingMatches, BoundRing, EndpointRing}
 use Rattle.segments.specs.RingView.{RingView}
 use Rattle.controller_model.specs.Bindings as bindings
 use Rattle.ring_knowledge.specs.Rings as of_rings
@@ -25,29 +24,10 @@ unfolding is_way_given
 ways_still shape v q = refl
 
 held_matches : (shape : Shape) (v : RingView) (s : RingState) (t : Spot) → RingMatches shape v s t → RingMatches shape (held_view shape v) (resting s) t
-held_matches shape v s t m = record {
-  is_spot = m.is_spot;
-  pointer = m.pointer;
-  cycle = m.cycle;
-  reached = m.reached;
-  below = omega (arith, m.below, ceiling_held shape (held_view shape v) (ceiling shape v) refl);
-  way = λ q e. ways_still shape v q ∙ m.way q e;
-  opened = λ on. absurd (false≢true on);
-  next = m.next;
-  newest = newest_still shape v v.floor (Some (ceiling shape v)) _ s.events m.newest;
-  in_order = m.in_order;
-  as_declared = m.as_declared;
-}
+held_matches shape v s t m = search (rules, ceiling_held, ways_still, false≢true, newest_still)
 
 held_ring : (shape : Shape) (ring_of : ℕ → ℕ → Option ℕ) (v : RingView) (s : RingState) (r : ℕ) → BoundRing shape ring_of v s r → BoundRing shape ring_of (held_view shape v) (resting s) r
-held_ring shape ring_of v s r b = record {
-  slot = b.slot;
-  index = b.index;
-  bound = b.bound;
-  spot = b.spot;
-  matches = held_matches shape v s b.spot b.matches;
-  takes = record { takes = b.takes.takes; most = b.takes.most };
-}
+held_ring shape ring_of v s r b = search (rules, held_matches)
 
 -- ---- all rings
 
@@ -80,12 +60,8 @@ module _ (h : Header) (k : Known) (w : World) (m : StatesMatch h k w) (s i r : �
   stopped_here (inr free) = absurd (free.none s i had)
 
   stopped_elsewhere : (q : ℕ) → q ≢ r → EndpointRing h k w q → EndpointRing h held rested q
-  stopped_elsewhere q other (inl bound) =
-      inl (subst (λ x. BoundRing (shape_of h q) k.ring_of x (state_of rested q) q) (sym (ring_elsewhere q other))
-      (subst (λ x. BoundRing (shape_of h q) k.ring_of (k.ring q) x q) (sym (state_elsewhere q other)) bound))
-  stopped_elsewhere q other (inr free) =
-      inr (subst (λ x. FreeRing (shape_of h q) k.ring_of x (state_of rested q) q) (sym (ring_elsewhere q other))
-      (subst (λ x. FreeRing (shape_of h q) k.ring_of (k.ring q) x q) (sym (state_elsewhere q other)) free))
+  stopped_elsewhere q other (inl bound) = search (rules, held, rested, ring_elsewhere, state_elsewhere)
+  stopped_elsewhere q other (inr free) = search (rules, held, rested, ring_elsewhere, state_elsewhere)
 
   stopped_ring : (q : ℕ) → q ≢ command_id h → EndpointRing h held rested q
   stopped_ring q not_command =
@@ -95,40 +71,13 @@ module _ (h : Header) (k : Known) (w : World) (m : StatesMatch h k w) (s i r : �
       ]
 
   queue_still : (q : ℕ) → (held.ring q).queue ≡ (k.ring q).queue
-  queue_still q =
-      elim (cases_eq q r) [
-        | inl same ↦ ap (λ p. (held.ring p).queue) same ∙ ap (λ x. x.queue) ring_here ∙ ap (λ p. (k.ring p).queue) (sym same)
-        | inr other ↦ ap (λ x. x.queue) (ring_elsewhere q other)
-      ]
+  queue_still q = search (rules, held, ring_here, ring_elsewhere)
 
   lengths_still : (q : ℕ) → (held.ring q).lengths ≡ (k.ring q).lengths
-  lengths_still q =
-      elim (cases_eq q r) [
-        | inl same ↦ ap (λ p. (held.ring p).lengths) same ∙ ap (λ x. x.lengths) ring_here ∙ ap (λ p. (k.ring p).lengths) (sym same)
-        | inr other ↦ ap (λ x. x.lengths) (ring_elsewhere q other)
-      ]
+  lengths_still q = search (rules, held, ring_here, ring_elsewhere)
 
   held_keeps : ChangeKeeps h k held w rested
-  held_keeps = record {
-    states = record {
-      slots = m.slots;
-      endpoints = m.endpoints;
-      ring_of = m.ring_of;
-      rings = stopped_ring;
-      scribbles = m.scribbles;
-      apart = m.apart;
-      one_endpoint = m.one_endpoint;
-      within = m.within;
-    };
-    rest = record {
-      known = refl;
-      world = refl;
-      queues = queue_still;
-      lengths = lengths_still;
-      command_known = ring_elsewhere (command_id h) (λ e. apart (sym e));
-      command_world = state_elsewhere (command_id h) (λ e. apart (sym e));
-    };
-  }
+  held_keeps = search (rules, held, rested, stopped_ring, apart, queue_still, lengths_still, ring_elsewhere, state_elsewhere)
 
 -- the ring of an endpoint, if it has one
 module _ (h : Header) (k : Known) (w : World) (m : StatesMatch h k w) where

@@ -1,6 +1,5 @@
 -- What the report of a stop is, and what is known of the ring and of its Stop Endpoint behind it
-use Rattle.std.proofs.Common.{◌≡◌, ◌+◌, ◌-◌, ◌≤◌, ◌==◌, ◌&&◌, ◌||◌, ◌⊎◌, ◌∙◌, ℕ, Bool, true, not, List, length, nat_lt, nat_le, drop, Option, Some, None, arith, refl, sym, ap, inl, inr, eqb-true, eq-eqb, lt-ltb, le-leb}
-use Rattle.safety.proofs.Words.{false≢true, and_parts, and_from, not-false, cases_lt, or_left, or_right, none-some, same_Some, put, Block, Spot, Data, Link, Shape, number, RingView, Reaches, Holds, given_count, is_way_given, is_stop_spot, Command, NoOp, EnableSlot, DisableSlot, AddressDevice, ConfigureEndpoint, EvaluateContext, ResetEndpoint, StopEndpoint, SetTrDequeue, ResetDevice, is_stop_of, is_running, Header, World, UnderWay, takes_of, unreported, is_last, is_stop_under_way, with_stopped, with_reported, stopped_with, report_stop, Known, command_at, next_command, on_ring, was_stop_seen, Stands, EventsStand, state_of, UnderWayMatches, TakenCommand, Matches}
+use Rattle.safety.proofs.Words.{◌≡◌, ◌+◌, ◌-◌, ◌≤◌, ◌==◌, ◌&&◌, ◌||◌, ◌⊎◌, ℕ, Bool, true, List, length, nat_lt, nat_le, drop, Option, Some, refl, sym, eqb-true, eq-eqb, lt-ltb, le-leb, rules, false≢true, and_parts, and_from, not-false, cases_lt, or_left, or_right, none-some, same_Some, Block, Spot, Data, Link, Shape, number, RingView, Reaches, Holds, given_count, is_way_given, is_stop_spot, Command, StopEndpoint, is_stop_of, is_running, Header, World, UnderWay, unreported, is_last, is_stop_under_way, with_stopped, with_reported, stopped_with, report_stop, Known, command_at, next_command, on_ring, was_stop_seen, Stands, EventsStand, state_of, UnderWayMatches, TakenCommand, Matches}
 use Rattle.world_state.specs.World as of_world
 use Rattle.ring_knowledge.specs.Rings as of_rings
 use Rattle.safety.proofs.WithReads.{with_reads}
@@ -30,53 +29,13 @@ pub record IsStop (h : Header) (u v : World) (s i r a : ℕ) : Type 0 where
 
 pub stop_is : (h : Header) (u v : World) (s i r a : ℕ) → report_stop h u s i r a ≡ Some v → IsStop h u v s i r a
 unfolding report_stop unreported
-stop_is h u v s i r a at =
-    elim (cond_is (not (is_stop_under_way h s i u.under_way && is_running (u.endpoint_state s i) && u.is_active r)) None _ (Some v) at) [
-      | inl off ↦ absurd (none-some v off.1)
-      | inr on ↦
-          let may = not-false (is_stop_under_way h s i u.under_way && is_running (u.endpoint_state s i) && u.is_active r) on.0 in
-          let p = and_parts (is_stop_under_way h s i u.under_way && is_running (u.endpoint_state s i)) (u.is_active r) may in
-          let q = and_parts (is_stop_under_way h s i u.under_way) (is_running (u.endpoint_state s i)) p.0 in
-          record {
-            under = q.0;
-            runs = q.1;
-            active = p.1;
-            names = elim (cond_is (is_last h a (drop (u.reported r) (takes_of (u.events r)))) _ _ (Some v) on.1) [
-              | inl last ↦ inl (last.0, same_Some _ v last.1)
-              | inr more ↦ elim (cond_is (a == u.pointer_of r) _ None (Some v) more.1) [
-                | inl here ↦ inr (eqb-true a (u.pointer_of r) here.0, same_Some _ v here.1)
-                | inr elsewhere ↦ absurd (none-some v elsewhere.1)
-              ]
-            ];
-          }
-    ]
+stop_is h u v s i r a at = search (rules, cond_is, none-some, not-false, and_parts, drop, same_Some, eqb-true)
 
 -- ---- what is known of the ring once the event is read
 
 pub learns_stopped : (h : Header) (k : Known) (r n c : ℕ) (t : Spot) → LearnsRing k (with_reads (on_ring h (on_ring h k r (Holds n)) r (Reaches t)) c) r (stopped_view (k.ring r) t n)
 unfolding on_ring
-learns_stopped h k r n c t =
-    let x : RingView = record (k.ring r) { held = Some n } in
-    let f : ℕ → RingView = put k.ring r x in
-    let y : RingView = record (f r) { floor = t } in
-    record {
-      here = put_at f r y ∙ ap (λ (z : RingView). let e : RingView = record z { floor = t } in e) (put_at k.ring r x);
-      others = λ q other. put_off f r y q other ∙ put_off k.ring r x q other;
-      queue = refl;
-      lengths = refl;
-      started = refl;
-      stopped = refl;
-      register = refl;
-      memory = refl;
-      soiled = refl;
-      device = refl;
-      dequeue = refl;
-      was_bound = refl;
-      slot_state = refl;
-      endpoint_state = refl;
-      ring_of = refl;
-      stop_seen = refl;
-    }
+learns_stopped h k r n c t = search (rules, with_reads, stopped_view, put_at, put_off)
 
 -- the spot named is one where a controller may have stopped
 stop_data : (shape : Shape) (v : RingView) (p : ℕ) → is_stop_spot shape v (Data p) ≡ (nat_lt p (given_count shape v) || (p == given_count shape v && is_way_given shape v p))
@@ -88,30 +47,16 @@ unfolding is_stop_spot
 stop_link shape v p = refl
 
 pub may_stop_at : (shape : Shape) (v : RingView) (t : Spot) → number t ≤ given_count shape v → ((q : ℕ) → t ≡ Data q → is_way_given shape v q ≡ true) → is_stop_spot shape v t ≡ true
-may_stop_at shape v (Link p) below way = stop_link shape v p ∙ le-leb p (given_count shape v) below
-may_stop_at shape v (Data p) below way =
-    elim (cases_lt p (given_count shape v)) [
-      | inl less ↦ stop_data shape v p ∙ or_left _ _ (lt-ltb p (given_count shape v) less)
-      | inr top ↦ stop_data shape v p ∙ or_right _ _ (and_from _ _ (eq-eqb p (given_count shape v) (omega arith)) (way p refl))
-    ]
+may_stop_at shape v (Link p) below way = search (rules, stop_link, le-leb, cases_lt, stop_data, or_left, lt-ltb, or_right, and_from, eq-eqb)
+may_stop_at shape v (Data p) below way = search (rules, stop_link, le-leb, cases_lt, stop_data, or_left, lt-ltb, or_right, and_from, eq-eqb)
 
 -- ---- the Stop Endpoint under way
 
 stop_seen_is : (k : Known) (s i : ℕ) (c : Command) (seen : ℕ → ℕ → Bool) → seen s i ≡ true → is_stop_of s i (Some c) ≡ true →
     was_stop_seen (let m : Known = record k { stop_seen = seen } in m) c ≡ true
 unfolding was_stop_seen
-stop_seen_is k s i (StopEndpoint t j) seen may at =
-    let p = and_parts (s == t) (i == j) at in
-    ap (λ x. seen x j) (sym (eqb-true s t p.0)) ∙ ap (λ x. seen s x) (sym (eqb-true i j p.1)) ∙ may
-stop_seen_is k s i NoOp seen may at = absurd (false≢true at)
-stop_seen_is k s i EnableSlot seen may at = absurd (false≢true at)
-stop_seen_is k s i (DisableSlot t) seen may at = absurd (false≢true at)
-stop_seen_is k s i (AddressDevice t bsr c) seen may at = absurd (false≢true at)
-stop_seen_is k s i (ConfigureEndpoint t dc c) seen may at = absurd (false≢true at)
-stop_seen_is k s i (EvaluateContext t c) seen may at = absurd (false≢true at)
-stop_seen_is k s i (ResetEndpoint t j) seen may at = absurd (false≢true at)
-stop_seen_is k s i (SetTrDequeue t j p c) seen may at = absurd (false≢true at)
-stop_seen_is k s i (ResetDevice t) seen may at = absurd (false≢true at)
+stop_seen_is k s i (StopEndpoint t j) seen may at = search (rules, and_parts, eqb-true, false≢true)
+stop_seen_is k s i _ seen may at = search rules
 
 module _ (h : Header) (k : Known) (seen : ℕ → ℕ → Bool) (s i : ℕ) (may : seen s i ≡ true) where
   abbrev pub with_seen : Known
@@ -136,14 +81,4 @@ module _ (h : Header) (k : Known) (seen : ℕ → ℕ → Bool) (s i : ℕ) (may
   pub matches_seen : (w : World) (o : Option UnderWay) → Matches h k w → ((t : Spot) → UnderWayMatches h k t w.under_way → UnderWayMatches h with_seen t o) → k.started ≡ true →
       Matches h with_seen (let v : World = record w { under_way = o } in v)
   unfolding of_rings.command_at
-  matches_seen w o m under on = record {
-    slots = m.slots;
-    endpoints = m.endpoints;
-    ring_of = m.ring_of;
-    rings = m.rings;
-    before = λ off. absurd (false≢true (sym off ∙ on));
-    command = λ started. let c = m.command on in record { spot = c.spot; ring = c.ring; under_way = under c.spot c.under_way };
-    scribbles = m.scribbles;
-    contexts = λ p c u. m.contexts p c (record { due = u.due; given = u.given; command = u.command });
-    inside = m.inside;
-  }
+  matches_seen w o m under on = search (rules, with_seen, false≢true)

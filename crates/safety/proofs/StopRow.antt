@@ -1,6 +1,5 @@
 -- The driver stops the controller: the run has ended, and its world is safe
-use Rattle.std.proofs.Common.{◌≡◌, ◌&&◌, ◌||◌, ◌∷◌, if◌then◌else◌, ◌∙◌, ℕ, Bool, true, false, not, List, [], Some, refl, sym, ap, subst, inl, inr}
-use Rattle.safety.proofs.Words.{cases_Bool, cond-false, cond-true, false≢true, same_Some, Block, kind, Header, Row, Sub, Write, Reg, Bell, Read, Register, Usbcmd, Usbsts, Dnctrl, Crcr, Dcbaap, Config, Iman, Imod, Erstsz, Erstba, Erdp, IsHeader, run_bit, reset_bit, World, IsSafe, counted, Known, learned, DriverKeeps, Runs, Ended, all_read}
+use Rattle.safety.proofs.Words.{◌≡◌, ◌||◌, ◌∷◌, if◌then◌else◌, ◌∙◌, ℕ, Bool, true, false, not, List, [], Some, refl, sym, ap, subst, rules, cond-false, cond-true, false≢true, Block, kind, Header, Row, Sub, Write, Reg, Bell, Read, Register, Usbcmd, IsHeader, run_bit, reset_bit, World, IsSafe, counted, Known, learned, DriverKeeps, Runs, Ended, all_read}
 use Rattle.world_state.specs.Harms as of_harms
 use Rattle.controller_model.specs.DriverRows as driver
 use Rattle.ring_knowledge.specs.Registers as registers
@@ -27,12 +26,7 @@ module _ (h : Header) where
 
   world_stops : (w v : World) (x : ℕ) → w.started ≡ true → is_stop x ≡ true → driver.row_done h w (Reg Usbcmd x) ≡ Some v → stopped_world w x ≡ v
   unfolding driver.row_done driver.register_row driver.run_or_stop driver.valued stopped_world
-  world_stops w v x on stop at =
-      let u : World = driver.valued w Usbcmd x in
-      let later : World = stopped_world w x in
-      let first : World = if run_bit x && not (reset_bit x) then driver.started_with h u else u in
-      let second : World = if is_stop x then later else u in
-      sym (cond-false (not w.started) first second (ap not on) ∙ cond-true (is_stop x) later u stop) ∙ same_Some _ v at
+  world_stops w v x on stop at = search rules
 
   -- nothing that harms are told of changes
   safe_stopped : (w : World) (x : ℕ) → IsSafe h w → IsSafe h (counted h (stopped_world w x))
@@ -45,37 +39,12 @@ module _ (h : Header) where
 
   run_stops : (k : Known) (x : ℕ) → k.stopped ≡ false → (registers.run_or_stop (registers.valued k Usbcmd x) x).stopped ≡ true → (k.started ≡ true) × (is_stop x ≡ true)
   unfolding registers.run_or_stop registers.valued
-  run_stops k x on stopped =
-      let u : Known = registers.valued k Usbcmd x in
-      let begun : Known = record u { started = true } in
-      let ended : Known = record u { stopped = true } in
-      let first : Known = if run_bit x && not (reset_bit x) then begun else u in
-      let second : Known = if is_stop x then ended else u in
-      elim (cases_Bool k.started) [
-        | inl started ↦ elim (cases_Bool (is_stop x)) [
-          | inl stop ↦ (started, stop)
-          | inr goes ↦
-              let same : (if not k.started then first else second) ≡ u = cond-false (not k.started) first second (ap not started) ∙ cond-false (is_stop x) ended u goes in
-              absurd (false≢true (sym on ∙ sym (ap (λ m. m.stopped) same) ∙ stopped))
-        ]
-        | inr off ↦
-            let same : (if not k.started then first else second) ≡ first = cond-true (not k.started) first second (ap not off) in
-            absurd (false≢true (sym (neither (run_bit x && not (reset_bit x)) begun u on on) ∙ sym (ap (λ m. m.stopped) same) ∙ stopped))
-      ]
+  run_stops k x on stopped = search (rules, cond-false, false≢true, cond-true, neither)
 
   register_stop : (k : Known) (r : Register) (x : ℕ) → k.stopped ≡ false → (registers.register_written h k r x).stopped ≡ true → IsStopRow k (Reg r x)
   unfolding registers.register_written registers.valued
   register_stop k Usbcmd x on stopped = let s = run_stops k x on stopped in record { value = x; row_is = refl; started = s.0; stop = s.1 }
-  register_stop k Usbsts x on stopped = absurd (false≢true (sym on ∙ stopped))
-  register_stop k Dnctrl x on stopped = absurd (false≢true (sym on ∙ stopped))
-  register_stop k Crcr x on stopped = absurd (false≢true (sym on ∙ stopped))
-  register_stop k Dcbaap x on stopped = absurd (false≢true (sym on ∙ stopped))
-  register_stop k Config x on stopped = absurd (false≢true (sym on ∙ stopped))
-  register_stop k Iman x on stopped = absurd (false≢true (sym on ∙ stopped))
-  register_stop k Imod x on stopped = absurd (false≢true (sym on ∙ stopped))
-  register_stop k Erstsz x on stopped = absurd (false≢true (sym on ∙ stopped))
-  register_stop k Erstba x on stopped = absurd (false≢true (sym on ∙ stopped))
-  register_stop k Erdp x on stopped = absurd (false≢true (sym on ∙ stopped))
+  register_stop k _ x on stopped = absurd (false≢true (sym on ∙ stopped))
 
   stop_row : (k : Known) (row : Row) → k.stopped ≡ false → (learned h k row).stopped ≡ true → IsStopRow k row
   unfolding learned

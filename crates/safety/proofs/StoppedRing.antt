@@ -1,6 +1,5 @@
 -- A ring whose endpoint was stopped at a spot: what the event names, and the ring behind it
-use Rattle.std.proofs.Common.{◌≡◌, ◌+◌, ◌-◌, ◌≤◌, ◌⊎◌, ◌∙◌, ℕ, false, drop, map, min, Some, arith, refl, sym, ap, inl, inr, length-drop, drop-drop}
-use Rattle.safety.proofs.Words.{range_with_len, false≢true, Spot, Data, Link, Shape, address_of, rank, number, IsShape, RingView, declared, floor_number, given_count, is_way_given, named, stopped_number, RingKeeps, rank_least, rank_most, named_spot-near, given_count_declared, given_count_near, takes_of, RingState, RingMatches, Unreported}
+use Rattle.safety.proofs.Words.{◌≡◌, ◌+◌, ◌-◌, ◌≤◌, ◌⊎◌, ◌∙◌, ℕ, false, drop, map, min, Some, arith, refl, sym, ap, inl, inr, length-drop, drop-drop, range_with_len, false≢true, Spot, Data, Link, Shape, address_of, rank, number, IsShape, RingView, declared, floor_number, given_count, is_way_given, named, stopped_number, RingKeeps, rank_least, rank_most, named_spot-near, given_count_declared, given_count_near, takes_of, RingState, RingMatches, Unreported}
 use Rattle.safety.proofs.NoWait.{ceiling_given, ceiling_held}
 use Rattle.safety.proofs.RingGoesOn.{newest_still}
 use Rattle.safety.proofs.ReportedRing.{drop_range, low, count}

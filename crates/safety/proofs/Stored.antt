@@ -1,6 +1,5 @@
 -- A word that the controller writes: what stands in the world and what the controller did stay
-use Rattle.std.proofs.Common.{◌≡◌, ◌≢◌, ◌+◌, ◌*◌, ◌/◌, ◌<◌, ◌≤◌, ◌==◌, ◌⊎◌, ◌∙◌, ℕ, true, Option, Some, None, arith, refl, sym, ap, inl, inr, eq-eqb}
-use Rattle.safety.proofs.Words.{cases_Bool, cases_eq, false≢true, cond-true, cond-false, put, put_here, put_elsewhere, Command, named_context, input_context_bytes, Header, shape_of, command_id, address_of, World, stored, Known, IsUnfinished, Stands, touches_events, IsUnchanged, Matches}
+use Rattle.safety.proofs.Words.{◌≡◌, ◌≢◌, ◌+◌, ◌*◌, ◌/◌, ◌<◌, ◌≤◌, ◌==◌, ◌⊎◌, ℕ, true, Option, Some, None, arith, ap, inl, inr, eq-eqb, rules, cases_Bool, cases_eq, false≢true, cond-true, cond-false, put, put_here, put_elsewhere, Command, named_context, input_context_bytes, Header, shape_of, command_id, address_of, World, stored, Known, IsUnfinished, Stands, touches_events, IsUnchanged, Matches}
 
 -- within a step a stamp is at most that of the step
 abbrev pub Late : World → Type 0
@@ -33,28 +32,17 @@ module _ (h : Header) where
   -- a word other than the one written keeps its stamp, and so does that one where it is written as it stands
   changed_kept : (w : World) (a x b : ℕ) → (b ≡ a → w.memory a ≡ x) → (stored w a x).changed b ≡ w.changed b
   unfolding stored
-  changed_kept w a x b stands =
-      elim (cases_Bool (w.memory a == x)) [
-        | inl same ↦ ap (λ f. f b) (cond-true (w.memory a == x) w.changed (put w.changed a (w.steps + 1)) same)
-        | inr new ↦ ap (λ f. f b) (cond-false (w.memory a == x) w.changed (put w.changed a (w.steps + 1)) new) ∙ put_elsewhere w.changed a (w.steps + 1) b (λ here. false≢true (sym new ∙ eq-eqb (w.memory a) x (stands here)))
-      ]
+  changed_kept w a x b stands = search (rules, cond-true, cond-false, put_elsewhere, false≢true, eq-eqb)
 
   -- a write is stamped, and no other write's stamp changes
   written_later : (w : World) (a x b n : ℕ) → n ≤ w.written b → n ≤ w.steps + 1 → n ≤ (stored w a x).written b
   unfolding stored
-  written_later w a x b n low now =
-      elim (cases_eq b a) [
-        | inl here ↦ omega (arith, ap (λ c. put w.written a (w.steps + 1) c) here, put_here w.written a (w.steps + 1))
-        | inr other ↦ omega (arith, put_elsewhere w.written a (w.steps + 1) b other)
-      ]
+  written_later w a x b n low now = search (rules, put_here, put_elsewhere)
 
   pub unchanged_stored : (w : World) (a x at : ℕ) (o : Option ℕ) → Late w → ((n i : ℕ) → o ≡ Some n → i < input_context_bytes h.context_size / 4 → n + 4 * i ≡ a → w.memory a ≡ x) →
       IsUnchanged h w at o → IsUnchanged h (stored w a x) at o
-  unchanged_stored w a x at None late stands same = tt
-  unchanged_stored w a x at (Some n) late stands same = λ i l.
-      let kept = changed_kept w a x (n + 4 * i) (stands n i refl l) in
-      let high = written_later w a x (at + 12) (w.changed (n + 4 * i)) (same i l) (late (n + 4 * i)) in
-      omega arith
+  unchanged_stored w a x at None late stands same = search rules
+  unchanged_stored w a x at (Some n) late stands same = search (rules, changed_kept, written_later)
 
   pub matches_stored : (k : Known) (w : World) (a x : ℕ) → Late w → IsInNoContext k a → Matches h k w → Matches h k (stored w a x)
   unfolding stored
@@ -73,15 +61,4 @@ module _ (h : Header) where
   -- a word that the controller may write: it is soiled, or belongs to the event ring
   pub stands_stored : (k : Known) (w : World) (a x : ℕ) → (k.soiled a ≡ true) ⊎ (touches_events h a ≡ true) → Stands h k w → Stands h k (stored w a x)
   unfolding stored
-  stands_stored k w a x may s = record {
-    started = s.started;
-    stopped = s.stopped;
-    registers = s.registers;
-    queues = s.queues;
-    lengths = s.lengths;
-    dequeue = s.dequeue;
-    quiet = λ b clean apart. put_elsewhere w.memory a x b (λ same. elim may [
-      | inl soiled ↦ false≢true (sym clean ∙ ap k.soiled same ∙ soiled)
-      | inr event ↦ false≢true (sym apart ∙ ap (λ c. touches_events h c) same ∙ event)
-    ]) ∙ s.quiet b clean apart;
-  }
+  stands_stored k w a x may s = search (rules, put_elsewhere, false≢true)

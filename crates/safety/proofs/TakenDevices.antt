@@ -1,13 +1,9 @@
 -- What the rules say of a device context that a write takes
-use Rattle.std.proofs.Common.{◌≡◌, ◌%◌, ◌<◌, ◌==◌, ◌||◌, ◌∙◌, ℕ, not, Bool, true, false, suc, zero, Option, None, Some, is_none, is_some, arith, refl, sym, ap, subst, inl, inr, eqb-true}
-use Rattle.safety.proofs.Words.{and_cases, or_parts, not-false, false≢true, overlap, Command, AddressDevice, named_slot, named_endpoint, named_context, is_disabled, device_context_bytes, input_context_bytes, Header, Dcbaap, Known, device_named, entry_of, is_bad_area, is_in_range_lease, is_soiled, DriverKeeps}
+use Rattle.safety.proofs.Words.{◌≡◌, ◌%◌, ◌<◌, ◌==◌, ◌||◌, ◌∙◌, ℕ, not, Bool, true, false, suc, zero, None, Some, is_none, is_some, arith, sym, ap, subst, inl, inr, eqb-true, and_cases, or_parts, not-false, false≢true, overlap, Command, AddressDevice, named_slot, named_endpoint, named_context, is_disabled, device_context_bytes, input_context_bytes, Header, Dcbaap, Known, device_named, entry_of, is_bad_area, is_in_range_lease, is_soiled, DriverKeeps}
 use Rattle.ownership_rules.specs.Commands as commands
 use Rattle.safety.proofs.GivenCommands.{content_good}
 use Rattle.safety.proofs.KeptClean.{CleanTaking}
-
-some_written : (o : Option ℕ) → is_none o ≡ false → is_some o ≡ true
-some_written None unwritten = absurd (false≢true (sym unwritten))
-some_written (Some v) unwritten = refl
+use Rattle.safety.proofs.KeptRegisters.{some_is}
 
 module _ (h : Header) (k : Known) where
   -- slot s takes the device context at d, with the input context at n
@@ -58,7 +54,7 @@ module _ (h : Header) (k : Known) where
             let align = or_parts (device_named k s == 0) (not (device_named k s % 64 == 0)) area.0 in
             record {
               some = slot_above keeps s (slot_named (AddressDevice s bsr n) good);
-              written = some_written (k.register Dcbaap) two.0;
+              written = some_is (k.register Dcbaap) two.0;
               entry_area = entry.0;
               entry_clean = entry.1;
               aligned = eqb-true (device_named k s % 64) 0 (not-false (device_named k s % 64 == 0) align.1);

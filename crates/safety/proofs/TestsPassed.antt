@@ -1,9 +1,6 @@
 -- A row that breaks no rule fails none of its tests
-use Rattle.std.proofs.Common.{◌≡◌, ◌||◌, ◌∷◌, ◌∙◌, Bool, true, false, List, [], map, All, refl, sym, ap, inl, inr, get_or}
-use Rattle.safety.proofs.Words.{list_any, cases_Bool, cond-true, cond-false, false≢true, false_from_ne_true, list_any_at, Header, Row, Known, Refusal, AfterStop, Test, broken_of, lenient_tests, lenient}
-
-some_none : (c : Refusal) (cs : List Refusal) → c ∷ cs ≡ [] → ⊥
-some_none c cs e = cc
+use Rattle.safety.proofs.Words.{◌≡◌, ◌||◌, ◌∷◌, ◌∙◌, Bool, true, false, List, [], map, All, refl, sym, ap, inl, inr, get_or, list_any, cases_Bool, cond-true, cond-false, false≢true, false_from_ne_true, list_any_at, Header, Row, Known, AfterStop, Test, broken_of, lenient_tests, lenient}
+use Rattle.safety.proofs.Lenient.{some_none}
 
 -- before a stop, and with no test failed
 pub clean_tests : (h : Header) (k : Known) (row : Row) → lenient h k row ≡ [] → (k.stopped ≡ false) × (broken_of (lenient_tests h k row) ≡ [])

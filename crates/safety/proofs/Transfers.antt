@@ -1,6 +1,5 @@
 -- A Transfer Event that may be read keeps what the rules keep of each ring
-use Rattle.std.proofs.Common.{◌≡◌, ◌+◌, ◌<◌, ◌≤◌, ◌&&◌, ◌||◌, if◌then◌else◌, ◌∙◌, ℕ, not, Bool, true, false, Option, None, Some, arith, refl, sym, subst, inl, inr}
-use Rattle.safety.proofs.Words.{RingsKept, changed, option_map, cond_both, and_parts, and_cases, or_left, or_right, or_parts, or_from, not-false, false≢true, none-some, same_Some, put_pair, Block, pointer, code, slot, endpoint, is_success, is_halting, is_trb_error, is_stopping, Spot, number, after, Reaches, Holds, floor_number, ceiling, named, is_data_below, is_stop_spot, stopped_number, RingKeeps, reaches_keeps, reaches_and_holds_keeps, holds_and_reaches_keeps, after_reached, number-after, stop_spot_reached, stopped_within, ceiling_held, ceiling_within, below_is, IsAhead, named_ahead, EndpointState, Halted, Error, Header, IsHeader, shape_of, Known, RingSpot, on_ring, spot_on, event_at, passed, broken_off, stopped_at, transferred, transferred_at, transfer_read, is_in_profile, is_working, is_stopping_now, can_report, can_report_at, is_impossible_transfer, is_off, RingsKeep, is_open, is_running, IsRestored, shown_where_restored}
+use Rattle.safety.proofs.Words.{◌≡◌, ◌+◌, ◌<◌, ◌≤◌, ◌&&◌, ◌||◌, if◌then◌else◌, ◌∙◌, ℕ, not, Bool, true, false, Option, None, Some, arith, refl, sym, inl, inr, rules, RingsKept, changed, cond_both, and_parts, and_cases, or_left, or_right, or_parts, or_from, not-false, false≢true, none-some, same_Some, put_pair, Block, pointer, code, slot, endpoint, is_success, is_halting, is_trb_error, is_stopping, Spot, number, after, Reaches, Holds, floor_number, ceiling, named, is_data_below, is_stop_spot, stopped_number, RingKeeps, reaches_keeps, reaches_and_holds_keeps, holds_and_reaches_keeps, after_reached, number-after, stop_spot_reached, stopped_within, ceiling_held, ceiling_within, below_is, IsAhead, named_ahead, EndpointState, Halted, Error, Header, IsHeader, shape_of, Known, RingSpot, on_ring, spot_on, event_at, passed, broken_off, stopped_at, transferred, transferred_at, transfer_read, is_in_profile, is_working, is_stopping_now, can_report, can_report_at, is_impossible_transfer, is_off, RingsKeep, is_open, is_running, IsRestored, shown_where_restored}
 use Rattle.safety.specs.RingsKeep.{IsDriverRing}
 use Rattle.safety.proofs.RingsOfHeader.{shape_allowed}
 use Rattle.safety.proofs.DriverRows.{stands, same_keeps, on_ring_keeps, on_ring_twice_keeps}
@@ -17,15 +16,8 @@ chain false false x y z h = (λ e. absurd (false≢true e), λ _ e. absurd (fals
 -- the spot that an event names is named on its ring
 pub spot_is : (h : Header) (k : Known) (a : ℕ) (o : Option ℕ) (at : RingSpot) → spot_on h k a o ≡ Some at → named (shape_of h at.ring) (k.ring at.ring) a ≡ Some at.spot
 unfolding spot_on
-spot_is h k a None at e = absurd (none-some at e)
-spot_is h k a (Some r) at e = by (named (shape_of h r) (k.ring r) a) refl e
-  where
-    by : (m : Option Spot) → named (shape_of h r) (k.ring r) a ≡ m → option_map (λ t. let x : RingSpot = record { ring = r; spot = t } in x) m ≡ Some at →
-        named (shape_of h at.ring) (k.ring at.ring) a ≡ Some at.spot
-    by None found e = absurd (none-some at e)
-    by (Some t) found e =
-        let same : ◌≡◌ {A = RingSpot} (record { ring = r; spot = t }) at = same_Some (record { ring = r; spot = t }) at e in
-        subst (λ (x : RingSpot). named (shape_of h x.ring) (k.ring x.ring) a ≡ Some x.spot) same found
+spot_is h k a None at e = search (rules, none-some, same_Some)
+spot_is h k a (Some r) at e = search (rules, none-some, same_Some)
 
 module _ (h : Header) (is : IsHeader h) (k : Known) (keeps : RingsKeep h k) where
   -- the block at the spot is finished

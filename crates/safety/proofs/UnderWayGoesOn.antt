@@ -1,6 +1,5 @@
 -- Where the command ring's pointer stays and its next command is the same, so is what is said of the command under way
-use Rattle.std.proofs.Common.{◌≡◌, ◌+◌, ◌∙◌, Option, None, Some, option_and_then, slice_get, refl, sym, ap}
-use Rattle.safety.proofs.Words.{with_cycle, Spot, address_of, cycle_of, number, Command, StopEndpoint, command_of, Header, shape_of, command_id, UnderWay, Known, command_at, next_command, was_stop_seen, UnderWayMatches, TakenCommand}
+use Rattle.safety.proofs.Words.{◌≡◌, ◌+◌, ◌∙◌, Option, None, Some, option_and_then, slice_get, refl, sym, ap, rules, Spot, number, Command, StopEndpoint, command_of, Header, command_id, UnderWay, Known, command_at, next_command, was_stop_seen, UnderWayMatches, TakenCommand}
 
 module _ (h : Header) (k m : Known) (floor : (m.ring (command_id h)).floor ≡ (k.ring (command_id h)).floor) (stop_seen : m.stop_seen ≡ k.stop_seen) where
   pub next_same : next_command h m ≡ next_command h k
@@ -21,12 +20,7 @@ module _ (h : Header) (k m : Known) (floor : (m.ring (command_id h)).floor ≡ (
   command_same stays = ap (λ o. option_and_then command_of o) stays
 
   taken_on : (u : UnderWay) → NextStays → TakenCommand h k u → TakenCommand h m u
-  taken_on u stays t = record {
-    address = t.address ∙ ap (λ n. address_of (shape_of h (command_id h)) n) (sym next_same);
-    words = λ d at. t.words d (sym stays ∙ ap (λ n. slice_get (m.ring (command_id h)).queue n) (sym next_same) ∙ at)
-        ∙ ap (λ n. with_cycle d (cycle_of (shape_of h (command_id h)) n)) (sym next_same);
-    stopped = λ c at. t.stopped c (sym (command_same stays) ∙ ap (λ n. command_at h m n) (sym next_same) ∙ at) ∙ sym (seen_same c);
-  }
+  taken_on u stays t = search (rules, next_same, slice_get, command_same, seen_same)
 
   pub under_way_on : (t : Spot) (o : Option UnderWay) → ((u : UnderWay) → o ≡ Some u → NextStays) → UnderWayMatches h k t o → UnderWayMatches h m t o
   under_way_on t None stays under = (under.0 ∙ sym next_same, λ s i. ap (λ f. f s i) stop_seen ∙ under.1 s i)

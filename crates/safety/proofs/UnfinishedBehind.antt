@@ -1,6 +1,5 @@
 -- Behind an event the commands that stay unfinished were unfinished before, and the endpoints that they concern have the same rings
-use Rattle.std.proofs.Common.{◌≡◌, ◌≢◌, ◌==◌, if◌then◌else◌, ◌∷◌, ◌∙◌, ℕ, not, true, List, [], Option, None, Some, refl, sym, ap, inl, inr}
-use Rattle.safety.proofs.Words.{filter_map, range_with_len, cons_option, false≢true, and_parts, and_from, Block, BlockKind, TransferEvent, CommandCompletion, kind, code, slot, place_count, floor_number, due_positions, due_from, Command, AddressDevice, EndpointState, Off, can_succeed, is_off, Header, Read, Config, IsHeader, shape_of, command_id, is_ring, register_or_zero, Known, command_at, next_command, unfinished_positions, unfinished, completed, event_read, learned, was_stop_seen, moves_ring, is_being_moved, lenient, IsIn, some_of, any_of, from_filter, IsDriverRing, IsUnfinished, DriverKeeps, is_command_completion}
+use Rattle.safety.proofs.Words.{◌≡◌, ◌≢◌, ◌==◌, if◌then◌else◌, ◌∷◌, ◌∙◌, ℕ, not, true, List, [], Option, None, Some, refl, sym, ap, inl, inr, rules, filter_map, cons_option, false≢true, and_parts, and_from, Block, BlockKind, TransferEvent, CommandCompletion, kind, code, slot, due_positions, due_from, Command, AddressDevice, EndpointState, Off, can_succeed, is_off, Header, Read, Config, IsHeader, command_id, is_ring, register_or_zero, Known, command_at, next_command, unfinished_positions, unfinished, completed, event_read, learned, was_stop_seen, moves_ring, is_being_moved, lenient, IsIn, some_of, any_of, from_filter, IsDriverRing, IsUnfinished, DriverKeeps, is_command_completion}
 use Rattle.safety.proofs.CleanRows.{EventFacts, event_facts}
 use Rattle.safety.proofs.KeptRings.{CompletionFacts, completion_facts, next_unfinished}
 use Rattle.safety.proofs.SafeContext.{command_is_ring}
@@ -30,13 +29,7 @@ module _ (h : Header) (k : Known) where
   -- what stands in the list of unfinished commands is unfinished
   pub listed_unfinished : (c : Command) → IsIn c (unfinished h k) → (p : ℕ) × IsUnfinished h k p c
   unfolding unfinished unfinished_positions due_positions
-  listed_unfinished c at =
-      let found = from_filter_map (command_at h k) (unfinished_positions h k) c at in
-      let due = from_filter (k.ring (command_id h)).given (range_with_len (floor_number (k.ring (command_id h))) (place_count (shape_of h (command_id h)))) found.0 found.1 in
-      let range = from_range (floor_number (k.ring (command_id h))) (place_count (shape_of h (command_id h))) found.0 due.0 in (
-        found.0,
-        record { due = due_from (shape_of h (command_id h)) (k.ring (command_id h)).floor found.0 range.0 range.1; given = due.1; command = found.2 },
-      )
+  listed_unfinished c at = search (rules, from_filter_map, from_filter, from_range, due_from)
 
 module _ (h : Header) (is : IsHeader h) (k : Known) (d : DriverKeeps h k) where
   -- ---- a completion

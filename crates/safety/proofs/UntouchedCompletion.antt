@@ -1,6 +1,5 @@
 -- A Command Completion Event leaves an endpoint that no unfinished command touches
-use Rattle.std.proofs.Common.{◌≡◌, ◌==◌, if◌then◌else◌, ◌∙◌, ℕ, true, false, Option, None, Some, refl, ap}
-use Rattle.safety.proofs.Words.{list_any, cond_both, Block, code, slot, Spot, after, Reaches, ContextSize, Command, NoOp, EnableSlot, DisableSlot, AddressDevice, ConfigureEndpoint, EvaluateContext, ResetEndpoint, StopEndpoint, SetTrDequeue, ResetDevice, changes, touches, Header, Config, IsHeader, shape_of, command_id, register_or_zero, Known, on_ring, command_at, next_command, succeeded, stop_ended, finished, completed, touches_endpoint, is_touched, can_finish, IsUnfinished, CommandKeeps, DriverKeeps}
+use Rattle.safety.proofs.Words.{◌≡◌, ◌==◌, if◌then◌else◌, ◌∙◌, ℕ, true, false, Option, None, Some, refl, ap, list_any, cond_both, Block, code, slot, Spot, after, Reaches, ContextSize, Command, NoOp, StopEndpoint, changes, touches, Header, Config, IsHeader, shape_of, command_id, register_or_zero, Known, on_ring, command_at, next_command, succeeded, stop_ended, finished, completed, touches_endpoint, is_touched, can_finish, IsUnfinished, CommandKeeps, DriverKeeps}
 use Rattle.safety.proofs.DriverRings.{endpoints_of, rings_of}
 use Rattle.safety.proofs.KeptRings.{CompletionFacts, next_unfinished, command_holds}
 use Rattle.safety.proofs.StatesFit.{success_fits}
@@ -13,16 +12,7 @@ use Rattle.safety.proofs.UntouchedHeld.{EndpointHolds, same_holds, both_hold, ch
 pub touches_any : (size : ContextSize) (memory : ℕ → ℕ) (n s i : ℕ) (c : Command) → list_any (touches s i) (changes size memory n c) ≡ list_any (touches s i) (changes size memory 0 c)
 unfolding changes
 touches_any size memory n s i NoOp = refl
-touches_any size memory n s i EnableSlot = refl
-touches_any size memory n s i (DisableSlot t) = refl
-touches_any size memory n s i (AddressDevice t bsr a) = refl
-touches_any size memory n s i (ConfigureEndpoint t false a) = refl
-touches_any size memory n s i (ConfigureEndpoint t true a) = refl
-touches_any size memory n s i (EvaluateContext t a) = refl
-touches_any size memory n s i (ResetEndpoint t j) = refl
-touches_any size memory n s i (StopEndpoint t j) = refl
-touches_any size memory n s i (SetTrDequeue t j p cycle) = refl
-touches_any size memory n s i (ResetDevice t) = refl
+touches_any size memory n s i _ = refl
 
 module _ (h : Header) (s i : ℕ) where
   -- neither the end of a Stop Endpoint nor the pointer of a ring changes a state or where a ring is held

@@ -1,6 +1,5 @@
 -- The success of a command that doesn't touch an endpoint leaves its state, its ring, whether that must be moved, and where it is held
-use Rattle.std.proofs.Common.{◌≡◌, ◌≢◌, ◌==◌, ◌&&◌, ◌∷◌, ◌∙◌, ℕ, Bool, false, List, [], Option, None, Some, refl, sym, ap, inl, inr, eq-eqb}
-use Rattle.safety.proofs.Words.{list_any, cases_Bool, false≢true, and_from, or_parts, Holds, ceiling, Command, EndpointState, Stopped, Change, SlotGoesOn, DeviceLeft, Disables, Places, Stops, Resets, touches, is_off, Header, IsHeader, shape_of, Known, pointed, disabled, in_state, held_at_ceiling, changed_by, changed_by_all, EndpointsKeep}
+use Rattle.safety.proofs.Words.{◌≡◌, ◌≢◌, ◌==◌, ◌&&◌, ◌∷◌, ◌∙◌, ℕ, Bool, false, List, [], Option, None, Some, refl, sym, ap, inl, inr, eq-eqb, list_any, cases_Bool, false≢true, and_from, or_parts, Holds, ceiling, Command, EndpointState, Stopped, Change, Places, Stops, touches, is_off, Header, IsHeader, shape_of, Known, pointed, disabled, in_state, held_at_ceiling, changed_by, changed_by_all, EndpointsKeep}
 use Rattle.safety.proofs.DriverRows.{ring_elsewhere}
 use Rattle.safety.proofs.Endpoints.{change_keeps}
 use Rattle.safety.proofs.StatesParts.{EndpointsStand}
@@ -54,14 +53,11 @@ module _ (h : Header) (s i : ℕ) where
 
     untouched_held : (c : Command) (change : Change) → Fits h k change → touches s i change ≡ false → ((changed_by h c k change).ring r).held ≡ (k.ring r).held
     unfolding changed_by disabled in_state
-    untouched_held c (SlotGoesOn t) fits apart = refl
-    untouched_held c (DeviceLeft t) fits apart = refl
-    untouched_held c (Disables t which) fits apart = refl
     untouched_held c (Places t j p cycle state) fits apart =
         let placed : IsPlaced (pointed h k t j p cycle) (changed_by h c k (Places t j p cycle state)) t j state = placed_is h c k t j p cycle state in
         ap (λ f. (f r).held) placed.ring ∙ pointed_held t j p cycle state fits apart
     untouched_held c (Stops t j) fits apart = stopped_held t j (k.ring_of t j) refl apart
-    untouched_held c (Resets t j) fits apart = refl
+    untouched_held c _ fits apart = refl
 
   untouched_holds : (c : Command) (k : Known) (change : Change) → EndpointsKeep h k → EndpointsStand k → Fits h k change → touches s i change ≡ false → EndpointHolds k (changed_by h c k change) s i
   untouched_holds c k change keeps e fits apart =

@@ -1,6 +1,5 @@
 -- A change that doesn't touch an endpoint leaves its state, which ring it has, and whether that must be moved
-use Rattle.std.proofs.Common.{◌≡◌, ◌==◌, ◌&&◌, ◌∙◌, ℕ, Bool, false, Option, None, Some, refl}
-use Rattle.safety.proofs.Words.{cond_both, cond-false, put_pair, Spot, target, Command, EndpointState, Off, Stopped, Change, SlotGoesOn, DeviceLeft, Disables, Places, Stops, Resets, touches, is_off, Header, shape_of, ring_having, Known, on_ring, set_to, bound_to, moved_to, moved, pointed, disabled, in_state, held_at_ceiling, changed_by}
+use Rattle.safety.proofs.Words.{◌≡◌, ◌==◌, ◌&&◌, ◌∙◌, ℕ, Bool, false, Option, None, Some, refl, cond_both, cond-false, put_pair, Spot, target, Command, EndpointState, Off, Stopped, Change, Disables, Places, Stops, Resets, touches, is_off, Header, shape_of, ring_having, Known, on_ring, set_to, bound_to, moved_to, moved, pointed, disabled, in_state, held_at_ceiling, changed_by}
 
 pub record EndpointStays (k l : Known) (s i : ℕ) : Type 0 where
   pub state : l.endpoint_state s i ≡ k.endpoint_state s i
@@ -52,11 +51,10 @@ module _ (h : Header) (s i : ℕ) where
 
   pub untouched_stays : (c : Command) (k : Known) (change : Change) → touches s i change ≡ false → EndpointStays k (changed_by h c k change) s i
   unfolding changed_by disabled
-  untouched_stays c k (SlotGoesOn t) apart = record { state = refl; ring_of = refl; must_move = refl }
-  untouched_stays c k (DeviceLeft t) apart = record { state = refl; ring_of = refl; must_move = refl }
   untouched_stays c k (Disables t which) apart = record { state = cond-false (s == t && which i) Off (k.endpoint_state s i) apart; ring_of = cond-false (s == t && which i) None (k.ring_of s i) apart; must_move = refl }
   untouched_stays c k (Places t j p cycle e) apart =
       let l : Known = pointed h k t j p cycle in
       must_stays k (in_state h l t j e) t j false apart (both_stay k l (in_state h l t j e) (pointed_stays k t j p cycle apart) (in_state_stays l t j e apart))
   untouched_stays c k (Stops t j) apart = both_stay k (in_state h k t j Stopped) (held_at_ceiling h (in_state h k t j Stopped) (k.ring_of t j)) (in_state_stays k t j Stopped apart) (held_stays (in_state h k t j Stopped) (k.ring_of t j))
   untouched_stays c k (Resets t j) apart = in_state_stays k t j Stopped apart
+  untouched_stays c k _ apart = record { state = refl; ring_of = refl; must_move = refl }

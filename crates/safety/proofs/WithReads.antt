@@ -1,6 +1,5 @@
 -- Other events counted as read, with nothing else that they say
-use Rattle.std.proofs.Common.{◌≡◌, ◌∷◌, ◌++◌, ◌∙◌, ℕ, List, [], Option, Some, None, refl, sym}
-use Rattle.safety.proofs.Words.{Block, Spot, Command, StopEndpoint, Header, World, UnderWay, Known, IsUnfinished, Stands, UnderWayMatches, TakenCommand, Matches}
+use Rattle.safety.proofs.Words.{◌≡◌, ◌∷◌, ◌++◌, ◌∙◌, ℕ, List, [], Option, Some, None, refl, sym, Block, Spot, Command, StopEndpoint, Header, World, UnderWay, Known, IsUnfinished, Stands, UnderWayMatches, TakenCommand, Matches}
 use Rattle.ring_knowledge.specs.Rings as of_rings
 use Rattle.ownership_rules.specs.Events as of_events
 

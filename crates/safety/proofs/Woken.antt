@@ -1,6 +1,5 @@
 -- Two knowledges of which one is the other behind a doorbell of a ring that was held: the ring is open, the endpoints that have it run
-use Rattle.std.proofs.Common.{◌≡◌, ◌≢◌, ◌==◌, ◌&&◌, if◌then◌else◌, ◌∙◌, ℕ, Bool, true, false, refl, sym, ap, subst, inl, inr}
-use Rattle.safety.proofs.Words.{cases_eq, false≢true, put_pair, Spot, RingChange, Reaches, Opens, changed, EndpointState, Running, Header, shape_of, Known, on_ring}
+use Rattle.safety.proofs.Words.{◌≡◌, ◌≢◌, ℕ, Bool, true, false, refl, rules, false≢true, put_pair, Spot, RingChange, Reaches, Opens, changed, EndpointState, Running, Header, shape_of, Known, on_ring}
 use Rattle.safety.proofs.DriverRows.{ring_here, ring_elsewhere}
 use Rattle.safety.proofs.EndpointPut.{at_pair}
 
@@ -20,40 +19,14 @@ pub record Woken (h : Header) (r : ℕ) (S : ℕ → ℕ → Bool) (k l : Known)
 module _ (h : Header) (r : ℕ) (S : ℕ → ℕ → Bool) where
   -- the pointers are the same
   pub woken_floor : (k l : Known) → Woken h r S k l → (q : ℕ) → (l.ring q).floor ≡ (k.ring q).floor
-  woken_floor k l w q =
-      elim (cases_eq q r) [
-        | inl same ↦ subst (λ n. (l.ring n).floor ≡ (k.ring n).floor) (sym same) (ap (λ v. v.floor) w.own)
-        | inr other ↦ ap (λ v. v.floor) (w.rings q other)
-      ]
+  woken_floor k l w q = search rules
 
   -- something that happens on a ring of both, and on the woken one doesn't hold or open it
   on_woken : (k l : Known) → Woken h r S k l → (q : ℕ) (c : RingChange) →
       (q ≡ r → changed (shape_of h r) (changed (shape_of h r) (k.ring r) Opens) c ≡ changed (shape_of h r) (changed (shape_of h r) (k.ring r) c) Opens) →
       Woken h r S (on_ring h k q c) (on_ring h l q c)
   unfolding on_ring
-  on_woken k l w q c swaps =
-      record {
-        own = elim (cases_eq r q) [
-          | inl same ↦
-              subst (λ n. (on_ring h l n c).ring r ≡ changed (shape_of h r) ((on_ring h k n c).ring r) Opens) same
-              (ring_here h l r c ∙ ap (λ v. changed (shape_of h r) v c) w.own ∙ swaps (sym same) ∙ ap (λ v. changed (shape_of h r) v Opens) (sym (ring_here h k r c)))
-          | inr other ↦ ring_elsewhere h l q r c other ∙ w.own ∙ ap (λ v. changed (shape_of h r) v Opens) (sym (ring_elsewhere h k q r c other))
-        ];
-        rings = λ x apart. elim (cases_eq x q) [
-          | inl same ↦
-              subst (λ n. (on_ring h l n c).ring x ≡ (on_ring h k n c).ring x) same
-              (ring_here h l x c ∙ ap (λ v. changed (shape_of h x) v c) (w.rings x apart) ∙ sym (ring_here h k x c))
-          | inr other ↦ ring_elsewhere h l q x c other ∙ w.rings x apart ∙ sym (ring_elsewhere h k q x c other)
-        ];
-        awake = w.awake;
-        state = w.state;
-        was_bound = w.was_bound;
-        slot_state = w.slot_state;
-        ring_of = w.ring_of;
-        must_move = w.must_move;
-        stop_seen = w.stop_seen;
-        device = w.device;
-      }
+  on_woken k l w q c swaps = search (rules, ring_here, ring_elsewhere)
 
   pub woken_reach : (k l : Known) → Woken h r S k l → (q : ℕ) (t : Spot) → Woken h r S (on_ring h k q (Reaches t)) (on_ring h l q (Reaches t))
   woken_reach k l w q t = on_woken k l w q (Reaches t) (λ same. refl)
@@ -65,46 +38,12 @@ module _ (h : Header) (r : ℕ) (S : ℕ → ℕ → Bool) where
 
   pub woken_state : (k l : Known) (s i : ℕ) (e : EndpointState) → S s i ≡ false → Woken h r S k l →
       Woken h r S (let x : Known = record k { endpoint_state = put_pair k.endpoint_state s i e } in x) (let x : Known = record l { endpoint_state = put_pair l.endpoint_state s i e } in x)
-  woken_state k l s i e apart w = record {
-    own = w.own;
-    rings = w.rings;
-    awake = λ t j there.
-        at_pair (λ x. x ≡ Running) l.endpoint_state s i e t j (λ a b. absurd (false≢true (sym apart ∙ ap (λ n. S n i) (sym a) ∙ ap (λ n. S t n) (sym b) ∙ there))) (λ other. w.awake t j there);
-    state = λ t j there. ap (λ x. if t == s && j == i then e else x) (w.state t j there);
-    was_bound = w.was_bound;
-    slot_state = w.slot_state;
-    ring_of = w.ring_of;
-    must_move = w.must_move;
-    stop_seen = w.stop_seen;
-    device = w.device;
-  }
+  woken_state k l s i e apart w = search (rules, at_pair, false≢true)
 
   pub woken_move : (k l : Known) (s i : ℕ) (must : Bool) → Woken h r S k l →
       Woken h r S (let x : Known = record k { must_move = put_pair k.must_move s i must } in x) (let x : Known = record l { must_move = put_pair l.must_move s i must } in x)
-  woken_move k l s i must w = record {
-    own = w.own;
-    rings = w.rings;
-    awake = w.awake;
-    state = w.state;
-    was_bound = w.was_bound;
-    slot_state = w.slot_state;
-    ring_of = w.ring_of;
-    must_move = ap (λ f. put_pair f s i must) w.must_move;
-    stop_seen = w.stop_seen;
-    device = w.device;
-  }
+  woken_move k l s i must w = search rules
 
   pub woken_seen : (k l : Known) (s i : ℕ) (seen : Bool) → Woken h r S k l →
       Woken h r S (let x : Known = record k { stop_seen = put_pair k.stop_seen s i seen } in x) (let x : Known = record l { stop_seen = put_pair l.stop_seen s i seen } in x)
-  woken_seen k l s i seen w = record {
-    own = w.own;
-    rings = w.rings;
-    awake = w.awake;
-    state = w.state;
-    was_bound = w.was_bound;
-    slot_state = w.slot_state;
-    ring_of = w.ring_of;
-    must_move = w.must_move;
-    stop_seen = ap (λ f. put_pair f s i seen) w.stop_seen;
-    device = w.device;
-  }
+  woken_seen k l s i seen w = search rules

@@ -1,6 +1,5 @@
 -- What the success of a command changes, where it doesn't touch the endpoint that was woken: its ring stays woken
-use Rattle.std.proofs.Common.{◌≡◌, ◌≢◌, ◌==◌, ◌&&◌, if◌then◌else◌, ◌∷◌, ◌∙◌, ℕ, Bool, true, false, List, [], Option, None, Some, refl, sym, ap, subst, inl, inr, eq-eqb, eqb-true}
-use Rattle.safety.proofs.Words.{list_any, false≢true, cases_Bool, or_parts, and_parts, and_from, cond-false, same_Some, put, put_pair, Spot, number, Reaches, Holds, ceiling, target, Command, EndpointState, Off, Stopped, is_off, Change, SlotGoesOn, DeviceLeft, Disables, Places, Stops, Resets, slot_gone_on, touches, Header, IsHeader, shape_of, ring_having, Known, on_ring, set_to, bound_to, moved_to, moved, pointed, disabled, in_state, held_at_ceiling, changed_by, changed_by_all, EndpointsKeep}
+use Rattle.safety.proofs.Words.{◌≡◌, ◌≢◌, ◌==◌, ◌&&◌, if◌then◌else◌, ◌∷◌, ◌∙◌, ℕ, Bool, true, false, List, [], Option, None, Some, refl, sym, ap, subst, eq-eqb, eqb-true, rules, list_any, false≢true, or_parts, and_parts, and_from, cond-false, same_Some, put, put_pair, Spot, number, Reaches, Holds, ceiling, target, Command, EndpointState, Off, Stopped, is_off, Change, SlotGoesOn, DeviceLeft, Disables, Places, Stops, Resets, slot_gone_on, touches, Header, IsHeader, shape_of, ring_having, Known, on_ring, set_to, bound_to, moved_to, moved, pointed, disabled, in_state, held_at_ceiling, changed_by, changed_by_all, EndpointsKeep}
 use Rattle.safety.proofs.AlikeChanges.{both_sides_if}
 use Rattle.safety.proofs.Endpoints.{change_keeps}
 use Rattle.safety.proofs.StatesParts.{EndpointsStand}
@@ -25,18 +24,7 @@ module _ (h : Header) (r s i : ℕ) where
   bound_with : (m n : Known) → Awake m n → (t j q : ℕ) (f g : ℕ → ℕ → Option ℕ) (x y : ℕ → Bool) → g ≡ f → y ≡ x →
       Awake (let u : Known = record m { ring_of = put_pair f t j (Some q); was_bound = put x q true } in u)
       (let v : Known = record n { ring_of = put_pair g t j (Some q); was_bound = put y q true } in v)
-  bound_with m n w t j q f g x y one two = record {
-    own = w.own;
-    rings = w.rings;
-    awake = w.awake;
-    state = w.state;
-    was_bound = ap (λ b. put b q true) two;
-    slot_state = w.slot_state;
-    ring_of = ap (λ b. put_pair b t j (Some q)) one;
-    must_move = w.must_move;
-    stop_seen = w.stop_seen;
-    device = w.device;
-  }
+  bound_with m n w t j q f g x y one two = search rules
 
   target_woken : (k l : Known) → Awake k l → (q : ℕ) (o : Option Spot) → q ≢ r → Awake (moved_to h k q o) (moved_to h l q o)
   unfolding moved_to
@@ -78,13 +66,7 @@ module _ (h : Header) (r s i : ℕ) where
       false≢true (sym apart ∙ and_from (t == s) (j == i) (eq-eqb t s is.0) (eq-eqb j i is.1))
 
   pub flipped : (t j : ℕ) → (s == t && i == j) ≡ false → one_of s i t j ≡ false
-  flipped t j apart =
-      elim (cases_Bool (one_of s i t j)) [
-        | inl same ↦
-            let parts = and_parts (t == s) (j == i) same in
-            absurd (false≢true (sym apart ∙ and_from (s == t) (i == j) (eq-eqb s t (sym (eqb-true t s parts.0))) (eq-eqb i j (sym (eqb-true j i parts.1)))))
-        | inr other ↦ other
-      ]
+  flipped t j apart = search (rules, and_parts, false≢true, and_from, eq-eqb, eqb-true)
 
   own_pair : (which : ℕ → Bool) (u t j : ℕ) → (s == u && which i) ≡ false → one_of s i t j ≡ true → (t == u && which j) ≡ false
   own_pair which u t j apart same =

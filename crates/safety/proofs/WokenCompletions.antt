@@ -1,7 +1,6 @@
 -- A Command Completion Event that is possible where an endpoint's ring is held and no unfinished command touches it: it is so where the
 -- ring was woken, and leaves it woken
-use Rattle.std.proofs.Common.{◌≡◌, ◌≢◌, ◌==◌, ◌&&◌, if◌then◌else◌, ◌∙◌, ℕ, Bool, true, false, not, List, Some, is_some, option_and_then, slice_get, refl, sym, ap, subst, inl, inr}
-use Rattle.safety.proofs.Words.{list_any, cases_Bool, and_parts, and_from, or_parts, cond-true, cond-false, Block, code, slot, after, RingView, Reaches, floor_number, Command, NoOp, EnableSlot, DisableSlot, AddressDevice, ConfigureEndpoint, EvaluateContext, ResetEndpoint, StopEndpoint, SetTrDequeue, ResetDevice, command_of, may_answer_slot, named_slot, named_endpoint, can_succeed, slot_meant, endpoint_meant, slot_success, endpoint_success, is_slot_enabled, Change, changes, touches, Header, Config, IsHeader, shape_of, command_id, register_or_zero, Known, on_ring, command_at, next_command, changed_by_all, succeeded, stop_ended, finished, completed, touches_endpoint, was_stop_seen, can_finish}
+use Rattle.safety.proofs.Words.{◌≡◌, ◌≢◌, ◌==◌, if◌then◌else◌, ◌∙◌, ℕ, true, false, List, Some, is_some, option_and_then, slice_get, refl, sym, ap, subst, rules, list_any, and_parts, and_from, or_parts, cond-true, cond-false, Block, code, slot, after, RingView, Reaches, floor_number, Command, ResetEndpoint, StopEndpoint, SetTrDequeue, command_of, named_endpoint, can_succeed, endpoint_meant, endpoint_success, Change, changes, touches, Header, Config, IsHeader, shape_of, command_id, register_or_zero, Known, on_ring, command_at, next_command, changed_by_all, succeeded, stop_ended, finished, completed, touches_endpoint, was_stop_seen, can_finish}
 use Rattle.safety.proofs.AlikeChanges.{both_sides_if}
 use Rattle.safety.proofs.SameDriver.{SameDriver}
 use Rattle.safety.proofs.StatesChanges.{FitAll}
@@ -18,34 +17,15 @@ module _ (h : Header) (r s i : ℕ) (k l : Known) (w : Woken h r (one_of s i) k 
   endpoint_same : (c : Command) → touches_endpoint h k s i c ≡ false → is_some (endpoint_success c (endpoint_meant k.endpoint_state (named_endpoint c))) ≡ true →
       is_some (endpoint_success c (endpoint_meant l.endpoint_state (named_endpoint c))) ≡ true
   unfolding touches_endpoint changes
-  endpoint_same (ResetEndpoint t j) apart may =
-      ap (λ e. is_some (endpoint_success (ResetEndpoint t j) e)) (w.state t j (flipped h r s i t j (or_parts (s == t && i == j) false apart).0)) ∙ may
-  endpoint_same (StopEndpoint t j) apart may =
-      ap (λ e. is_some (endpoint_success (StopEndpoint t j) e)) (w.state t j (flipped h r s i t j (or_parts (s == t && i == j) false apart).0)) ∙ may
-  endpoint_same (SetTrDequeue t j p cycle) apart may =
-      ap (λ e. is_some (endpoint_success (SetTrDequeue t j p cycle) e)) (w.state t j (flipped h r s i t j (or_parts (s == t && i == j) false apart).0)) ∙ may
-  endpoint_same NoOp apart may = may
-  endpoint_same EnableSlot apart may = may
-  endpoint_same (DisableSlot t) apart may = may
-  endpoint_same (AddressDevice t bsr a) apart may = may
-  endpoint_same (ConfigureEndpoint t dc a) apart may = may
-  endpoint_same (EvaluateContext t a) apart may = may
-  endpoint_same (ResetDevice t) apart may = may
+  endpoint_same (ResetEndpoint t j) apart may = search (rules, is_some, flipped, or_parts)
+  endpoint_same (StopEndpoint t j) apart may = search (rules, is_some, flipped, or_parts)
+  endpoint_same (SetTrDequeue t j p cycle) apart may = search (rules, is_some, flipped, or_parts)
+  endpoint_same _ apart may = search rules
 
   success_same : (n : ℕ) (c : Command) → touches_endpoint h k s i c ≡ false → can_succeed k.slot_state k.endpoint_state (register_or_zero k.register Config) n c ≡ true →
       can_succeed l.slot_state l.endpoint_state (register_or_zero l.register Config) n c ≡ true
   unfolding can_succeed
-  success_same n c apart may =
-      let config : ℕ = register_or_zero k.register Config in
-      let slot_may : Bool = is_some (slot_success c (k.slot_state (slot_meant n (named_slot c)))) in
-      let endpoint_may : Bool = is_some (endpoint_success c (endpoint_meant k.endpoint_state (named_endpoint c))) in
-      let outer = and_parts (slot_may && endpoint_may) (is_slot_enabled config n c) may in
-      let inner = and_parts slot_may endpoint_may outer.0 in
-      and_from (is_some (slot_success c (l.slot_state (slot_meant n (named_slot c)))) && is_some (endpoint_success c (endpoint_meant l.endpoint_state (named_endpoint c))))
-      (is_slot_enabled (register_or_zero l.register Config) n c)
-      (and_from (is_some (slot_success c (l.slot_state (slot_meant n (named_slot c))))) (is_some (endpoint_success c (endpoint_meant l.endpoint_state (named_endpoint c))))
-      (ap (λ f. is_some (slot_success c (f (slot_meant n (named_slot c))))) w.slot_state ∙ inner.0) (endpoint_same c apart inner.1))
-      (ap (λ f. is_slot_enabled (register_or_zero f Config) n c) d.register ∙ outer.1)
+  success_same n c apart may = search (rules, is_some, and_parts, and_from, endpoint_same)
 
   seen_same : (c : Command) → was_stop_seen l c ≡ was_stop_seen k c
   unfolding was_stop_seen
@@ -54,19 +34,7 @@ module _ (h : Header) (r s i : ℕ) (k l : Known) (w : Woken h r (one_of s i) k 
 
   pub finish_same : (b : Block) (c : Command) → touches_endpoint h k s i c ≡ false → can_finish k b (Some c) ≡ true → can_finish l b (Some c) ≡ true
   unfolding can_finish
-  finish_same b c apart may =
-      let mine : Bool = can_succeed k.slot_state k.endpoint_state (register_or_zero k.register Config) (slot b) c in
-      let theirs : Bool = can_succeed l.slot_state l.endpoint_state (register_or_zero l.register Config) (slot b) c in
-      let parts = and_parts (may_answer_slot (Some c) (slot b)) (if code b == 1 then mine else not (was_stop_seen k c)) may in
-      and_from (may_answer_slot (Some c) (slot b)) (if code b == 1 then theirs else not (was_stop_seen l c)) parts.0
-      (elim (cases_Bool (code b == 1)) [
-        | inl success ↦
-            cond-true (code b == 1) theirs (not (was_stop_seen l c)) success
-            ∙ success_same (slot b) c apart (sym (cond-true (code b == 1) mine (not (was_stop_seen k c)) success) ∙ parts.1)
-        | inr fails ↦
-            cond-false (code b == 1) theirs (not (was_stop_seen l c)) fails ∙ ap not (seen_same c)
-            ∙ (sym (cond-false (code b == 1) mine (not (was_stop_seen k c)) fails) ∙ parts.1)
-      ])
+  finish_same b c apart may = search (rules, and_parts, and_from, cond-true, success_same, cond-false, seen_same)
 
   stop_woken : (m n : Known) → Woken h r (one_of s i) m n → (c : Command) → Woken h r (one_of s i) (stop_ended h m c) (stop_ended h n c)
   unfolding stop_ended

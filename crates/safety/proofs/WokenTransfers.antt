@@ -1,6 +1,5 @@
 -- A Transfer Event that is possible where a ring is held: it is so where the ring was woken, and leaves it woken
-use Rattle.std.proofs.Common.{◌≡◌, ◌≢◌, ◌+◌, ◌≤◌, ◌&&◌, ◌||◌, if◌then◌else◌, ◌∙◌, ℕ, Bool, true, false, not, Option, None, Some, arith, refl, sym, ap, subst, inl, inr, ltb-true, lt-ltb}
-use Rattle.safety.proofs.Words.{cases_Bool, cases_eq, false≢true, and_parts, and_from, or_parts, or_from, not-false, not_from_true, same_Some, option_map, put_pair, Block, pointer, code, slot, endpoint, is_success, is_halting, is_trb_error, is_stopping, Spot, Data, Link, Shape, number, after, RingView, Reaches, Opens, Holds, changed, given_count, ceiling, is_data_below, is_open, is_stop_spot, is_step_given, is_way_given, stopped_number, given_count_same, ceiling_open, EndpointState, Halted, Error, is_off, is_running, Header, shape_of, Known, RingSpot, on_ring, spot_on, event_at, passed, broken_off, stopped_at, transferred, transferred_at, transfer_read, is_in_profile, is_working, is_stopping_now, can_report, can_report_at, is_impossible_transfer}
+use Rattle.safety.proofs.Words.{◌≡◌, ◌≢◌, ◌+◌, ◌≤◌, ◌&&◌, ◌||◌, if◌then◌else◌, ◌∙◌, ℕ, Bool, true, false, not, Option, None, Some, arith, refl, sym, ap, subst, ltb-true, lt-ltb, rules, false≢true, and_parts, and_from, or_parts, or_from, not-false, not_from_true, same_Some, option_map, Block, pointer, code, slot, endpoint, is_success, is_halting, is_trb_error, is_stopping, Spot, Data, Link, Shape, number, after, RingView, Opens, Holds, changed, given_count, ceiling, is_data_below, is_open, is_stop_spot, is_step_given, is_way_given, given_count_same, ceiling_open, EndpointState, Halted, Error, is_off, is_running, Header, shape_of, Known, RingSpot, on_ring, spot_on, event_at, passed, broken_off, stopped_at, transferred, transferred_at, transfer_read, is_in_profile, is_working, is_stopping_now, can_report, can_report_at, is_impossible_transfer}
 use Rattle.safety.proofs.AlikeTransfers.{both_sides, chain_from}
 use Rattle.safety.proofs.AlikeChanges.{both_sides_if}
 use Rattle.safety.proofs.SameDriver.{SameDriver}
@@ -40,14 +39,7 @@ module _ (h : Header) (r : ℕ) (S : ℕ → ℕ → Bool) (k l : Known) (w : Wo
 
     stopped_woken : Woken h r S (stopped_at h k s i q t) (stopped_at h l s i q t)
     unfolding stopped_at on_ring
-    stopped_woken =
-        let m : ℕ = stopped_number (shape_of h q) (k.ring q) t in
-        let x : Known = on_ring h k q (Holds m) in
-        let y : Known = on_ring h l q (Holds m) in
-        subst (λ v. Woken h r S (stopped_at h k s i q t) (let z : Known = record (on_ring h (on_ring h l q (Holds (stopped_number (shape_of h q) v t))) q (Reaches t)) { stop_seen = put_pair l.stop_seen s i true } in z))
-        (sym (w.rings q other))
-        (woken_seen h r S (on_ring h x q (Reaches t)) (on_ring h y q (Reaches t)) s i true
-        (woken_reach h r S x y (woken_elsewhere h r S k l w q (Holds m) other) q t))
+    stopped_woken = search (rules, woken_seen, woken_reach, woken_elsewhere)
 
   transferred_woken : (c s i q : ℕ) (t : Spot) → (is_success c ≡ false → (q ≢ r) × (S s i ≡ false)) → Woken h r S (transferred h k c s i q t) (transferred h l c s i q t)
   unfolding transferred broken_off on_ring passed
@@ -63,24 +55,12 @@ module _ (h : Header) (r : ℕ) (S : ℕ → ℕ → Bool) (k l : Known) (w : Wo
   module _ (held : is_open (k.ring r) ≡ false) (within : ceiling (shape_of h r) (k.ring r) ≤ given_count (shape_of h r) (k.ring r))
       (mine : (s i : ℕ) → S s i ≡ true → k.ring_of s i ≡ Some r) (stopping : (s i : ℕ) → is_stopping_now h k s i ≡ true → is_stopping_now h l s i ≡ true) where
     below_woken : (q : ℕ) (t : Spot) → is_data_below (ceiling (shape_of h q) (k.ring q)) t ≡ true → is_data_below (ceiling (shape_of h q) (l.ring q)) t ≡ true
-    below_woken q t below =
-        elim (cases_eq q r) [
-          | inl same ↦
-              subst (λ n. is_data_below (ceiling (shape_of h n) (k.ring n)) t ≡ true → is_data_below (ceiling (shape_of h n) (l.ring n)) t ≡ true) (sym same)
-              (below_further (ceiling (shape_of h r) (k.ring r)) (ceiling (shape_of h r) (l.ring r)) t
-              (omega (arith, within, ap (λ v. ceiling (shape_of h r) v) w.own, opened_ceiling (shape_of h r) (k.ring r)))) below
-          | inr other ↦ ap (λ v. is_data_below (ceiling (shape_of h q) v) t) (w.rings q other) ∙ below
-        ]
+    below_woken q t below = search (rules, below_further, opened_ceiling)
 
     -- an endpoint that works hasn't the ring that is held
     works_apart : (s i q : ℕ) → k.ring_of s i ≡ Some q → is_working k s i q ≡ true → (q ≢ r) × (S s i ≡ false)
     unfolding is_working
-    works_apart s i q has works =
-        let opened : is_open (k.ring q) ≡ true = (and_parts (is_running (k.endpoint_state s i)) (is_open (k.ring q)) works).1 in
-        let other : q ≢ r = λ same. false≢true (sym held ∙ ap (λ n. is_open (k.ring n)) (sym same) ∙ opened) in (
-          other,
-          elim (cases_Bool (S s i)) [ inl in_it ↦ absurd (other (same_Some q r (sym has ∙ mine s i in_it))) | inr out ↦ out ],
-        )
+    works_apart s i q has works = search (rules, and_parts, false≢true, same_Some)
 
     working_woken : (s i q : ℕ) → (q ≢ r) × (S s i ≡ false) → is_working k s i q ≡ true → is_working l s i q ≡ true
     unfolding is_working
@@ -89,21 +69,7 @@ module _ (h : Header) (r : ℕ) (S : ℕ → ℕ → Bool) (k l : Known) (w : Wo
 
     report_woken : (c s i q : ℕ) (t : Spot) → k.ring_of s i ≡ Some q → can_report h k c s i q t ≡ true → can_report h l c s i q t ≡ true
     unfolding can_report
-    report_woken c s i q t has can =
-        let low : Bool = is_data_below (ceiling (shape_of h q) (k.ring q)) t in
-        let high : Bool = is_data_below (ceiling (shape_of h q) (l.ring q)) t in
-        chain_from (is_success c) (is_halting c || is_trb_error c) low (low && is_working k s i q) (is_working k s i q && is_stopping_now h k s i && is_stop_spot (shape_of h q) (k.ring q) t)
-        high (high && is_working l s i q) (is_working l s i q && is_stopping_now h l s i && is_stop_spot (shape_of h q) (l.ring q) t) (below_woken q t)
-        (λ x.
-        let p = and_parts low (is_working k s i q) x in
-        and_from high (is_working l s i q) (below_woken q t p.0) (working_woken s i q (works_apart s i q has p.1) p.1))
-        (λ x.
-        let p = and_parts (is_working k s i q && is_stopping_now h k s i) (is_stop_spot (shape_of h q) (k.ring q) t) x in
-        let y = and_parts (is_working k s i q) (is_stopping_now h k s i) p.0 in
-        let apart = works_apart s i q has y.0 in
-        and_from (is_working l s i q && is_stopping_now h l s i) (is_stop_spot (shape_of h q) (l.ring q) t)
-        (and_from (is_working l s i q) (is_stopping_now h l s i) (working_woken s i q apart y.0) (stopping s i y.1))
-        (ap (λ v. is_stop_spot (shape_of h q) v t) (w.rings q apart.0) ∙ p.1)) can
+    report_woken c s i q t has can = search (rules, chain_from, below_woken, and_parts, and_from, working_woken, works_apart)
 
     report_apart : (c s i q : ℕ) (t : Spot) → k.ring_of s i ≡ Some q → can_report h k c s i q t ≡ true → is_success c ≡ false → (q ≢ r) × (S s i ≡ false)
     unfolding can_report
@@ -122,11 +88,7 @@ module _ (h : Header) (r : ℕ) (S : ℕ → ℕ → Bool) (k l : Known) (w : Wo
     )
 
     off_woken : (s i : ℕ) → is_off (k.endpoint_state s i) ≡ false → is_off (l.endpoint_state s i) ≡ false
-    off_woken s i on =
-        elim (cases_Bool (S s i)) [
-          | inl in_it ↦ ap is_off (w.awake s i in_it)
-          | inr out ↦ ap is_off (w.state s i out) ∙ on
-        ]
+    off_woken s i on = search rules
 
     module _ (d : SameDriver k l) where
       spot_same : (p : ℕ) (o : Option ℕ) → spot_on h l p o ≡ spot_on h k p o

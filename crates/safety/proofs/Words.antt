@@ -24,7 +24,7 @@ pub use Rattle.event_ring.specs.EventRing.{AreInOrder, erdp_address, has_room, i
 pub use Rattle.guest_memory.specs.Memory.{put, put_pair}
 pub use Rattle.ownership_rules.proofs.Among.{IsIn, any_of, both_ways, from_filter, in_filter, some_of}
 unfoldable pub use Rattle.ownership_rules.specs.Areas.{is_bad_area, is_in_range_lease, is_soiled}
-pub use Rattle.ownership_rules.specs.Clean.{IsLenient}
+pub use Rattle.ownership_rules.specs.Clean.{IsClean, IsLenient}
 unfoldable pub use Rattle.ownership_rules.specs.Commands.{has_bad_content, has_bad_context, is_bad_command, names_disabled_endpoint, names_disabled_slot}
 unfoldable pub use Rattle.ownership_rules.specs.Declarations.{declaration_tests, is_driver_ring}
 unfoldable pub use Rattle.ownership_rules.specs.Doorbells.{doorbell_tests, is_bad_bell, is_bad_doorbell, is_touched, touches_endpoint}
@@ -34,11 +34,11 @@ unfoldable pub use Rattle.ownership_rules.specs.Moves.{binding_in, binds, binds_
 pub use Rattle.ownership_rules.specs.OpenLeases.{DeviceContext, InputContext, Leased, Range, SegmentTable, SlotEntry, Use}
 unfoldable pub use Rattle.ownership_rules.specs.OpenLeases.{context_ranges, covers, device_ranges, entry_ranges, is_leased, is_the_controllers, lease_bytes, lease_start, open_leases, open_on, open_ranges, range_of_command, range_of_context, range_of_device, range_of_entry, segment_ranges, slots, table_range}
 pub use Rattle.ownership_rules.specs.Refusal.{Test, broken_of}
-unfoldable pub use Rattle.ownership_rules.specs.Registers.{is_bad_crcr, is_bad_erdp, is_bad_register, is_bad_size, is_wrong_start, names_no_place, is_early_start, is_late_reset, is_no_first_block, is_unwritten, is_written, may_pass, register_tests}
-unfoldable pub use Rattle.ownership_rules.specs.Rules.{lenient, lenient_tests}
+unfoldable pub use Rattle.ownership_rules.specs.Registers.{is_bad_crcr, is_bad_erdp, is_bad_register, is_wrong_start, names_no_place, is_early_start, is_late_reset, is_no_first_block, is_unwritten, may_pass, register_tests}
+unfoldable pub use Rattle.ownership_rules.specs.Rules.{broken, lenient, lenient_tests, tests}
 unfoldable pub use Rattle.ownership_rules.specs.Writes.{changes_owned, holds_of, on_crossing, on_position, some_command, some_crossed, some_given, write_tests}
 pub use Rattle.ownership_rules.specs.declared.refusal.Refusal.{Refusal}
-pub use Rattle.ownership_rules.specs.declared.refusal.Refusal.TheVariants.{AfterStop, BadDescriptor, BadDoorbell, BadErdp, BadRegister, ImpossibleEvent, NotDeclared, NotInProfile, RingFull}
+pub use Rattle.ownership_rules.specs.declared.refusal.Refusal.TheVariants.{AfterStop, BadDescriptor, BadErdp, BadRegister, ImpossibleEvent, NotDeclared, NotInProfile, RingFull}
 unfoldable pub use Rattle.ring_knowledge.specs.Completions.{bound_to, changed_by, changed_by_all, completed, disabled, finished, held_at_ceiling, in_state, moved, moved_to, pointed, set_to, stop_ended, succeeded}
 pub use Rattle.ring_knowledge.specs.Known.{Known}
 unfoldable pub use Rattle.ring_knowledge.specs.Known.{nothing}
@@ -53,71 +53,71 @@ pub use Rattle.safety.specs.EndpointsKeep.{EndpointsKeep, is_transfer_ring}
 pub use Rattle.safety.specs.Headline.{Headline, IsHarmless}
 pub use Rattle.safety.specs.Invariant.{ArePossible, Ended, Runs, all_read}
 pub use Rattle.safety.specs.Keeps.{CommandKeeps, CommandRingKeeps, CommandRingNamed, DeviceKeeps, DriverKeeps, IsDriverRing, IsTransferRing, IsUnfinished, MovesIf, StatesKeep, Stays, StaysIf, Unstarted}
-pub use Rattle.safety.specs.KeptHistories.{AreDriverRows, IsDriverRow, MayRead, MayReadAll, StillReads, StillReadsAll}
+pub use Rattle.safety.specs.KeptHistories.{IsDriverRow, MayRead, MayReadAll, StillReads}
 pub use Rattle.safety.specs.KeptStep.{CommandsKeep, DevicesKeep, KeptByRestoring, KeptByRows}
 pub use Rattle.safety.specs.Matches.{Agrees, BoundRing, CommandMatches, EndpointRing, FreeRing, IsUnchanged, Matches, Newest, NotStarted, RingMatches, RingState, TakenCommand, UnderWayMatches, Unreported, state_of}
 pub use Rattle.safety.specs.Placings.{AreFree, MayChange, MayChangeAll, MayFinish, MayPoint, MovesOn, StillHolds}
 pub use Rattle.safety.specs.Restoring.{AreRestored, EndpointRestored, IsRestoring, KeepsPassed, MayCome, MovesRestored}
 pub use Rattle.safety.specs.RingsKeep.{PassesNoMore, RingKept, RingsKeep, RingsKept}
 pub use Rattle.safety.specs.Stands.{EventsStand, Stands, touches_events}
-pub use Rattle.segments.proofs.Crossings.{crossed_link, crosses, cycle_of-crossed, is_crossing-lap, link_address-lap, link_address_is, link_target-crossed}
+pub use Rattle.segments.proofs.Crossings.{crossed_link, crosses, crossing_positive, cycle_of-crossed, is_crossing-lap, link_address-lap, link_address_is, link_target-crossed}
 pub use Rattle.segments.proofs.DataPlaces.{link_aligned, link_ends}
 pub use Rattle.segments.proofs.Declaring.{declares_keeps, given_count-declares, slice_get-append}
-pub use Rattle.segments.proofs.DueLists.{crossing_given, leased_crossing, leased_position, no_flips, position_given, position_given_is, shown_where_restored}
+pub use Rattle.segments.proofs.DueLists.{crossing_given, leased_crossing, leased_position, no_flips, none_passes_at, position_given, position_given_is, shown_where_restored, unrestored_position}
 pub use Rattle.segments.proofs.Elsewhere.{address_inside, link_address_inside}
 pub use Rattle.segments.proofs.GivenCount.{given_below, given_count_grows, given_count_same, given_count_stops}
-pub use Rattle.segments.proofs.Giving.{IsCrossingDue, crossing_due_from, due_from, due_is, gives_crossing_from, gives_crossing_is, gives_from, gives_is}
+pub use Rattle.segments.proofs.Giving.{IsCrossingDue, crossing_due_from, crossing_due_is, due_from, due_is, gives_crossing_from, gives_crossing_is, gives_from, gives_is}
 pub use Rattle.segments.proofs.InsideLemmas.{rings_apart, touches-word}
 pub use Rattle.segments.proofs.MemoryWords.{put_elsewhere, put_here}
 pub use Rattle.segments.proofs.MoveTargets.{between, move_target}
 pub use Rattle.segments.proofs.MovesStay.{is_border-push, move-declares, move-writes, move_more, placement_still}
-pub use Rattle.segments.proofs.Named.{IsAhead, below_is, ceiling_held, ceiling_open, ceiling_within, found_is, named_ahead, start_reached, target_ahead}
+pub use Rattle.segments.proofs.Named.{IsAhead, below_is, ceiling_held, ceiling_open, ceiling_within, found_is, named_ahead, target_ahead}
 pub use Rattle.segments.proofs.NamedSpots.{IsNamed, named_spot-Some, named_spot-is, named_spot-near}
 pub use Rattle.segments.proofs.NewRing.{new_ring_keeps}
 pub use Rattle.segments.proofs.OneGiving.{gives_one, positions_given-one}
-pub use Rattle.segments.proofs.Positions.{address_aligned, address_ends, address_of-lap, cycle_of-first, cycle_of_bit, place_count_pos, same_in_lap, same_place_of}
+pub use Rattle.segments.proofs.Positions.{address_aligned, address_ends, address_of-lap, cycle_of-first, cycle_of_bit, cycle_of_flips, place_count_pos, same_in_lap, same_place_of}
 pub use Rattle.segments.proofs.ReachedSpots.{after_reached, move_reached, number-after, stop_spot_reached, stopped_within}
-pub use Rattle.segments.proofs.Reaching.{crossed_due, floor_given, given_count_declared, given_count_near, holds_and_reaches_keeps, holds_keeps, opens_keeps, reached_given, reaches_and_holds_keeps, reaches_keeps}
+pub use Rattle.segments.proofs.Reaching.{crossed_due, floor_given, given_count_declared, given_count_near, holds_and_reaches_keeps, holds_keeps, kept_cycle, opens_keeps, reached_given, reaches_and_holds_keeps, reaches_keeps}
 pub use Rattle.segments.proofs.Search.{cases_option}
 pub use Rattle.segments.proofs.ShapeFacts.{shape_facts}
 pub use Rattle.segments.proofs.SpotOrder.{next_is_spot, next_later, next_least, rank_least, rank_most, same_spot, spot_address-after, spot_cycle-after}
 pub use Rattle.segments.proofs.StepFacts.{GivesMore, step_is, step_more, whole_is, whole_more}
 pub use Rattle.segments.proofs.Writing.{given_count-writes, writes_keeps, writes_more}
 unfoldable pub use Rattle.segments.specs.Ceiling.{ceiling, given_count, is_data_below, is_open, is_step_given, is_stop_spot, is_way_given, named, stopped_number}
-pub use Rattle.segments.specs.Descriptors.{DeclaredBlock}
+pub use Rattle.segments.specs.Descriptors.{DeclaredBlock, no_ops, split_at}
 unfoldable pub use Rattle.segments.specs.Descriptors.{declared_at, is_border, length_from}
 pub use Rattle.segments.specs.Givings.{same}
-unfoldable pub use Rattle.segments.specs.Givings.{descriptor_length, flips_passed, unrestored, has_no_room, interrupts, is_declared_as, is_not_declared, is_not_whole, is_other_than_declared, is_wrong_link, leads_wrong}
+unfoldable pub use Rattle.segments.specs.Givings.{descriptor_length, flips_passed, has_no_room, interrupts, is_declared_as, is_not_declared, is_not_restored, is_not_whole, is_other_than_declared, is_wrong_link, leads_wrong, unrestored}
 unfoldable pub use Rattle.segments.specs.Moves.{is_move, is_placement, is_reached, is_target, may_move_to, spots_between, target}
 pub use Rattle.segments.specs.Places.{address_of, cycle_of, data_places, is_crossing, is_in, is_inside, link_address, link_crossed, link_target, overlap, place_count, segment_has, toggles}
 pub use Rattle.segments.specs.RingKeeps.{IsRestored, IsShownTo, MayDeclare, MayReach, MayWrite, RingKeeps}
-pub use Rattle.segments.specs.RingView.{is_handed_over, Declares, Holds, Opens, Reaches, RingChange, RingView, Writes, changed, declared, floor_number, gives, gives_crossing, is_crossing_due, is_due}
+pub use Rattle.segments.specs.RingView.{Declares, Holds, Opens, Reaches, Restores, RingChange, RingView, Withdraws, Writes, changed, declared, floor_number, gives, gives_crossing, is_crossing_due, is_due, is_handed_over, new_ring}
 unfoldable pub use Rattle.segments.specs.RingView.{crossings_given, due_crossings, due_positions, leased_crossings, leased_positions, positions_given}
-pub use Rattle.segments.specs.Shape.{IsShape, is_shape}
+pub use Rattle.segments.specs.Shape.{IsShape, is_shape, rings_overlap, segments_overlap}
 pub use Rattle.segments.specs.ShapeValue.{Shape}
 pub use Rattle.segments.specs.Spots.{IsSpot, after, is_spot, named_spot, number, rank, spot_address, spot_cycle}
 pub use Rattle.segments.specs.declared.spot.Spot.{Spot}
 pub use Rattle.segments.specs.declared.spot.Spot.TheVariants.{Data, Link}
-pub use Rattle.std.proofs.Math.Nat.{mod-eq_of_lt, mod-lt}
+pub use Rattle.std.proofs.Math.Nat.{mod-eq_of_lt}
 pub use Rattle.std.proofs.Math.Path.{fun_ext}
 pub use Rattle.std.proofs.lemmas.Bool.{and_cases, and_from, and_left, and_parts, and_right, cases_Bool, cases_eq, cases_lt, cond-false, cond-true, cond_both, eqb-false, false_from_ne_true, false≢true, lt-leb, not-false, not-true, not_from_false, not_from_true, or_cases, or_from, or_left, or_parts, or_right}
 pub use Rattle.std.proofs.lemmas.List.{drop_all, get_or-append_right, get_or-map, length-map, reverse-append}
 pub use Rattle.std.proofs.lemmas.List.Elements.{All-append, All-cons, All-contains, All-filter, All-get_or, All-head, All-nil, All-push, All-tail, All-weaker}
-pub use Rattle.std.proofs.lemmas.List.Folds.{Any-from_list_any, list_any-append, list_any_at}
+pub use Rattle.std.proofs.lemmas.List.Folds.{Any-from_list_any, find-append, list_any-append, list_any_at}
 pub use Rattle.std.proofs.lemmas.List.FromFn.{get_or-map-range_with_len, length-map-range_with_len, map-range_with_len_more}
 pub use Rattle.std.proofs.lemmas.List.Quantifiers.{position-Some}
 pub use Rattle.std.proofs.lemmas.List.Sums.{sum_by-cons}
 pub use Rattle.std.proofs.lemmas.Nat.{mod_below}
 pub use Rattle.std.proofs.lemmas.Option.{cond_some, get_or_from_slice_get, none-some, same_Some, slice_get-get_or, slice_get_past, slice_get_within}
 pub use Rattle.std.specs.List.{cons_option, filter_map, flat_map, list_all, list_any, range_with_len}
-pub use Rattle.std.specs.Option.{option_map}
+pub use Rattle.std.specs.Option.{option_map, option_or}
 pub use Rattle.traces.specs.Header.{IsHeader, clash, id_of, id_or_none, is_command_kind, is_driver_kind, is_event_kind, is_ring, is_transfer_kind, may_stand_together, ring_with, shape_or}
 unfoldable pub use Rattle.traces.specs.Header.{command_id, command_ring, driver_rings, event_ring, event_shape, event_size, ring_having, shape_of, some_ring, touches_ring}
 pub use Rattle.traces.specs.Register.{base_address, command_abort, command_stop, register_or_zero, reset_bit, ring_cycle_state, run_bit, same_register, with_register}
 pub use Rattle.traces.specs.Rows.{IsRow, IsStep}
 pub use Rattle.traces.specs.declared.header.Header.{Header}
 pub use Rattle.traces.specs.declared.register.Register.{Register}
-pub use Rattle.traces.specs.declared.register.Register.TheVariants.{Config, Crcr, Dcbaap, Dnctrl, Erdp, Erstba, Erstsz, Iman, Imod, Usbcmd, Usbsts}
+pub use Rattle.traces.specs.declared.register.Register.TheVariants.{Config, Crcr, Dcbaap, Erdp, Erstba, Erstsz, Usbcmd}
 pub use Rattle.traces.specs.declared.ring.Ring.{Ring}
 pub use Rattle.traces.specs.declared.row.Row.{Row}
 pub use Rattle.traces.specs.declared.row.Row.TheVariants.{Bell, Read, Reg, Sub, Write}
@@ -127,7 +127,7 @@ pub use Rattle.trb.proofs.BlockLemmas.{cycle-with_cycle, endpoint-with_cycle, is
 pub use Rattle.trb.specs.Bits.{is_set}
 pub use Rattle.trb.specs.Block.{IsBlock, aligned, block_at, code, cycle, endpoint, kind, pointer, same_words, slot, with_cycle, word}
 pub use Rattle.trb.specs.CompletionCode.{is_halting, is_stopping, is_success, is_transfer_code, is_trb_error}
-pub use Rattle.trb.specs.Descriptor.{has_left_out_field, has_left_out_type, has_other_type, is_bad_descriptor, is_badly_formed, is_command_left_out, is_left_out, is_no_command, is_transfer_arrangement}
+pub use Rattle.trb.specs.Descriptor.{has_left_out_field, is_bad_descriptor, is_badly_formed, is_command_left_out, is_left_out, is_no_command}
 pub use Rattle.trb.specs.Kind.{is_command, is_command_completion, is_event, is_left_out_command, is_link, is_other_event, is_transfer, is_transfer_event}
 pub use Rattle.trb.specs.declared.block.Block.{Block}
 pub use Rattle.trb.specs.declared.kind.BlockKind.{BlockKind}
@@ -141,3 +141,18 @@ pub use Rattle.world_state.specs.World.{Placed, RingEvent, Took, UnderWay, World
 unfoldable pub use Rattle.world_state.specs.World.{opening, stored, stored_block}
 pub use Rattle.world_state.specs.declared.harm.Harm.{Harm}
 pub use Rattle.world_state.specs.declared.harm.Harm.TheVariants.{InputContextChanged, LooksOutside, PostsOverUnread, TakenOtherWords, TakenOutOfOrder, WaitsInsideDescriptor}
+pub use Rattle.std.proofs.Common.{All, Bool, Contains, List, None, Option, Some, [], add-zero, ap, append-nil, append_assoc, arith, cond, drop, drop-drop, eq-eqb, eqb-true, false, filter, find, get_or, if◌then◌else◌, inl, inr, is_none, is_some, le-leb, le-ltb, leb-false, leb-true, length, length-append, length-drop, lt-ltb, ltb-false, ltb-true, map, min, mod-lt, nat_le, nat_lt, ne_eqb, not, option_and_then, position, refl, reverse, rules, slice_get, slice_index, subst, suc, sum, sym, true, unwrap_or, zero, ℕ, ◌%◌, ◌&&◌, ◌*◌, ◌++◌, ◌+◌, ◌-◌, ◌/◌, ◌<◌, ◌==◌, ◌^◌, ◌||◌, ◌∙◌, ◌∷◌, ◌≡◌, ◌≢◌, ◌≤◌, ◌⊎◌}
+pub use Rattle.ring_knowledge.proofs.StopSpots.{way_without}
+pub use Rattle.ownership_rules.specs.Older.{stricter}
+pub use Rattle.controller_model.proofs.EndpointLemmas.{put_pair_same}
+pub use Rattle.ring_knowledge.proofs.Ranges.{none_each}
+pub use Rattle.segments.proofs.PlaceAtLemmas.{is_in-parts}
+pub use Rattle.controller_model.proofs.ScribbleLemmas.{any_in_range}
+pub use Rattle.segments.proofs.Withdrawing.{length-no_ops, restores_keeps, split_border, withdraws_keeps}
+pub use Rattle.safety.specs.RingChanges.Changes.{IsComing}
+unfoldable pub use Rattle.safety.specs.RingChanges.Changes.{emptied, forgotten, is_bad_free, is_bad_ring, is_bad_segment, is_had, shows_first_lap, with_ring, without_ring}
+pub use Rattle.safety.specs.RingChanges.Withdrawals.{restored}
+unfoldable pub use Rattle.safety.specs.RingChanges.Withdrawals.{has_stopped, is_bad_withdraw, is_left, restored_on, rests_with, ring_moved, ring_restored, some_flips, without_descriptor}
+pub use Rattle.segments.specs.declared.segment.Segment.{Segment}
+pub use Rattle.traces.specs.declared.trace_row.TraceRow.{TraceRow}
+pub use Rattle.safety.specs.RingChanges.Histories.{AreKept, FitsFields, IsKept, RingsHeadline, Scene, header_after, header_now, known_after, known_now, row_made, row_next, scene_reached, step_made}

@@ -1,6 +1,5 @@
 -- Behind an event that may be read a write gives the same command as before it, and breaks no rule that speaks of no command
-use Rattle.std.proofs.Common.{◌≡◌, ◌+◌, ◌<◌, ◌&&◌, ◌∷◌, ◌++◌, ◌∙◌, ℕ, not, Bool, true, false, List, [], length, map, slice_get, nat_le, None, option_and_then, arith, refl, sym, ap, subst, inl, inr, ◌||◌, ◌==◌, eq-eqb}
-use Rattle.safety.proofs.Words.{MayCome, list_any, range_with_len, fun_ext, not-true, cases_Bool, cond-false, false≢true, false_from_ne_true, and_parts, and_from, or_parts, or_from, put, Block, block_at, Shape, place_count, address_of, cycle_of, RingView, floor_number, gives, gives_crossing, due_positions, due_crossings, positions_given, crossings_given, length_from, is_declared_as, is_other_than_declared, is_not_declared, descriptor_length, is_not_whole, leads_wrong, interrupts, gives_is, gives_crossing_is, positions_given-one, whole_more, Command, Header, Write, Read, IsHeader, shape_of, command_id, driver_rings, Known, Given, Position, Crossing, given_of, given_by, command_at, command_given, learned, Test, broken_of, AfterStop, lenient_tests, lenient, on_position, on_crossing, holds_of, some_given, some_crossed, some_command, write_tests, is_leased, awaits_binding, is_being_moved, or_cases, or_left, or_right, IsIn, some_of, any_of, in_filter, from_filter, DriverKeeps, and_left, and_right, is_the_controllers, changes_owned}
+use Rattle.safety.proofs.Words.{◌≡◌, ◌+◌, ◌<◌, ◌&&◌, ◌∷◌, ◌++◌, ◌∙◌, ℕ, not, Bool, true, false, List, [], length, map, slice_get, nat_le, None, option_and_then, arith, refl, sym, ap, subst, inl, inr, ◌||◌, ◌==◌, eq-eqb, rules, MayCome, list_any, range_with_len, fun_ext, not-true, cases_Bool, cond-false, false≢true, false_from_ne_true, and_parts, and_from, or_parts, or_from, put, Block, block_at, Shape, place_count, address_of, cycle_of, RingView, floor_number, gives, gives_crossing, due_positions, due_crossings, positions_given, crossings_given, length_from, is_declared_as, is_other_than_declared, is_not_declared, descriptor_length, is_not_whole, leads_wrong, interrupts, gives_is, gives_crossing_is, positions_given-one, whole_more, Command, Header, Write, Read, IsHeader, shape_of, command_id, driver_rings, Known, Given, Position, Crossing, given_of, given_by, command_at, command_given, learned, Test, broken_of, lenient_tests, lenient, on_position, on_crossing, holds_of, some_given, some_crossed, some_command, write_tests, is_leased, awaits_binding, is_being_moved, or_cases, or_left, or_right, IsIn, some_of, any_of, in_filter, from_filter, DriverKeeps, and_left, and_right, is_the_controllers, changes_owned}
 use Rattle.safety.proofs.TestsPassed.{AllFail, clean_tests, tests_fail}
 use Rattle.safety.proofs.KeptWords.{KeepsCycles}
 use Rattle.safety.proofs.Writing.{free_or_same, keeps_cycles, not_the_controllers}
@@ -159,11 +158,7 @@ module _ (h : Header) (is : IsHeader h) (k : Known) (d : DriverKeeps h k) (a w :
   interrupts_was r q on = ap (λ m. interrupts (shape_of h r) m a w q) (sym memory_same) ∙ on
 
   waits_before : (r : ℕ) → (is_being_moved h l r || awaits_binding h l r) ≡ true → (is_being_moved h k r || awaits_binding h k r) ≡ true
-  waits_before r waits =
-      elim (or_cases (is_being_moved h l r) (awaits_binding h l r) waits) [
-        | inl moves ↦ or_left (is_being_moved h k r) (awaits_binding h k r) (moved_before h is k d e may r moves)
-        | inr binds ↦ or_right (is_being_moved h k r) (awaits_binding h k r) (awaits_before h is k d e may r binds)
-      ]
+  waits_before r waits = search (rules, l, or_cases, or_left, moved_before, or_right, awaits_before)
 
   -- the rules that speak of no command
   pub record RingRules (m : Known) : Type 0 where
@@ -181,11 +176,7 @@ module _ (h : Header) (is : IsHeader h) (k : Known) (d : DriverKeeps h k) (a w :
   fails = tests_fail h k (Write a w) clean.0
 
   still_same : (is_leased h l a && not (l.memory a == w)) ≡ false
-  still_same =
-      elim (free_or_same h k a w clean.0) [
-        | inl free ↦ and_left (is_leased h l a) (not (l.memory a == w)) (still_free h is k l b a free)
-        | inr same ↦ and_right (is_leased h l a) (not (l.memory a == w)) (ap not (eq-eqb (l.memory a) w (ap (λ m. m a) memory_same ∙ same)))
-      ]
+  still_same = search (rules, l, free_or_same, and_left, still_free, b, and_right, eq-eqb, memory_same)
 
   still_unowned : changes_owned h l a w ≡ false
   unfolding changes_owned
@@ -237,23 +228,4 @@ module _ (h : Header) (is : IsHeader h) (k : Known) (d : DriverKeeps h k) (a w :
 
     pub write_behind : lenient h l (Write a w) ≡ []
     unfolding lenient lenient_tests write_tests
-    write_behind =
-        let rules : RingRules l = rules_behind in
-        let stopped : l.stopped ≡ false = b.driver.stopped ∙ (clean_tests h k (Write a w) clean.0).0 in
-        cond-false l.stopped (AfterStop ∷ []) (broken_of (write_tests h l a w)) stopped
-        ∙ broken_none (write_tests h l a w) (
-          rules.unowned,
-          (
-            rules.declared_as,
-            (
-              rules.declared,
-              (
-                rules.whole,
-                (
-                  rules.leads,
-                  (no_command _, (or_from _ _ (or_from _ _ (no_command _) rules.unmoved) rules.unlinked, (or_from _ _ (no_command _) rules.inside, (no_command _, tt)))),
-                ),
-              ),
-            ),
-          ),
-        )
+    write_behind = search (rules, l, rules_behind, b, clean_tests, cond-false, broken_none, no_command, or_from)

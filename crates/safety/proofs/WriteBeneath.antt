@@ -1,6 +1,5 @@
 -- A write that gives no command and an event that isn't read yet may change places
-use Rattle.std.proofs.Common.{◌≡◌, ◌==◌, ◌&&◌, ◌∙◌, ℕ, not, Bool, [], None, refl, sym, ap, subst, inl, inr}
-use Rattle.safety.proofs.Words.{MayCome, none-some, fun_ext, put, Block, RingView, Writes, changed, Header, Write, Read, IsHeader, shape_of, Known, with_word, command_given, learned, lenient, DriverKeeps, HeldMore, Square}
+use Rattle.safety.proofs.Words.{◌≡◌, ℕ, [], None, refl, sym, subst, inl, inr, rules, MayCome, none-some, fun_ext, Block, RingView, Writes, changed, Header, Write, Read, IsHeader, shape_of, Known, with_word, command_given, learned, lenient, DriverKeeps, HeldMore, Square}
 use Rattle.safety.proofs.CleanRows.{event_facts}
 use Rattle.safety.proofs.Writing.{keeps_cycles}
 use Rattle.safety.proofs.SameDriver.{SameGiven, SameDriver, both_drivers}
@@ -52,30 +51,11 @@ module _ (h : Header) (is : IsHeader h) (k : Known) (d : DriverKeeps h k) (a w :
 
   pub word_driver : SameDriver behind (counted h m)
   unfolding with_word
-  word_driver = record {
-    started = sym b.driver.started;
-    stopped = sym b.driver.stopped;
-    register = sym b.driver.register;
-    memory = ap (λ f. put f a w) (sym b.driver.memory);
-    soiled = ap {B = ℕ → Bool} (λ f x. f x && not (x == a)) (sym b.driver.soiled);
-    reads = sym b.driver.reads;
-    dequeue = sym b.driver.dequeue;
-    rings = ring_given;
-  }
+  word_driver = search (rules, behind, counted, m, b, ring_given)
 
   states : SameStates behind beneath
   unfolding with_word
-  states =
-      let s : SameStates l beneath = states_from l beneath read.after in
-      record {
-        was_bound = s.was_bound;
-        slot_state = s.slot_state;
-        endpoint_state = s.endpoint_state;
-        ring_of = s.ring_of;
-        must_move = s.must_move;
-        stop_seen = s.stop_seen;
-        device = s.device;
-      }
+  states = search (rules, behind, beneath, l, states_from, read)
 
   word_after : HeldMore behind beneath
   unfolding with_word
@@ -85,16 +65,4 @@ module _ (h : Header) (is : IsHeader h) (k : Known) (d : DriverKeeps h k) (a w :
 module _ (h : Header) (is : IsHeader h) (k : Known) (d : DriverKeeps h k) (a w : ℕ) (e : Block) (clean : MayCome h k (Write a w)) (none : command_given h k a w ≡ None)
     (may : lenient h k (Read e) ≡ []) where
   pub write_square : Square h k (Write a w) e
-  write_square =
-      let l : Known = learned h k (Read e) in
-      let m : Known = with_word h k a w in
-      let behind : Known = with_word h l a w in
-      let then : learned h k (Write a w) ≡ m = written_word h k a w none in
-      let also : learned h l (Write a w) ≡ behind = written_word h l a w (command_behind h is k d a w e clean may ∙ none) in
-      record {
-        event = subst (λ x. lenient h x (Read e) ≡ []) (sym then) (read h is k d a w e clean may).possible;
-        row = (write_behind h is k d a w e clean may none, (passed_behind h is k d e may a w clean.1.0, λ c given. absurd (none-some c (sym (command_behind h is k d a w e clean may ∙ none) ∙ given))));
-        after = subst (λ x. HeldMore x (learned h (learned h k (Write a w)) (Read e))) (sym also)
-            (subst (λ x. HeldMore behind (learned h x (Read e))) (sym then) (word_after h is k d a w e clean may));
-        awake = refl;
-      }
+  write_square = search (rules, l, m, behind, written_word, command_behind, read, write_behind, passed_behind, none-some, word_after)

@@ -1,6 +1,5 @@
 -- A write leaves what unfinished commands read of contexts and device contexts
-use Rattle.std.proofs.Common.{◌≡◌, ◌≢◌, ◌+◌, ◌*◌, ◌/◌, ◌<◌, ◌≤◌, ◌==◌, ◌&&◌, ◌∙◌, ℕ, not, Bool, true, false, [], nat_le, nat_lt, Option, None, Some, option_and_then, arith, refl, sym, ap, inl, inr, lt-ltb, le-leb}
-use Rattle.safety.proofs.Words.{or_parts, or_from, and_left, and_from, false≢true, none-some, same_Some, is_in, is_inside, overlap, cases_option, address_inside, gives_is, put_elsewhere, Command, AddressDevice, named_context, is_disabled, is_off, device_context_bytes, input_context_bytes, Header, Write, IsHeader, shape_of, command_id, Known, learned, no_device, taken_device, device_named, command_given, is_bad_area, is_soiled, lenient, IsUnfinished, CommandKeeps, DriverKeeps, is_leased}
+use Rattle.safety.proofs.Words.{◌≡◌, ◌≢◌, ◌+◌, ◌*◌, ◌/◌, ◌<◌, ◌≤◌, ◌==◌, ◌&&◌, ◌∙◌, ℕ, not, Bool, true, false, [], nat_le, nat_lt, Option, None, Some, option_and_then, arith, refl, sym, ap, inl, inr, lt-ltb, le-leb, rules, or_parts, or_from, and_left, and_from, false≢true, none-some, same_Some, is_in, is_inside, overlap, cases_option, address_inside, gives_is, put_elsewhere, Command, AddressDevice, named_context, is_disabled, is_off, device_context_bytes, input_context_bytes, Header, Write, IsHeader, shape_of, command_id, Known, learned, no_device, taken_device, device_named, command_given, is_bad_area, is_soiled, lenient, IsUnfinished, CommandKeeps, DriverKeeps, is_leased}
 use Rattle.ownership_rules.specs.Commands as commands
 use Rattle.safety.proofs.KeptWords.{put_same}
 use Rattle.safety.proofs.Writing.{free_or_same}
@@ -37,12 +36,7 @@ module _ (h : Header) (is : IsHeader h) (k : Known) (d : DriverKeeps h k) (a w :
 
   -- a range under lease has the word as it was
   pub word_stays : (b len : ℕ) → (is_leased h k a ≡ false → overlap a 4 b len ≡ false) → (x : ℕ) → b ≤ x → x < b + len → l.memory x ≡ k.memory x
-  word_stays b len apart x low high =
-      ap (λ f. f x) (written_memory h k a w)
-      ∙ elim (free_or_same h k a w clean) [
-        | inl free ↦ put_elsewhere k.memory a w x (word_elsewhere a b len x (apart free) low high)
-        | inr same ↦ ap (λ f. f x) (put_same k.memory a w same)
-      ]
+  word_stays b len apart x low high = search (rules, l, written_memory, free_or_same, put_elsewhere, word_elsewhere, put_same)
 
   -- a device context that is taken
   pub rules_of : (e : ℕ × ℕ) (at : taken h k a w ≡ Some e) → DeviceRules h k e.0 e.1 (taking h k a w e clean at).takes.context
@@ -62,17 +56,7 @@ module _ (h : Header) (is : IsHeader h) (k : Known) (d : DriverKeeps h k) (a w :
     old_apart t e at = let s = (d.devices t e at).slot in device_apart h k n (input_context_bytes h.context_size) t e areas s.0 s.1 at
 
     now_apart : (t e : ℕ) → l.device t ≡ Some e → overlap n (input_context_bytes h.context_size) e (device_context_bytes h.context_size) ≡ false
-    now_apart t e at =
-        elim (cases_option (taken h k a w)) [
-          | inl none ↦ old_apart t e (ap (λ f. f t) (sym (written_device_none h k a w none)) ∙ at)
-          | inr some ↦
-              let f : ℕ × ℕ = some.0 in
-              at_number (λ (o : Option ℕ). o ≡ Some e → overlap n (input_context_bytes h.context_size) e (device_context_bytes h.context_size) ≡ false) k.device f.0 (Some f.1) t
-              (λ same here.
-              overlap_turned e (device_context_bytes h.context_size) n (input_context_bytes h.context_size)
-              (ap (λ x. overlap x (device_context_bytes h.context_size) n (input_context_bytes h.context_size)) (sym (same_Some f.1 e here)) ∙ apart f some.1))
-              (λ other before. old_apart t e before) (ap (λ g. g t) (sym (written_device h k a w f some.1)) ∙ at)
-        ]
+    now_apart t e at = search (rules, l, cases_option, taken, old_apart, written_device_none, at_number, overlap_turned, same_Some, written_device)
 
     now_clean : (i : ℕ) → i < input_context_bytes h.context_size / 4 → l.soiled (n + 4 * i) ≡ false
     now_clean i low =
@@ -88,22 +72,12 @@ module _ (h : Header) (is : IsHeader h) (k : Known) (d : DriverKeeps h k) (a w :
         ]
 
     still_good : commands.has_bad_context h l (Some n) ≡ false
-    still_good =
-        context_from h l n
-        (area_from h l n (input_context_bytes h.context_size)
-        (record { ends = areas.ends; rings = areas.rings; devices = devices_apart h l n (input_context_bytes h.context_size) now_apart }))
-        (is_soiled_from l n (input_context_bytes h.context_size) now_clean)
+    still_good = search (rules, l, context_from, area_from, areas, devices_apart, now_apart, is_soiled_from, now_clean)
 
   -- ---- device contexts under lease stay there
 
   pub device_stays : (s : ℕ) → k.device s ≢ None → l.device s ≢ None
-  device_stays s some none =
-      elim (cases_option (taken h k a w)) [
-        | inl idle ↦ some (ap (λ f. f s) (sym (written_device_none h k a w idle)) ∙ none)
-        | inr takes ↦
-            at_number (λ (o : Option ℕ). o ≡ None → ⊥) k.device takes.0.0 (Some takes.0.1) s (λ same here. none-some takes.0.1 (sym here)) (λ other before. some before)
-            (ap (λ g. g s) (sym (written_device h k a w takes.0 takes.1)) ∙ none)
-      ]
+  device_stays s some none = search (rules, l, cases_option, taken, written_device_none, at_number, none-some, written_device)
 
   taken_is : (s n : ℕ) (bsr : Bool) → command_given h k a w ≡ Some (AddressDevice s bsr n) → k.device s ≡ None → taken h k a w ≡ Some (s, device_named k s)
   unfolding taken_device no_device

@@ -1,6 +1,5 @@
 -- A write and an event that isn't read yet may change places, whether the write gives a command or not
-use Rattle.std.proofs.Common.{◌≡◌, ℕ, false, [], inl, inr}
-use Rattle.safety.proofs.Words.{MayCome, Block, cases_option, Header, Write, Read, IsHeader, IsRow, Known, command_given, learned, lenient, DriverKeeps, IsDriverRow, is_idle, Square}
+use Rattle.safety.proofs.Words.{◌≡◌, ℕ, false, [], inl, inr, MayCome, Block, cases_option, Header, Write, Read, IsHeader, IsRow, Known, command_given, learned, lenient, DriverKeeps, IsDriverRow, is_idle, Square}
 use Rattle.safety.proofs.WriteBeneath.{write_square}
 use Rattle.safety.proofs.GivenSquare.{given_square}
 

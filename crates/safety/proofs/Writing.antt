@@ -1,13 +1,12 @@
 -- A write that breaks no rule is one that each ring allows
-use Rattle.std.proofs.Common.{◌≡◌, ◌++◌, ◌∙◌, ℕ, Bool, false, List, [], map, All, sym, ap, subst, ◌&&◌, ◌==◌, ◌⊎◌, not, inl, inr, eqb-true}
-use Rattle.safety.proofs.Words.{MayCome, list_any, flat_map, or_parts, list_any-append, address_of, link_address, overlap, positions_given, crossings_given, leased_positions, leased_crossings, is_other_than_declared, is_not_declared, is_not_whole, leads_wrong, MayWrite, Header, Write, shape_of, driver_rings, Known, Given, Position, Crossing, given_of, given_by, covers, lease_start, lease_bytes, open_on, open_ranges, open_leases, is_leased, on_position, on_crossing, some_given, some_crossed, write_tests, lenient_tests, lenient, and_cases, not-false, is_the_controllers, changes_owned, IsHeader, RingKeeps}
+use Rattle.safety.proofs.Words.{◌≡◌, ◌++◌, ◌∙◌, ℕ, Bool, false, List, [], map, All, sym, ap, ◌⊎◌, inl, inr, eqb-true, rules, MayCome, list_any, flat_map, or_parts, list_any-append, address_of, link_address, overlap, positions_given, crossings_given, leased_positions, leased_crossings, is_other_than_declared, is_not_declared, is_not_whole, leads_wrong, MayWrite, Header, Write, shape_of, driver_rings, Known, Given, Position, Crossing, given_of, given_by, covers, lease_start, lease_bytes, open_on, open_ranges, open_leases, is_leased, on_position, on_crossing, some_given, some_crossed, write_tests, lenient_tests, lenient, and_cases, not-false, is_the_controllers, changes_owned, IsHeader, RingKeeps}
 use Rattle.ownership_rules.specs.OpenLeases.{Block, Link}
 use Rattle.safety.specs.RingsKeep.{IsDriverRing}
 use Rattle.safety.proofs.TestsPassed.{AllFail, tests_fail, each_fails, any_of_map}
 use Rattle.safety.proofs.RingsOfHeader.{HasRing, has_ring, none_of_ring, shape_allowed}
 use Rattle.safety.proofs.KeptWords.{KeepsCycles, free_keeps_cycles, same_keeps_cycles}
 
-none_of_both : {X : Type 0} (test : X → Bool) (xs ys : List X) → list_any test (xs ++ ys) ≡ false → (list_any test xs ≡ false) × (list_any test ys ≡ false)
+pub none_of_both : {X : Type 0} (test : X → Bool) (xs ys : List X) → list_any test (xs ++ ys) ≡ false → (list_any test xs ≡ false) × (list_any test ys ≡ false)
 none_of_both test xs ys none = or_parts (list_any test xs) (list_any test ys) (sym (list_any-append test xs ys) ∙ none)
 
 module _ (h : Header) (k : Known) (a w r : ℕ) (has : HasRing h r) where
@@ -26,21 +25,11 @@ module _ (h : Header) (k : Known) (a w r : ℕ) (has : HasRing h r) where
 
     pub blocks_free : All (λ p. overlap a 4 (address_of (shape_of h r) p) 16 ≡ false) (leased_positions (shape_of h r) (k.ring r))
     unfolding covers lease_start lease_bytes
-    blocks_free =
-        let each = each_fails (λ p. overlap a 4 (address_of (shape_of h has.ring.id) p) 16) (leased_positions has.ring.shape (k.ring has.ring.id))
-        (sym (any_of_map (covers h a 4) (Block has.ring.id) (leased_positions has.ring.shape (k.ring has.ring.id))) ∙ both.0) in
-        let by_shape : All (λ p. overlap a 4 (address_of (shape_of h has.ring.id) p) 16 ≡ false) (leased_positions (shape_of h r) (k.ring has.ring.id)) =
-        subst (λ s. All (λ p. overlap a 4 (address_of (shape_of h has.ring.id) p) 16 ≡ false) (leased_positions s (k.ring has.ring.id))) (sym has.shape) each in
-        subst (λ n. All (λ p. overlap a 4 (address_of (shape_of h n) p) 16 ≡ false) (leased_positions (shape_of h r) (k.ring n))) has.id by_shape
+    blocks_free = search (rules, each_fails, any_of_map, both)
 
     pub links_free : All (λ q. overlap a 4 (link_address (shape_of h r) q) 16 ≡ false) (leased_crossings (shape_of h r) (k.ring r))
     unfolding covers lease_start lease_bytes
-    links_free =
-        let each = each_fails (λ q. overlap a 4 (link_address (shape_of h has.ring.id) q) 16) (leased_crossings has.ring.shape (k.ring has.ring.id))
-        (sym (any_of_map (covers h a 4) (Link has.ring.id) (leased_crossings has.ring.shape (k.ring has.ring.id))) ∙ both.1) in
-        let by_shape : All (λ q. overlap a 4 (link_address (shape_of h has.ring.id) q) 16 ≡ false) (leased_crossings (shape_of h r) (k.ring has.ring.id)) =
-        subst (λ s. All (λ q. overlap a 4 (link_address (shape_of h has.ring.id) q) 16 ≡ false) (leased_crossings s (k.ring has.ring.id))) (sym has.shape) each in
-        subst (λ n. All (λ q. overlap a 4 (link_address (shape_of h n) q) 16 ≡ false) (leased_crossings (shape_of h r) (k.ring n))) has.id by_shape
+    links_free = search (rules, each_fails, any_of_map, both)
 
   -- of what the write gives of the ring the test fails
   of_ring : (passes : Given → Bool) → list_any passes (given_by h k a w) ≡ false → list_any passes (given_of h k a w r) ≡ false
@@ -77,11 +66,7 @@ module _ (h : Header) (k : Known) (a w : ℕ) (clean : lenient h k (Write a w) �
   -- it isn't under lease, or is written as it stands
   pub free_or_same : (is_leased h k a ≡ false) ⊎ (k.memory a ≡ w)
   unfolding changes_owned
-  free_or_same =
-      elim (and_cases (is_leased h k a) (not (k.memory a == w)) (or_parts (is_the_controllers h k a) (is_leased h k a && not (k.memory a == w)) not_owned).1) [
-        | inl free ↦ inl free
-        | inr same ↦ inr (eqb-true (k.memory a) w (not-false (k.memory a == w) same))
-      ]
+  free_or_same = search (rules, and_cases, or_parts, not_owned, eqb-true, not-false)
 
 -- of each command and transfer ring
 pub may_write : (h : Header) (k : Known) (a w : ℕ) → MayCome h k (Write a w) → is_leased h k a ≡ false → (r : ℕ) → IsDriverRing h r → MayWrite (shape_of h r) k.memory (k.ring r) a w

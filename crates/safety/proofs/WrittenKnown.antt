@@ -1,6 +1,5 @@
 -- What is known behind a write: the word, what it gives, and the device context that it takes
-use Rattle.std.proofs.Common.{◌≡◌, ◌<◌, ◌==◌, ◌&&◌, ◌||◌, ◌⊎◌, ◌∷◌, ◌∙◌, ℕ, not, true, false, zero, suc, [], Contains, Option, None, Some, option_and_then, slice_get, unwrap_or, arith, refl, sym, ap, subst, inl, inr}
-use Rattle.safety.proofs.Words.{cases_Bool, cond_both, or_cases, false≢true, mod_below, none-some, same_Some, put, Block, BlockKind, kind, slot, is_command_left_out, is_in, RingView, Writes, changed, is_due, gives, positions_given, position_given, positions_given-one, Command, command_of, command_by_kind, named_slot, device_context_bytes, Header, Write, IsHeader, shape_of, command_id, Known, learned, command_at, with_device, with_word, written, taken_device, command_given, IsDriverRing, IsUnfinished}
+use Rattle.safety.proofs.Words.{◌≡◌, ◌<◌, ◌==◌, ◌&&◌, ◌||◌, ◌⊎◌, ◌∙◌, ℕ, not, true, false, Contains, Option, None, Some, option_and_then, slice_get, unwrap_or, arith, refl, sym, ap, inl, inr, rules, cases_Bool, cond_both, or_cases, false≢true, mod_below, none-some, same_Some, put, Block, BlockKind, kind, slot, is_command_left_out, is_in, RingView, Writes, changed, is_due, gives, positions_given, position_given, positions_given-one, Command, command_of, command_by_kind, named_slot, device_context_bytes, Header, Write, IsHeader, shape_of, command_id, Known, learned, command_at, with_device, with_word, written, taken_device, command_given, IsDriverRing, IsUnfinished}
 use Rattle.trb.specs.declared.kind.BlockKind.TheVariants as kinds
 use Rattle.safety.proofs.Headers.{ring_shape}
 use Rattle.safety.proofs.CommandRing.{due_has_ring}
@@ -11,7 +10,7 @@ slot_or : Option Command → ℕ
 slot_or None = 0
 slot_or (Some c) = unwrap_or (named_slot c) 0
 
-slot_low : (b : Block) → slot b < 256
+pub slot_low : (b : Block) → slot b < 256
 slot_low b = mod_below _ 256 (omega arith)
 
 by_kind : (b : Block) (t : BlockKind) → slot_or (command_by_kind t b) < 256
@@ -103,18 +102,7 @@ module _ (h : Header) (k : Known) (a w : ℕ) where
     one_given : (p : ℕ) (c : Command) → IsDriverRing h (command_id h) → Contains (positions_given (shape_of h (command_id h)) (k.ring (command_id h)) a w) p → command_at h k p ≡ Some c →
         command_given h k a w ≡ Some c
     unfolding command_given
-    one_given p c ring here at =
-        let v : RingView = k.ring (command_id h) in
-        elim (positions_given-one (shape_of h (command_id h)) (ring_shape h is (command_id h) ring).is (k.ring (command_id h)) a w) [
-          | inl none ↦ let empty = subst (λ xs. Contains xs p) none here in absurd (omega (arith, empty.1))
-          | inr one ↦
-              let only = subst (λ xs. Contains xs p) one.1 here in
-              ap (λ xs. option_and_then (command_at h k) (slice_get xs 0)) one.1 ∙ ap (λ n. command_at h k n) (first_is one.0 p only) ∙ at
-        ]
-      where
-        first_is : (q p : ℕ) → Contains (q ∷ []) p → q ≡ p
-        first_is q p (zero, low, at) = at
-        first_is q p (suc n, low, at) = absurd (omega arith)
+    one_given p c ring here at = search (rules, positions_given-one, ring_shape, option_and_then, slice_get)
 
     pub unfinished_written : (p : ℕ) (c : Command) → IsUnfinished h after_write p c → IsUnfinished h k p c ⊎ GivesCommand p c
     unfolding command_at

@@ -130,11 +130,6 @@ crossing_positive shape q h = (let found = crossed_link shape q h in (crosses sh
 pub link_address_is : (shape : Shape) (q i : ℕ) → link_crossed shape q ≡ Some i → link_address shape q ≡ slice_index (links shape) i
 link_address_is shape q i h = ap (λ o. slice_index (links shape) (unwrap_or o 0)) h
 
--- an event ring has no Links
-pub no_crossing : (shape : Shape) → shape.kind ≡ Evt → (q : ℕ) → is_crossing shape q ≡ false
-no_crossing shape event zero = search rules
-no_crossing shape event (suc q) = search rules
-
 -- ---- from lap to lap
 
 -- a lap later the same Link is crossed

@@ -1,5 +1,6 @@
 -- Where data places and Links of a ring lie: on 16 byte boundaries, inside its segments, and apart
-use Rattle.segments.proofs.Words.{◌≡◌, ◌+◌, ◌-◌, ◌*◌, ◌%◌, ◌^◌, ◌<◌, ◌≤◌, ◌∷◌, ◌∙◌, ℕ, suc, true, List, [], length, slice_index, arith, ap, refl, inl, inr, get_or, add-zero, le-leb, lt-ltb, cases_lt, and_from, length-map, get_or-map, list_any_at, RingKind, Cmd, Evt, Xfer, Segment, Shape, data_count, data_places, place_count, links_of, links, segment_has, is_inside, IsShape, are_apart}
+use Rattle.std.proofs.Common.{rules}
+use Rattle.segments.proofs.Words.{◌≡◌, ◌+◌, ◌-◌, ◌*◌, ◌%◌, ◌^◌, ◌<◌, ◌≤◌, ◌∷◌, ◌∙◌, ℕ, suc, true, List, [], length, slice_index, arith, ap, get_or, add-zero, le-leb, lt-ltb, cases_lt, and_from, length-map, get_or-map, list_any_at, RingKind, Cmd, Evt, Xfer, Segment, Shape, data_count, data_places, place_count, links_of, links, segment_has, is_inside, IsShape, are_apart}
 use Rattle.segments.proofs.Blocks.{segment_at, places_of, before, LiesAt, place_lies, block_lies, same_segment, length-places_of-cons}
 use Rattle.segments.proofs.ShapeFacts.{IsSegment, shape_facts}
 
@@ -7,11 +8,7 @@ one_segment : (ss : List Segment) → are_apart ss ≡ true → (i j k l : ℕ) 
     k < (segment_at ss i).count → l < (segment_at ss j).count →
     (segment_at ss i).base + 16 * k < (segment_at ss j).base + 16 * l + 16 →
     (segment_at ss j).base + 16 * l < (segment_at ss i).base + 16 * k + 16 → i ≡ j
-one_segment ss apart i j k l hi hj hk hl near far =
-    elim (cases_lt ((segment_at ss i).base + 16 * k) ((segment_at ss j).base + 16 * l)) [
-      | inl lower ↦ same_segment ss apart i j ((segment_at ss j).base + 16 * l) hi hj (omega arith) (omega arith) (omega arith) (omega arith)
-      | inr upper ↦ same_segment ss apart i j ((segment_at ss i).base + 16 * k) hi hj (omega arith) (omega arith) (omega arith) (omega arith)
-    ]
+one_segment ss apart i j k l hi hj hk hl near far = search (rules, length, cases_lt, same_segment)
 
 same_offset : (a b k l : ℕ) → a ≡ b → a + 16 * k < b + 16 * l + 16 → b + 16 * l < a + 16 * k + 16 → k ≡ l
 same_offset a b k l e near far = omega arith
@@ -35,16 +32,7 @@ pub record IsPlace (shape : Shape) (i j k : ℕ) : Type 0 where
   pub is_segment : IsSegment shape.kind (segment_at shape.segments j)
 
 from_lies : (shape : Shape) → IsShape shape → (i j k : ℕ) → LiesAt shape.kind shape.segments i j k → IsPlace shape i j k
-from_lies shape is i j k lies =
-    let s : IsSegment shape.kind (segment_at shape.segments j) = (shape_facts shape is).each j lies.segment in
-    record {
-      segment = lies.segment;
-      block = lies.block;
-      number = lies.number;
-      address = lies.address;
-      inside = omega (arith, lies.block, s.data_within);
-      is_segment = s;
-    }
+from_lies shape is i j k lies = search (rules, shape_facts)
 
 -- every data place is a block of a segment
 pub place_is : (shape : Shape) → IsShape shape → (i : ℕ) → i < place_count shape → (j : ℕ) × (k : ℕ) × IsPlace shape i j k
@@ -123,11 +111,6 @@ places_apart shape is i j hi hj near far =
     (rw (here.address, there.address) at near) (rw (here.address, there.address) at far) in
     same_number i j b.0 a.0 a.1 b.1 (before shape.kind shape.segments) here.number there.number one.0 one.1
 
--- two data places at one address are one
-pub same_place : (shape : Shape) → IsShape shape → (i j : ℕ) → i < place_count shape → j < place_count shape →
-    slice_index (data_places shape) i ≡ slice_index (data_places shape) j → i ≡ j
-same_place shape is i j hi hj e = places_apart shape is i j hi hj (omega arith) (omega arith)
-
 -- a Link: the block behind the data of segment j
 pub record IsLink (shape : Shape) (j : ℕ) : Type 0 where
   pub segment : j < length shape.segments
@@ -138,13 +121,9 @@ pub record IsLink (shape : Shape) (j : ℕ) : Type 0 where
 link_lies : (kind : RingKind) (ss : List Segment) (j : ℕ) → j < length (links_of kind ss) → ((n : ℕ) → n < length ss → 2 ≤ (segment_at ss n).count) →
     (j < length ss) × (get_or (links_of kind ss) j 0 ≡ (segment_at ss j).base + 16 * data_count kind (segment_at ss j))
     × (data_count kind (segment_at ss j) < (segment_at ss j).count)
-link_lies Evt ss j h counts = absurd (omega arith)
-link_lies Cmd ss j h counts =
-    let inside : j < length ss = omega (arith, length-map ss (λ s. s.base + 16 * (s.count - 1))) in
-    (inside, get_or-map (λ s. s.base + 16 * (s.count - 1)) ss j (record { base = 0; count = 0 }) 0 inside, omega (arith, counts j inside))
-link_lies Xfer ss j h counts =
-    let inside : j < length ss = omega (arith, length-map ss (λ s. s.base + 16 * (s.count - 1))) in
-    (inside, get_or-map (λ s. s.base + 16 * (s.count - 1)) ss j (record { base = 0; count = 0 }) 0 inside, omega (arith, counts j inside))
+link_lies Evt ss j h counts = search (rules, length, get_or, length-map, get_or-map)
+link_lies Cmd ss j h counts = search (rules, length, get_or, length-map, get_or-map)
+link_lies Xfer ss j h counts = search (rules, length, get_or, length-map, get_or-map)
 
 pub link_is : (shape : Shape) → IsShape shape → (j : ℕ) → j < length (links shape) → IsLink shape j
 link_is shape is j h =
@@ -154,12 +133,7 @@ link_is shape is j h =
 
 -- a command or transfer ring has a Link in each segment
 pub length-links : (shape : Shape) → (shape.kind ≡ Evt → ⊥) → length (links shape) ≡ length shape.segments
-length-links shape other = links_in_each shape.kind shape.segments other
-  where
-    links_in_each : (kind : RingKind) (ss : List Segment) → (kind ≡ Evt → ⊥) → length (links_of kind ss) ≡ length ss
-    links_in_each Evt ss other = absurd (other refl)
-    links_in_each Cmd ss other = length-map ss (λ s. s.base + 16 * (s.count - 1))
-    links_in_each Xfer ss other = length-map ss (λ s. s.base + 16 * (s.count - 1))
+length-links shape other = search (rules, length, length-map)
 
 -- Links lie on 16 byte boundaries
 pub link_aligned : (shape : Shape) → IsShape shape → (j : ℕ) → j < length (links shape) → slice_index (links shape) j % 16 ≡ 0
@@ -185,11 +159,7 @@ link_inside shape is j b h l =
 pub links_apart : (shape : Shape) → IsShape shape → (i j : ℕ) → i < length (links shape) → j < length (links shape) →
     slice_index (links shape) i < slice_index (links shape) j + 16 →
     slice_index (links shape) j < slice_index (links shape) i + 16 → i ≡ j
-links_apart shape is i j hi hj near far =
-    let here = link_is shape is i hi in
-    let there = link_is shape is j hj in
-    (same_block shape is i j _ _ here.segment there.segment here.inside there.inside
-    (rw (here.address, there.address) at near) (rw (here.address, there.address) at far)).0
+links_apart shape is i j hi hj near far = search (rules, length, slice_index, link_is, same_block)
 
 -- two Links at one address are one
 pub same_link : (shape : Shape) → IsShape shape → (i j : ℕ) → i < length (links shape) → j < length (links shape) →

@@ -1,5 +1,5 @@
 -- Which numbers stand in the lists of due, given and leased positions and crossings
-use Rattle.segments.proofs.Words.{is_handed_over, IsShownTo, IsRestored, unrestored, flips_passed, ceiling, address_of, cycle_of, nat_lt, ◌==◌, ◌%◌, list_any, list_any_at, false_from_ne_true, false≢true, if◌then◌else◌, ◌≡◌, ◌+◌, ◌-◌, ◌<◌, ◌≤◌, ◌&&◌, ◌∷◌, ◌∙◌, ℕ, not, Bool, true, false, List, [], length, Contains, filter, suc, zero, arith, refl, sym, ap, subst, inl, inr, get_or, range_with_len, cases_Bool, and_parts, and_from, not-true, not_from_false, cond-true, cond-false, All-contains, All-filter, All-contains_itself, filter_passes, Contains-append_right, length-range_with_len, get_or-range_with_len, Shape, place_count, is_crossing, RingView, floor_number, is_due, is_crossing_due, gives, gives_crossing, due_positions, due_crossings, positions_given, crossings_given, leased_positions, leased_crossings}
+use Rattle.segments.proofs.Words.{is_handed_over, IsShownTo, IsRestored, unrestored, flips_passed, ceiling, address_of, cycle_of, nat_lt, ◌==◌, ◌%◌, list_any, list_any_at, false_from_ne_true, false≢true, ◌≡◌, ◌+◌, ◌-◌, ◌<◌, ◌≤◌, ◌&&◌, ◌∷◌, ◌∙◌, ℕ, not, Bool, true, false, List, [], length, Contains, filter, suc, zero, arith, refl, sym, ap, subst, inl, inr, get_or, range_with_len, cases_Bool, and_parts, and_from, not-true, not_from_false, cond-true, cond-false, All-contains, All-filter, All-contains_itself, filter_passes, Contains-append_right, length-range_with_len, get_or-range_with_len, Shape, place_count, is_crossing, RingView, floor_number, is_due, is_crossing_due, gives, gives_crossing, due_positions, due_crossings, positions_given, crossings_given, leased_positions, leased_crossings}
 use Rattle.segments.proofs.Giving.{due_is, due_from, crossing_due_is, gives_is, gives_crossing_is}
 
 -- ---- a range, and a filter
@@ -63,23 +63,6 @@ unfolding leased_positions
 leased_position_is shape v p c =
     let is = filter_contained (is_handed_over v) (due_positions shape v) p c in
     (due_position_is shape v p is.0, (and_parts (v.given p) (not (v.free p)) is.1).0)
-
--- where nothing is free, the leased positions are the given ones
-pub leased_where_restored : (shape : Shape) (v : RingView) → IsRestored v → leased_positions shape v ≡ filter v.given (due_positions shape v)
-unfolding leased_positions
-leased_where_restored shape v none = by (due_positions shape v)
-  where
-    and_all : (b : Bool) → (b && true) ≡ b
-    and_all true = refl
-    and_all false = refl
-
-    same : (p : ℕ) → is_handed_over v p ≡ v.given p
-    same p = ap (λ f. v.given p && not f) (none p) ∙ and_all (v.given p)
-
-    by : (xs : List ℕ) → filter (is_handed_over v) xs ≡ filter v.given xs
-    by [] = refl
-    by (x ∷ xs) = ap (λ b. if b then x ∷ filter (is_handed_over v) xs else filter (is_handed_over v) xs) (same x)
-        ∙ ap (λ ys. if v.given x then x ∷ ys else ys) (by xs)
 
 -- what is free and due isn't restored
 pub unrestored_position : (shape : Shape) (v : RingView) (p : ℕ) → is_due shape v.floor p ≡ true → v.free p ≡ true → Contains (unrestored shape v) p

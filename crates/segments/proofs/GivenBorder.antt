@@ -36,7 +36,7 @@ border_or_inside (n ∷ rest) start q some low high =
           ]
     ]
 
-length_is : (v : RingView) (p : ℕ) → descriptor_length v p ≡ length_from v.lengths 0 p
+pub length_is : (v : RingView) (p : ℕ) → descriptor_length v p ≡ length_from v.lengths 0 p
 unfolding descriptor_length
 length_is v p = refl
 

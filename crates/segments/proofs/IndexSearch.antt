@@ -1,8 +1,6 @@
 -- A segment is found by a search through how many data places lie before each, or through where each starts
-use Rattle.segments.proofs.Words.{◌≡◌, ◌+◌, ◌-◌, ◌<◌, ◌≤◌, ◌==◌, ◌∷◌, ◌∙◌, ℕ, suc, zero, true, false, List, [], Some, None, length, get_or, ap, sym, arith, inl, inr, leb-true, leb-false, eqb-true, leb, cases_lt, list_any, list_any_at, Any-from_list_any, get_or_from_slice_get, slice_get-get_or, get_or_append_left, get_or-append_right, length-append, ◌++◌, refl, subst, nat_tests, All, All-permutation, list_any-IsPermutation, IsPermutation, IsNonDecreasingBy, IsNonDecreasingBy-from_default, IsPartitionPoint, RingKind, Segment}
-use Rattle.segments.specs.Index.{AreFirsts, AreStarts, IsIndex, IsLastOf, IsLastStart, IsSegmentOf, IsStart}
-use Rattle.segments.specs.declared.index.SegmentIndex.{SegmentIndex}
-use Rattle.segments.specs.declared.index.Start.{Start}
+use Rattle.std.proofs.Common.{rules}
+use Rattle.segments.proofs.Words.{AreFirsts, AreStarts, IsIndex, IsLastOf, IsLastStart, IsSegmentOf, IsStart, SegmentIndex, Start, ◌≡◌, ◌+◌, ◌-◌, ◌<◌, ◌≤◌, ◌==◌, ◌∷◌, ◌∙◌, ℕ, suc, zero, true, false, List, [], Some, None, length, get_or, ap, sym, arith, inl, inr, leb-true, leb-false, eqb-true, leb, cases_lt, list_any, list_any_at, Any-from_list_any, get_or_from_slice_get, slice_get-get_or, get_or_append_left, get_or-append_right, length-append, ◌++◌, refl, subst, nat_tests, All, All-permutation, list_any-IsPermutation, IsPermutation, IsNonDecreasingBy, IsNonDecreasingBy-from_default, IsPartitionPoint, RingKind, Segment}
 use Rattle.segments.proofs.Blocks.{segment_at, before, before-zero}
 
 -- more segments have no fewer data places before them
@@ -39,23 +37,7 @@ module _ (kind : RingKind) (segments : List Segment) (firsts : List ℕ) (are : 
 
     -- the last segment with no more data places before it has the place
     pub segment_found : IsSegmentOf kind segments place (after - 1)
-    segment_found =
-        let some = some_before in
-        let inside : after - 1 < length segments = omega (arith, are.many) in
-        let low : get_or firsts (after - 1) 0 ≤ place = leb-true (get_or firsts (after - 1) 0) place (point.0 (after - 1) 0 (omega arith) (omega arith)) in
-        record {
-          number = inside;
-          first = omega (arith, first_at (after - 1) inside);
-          end = elim (cases_lt after (length segments)) [
-            | inl next ↦
-                let same : after - 1 + 1 ≡ after = omega arith in
-                let high : place < get_or firsts after 0 = leb-false (get_or firsts after 0) place (point.1 after 0 (omega arith) (omega (arith, are.many))) in
-                rw same (omega (arith, first_at after next))
-            | inr last ↦
-                let same : after - 1 + 1 ≡ length segments = omega (arith, are.many) in
-                rw same within
-          ];
-        }
+    segment_found = search (rules, some_before, length, get_or, leb-true, first_at, cases_lt, leb-false)
 
 -- a ring of one segment has all its places there
 pub only_segment : (kind : RingKind) (segments : List Segment) (firsts : List ℕ) (place : ℕ) → AreFirsts kind segments (length segments) firsts → length firsts ≡ 1 →
@@ -67,17 +49,7 @@ only_segment kind (s ∷ t ∷ rest) firsts place are one within = absurd (omega
 -- one segment more
 pub firsts_push : (kind : RingKind) (segments : List Segment) (n : ℕ) (firsts : List ℕ) (place : ℕ) → AreFirsts kind segments n firsts →
     place ≡ before kind segments n → AreFirsts kind segments (n + 1) (firsts ++ place ∷ [])
-firsts_push kind segments n firsts place are next =
-    record {
-      many = omega (arith, length-append firsts (place ∷ []), are.many);
-      each = λ j below. elim (cases_lt j n) [
-        | inl early ↦ get_or_append_left firsts (place ∷ []) 0 j (omega (arith, are.many)) ∙ are.each j early
-        | inr late ↦
-            let same : n ≡ j = omega arith in
-            let zeroth : j - n ≡ 0 = omega arith in
-            get_or-append_right firsts (place ∷ []) n j 0 are.many late ∙ ap (λ k. get_or (place ∷ []) k 0) zeroth ∙ next ∙ ap (λ k. before kind segments k) same
-      ];
-    }
+firsts_push kind segments n firsts place are next = search (rules, length-append, cases_lt, get_or_append_left, get_or-append_right, get_or)
 
 -- ---- where segments start
 

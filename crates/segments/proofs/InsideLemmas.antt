@@ -1,5 +1,6 @@
 -- Bytes and words inside a ring's segments, and rings that are apart
-use Rattle.segments.proofs.Words.{◌≡◌, ◌+◌, ◌-◌, ◌*◌, ◌%◌, ◌<◌, ◌||◌, ◌∷◌, ◌∙◌, ℕ, suc, Bool, true, false, List, [], length, nat_lt, is_some, arith, sym, ap, refl, inl, inr, get_or, lt-ltb, list_any, cases_Bool, false≢true, or_parts, and_from, nat_tests, Segment, Shape, overlap, segment_has, is_in, is_inside, touches, place_at, IsShape, segments_overlap, rings_overlap}
+use Rattle.std.proofs.Common.{rules}
+use Rattle.segments.proofs.Words.{◌≡◌, ◌-◌, ◌*◌, ◌%◌, ◌<◌, ◌||◌, ◌∷◌, ◌∙◌, ℕ, suc, Bool, true, false, List, [], length, nat_lt, is_some, arith, sym, ap, refl, inl, inr, get_or, lt-ltb, list_any, cases_Bool, false≢true, or_parts, and_from, nat_tests, Segment, Shape, overlap, segment_has, is_in, is_inside, touches, place_at, IsShape, segments_overlap, rings_overlap}
 use Rattle.segments.proofs.Blocks.{segment_at}
 use Rattle.segments.proofs.ShapeFacts.{shape_facts}
 use Rattle.segments.proofs.PlaceAtLemmas.{is_in-parts, place_at-inside, is_inside-place_at}
@@ -24,15 +25,7 @@ touches-word shape is x word = ap (λ from. touches shape from 4) (omega (arith,
 
 -- a word is inside where it is one of a data place or a Link
 pub is_inside-word : (shape : Shape) → IsShape shape → (x : ℕ) → x % 4 ≡ 0 → is_inside shape x ≡ is_some (place_at shape x)
-is_inside-word shape is x word =
-    elim (cases_Bool (is_inside shape x)) [
-      | inl inside ↦ inside ∙ sym (place_at-inside shape is x word inside)
-      | inr outside ↦
-          elim (cases_option (place_at shape x)) [
-            | inl none ↦ outside ∙ sym (ap (λ o. is_some o) none)
-            | inr some ↦ absurd (false≢true (sym outside ∙ is_inside-place_at shape is x some.0 some.1))
-          ]
-    ]
+is_inside-word shape is x word = search (rules, is_some, place_at-inside, cases_option, false≢true, is_inside-place_at)
 
 in_any : {X : Type 0} (p : X → Bool) (xs : List X) → list_any p xs ≡ true → (q : X → Bool) → list_any q xs ≡ false → (x : X) × (p x ≡ true) × (q x ≡ false)
 in_any p [] h q none = absurd (false≢true h)
@@ -43,11 +36,7 @@ in_any p (x ∷ xs) h q none =
     ]
 
 both_have : (x : ℕ) (s t : Segment) → segment_has x s ≡ true → segment_has x t ≡ true → segments_overlap s t ≡ true
-both_have x s t a b =
-    let here = is_in-parts x s.base (16 * s.count) a in
-    let there = is_in-parts x t.base (16 * t.count) b in
-    and_from (nat_lt s.base (t.base + 16 * t.count)) (nat_lt t.base (s.base + 16 * s.count))
-    (lt-ltb s.base (t.base + 16 * t.count) (omega arith)) (lt-ltb t.base (s.base + 16 * s.count) (omega arith))
+both_have x s t a b = search (rules, is_in-parts, and_from, nat_lt, lt-ltb)
 
 -- then no byte is inside both
 pub rings_apart : (a b : Shape) (x : ℕ) → rings_overlap a b ≡ false → is_inside a x ≡ true → is_inside b x ≡ true → ⊥

@@ -31,7 +31,6 @@ pub mod GivenBorder
 pub mod WalkSteps
 pub mod WalkReads
 pub mod Named
-pub mod RingsApart
 mod WalkExamples
 mod WithdrawnExamples
 pub mod MoveTargets

@@ -1,12 +1,11 @@
 -- What is looked up on a ring once the segment is found. The look-ups see the segments as a list of their own
-use Rattle.segments.proofs.Words.{◌≡◌, ◌≢◌, ◌+◌, ◌-◌, ◌*◌, ◌/◌, ◌%◌, ◌<◌, ◌≤◌, if◌then◌else◌, ◌∙◌, ℕ, suc, zero, nat_lt, true, false, List, length, slice_index, Option, Some, None, arith, add-zero, mod-eq_of_lt, refl, sym, ap, inl, inr, false≢true, false_from_ne_true, cases_lt, RingKind, Evt, Segment, Shape, data_count, place_count, address_of, links, ends, link_crossed, is_in, place_at, IsShape}
-use Rattle.std.proofs.Math.Nat.{add-mod-mod, add-mul-mod_self_left, mod-add-div, mul_assoc}
+use Rattle.std.proofs.Common.{rules}
+use Rattle.segments.proofs.Words.{add-mod-mod, add-mul-mod_self_left, mod-add-div, mul_assoc, AreMultiples, IsLastStart, IsNear, IsSegmentOf, ◌≡◌, ◌≢◌, ◌+◌, ◌-◌, ◌*◌, ◌/◌, ◌%◌, ◌<◌, ◌≤◌, if◌then◌else◌, ◌∙◌, ℕ, suc, zero, nat_lt, true, false, List, length, slice_index, Option, Some, None, arith, add-zero, mod-eq_of_lt, refl, sym, ap, inl, inr, false≢true, false_from_ne_true, cases_lt, RingKind, Evt, Segment, Shape, data_count, place_count, address_of, links, ends, link_crossed, is_in, place_at, IsShape}
 use Rattle.segments.specs.declared.place.Place.TheVariants.{Data, Link}
 use Rattle.segments.proofs.Blocks.{segment_at, places_of, before, before-next, before-all, before-zero, before_within, block_lies, same_segment}
 use Rattle.segments.proofs.DataPlaces.{link_is, length-links}
 use Rattle.segments.proofs.Crossings.{end_is, crosses, crosses-from}
 use Rattle.segments.proofs.Search.{cases_option}
-use Rattle.segments.specs.Index.{AreMultiples, IsLastStart, IsNear, IsSegmentOf}
 use Rattle.segments.proofs.IndexSearch.{before_rises}
 use Rattle.segments.proofs.ShapeFacts.{shape_facts}
 use Rattle.segments.proofs.PlaceAtLemmas.{is_in-true, is_in-parts, place_at-block, place_at-outside}
@@ -20,12 +19,7 @@ pub record Sees (shape : Shape) (kind : RingKind) (segments : List Segment) (pla
 pub sees_from : (shape : Shape) (kind : RingKind) (inside segments : List Segment) (places : ℕ) →
     ◌≡◌ {A = Shape} (record { kind = kind; segments = inside }) shape → segments ≡ inside →
     places ≡ place_count (record { kind = kind; segments = inside }) → Sees shape kind segments places
-sees_from shape kind inside segments places view_is same count =
-    record {
-      kind_is = ap (λ s. s.kind) (sym view_is);
-      segments_are = ap (λ s. s.segments) (sym view_is) ∙ sym same;
-      places_are = count ∙ ap (λ s. place_count s) view_is;
-    }
+sees_from shape kind inside segments places view_is same count = search rules
 
 -- block k behind the data places before segment j is data place i
 abbrev pub IsAhead : RingKind → List Segment → ℕ → ℕ → ℕ → Type 0
@@ -95,29 +89,11 @@ pub place_here : (shape : Shape) → IsShape shape → (kind : RingKind) (segmen
     j < length segments → count ≡ before kind segments j → n ≡ data_count kind (segment_at segments j) → address % 4 ≡ 0 →
     is_in address (segment_at segments j).base (16 * (segment_at segments j).count) ≡ true → block ≡ (address - (segment_at segments j).base) / 16 →
     place_at shape address ≡ Some (if nat_lt block n then Data (count + block) (address % 16 / 4) else Link j (address % 16 / 4))
-place_here shape is kind segments places j count block n address sees h counted e word has at =
-    let bytes = is_in-parts address (segment_at segments j).base (16 * (segment_at segments j).count) has in
-    let many : length shape.segments ≡ length segments = ap length sees.segments_are in
-    let same : segment_at shape.segments j ≡ segment_at segments j = ap (λ ss. segment_at ss j) sees.segments_are in
-    let base : (segment_at shape.segments j).base ≡ (segment_at segments j).base = ap (λ s. s.base) same in
-    let size : (segment_at shape.segments j).count ≡ (segment_at segments j).count = ap (λ s. s.count) same in
-    let block_is = block_number (segment_at segments j).base (segment_at segments j).count address block bytes.0 bytes.1 at in
-    let number : before shape.kind shape.segments j ≡ count =
-    ap (λ k. before k shape.segments j) sees.kind_is ∙ ap (λ ss. before kind ss j) sees.segments_are ∙ sym counted in
-    let holds : data_count shape.kind (segment_at shape.segments j) ≡ n = ap (λ k. data_count k (segment_at shape.segments j)) sees.kind_is ∙ ap (data_count kind) same ∙ sym e in
-    rw (number, holds) at (place_at-block shape is j block address (omega arith) (omega arith) word (omega arith) (omega arith))
-  where
-    block_number : (a n x k : ℕ) → a ≤ x → x < a + 16 * n → k ≡ (x - a) / 16 → (k < n) × (a + 16 * k ≤ x) × (x < a + 16 * k + 16)
-    block_number a n x k low high e = (omega arith, omega arith, omega arith)
+place_here shape is kind segments places j count block n address sees h counted e word has at = search (rules, length, nat_lt, is_in-parts, place_at-block)
 
 pub place_nowhere : (shape : Shape) → IsShape shape → (kind : RingKind) (segments : List Segment) (places j count address : ℕ) → Sees shape kind segments places →
     length segments ≤ j → IsOutside segments kind j count address → place_at shape address ≡ None
-place_nowhere shape is kind segments places j count address sees all outside =
-    let many : length shape.segments ≡ length segments = ap length sees.segments_are in
-    place_at-outside shape is address (λ k h low high.
-    let same : segment_at shape.segments k ≡ segment_at segments k = ap (λ ss. segment_at ss k) sees.segments_are in
-    let has = is_in-true address (segment_at shape.segments k).base (16 * (segment_at shape.segments k).count) low high in
-    false≢true (sym (outside.missed k (omega arith)) ∙ sym (ap (λ s. is_in address s.base (16 * s.count)) same) ∙ has))
+place_nowhere shape is kind segments places j count address sees all outside = search (rules, length, place_at-outside, is_in-true, false≢true)
 
 -- ---- what a search finds
 
@@ -138,13 +114,7 @@ past_before kind segments last j of = record {
 -- and if its own doesn't, none does
 pub past_all : (kind : RingKind) (segments : List Segment) (last j : ℕ) → IsSegmentOf kind segments last j → before kind segments (j + 1) ≢ last + 1 →
     IsPast kind segments (length segments) (before kind segments (length segments)) (last + 1)
-past_all kind segments last j of other = record {
-  counted = refl;
-  missed = λ k l same. elim (cases_lt k j) [
-    | inl early ↦ absurd (omega (arith, same, of.first, before_rises kind segments (k + 1) j (omega arith)))
-    | inr late ↦ other (omega (arith, same, of.end, before_rises kind segments (j + 1) (k + 1) (omega arith)))
-  ];
-}
+past_all kind segments last j of other = search (rules, length, cases_lt, before_rises)
 
 -- the last segment to start at or before an address is the one that may have it
 pub near_from_last : (kind : RingKind) (segments : List Segment) → IsShape (record { kind = kind; segments = segments }) → (address : ℕ) (o : Option ℕ) →
@@ -172,11 +142,7 @@ outside_none kind segments address near = record { counted = refl; missed = near
 pub outside_near : (kind : RingKind) (segments : List Segment) (address j : ℕ) → IsNear segments address (Some j) →
     (is_in address (segment_at segments j).base (16 * (segment_at segments j).count) ≡ true → ⊥) →
     IsOutside segments kind (length segments) (before kind segments (length segments)) address
-outside_near kind segments address j near misses = record {
-  counted = refl;
-  missed = λ k l. false_from_ne_true _ (λ has.
-      misses (ap (λ n. is_in address (segment_at segments n).base (16 * (segment_at segments n).count)) (sym (near.1 k l has)) ∙ has));
-}
+outside_near kind segments address j near misses = search (rules, length, false_from_ne_true)
 
 -- where each segment has a multiple of so many places, so have the first ones together
 before_multiple : (kind : RingKind) (ss : List Segment) (step : ℕ) → AreMultiples kind ss step → (j : ℕ) → j ≤ length ss → before kind ss j % step ≡ 0

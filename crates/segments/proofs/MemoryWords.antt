@@ -1,5 +1,6 @@
 -- Words of a block before and after a write
-use Rattle.segments.proofs.Words.{◌≡◌, ◌≢◌, ◌+◌, ◌<◌, ◌==◌, ◌&&◌, ◌∷◌, ◌∙◌, ℕ, true, false, [], nat_lt, arith, refl, sym, ap, add-zero, eq-eqb, ne_eqb, eqb-true, lt-ltb, cond-true, cond-false, and_from, and_parts, false≢true, put, Block, block_at, same_words, word, with_cycle, overlap}
+use Rattle.std.proofs.Common.{rules}
+use Rattle.segments.proofs.Words.{◌≡◌, ◌≢◌, ◌+◌, ◌<◌, ◌==◌, ◌∷◌, ◌∙◌, ℕ, true, false, [], nat_lt, arith, refl, sym, ap, add-zero, eq-eqb, ne_eqb, eqb-true, lt-ltb, cond-true, cond-false, and_from, and_parts, false≢true, put, Block, block_at, same_words, with_cycle, overlap}
 
 pub put_here : (memory : ℕ → ℕ) (a w : ℕ) → put memory a w a ≡ w
 put_here memory a w = cond-true (a == a) w (memory a) (eq-eqb a a refl)
@@ -28,11 +29,4 @@ block_same memory other b same =
 
 -- a block of memory with the words of a declared one is it
 pub same_words_is : (memory : ℕ → ℕ) (a : ℕ) (d : Block) (c : ℕ) → same_words (block_at memory a) (with_cycle d c) ≡ true → block_at memory a ≡ with_cycle d c
-same_words_is memory a d c h =
-    let x = block_at memory a in
-    let y = with_cycle d c in
-    let three = and_parts (word x 0 == word y 0 && word x 1 == word y 1 && word x 2 == word y 2) (word x 3 == word y 3) h in
-    let two = and_parts (word x 0 == word y 0 && word x 1 == word y 1) (word x 2 == word y 2) three.0 in
-    let one = and_parts (word x 0 == word y 0) (word x 1 == word y 1) two.0 in
-    four_words (word x 0) (word x 1) (word x 2) (word x 3) (word y 0) (word y 1) (word y 2) (word y 3)
-    (eqb-true (word x 0) (word y 0) one.0) (eqb-true (word x 1) (word y 1) one.1) (eqb-true (word x 2) (word y 2) two.1) (eqb-true (word x 3) (word y 3) three.1)
+same_words_is memory a d c h = search (rules, and_parts, four_words, eqb-true)

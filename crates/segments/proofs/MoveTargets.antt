@@ -1,5 +1,6 @@
 -- The spot that a pointer and a cycle state name is the one to which the ring may be moved
-use Rattle.segments.proofs.Words.{◌≡◌, ◌+◌, ◌-◌, ◌≤◌, ◌==◌, ◌&&◌, if◌then◌else◌, ◌∷◌, ◌∙◌, ℕ, suc, zero, Bool, true, List, [], All, Some, arith, sym, ap, subst, inl, inr, eqb-true, range_with_len, flat_map, cases_lt, and_parts, All-nil, All-cons, All-get_or, Any-from_list_any, Spot, Data, Link, Shape, IsSpot, is_spot, rank, number, spot_address, spot_cycle, IsShape, RingView, declared, floor_number, is_border, is_target, spots_between, target, is_reached, may_move_to, is_move, RingKeeps}
+use Rattle.std.proofs.Common.{rules}
+use Rattle.segments.proofs.Words.{◌≡◌, ◌+◌, ◌-◌, ◌≤◌, ◌==◌, ◌&&◌, if◌then◌else◌, ◌∷◌, ◌∙◌, ℕ, suc, zero, Bool, true, List, [], All, Some, arith, sym, ap, subst, inl, inr, eqb-true, range_with_len, flat_map, cases_lt, and_parts, All-nil, All-cons, All-get_or, Any-from_list_any, Spot, Data, Link, Shape, IsSpot, is_spot, number, spot_address, spot_cycle, IsShape, RingView, declared, floor_number, is_border, is_target, spots_between, target, is_reached, may_move_to, is_move, RingKeeps}
 use Rattle.segments.proofs.SpotOrder.{rank_least, rank_most, same_spot}
 use Rattle.segments.proofs.Named.{found_is}
 
@@ -40,13 +41,7 @@ target_at shape address cycle least most t is bounds =
 -- two spots at one address from the floor's number up to what is declared are one
 one_at : (shape : Shape) → IsShape shape → (memory : ℕ → ℕ) (v : RingView) → RingKeeps shape memory v → (address : ℕ) (s t : Spot) →
     IsAt shape address (floor_number v) (declared v) s → IsAt shape address (floor_number v) (declared v) t → s ≡ t
-one_at shape is memory v k address s t a b =
-    elim (cases_lt (rank s) (rank t)) [
-      | inl lower ↦
-          same_spot shape is s t a.is_spot b.is_spot (omega arith) (omega (arith, rank_least s, rank_most t, a.from, b.to, k.room)) (a.at ∙ sym b.at)
-      | inr upper ↦
-          sym (same_spot shape is t s b.is_spot a.is_spot upper (omega (arith, rank_least t, rank_most s, b.from, a.to, k.room)) (b.at ∙ sym a.at))
-    ]
+one_at shape is memory v k address s t a b = search (rules, cases_lt, same_spot, rank_least, rank_most)
 
 -- where a spot passes the test of a move, the target is that spot: everything before it is given
 pub move_target : (shape : Shape) → IsShape shape → (memory : ℕ → ℕ) (v : RingView) → RingKeeps shape memory v → (address : ℕ) (cycle : Bool) (least most : ℕ) (t : Spot) →

@@ -1,5 +1,6 @@
 -- A spot to which a ring may be moved stays one, whatever is declared, written or reached since
-use Rattle.segments.proofs.Words.{◌≡◌, ◌+◌, ◌-◌, ◌<◌, ◌≤◌, ◌==◌, ◌&&◌, ◌||◌, ◌∷◌, ◌++◌, ◌∙◌, ℕ, suc, zero, not, Bool, true, List, [], length, arith, sym, ap, subst, inl, inr, list_any, range_with_len, flat_map, cases_eq, and_parts, and_from, or_cases, or_left, or_right, All-get_or, Any-from_list_any, Block, Spot, Data, Link, Shape, is_crossing, number, RingView, floor_number, ceiling, Declares, Writes, changed, is_way_given, is_border, is_target, spots_between, are_given, are_ways_given, is_reached, may_move_to, is_move, is_placement}
+use Rattle.std.proofs.Common.{rules}
+use Rattle.segments.proofs.Words.{◌≡◌, ◌+◌, ◌-◌, ◌<◌, ◌≤◌, ◌==◌, ◌&&◌, ◌||◌, ◌∷◌, ◌++◌, ◌∙◌, ℕ, suc, zero, Bool, true, List, [], length, arith, sym, ap, subst, inl, inr, list_any, range_with_len, flat_map, cases_eq, and_parts, and_from, or_cases, or_left, or_right, All-get_or, Any-from_list_any, Block, Spot, Data, Link, Shape, number, RingView, floor_number, ceiling, Declares, Writes, changed, is_way_given, is_border, is_target, spots_between, are_given, are_ways_given, is_reached, may_move_to, is_move, is_placement}
 use Rattle.segments.proofs.StepFacts.{GivesMore, in_range_all, all_in_range}
 use Rattle.segments.proofs.Writing.{writes_more}
 use Rattle.segments.proofs.MoveTargets.{between}
@@ -36,11 +37,7 @@ any_between test a (suc n) u low high passes =
 module _ (shape : Shape) (v w : RingView) (more : GivesMore v w) where
   way_more : (q : ℕ) → is_way_given shape v q ≡ true → is_way_given shape w q ≡ true
   unfolding is_way_given
-  way_more q h =
-      elim (or_cases (not (is_crossing shape q)) (v.crossed q) h) [
-        | inl none ↦ or_left (not (is_crossing shape q)) (w.crossed q) none
-        | inr crossed ↦ or_right (not (is_crossing shape q)) (w.crossed q) (more.crossed q crossed)
-      ]
+  way_more q h = search (rules, or_cases, or_left, or_right)
 
   given_more : (n : ℕ) → are_given v n ≡ true → are_given w n ≡ true
   unfolding are_given
@@ -53,12 +50,8 @@ module _ (shape : Shape) (v w : RingView) (more : GivesMore v w) where
   -- a spot that is reached stays reached
   pub reached_more : (t : Spot) → is_reached shape v t ≡ true → is_reached shape w t ≡ true
   unfolding is_reached
-  reached_more (Data q) h =
-      let parts = and_parts (are_given v q) (are_ways_given shape v q) h in
-      and_from (are_given w q) (are_ways_given shape w q) (given_more q parts.0) (ways_more q parts.1)
-  reached_more (Link q) h =
-      let parts = and_parts (are_given v q) (are_ways_given shape v (q - 1)) h in
-      and_from (are_given w q) (are_ways_given shape w (q - 1)) (given_more q parts.0) (ways_more (q - 1) parts.1)
+  reached_more (Data q) h = search (rules, and_parts, and_from, given_more, ways_more)
+  reached_more (Link q) h = search (rules, and_parts, and_from, given_more, ways_more)
 
   -- with more given, more declared and wider bounds a move stays one
   pub move_more : ((q : ℕ) → is_border v.lengths 0 q ≡ true → is_border w.lengths 0 q ≡ true) → (address : ℕ) (cycle : Bool) (least most low high : ℕ) → low ≤ least → most ≤ high →

@@ -1,6 +1,5 @@
 -- The spots that events and pointers name, and how far a ring's controller may have gone
-use Rattle.segments.proofs.Words.{◌≡◌, ◌+◌, ◌-◌, ◌<◌, ◌≤◌, ◌==◌, ◌&&◌, if◌then◌else◌, ◌∷◌, ◌∙◌, ℕ, suc, zero, Bool, true, List, [], All, find, Option, None, Some, arith, refl, sym, ap, subst, inl, inr, ltb-true, range_with_len, flat_map, cases_Bool, cond-true, cond-false, false≢true, and_parts, none-some, same_Some, All-nil, All-cons, All-head, All-tail, Spot, Data, Link, Shape, IsSpot, is_spot, number, spot_address, spot_cycle, IsShape, RingView, declared, floor_number, given_count, ceiling, named, is_data_below, is_target, spots_between, target, RingKeeps, MayReach, MayHold}
-use Rattle.segments.proofs.Crossings.{crossing_positive}
+use Rattle.segments.proofs.Words.{◌≡◌, ◌+◌, ◌-◌, ◌<◌, ◌≤◌, ◌==◌, ◌&&◌, if◌then◌else◌, ◌∷◌, ◌∙◌, ℕ, suc, zero, Bool, true, List, [], All, find, Option, None, Some, arith, refl, sym, ap, subst, inl, inr, ltb-true, range_with_len, flat_map, cases_Bool, cond-true, cond-false, false≢true, and_parts, none-some, same_Some, All-nil, All-cons, All-head, All-tail, Spot, Data, Link, Shape, IsSpot, is_spot, number, spot_address, spot_cycle, IsShape, RingView, declared, floor_number, given_count, ceiling, named, is_data_below, is_target, spots_between, target, RingKeeps, MayHold}
 use Rattle.segments.proofs.SpotOrder.{rank_least, rank_most}
 use Rattle.segments.proofs.NamedSpots.{IsNamed, named_spot-Some}
 use Rattle.segments.proofs.Reaching.{floor_given}
@@ -65,14 +64,4 @@ target_ahead shape v address cycle t h =
       is_spot = (and_parts (is_spot shape t) (spot_address shape t == address)
           (and_parts (is_spot shape t && spot_address shape t == address) (spot_cycle shape t == (if cycle then 1 else 0)) is.0).0).0;
       from = is.1;
-    }
-
--- a ring whose controller hasn't moved may begin anew
-pub start_reached : (shape : Shape) (v : RingView) → floor_number v ≡ 0 → MayReach shape v (Data 0)
-start_reached shape v at =
-    record {
-      is_spot = refl;
-      later = omega arith;
-      passed = λ p h. absurd (omega arith);
-      passed_links = λ q crossing h. absurd (omega (arith, crossing_positive shape q crossing));
     }

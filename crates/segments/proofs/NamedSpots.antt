@@ -1,5 +1,6 @@
 -- Which spot an event names: the least one from a spot on with this address
-use Rattle.segments.proofs.Words.{◌≡◌, ◌≢◌, ◌+◌, ◌-◌, ◌*◌, ◌<◌, ◌≤◌, ◌==◌, ◌&&◌, ◌∙◌, ℕ, suc, zero, Bool, true, false, nat_le, Some, None, find, arith, sym, ap, refl, subst, inl, inr, eqb-true, eq-eqb, leb-true, le-leb, cases_Bool, cases_eq, cond-true, cond-false, false≢true, and_parts, and_from, none-some, same_Some, Spot, Shape, place_count, IsSpot, rank, number, next, spot_address, spots_from, named_spot, IsShape}
+use Rattle.std.proofs.Common.{rules}
+use Rattle.segments.proofs.Words.{◌≡◌, ◌≢◌, ◌+◌, ◌-◌, ◌*◌, ◌<◌, ◌≤◌, ◌==◌, ◌&&◌, ◌∙◌, ℕ, suc, zero, Bool, true, false, nat_le, Some, None, find, arith, sym, ap, refl, subst, inl, inr, eqb-true, eq-eqb, leb-true, le-leb, cases_Bool, cond-true, cond-false, false≢true, and_parts, and_from, none-some, same_Some, Spot, Shape, place_count, IsSpot, rank, number, next, spot_address, spots_from, named_spot, IsShape}
 use Rattle.segments.proofs.Search.{cases_option}
 use Rattle.segments.proofs.SpotOrder.{rank_least, rank_most, same_rank, next_is_spot, next_later, next_least, same_spot}
 
@@ -12,11 +13,7 @@ pub record IsFirst (shape : Shape) (p : Spot → Bool) (s t : Spot) : Type 0 whe
 
 -- a spot from s on that isn't s comes at the next one or later
 beyond : (shape : Shape) (p : Spot → Bool) (s u : Spot) → IsSpot shape u → p s ≡ false → p u ≡ true → rank s ≤ rank u → rank (next shape s) ≤ rank u
-beyond shape p s u is fails passes from =
-    elim (cases_eq (rank s) (rank u)) [
-      | inl same ↦ absurd (false≢true (sym fails ∙ ap p (same_rank s u same) ∙ passes))
-      | inr other ↦ next_least shape s u is (omega arith)
-    ]
+beyond shape p s u is fails passes from = search (rules, false≢true, same_rank, next_least)
 
 -- what the walk finds is the least spot that passes
 find_first : (shape : Shape) (p : Spot → Bool) (n : ℕ) (s t : Spot) → IsSpot shape s → find p (spots_from shape s n) ≡ Some t → IsFirst shape p s t
@@ -82,11 +79,7 @@ named_spot-Some shape s last address t is h =
 -- with no answer no spot from s on with a number up to last has the address
 pub named_spot-None : (shape : Shape) (s : Spot) (last address : ℕ) (u : Spot) → named_spot shape s last address ≡ None → IsSpot shape u →
     rank s ≤ rank u → number u ≤ last → spot_address shape u ≢ address
-named_spot-None shape s last address u h is from within at =
-    let low = rank_least s in
-    let high = rank_most u in
-    find_nowhere shape (λ v. spot_address shape v == address && nat_le (number v) last) (2 * (last - number s) + 2) s u h is from (omega arith)
-    (passes_test shape last address u at within)
+named_spot-None shape s last address u h is from within at = search (rules, rank_least, rank_most, find_nowhere, nat_le, passes_test)
 
 -- that spot is the answer
 pub named_spot-is : (shape : Shape) (s : Spot) (last address : ℕ) (t : Spot) → IsSpot shape s → IsNamed shape s last address t →

@@ -1,8 +1,7 @@
 -- A word gives one position or one crossing at most: a place has one due position, a Link one due crossing
-use Rattle.segments.proofs.Words.{◌≡◌, ◌+◌, ◌<◌, ◌≤◌, ◌⊎◌, ◌&&◌, ◌∷◌, ◌∙◌, ℕ, suc, zero, not, Bool, true, [], filter, arith, refl, ap, inl, inr, range_with_len, cases_Bool, cond-true, cond-false, and_parts, false_from_ne_true, Spot, Shape, place_count, IsShape, RingView, floor_number, gives, due_positions, positions_given}
+use Rattle.segments.proofs.Words.{◌≡◌, ◌+◌, ◌≤◌, ◌⊎◌, ◌&&◌, ◌∷◌, ◌∙◌, ℕ, suc, zero, not, Bool, true, [], filter, arith, refl, ap, inl, inr, range_with_len, cases_Bool, cond-true, cond-false, and_parts, false_from_ne_true, Spot, Shape, place_count, IsShape, RingView, floor_number, gives, due_positions, positions_given}
 use Rattle.segments.proofs.Positions.{same_position_near}
-use Rattle.segments.proofs.Crossings.{crossing_positive}
-use Rattle.segments.proofs.Giving.{IsCrossingDue, gives_is}
+use Rattle.segments.proofs.Giving.{gives_is}
 
 module _ (shape : Shape) (is : IsShape shape) (floor : Spot) (a w : ℕ) where
   pub gives_one : (p q : ℕ) → gives shape floor p a w ≡ true → gives shape floor q a w ≡ true → p ≡ q
@@ -10,11 +9,6 @@ module _ (shape : Shape) (is : IsShape shape) (floor : Spot) (a w : ℕ) where
       let here = gives_is shape floor p a w first in
       let there = gives_is shape floor q a w second in
       same_position_near shape is p q (omega (arith, here.within, there.from)) (omega (arith, here.from, there.within)) (omega (arith, here.at, there.at))
-
-  upper : (p q : ℕ) → IsCrossingDue shape floor p → IsCrossingDue shape floor q → q < p + place_count shape
-  upper p q here there =
-      let some = crossing_positive shape p here.crossing in
-      elim there.within [ inl below ↦ omega (arith, here.from) | inr end ↦ omega arith ]
 
 -- ---- as lists
 

@@ -1,4 +1,5 @@
 -- Steps of the loops over the segments that are given as pairs
+use Rattle.std.proofs.Common.{rules}
 use Rattle.segments.proofs.Words.{◌≡◌, ◌+◌, ◌-◌, ◌<◌, ◌&&◌, ◌||◌, ◌∷◌, ◌++◌, ◌∙◌, ℕ, Bool, not, List, [], length, map, take, drop, nat_le, sym, ap, refl, get_or, length-append, append-nil, list_any, list_all, take_more, drop_more, take_rest, map_push, length-map, list_all-map, flat_map-append, RingKind, Segment, segment_of, shape_of, blocks_from, data_count, place_count, segments_overlap, are_apart, is_segment, is_shape}
 use Rattle.segments.proofs.Blocks.{places_of, length-blocks_from}
 
@@ -33,11 +34,7 @@ are_apart_more pairs i d h =
 pub is_shape_pairs : (kind : RingKind) (pairs : List (ℕ × ℕ)) →
     is_shape (shape_of kind pairs)
     ≡ (nat_le (length pairs) 64 && list_all (λ p. is_segment kind (segment_of p)) pairs && nat_le 2 (place_count (shape_of kind pairs)) && are_apart (map segment_of pairs))
-is_shape_pairs kind pairs =
-    ap (λ n. nat_le n 64 && list_all (is_segment kind) (map segment_of pairs) && nat_le 2 (place_count (shape_of kind pairs)) && are_apart (map segment_of pairs))
-    (length-map pairs segment_of)
-    ∙ ap (λ b. nat_le (length pairs) 64 && b && nat_le 2 (place_count (shape_of kind pairs)) && are_apart (map segment_of pairs))
-    (list_all-map (is_segment kind) segment_of pairs)
+is_shape_pairs kind pairs = search (rules, nat_le, length, map, length-map, list_all-map)
 
 -- one step of the loop, where b says whether segment i overlaps a later one
 pub are_apart_step : (pairs : List (ℕ × ℕ)) (i : ℕ) (d : ℕ × ℕ) (b : Bool) → i < length pairs →

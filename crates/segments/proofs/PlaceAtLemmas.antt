@@ -1,5 +1,6 @@
 -- Which word of a ring's blocks has an address: each word has one answer, and each answer is of such a word
-use Rattle.segments.proofs.Words.{◌≡◌, ◌≢◌, ◌+◌, ◌-◌, ◌*◌, ◌/◌, ◌%◌, ◌<◌, ◌≤◌, ◌==◌, if◌then◌else◌, ◌∙◌, ℕ, true, length, slice_index, nat_le, nat_lt, Some, None, is_some, arith, sym, ap, inl, inr, eq-eqb, ne_eqb, le-leb, lt-ltb, le-ltb, leb-true, ltb-true, option_map, option_or, none-some, same_Some, cases_lt, cases_eq, and_parts, and_from, cond-true, cond-false, false_from_ne_true, get_or_default, Any-from_list_any, position-Some, Place, RingKind, Cmd, Evt, Xfer, Segment, Shape, data_count, segment_has, data_places, place_count, address_of, links, link_crossed, link_address, is_in, is_inside, data_place_at, link_at, place_at, IsShape}
+use Rattle.std.proofs.Common.{rules}
+use Rattle.segments.proofs.Words.{◌≡◌, ◌≢◌, ◌+◌, ◌-◌, ◌*◌, ◌/◌, ◌%◌, ◌<◌, ◌≤◌, ◌==◌, if◌then◌else◌, ◌∙◌, ℕ, true, length, slice_index, nat_le, nat_lt, Some, None, is_some, arith, sym, ap, inl, inr, eq-eqb, ne_eqb, le-leb, lt-ltb, le-ltb, leb-true, ltb-true, option_map, option_or, none-some, same_Some, cases_lt, and_parts, and_from, cond-true, cond-false, false_from_ne_true, get_or_default, Any-from_list_any, position-Some, Place, RingKind, Cmd, Evt, Xfer, Segment, Shape, data_count, segment_has, data_places, place_count, address_of, links, link_crossed, link_address, is_in, is_inside, data_place_at, link_at, place_at, IsShape}
 use Rattle.segments.specs.declared.place.Place.TheVariants.{Data, Link}
 use Rattle.segments.proofs.DataPlaces.{IsPlace, place_is, block_is, link_is, length-links, byte_inside, places_apart, place_aligned, place_not_link, links_apart, link_aligned}
 use Rattle.segments.proofs.Positions.{place_below, address_of-first}
@@ -64,11 +65,7 @@ word_of a w h l = (omega arith, omega arith)
 -- word w of the place of position p
 pub place_at-address_of : (shape : Shape) → IsShape shape → (p w : ℕ) → w < 4 →
     place_at shape (address_of shape p + 4 * w) ≡ Some (Data (p % place_count shape) w)
-place_at-address_of shape is p w l =
-    let inside : p % place_count shape < place_count shape = place_below shape is p in
-    let word = word_of (address_of shape p) w (place_aligned shape is (p % place_count shape) inside) l in
-    place_at-data shape is (p % place_count shape) (address_of shape p + 4 * w) inside word.0 (omega arith) (omega arith)
-    ∙ ap (λ n. Some (Data (p % place_count shape) n)) word.1
+place_at-address_of shape is p w l = search (rules, place_below, word_of, place_aligned, place_at-data)
 
 -- word w of the Link of segment j
 pub place_at-link_word : (shape : Shape) → IsShape shape → (j w : ℕ) → j < length (links shape) → w < 4 →
@@ -109,26 +106,7 @@ link_answer shape is x j word h =
 
 -- every answer is of a word with this address
 pub place_at-Some : (shape : Shape) → IsShape shape → (x : ℕ) (place : Place) → place_at shape x ≡ Some place → IsAnswer shape x place
-place_at-Some shape is x place h =
-    elim (cases_eq (x % 4) 0) [
-      | inr odd ↦ absurd (none-some place (sym (place_at-odd shape x odd) ∙ h))
-      | inl word ↦
-          elim (cases_option (data_place_at shape x)) [
-            | inr some ↦
-                let same : Some place ≡ Some (Data some.0 (x % 16 / 4)) = sym h ∙ at_word shape x word
-                ∙ ap (λ o. option_or (option_map (λ i. Data i (x % 16 / 4)) o) (option_map (λ j. Link j (x % 16 / 4)) (link_at shape x))) some.1 in
-                rw (same_Some place (Data some.0 (x % 16 / 4)) same) (data_answer shape is x some.0 word some.1)
-            | inl no_data ↦
-                let only : place_at shape x ≡ option_map (λ j. Link j (x % 16 / 4)) (link_at shape x) = at_word shape x word
-                ∙ ap (λ o. option_or (option_map (λ i. Data i (x % 16 / 4)) o) (option_map (λ j. Link j (x % 16 / 4)) (link_at shape x))) no_data in
-                elim (cases_option (link_at shape x)) [
-                  | inr link ↦
-                      let same : Some place ≡ Some (Link link.0 (x % 16 / 4)) = sym h ∙ only ∙ ap (λ o. option_map (λ j. Link j (x % 16 / 4)) o) link.1 in
-                      rw (same_Some place (Link link.0 (x % 16 / 4)) same) (link_answer shape is x link.0 word link.1)
-                  | inl no_link ↦ absurd (none-some place (sym (ap (λ o. option_map (λ j. Link j (x % 16 / 4)) o) no_link) ∙ sym only ∙ h))
-                ]
-          ]
-    ]
+place_at-Some shape is x place h = search (rules, none-some, place_at-odd, cases_option, at_word, same_Some, data_answer, link_answer)
 
 pub place_at-Data : (shape : Shape) → IsShape shape → (x i w : ℕ) → place_at shape x ≡ Some (Data i w) →
     (i < place_count shape) × (w < 4) × (x ≡ address_of shape i + 4 * w)

@@ -1,5 +1,6 @@
 -- Spots that the controller's pointer may be known to have reached: behind a finished block, where it stopped, where it is moved
-use Rattle.segments.proofs.Words.{◌≡◌, ◌+◌, ◌-◌, ◌<◌, ◌≤◌, ◌==◌, ◌&&◌, ◌∙◌, ℕ, not, true, nat_lt, arith, refl, sym, ap, subst, inl, inr, ltb-true, leb-true, eqb-true, cases_eq, and_parts, or_cases, not-true, false≢true, Spot, Data, Link, Shape, is_crossing, IsSpot, number, after, RingView, floor_number, is_way_given, is_step_given, given_count, is_stop_spot, stopped_number, are_given, are_ways_given, is_reached, MayReach}
+use Rattle.std.proofs.Common.{rules}
+use Rattle.segments.proofs.Words.{◌≡◌, ◌+◌, ◌-◌, ◌<◌, ◌≤◌, ◌==◌, ◌&&◌, ◌∙◌, ℕ, true, nat_lt, arith, refl, sym, ap, inl, inr, ltb-true, leb-true, eqb-true, cases_eq, and_parts, or_cases, not-true, false≢true, Spot, Data, Link, Shape, is_crossing, IsSpot, number, after, RingView, floor_number, is_way_given, is_step_given, given_count, is_stop_spot, stopped_number, are_given, are_ways_given, is_reached, MayReach}
 use Rattle.segments.proofs.Crossings.{crossing_positive}
 use Rattle.segments.proofs.SpotOrder.{after_is}
 use Rattle.segments.proofs.GivenCount.{given_below}
@@ -8,11 +9,7 @@ use Rattle.segments.proofs.StepFacts.{step_is, in_range_all}
 -- the ways to a number
 pub way_is : (shape : Shape) (v : RingView) (q : ℕ) → is_way_given shape v q ≡ true → is_crossing shape q ≡ true → v.crossed q ≡ true
 unfolding is_way_given
-way_is shape v q h crossing =
-    elim (or_cases (not (is_crossing shape q)) (v.crossed q) h) [
-      | inl none ↦ absurd (false≢true (sym (not-true (is_crossing shape q) none) ∙ crossing))
-      | inr crossed ↦ crossed
-    ]
+way_is shape v q h crossing = search (rules, or_cases, false≢true, not-true)
 
 -- a block up to which all is given, with the way to it
 pub data_reached : (shape : Shape) (v : RingView) (q : ℕ) → floor_number v ≤ q → ((p : ℕ) → p < q → is_step_given shape v p ≡ true) →
@@ -41,19 +38,10 @@ link_reached shape v q is later steps =
 
 -- the spot behind a given block
 pub after_reached : (shape : Shape) (v : RingView) (p : ℕ) → floor_number v ≤ p + 1 → p < given_count shape v → MayReach shape v (after shape p)
-after_reached shape v p later h =
-    let steps : (q : ℕ) → q < p + 1 → is_step_given shape v q ≡ true = λ q l. given_below shape v q (omega arith) in
-    elim (after_is shape p) [
-      | inl link ↦ subst (λ t. MayReach shape v t) (sym link.1) (link_reached shape v (p + 1) link.0 later steps)
-      | inr none ↦ subst (λ t. MayReach shape v t) (sym none.1) (data_reached shape v (p + 1) later steps (λ crossing. absurd (false≢true (sym none.0 ∙ crossing))))
-    ]
+after_reached shape v p later h = search (rules, given_below, after_is, link_reached, data_reached, false≢true)
 
 pub number-after : (shape : Shape) (p : ℕ) → number (after shape p) ≡ p + 1
-number-after shape p =
-    elim (after_is shape p) [
-      | inl link ↦ ap number link.1
-      | inr none ↦ ap number none.1
-    ]
+number-after shape p = search (rules, after_is)
 
 -- a spot at which the controller may have stopped
 pub stop_spot_reached : (shape : Shape) (v : RingView) (t : Spot) → IsSpot shape t → floor_number v ≤ number t → is_stop_spot shape v t ≡ true → MayReach shape v t
@@ -76,15 +64,8 @@ stop_spot_reached shape v (Link q) is later h =
 pub stopped_within : (shape : Shape) (v : RingView) (t : Spot) → is_stop_spot shape v t ≡ true →
     (number t ≤ stopped_number shape v t) × (stopped_number shape v t ≤ given_count shape v)
 unfolding is_stop_spot stopped_number
-stopped_within shape v (Data p) h =
-    elim (or_cases (nat_lt p (given_count shape v)) (p == given_count shape v && is_way_given shape v p) h) [
-      | inl below ↦ let within : p < given_count shape v = ltb-true p (given_count shape v) below in (omega arith, omega arith)
-      | inr end ↦
-          let parts = and_parts (p == given_count shape v) (is_way_given shape v p) end in
-          let at : p ≡ given_count shape v = eqb-true p (given_count shape v) parts.0 in
-          (omega arith, omega arith)
-    ]
-stopped_within shape v (Link q) h = let within : q ≤ given_count shape v = leb-true q (given_count shape v) h in (omega arith, within)
+stopped_within shape v (Data p) h = search (rules, or_cases, nat_lt, ltb-true, and_parts, eqb-true, leb-true)
+stopped_within shape v (Link q) h = search (rules, or_cases, nat_lt, ltb-true, and_parts, eqb-true, leb-true)
 
 -- a spot to which the ring may be moved
 ways_below : (shape : Shape) (v : RingView) (n : ℕ) → are_ways_given shape v n ≡ true → (q : ℕ) → 1 ≤ q → q < 1 + n → is_way_given shape v q ≡ true

@@ -1,4 +1,5 @@
 -- A spot that is reached, a ring that is opened or held: what the rules keep of a ring stays
+use Rattle.std.proofs.Common.{rules}
 use Rattle.segments.proofs.Words.{cases_Bool, ceiling, IsRestored, IsShownTo, ◌≡◌, ◌≢◌, ◌+◌, ◌-◌, ◌%◌, ◌<◌, ◌≤◌, ◌∙◌, ℕ, true, false, [], Option, None, Some, arith, refl, sym, ap, inl, inr, get_or, cases_lt, cases_eq, false≢true, none-some, same_Some, slice_get-get_or, Block, word, with_cycle, Spot, Shape, place_count, address_of, cycle_of, is_crossing, link_address, number, IsShape, RingView, Reaches, Opens, Holds, changed, declared, floor_number, is_due, is_crossing_due, is_step_given, is_way_given, given_count, descriptor_length, RingKeeps, MayReach, MayHold}
 use Rattle.segments.proofs.Positions.{place_count_pos, address_of-lap, cycle_of_bit, cycle_of_flips}
 use Rattle.segments.proofs.Crossings.{crossed_link, is_crossing-lap, link_address-lap}
@@ -70,20 +71,12 @@ module _ (shape : Shape) (is : IsShape shape) (memory : ℕ → ℕ) (v : RingVi
 
   -- and so does one that is free, below the ceiling
   given_cycle : (p : ℕ) → floor_number v ≤ p → v.given p ≡ true → (v.free p ≡ true → p < ceiling shape v) → memory (address_of shape p + 12) % 2 ≡ cycle_of shape p
-  given_cycle p low g below =
-      elim (cases_Bool (v.free p)) [
-        | inl free ↦ k.free_shows p low (below free) free
-        | inr kept ↦ kept_cycle p low g kept
-      ]
+  given_cycle p low g below = search (rules, kept_cycle)
 
   -- so where the position a lap before is given, the place doesn't show the cycle of this one
   behind_given : (p : ℕ) → floor_number v + place_count shape ≤ p → v.given (p - place_count shape) ≡ true →
       (v.free (p - place_count shape) ≡ true → p - place_count shape < ceiling shape v) → memory (address_of shape p + 12) % 2 ≢ cycle_of shape p
-  behind_given p above g below =
-      let lap : p - place_count shape + place_count shape ≡ p = omega arith in
-      let cycle = given_cycle (p - place_count shape) (omega arith) g below in
-      let place : address_of shape p ≡ address_of shape (p - place_count shape) = ap (λ n. address_of shape n) (sym lap) ∙ address_of-lap shape (p - place_count shape) in
-      λ same. cycle_of_flips shape is (p - place_count shape) (ap (λ n. cycle_of shape n) lap ∙ sym same ∙ ap (λ a. memory (a + 12) % 2) place ∙ cycle)
+  behind_given p above g below = search (rules, given_cycle, address_of-lap, cycle_of_flips)
 
   pub crossed_due : (q : ℕ) → floor_number v ≤ q → v.crossed q ≡ true → is_crossing_due shape v.floor q ≡ true
   crossed_due q low g = crossing_due_from shape v.floor q (record { crossing = k.crossed_is_crossing q g; from = low; within = k.crossed_within q g })

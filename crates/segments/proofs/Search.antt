@@ -1,5 +1,6 @@
 -- The one place of a list that passes a test
-use Rattle.segments.proofs.Words.{◌≡◌, ◌<◌, ◌≤◌, ◌⊎◌, ℕ, Bool, true, false, List, length, nat_lt, Option, Some, None, position, arith, refl, inl, inr, get_or, lt-ltb, ltb-false, le-ltb, position_or_len, cases_Bool, cond-true, cond-false, false_from_ne_true, position_or_len_is, fails_before_first}
+use Rattle.std.proofs.Common.{rules}
+use Rattle.segments.proofs.Words.{◌≡◌, ◌<◌, ◌⊎◌, ℕ, Bool, true, false, List, length, nat_lt, Option, Some, None, position, arith, refl, inl, inr, get_or, lt-ltb, ltb-false, le-ltb, position_or_len, cond-true, cond-false, false_from_ne_true, position_or_len_is, fails_before_first}
 
 -- the first place that passes
 pub position_is : {X : Type 0} (p : X → Bool) (xs : List X) (i : ℕ) (d : X) → i < length xs → p (get_or xs i d) ≡ true →
@@ -22,14 +23,7 @@ position_nowhere p xs d fails =
 
 -- where the search finds nothing, no place passes
 pub position-None : {X : Type 0} (p : X → Bool) (xs : List X) (k : ℕ) (d : X) → position p xs ≡ None → k < length xs → p (get_or xs k d) ≡ false
-position-None p xs k d none h =
-    elim (cases_Bool (nat_lt (position_or_len p xs) (length xs))) [
-      | inl found ↦
-          let some = cond-true (nat_lt (position_or_len p xs) (length xs)) (Some (position_or_len p xs)) None found in
-          absurd (cc)
-      | inr past ↦ let late : length xs ≤ position_or_len p xs = ltb-false (position_or_len p xs) (length xs) past in
-          fails_before_first p xs k d (omega arith)
-    ]
+position-None p xs k d none h = search (rules, position, length, get_or, nat_lt, cond-true, ltb-false, fails_before_first)
 
 pub cases_option : {X : Type 0} (o : Option X) → (o ≡ None) ⊎ ((x : X) × (o ≡ Some x))
 cases_option None = inl refl

@@ -1,5 +1,6 @@
 -- What an allowed shape keeps, fact by fact
-use Rattle.segments.proofs.Words.{◌≡◌, ◌+◌, ◌-◌, ◌*◌, ◌/◌, ◌%◌, ◌^◌, ◌<◌, ◌≤◌, ◌==◌, ◌&&◌, ◌∷◌, ℕ, suc, zero, Bool, true, List, [], length, nat_lt, nat_le, arith, get_or, leb-true, ltb-true, eqb-true, list_all, and_parts, RingKind, Cmd, Evt, Xfer, Segment, Shape, data_count, place_count, alignment, least_count, most_blocks, most_segments, is_in_one_page, is_segment, are_apart, IsShape}
+use Rattle.std.proofs.Common.{rules}
+use Rattle.segments.proofs.Words.{◌≡◌, ◌+◌, ◌-◌, ◌*◌, ◌/◌, ◌%◌, ◌^◌, ◌<◌, ◌≤◌, ◌∷◌, ℕ, suc, zero, Bool, true, List, [], length, nat_lt, nat_le, arith, get_or, leb-true, ltb-true, eqb-true, list_all, and_parts, RingKind, Cmd, Evt, Xfer, Segment, Shape, data_count, place_count, alignment, least_count, is_segment, are_apart, IsShape}
 use Rattle.segments.proofs.Blocks.{segment_at}
 
 -- a segment that a ring of this kind may have: it lies on 16 byte boundaries and ends at or below 2^64
@@ -34,28 +35,7 @@ data_blocks Evt s h = (omega arith, omega arith)
 data_blocks Xfer s h = (omega arith, omega arith)
 
 pub segment_facts : (kind : RingKind) (s : Segment) → is_segment kind s ≡ true → IsSegment kind s
-segment_facts kind s h =
-    let a = and_parts (nat_lt s.base (2 ^ 64) && s.base % alignment kind == 0 && nat_le (least_count kind) s.count && nat_le s.count most_blocks) (is_in_one_page s) h in
-    let b = and_parts (nat_lt s.base (2 ^ 64) && s.base % alignment kind == 0 && nat_le (least_count kind) s.count) (nat_le s.count most_blocks) a.0 in
-    let c = and_parts (nat_lt s.base (2 ^ 64) && s.base % alignment kind == 0) (nat_le (least_count kind) s.count) b.0 in
-    let d = and_parts (nat_lt s.base (2 ^ 64)) (s.base % alignment kind == 0) c.0 in
-    let low : s.base < 2 ^ 64 = ltb-true s.base (2 ^ 64) d.0 in
-    let boundary : s.base % alignment kind ≡ 0 = eqb-true (s.base % alignment kind) 0 d.1 in
-    let least : least_count kind ≤ s.count = leb-true (least_count kind) s.count c.1 in
-    let blocks : 2 ≤ s.count = two_least kind s.count least in
-    let page : s.base / 65536 ≡ (s.base + 16 * s.count - 1) / 65536 = eqb-true (s.base / 65536) ((s.base + 16 * s.count - 1) / 65536) a.1 in
-    record {
-      low = low;
-      aligned = on_sixteen kind s.base boundary;
-      boundary = boundary;
-      least = least;
-      blocks = blocks;
-      most = leb-true s.count 4096 b.1;
-      some_data = (data_blocks kind s blocks).0;
-      data_within = (data_blocks kind s blocks).1;
-      page = page;
-      end = ends_low s.base s.count low page blocks;
-    }
+segment_facts kind s h = search (rules, and_parts, nat_lt, nat_le, ltb-true, eqb-true, leb-true, two_least, on_sixteen, data_blocks, ends_low)
 
 all_at : {X : Type 0} (p : X → Bool) (xs : List X) (j : ℕ) (d : X) → list_all p xs ≡ true → j < length xs → p (get_or xs j d) ≡ true
 all_at p [] j d all h = absurd (omega arith)
@@ -70,14 +50,4 @@ pub record ShapeFacts (shape : Shape) : Type 0 where
   pub apart : are_apart shape.segments ≡ true
 
 pub shape_facts : (shape : Shape) → IsShape shape → ShapeFacts shape
-shape_facts shape h =
-    let a = and_parts (nat_le (length shape.segments) most_segments && list_all (is_segment shape.kind) shape.segments && nat_le 2 (place_count shape)) (are_apart shape.segments) h in
-    let b = and_parts (nat_le (length shape.segments) most_segments && list_all (is_segment shape.kind) shape.segments) (nat_le 2 (place_count shape)) a.0 in
-    let c = and_parts (nat_le (length shape.segments) most_segments) (list_all (is_segment shape.kind) shape.segments) b.0 in
-    record {
-      few = leb-true (length shape.segments) 64 c.0;
-      each = λ j l. segment_facts shape.kind (segment_at shape.segments j)
-          (all_at (is_segment shape.kind) shape.segments j (record { base = 0; count = 0 }) c.1 l);
-      several = leb-true 2 (place_count shape) b.1;
-      apart = a.1;
-    }
+shape_facts shape h = search (rules, and_parts, nat_le, length, leb-true, segment_facts, all_at)

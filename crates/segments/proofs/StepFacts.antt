@@ -1,27 +1,16 @@
 -- Steps that are given, and descriptors all of whose blocks are
-use Rattle.segments.proofs.Words.{◌≡◌, ◌+◌, ◌-◌, ◌<◌, ◌≤◌, ◌==◌, ◌||◌, ◌∷◌, ◌++◌, ◌∙◌, ℕ, suc, zero, not, Bool, true, false, List, [], sum, arith, refl, sym, ap, inl, inr, get_or, eq-eqb, ne_eqb, list_all, range_with_len, cases_Bool, cases_eq, cond-true, cond-false, false≢true, and_parts, and_from, or_left, or_right, not_from_false, not_from_true, not-false, not-true, or_cases, list_all_at, sum_by-cons, length-range_with_len, get_or-range_with_len, Shape, is_crossing, RingView, is_way_given, is_step_given, length_from, descriptor_length, is_not_whole}
+use Rattle.std.proofs.Common.{rules}
+use Rattle.segments.proofs.Words.{◌≡◌, ◌+◌, ◌-◌, ◌<◌, ◌≤◌, ◌==◌, ◌∷◌, ◌++◌, ◌∙◌, ℕ, suc, zero, Bool, true, false, List, [], sum, arith, refl, sym, ap, inl, inr, get_or, eq-eqb, ne_eqb, list_all, range_with_len, cases_Bool, cases_eq, cond-true, cond-false, false≢true, and_parts, and_from, or_left, or_right, not_from_false, not_from_true, not-false, not-true, or_cases, list_all_at, sum_by-cons, length-range_with_len, get_or-range_with_len, Shape, is_crossing, RingView, is_way_given, is_step_given, length_from, descriptor_length, is_not_whole}
 
 -- ---- a step
 
 pub step_from : (shape : Shape) (v : RingView) (q : ℕ) → v.given q ≡ true → (is_crossing shape q ≡ true → v.crossed q ≡ true) → is_step_given shape v q ≡ true
 unfolding is_step_given is_way_given
-step_from shape v q given crossed =
-    and_from (v.given q) (not (is_crossing shape q) || v.crossed q) given
-    (elim (cases_Bool (is_crossing shape q)) [
-      | inl link ↦ or_right (not (is_crossing shape q)) (v.crossed q) (crossed link)
-      | inr none ↦ or_left (not (is_crossing shape q)) (v.crossed q) (not_from_false (is_crossing shape q) none)
-    ])
+step_from shape v q given crossed = search (rules, and_from, or_right, or_left, not_from_false)
 
 pub step_is : (shape : Shape) (v : RingView) (q : ℕ) → is_step_given shape v q ≡ true → (v.given q ≡ true) × (is_crossing shape q ≡ true → v.crossed q ≡ true)
 unfolding is_step_given is_way_given
-step_is shape v q h =
-    let parts = and_parts (v.given q) (not (is_crossing shape q) || v.crossed q) h in (
-      parts.0,
-      λ link. elim (or_cases (not (is_crossing shape q)) (v.crossed q) parts.1) [
-        | inl none ↦ absurd (false≢true (sym (not-true (is_crossing shape q) none) ∙ link))
-        | inr crossed ↦ crossed
-      ],
-    )
+step_is shape v q h = search (rules, and_parts, or_cases, false≢true, not-true)
 
 -- what one view gives another one gives too
 pub record GivesMore (v w : RingView) : Type 0 where

@@ -1,8 +1,5 @@
 -- Of a ring's segments only the last one to start before the end of some bytes can have one of them
-use Rattle.segments.proofs.Words.{◌≡◌, ◌+◌, ◌-◌, ◌*◌, ◌<◌, ◌≤◌, ◌^◌, ◌&&◌, ◌||◌, ◌∷◌, ◌∙◌, ℕ, suc, List, [], refl, segments_overlap, rings_overlap, true, false, None, length, list_any, list_any_at, get_or_default, lt-ltb, ap, sym, arith, nat_tests, inl, inr, cases_Bool, cases_lt, false_from_ne_true, false≢true, Shape, Segment, IsShape, overlap, touches}
-use Rattle.std.specs.Prelude.{min}
-use Rattle.std.proofs.lemmas.List.Folds.{list_any_none}
-use Rattle.segments.specs.Index.{IsLastOf, IsLastStart}
+use Rattle.segments.proofs.Words.{min, list_any_none, IsLastOf, IsLastStart, ◌≡◌, ◌+◌, ◌-◌, ◌*◌, ◌<◌, ◌≤◌, ◌^◌, ◌&&◌, ◌||◌, ◌∷◌, ◌∙◌, ℕ, suc, List, [], refl, segments_overlap, rings_overlap, true, false, None, length, list_any, list_any_at, get_or_default, lt-ltb, ap, sym, arith, nat_tests, inl, inr, cases_Bool, cases_lt, false_from_ne_true, false≢true, Shape, Segment, IsShape, overlap, touches}
 use Rattle.segments.proofs.Blocks.{segment_at, same_segment}
 use Rattle.segments.proofs.ShapeFacts.{shape_facts}
 

@@ -1,5 +1,6 @@
 -- One step of the walk: at each spot up to the first that isn't given a block stands that leads to the next spot, and there none
-use Rattle.segments.proofs.Words.{IsRestored, ◌≡◌, ◌≢◌, ◌+◌, ◌-◌, ◌*◌, ◌/◌, ◌^◌, ◌%◌, ◌<◌, ◌≤◌, ◌==◌, ◌||◌, if◌then◌else◌, ◌∙◌, ℕ, not, Bool, true, false, [], Some, slice_get, arith, refl, sym, ap, inl, inr, get_or, eq-eqb, ne_eqb, eqb-true, option_map, cases_Bool, cases_lt, cases_eq, cond-true, cond-false, or_parts, not-false, false≢true, false_from_ne_true, slice_get-get_or, mod-eq_of_lt, Block, Evt, is_set, aligned, block_at, word, cycle, kind, pointer, with_cycle, is_link, kind-with_cycle, Spot, Data, Link, Shape, address_of, cycle_of, is_crossing, link_address, link_target, toggles, IsSpot, rank, number, after, next, spot_address, spot_cycle, IsShape, RingView, floor_number, given_count, same, is_wrong_link, RingKeeps, Pointer, block_under, is_shown, behind, laid, standing}
+use Rattle.std.proofs.Common.{rules}
+use Rattle.segments.proofs.Words.{IsRestored, ◌≡◌, ◌≢◌, ◌+◌, ◌-◌, ◌*◌, ◌/◌, ◌^◌, ◌%◌, ◌<◌, ◌≤◌, if◌then◌else◌, ◌∙◌, ℕ, Bool, true, false, [], Some, slice_get, arith, refl, sym, ap, inl, inr, get_or, eq-eqb, ne_eqb, eqb-true, option_map, cases_Bool, cases_lt, cases_eq, cond-true, cond-false, or_parts, not-false, false≢true, false_from_ne_true, slice_get-get_or, mod-eq_of_lt, Block, Evt, is_set, aligned, block_at, word, cycle, kind, pointer, with_cycle, is_link, kind-with_cycle, Spot, Data, Link, Shape, address_of, cycle_of, is_crossing, link_address, link_target, toggles, IsSpot, rank, number, after, next, spot_address, spot_cycle, IsShape, RingView, floor_number, given_count, same, is_wrong_link, RingKeeps, Pointer, block_under, is_shown, behind, laid, standing}
 use Rattle.segments.proofs.DataPlaces.{link_ends}
 use Rattle.segments.proofs.Positions.{address_ends, cycle_of_bit}
 use Rattle.segments.proofs.Crossings.{crosses, crossed_link, link_address_is, link_target-crossed, cycle_of-crossed}
@@ -71,13 +72,7 @@ module _ (shape : Shape) (is : IsShape shape) (other : shape.kind ≡ Evt → �
   leads : (q i : ℕ) (b : Block) → is_wrong_link shape i b ≡ false →
       (aligned (pointer b) ≡ link_target shape i) × (is_link (kind b) ≡ true) × (is_set (word b 3) 1 ≡ toggles shape i)
   unfolding is_wrong_link
-  leads q i b right =
-      let two = or_parts (not (aligned (pointer b) == link_target shape i) || not (is_link (kind b))) (not (same (is_set (word b 3) 1) (toggles shape i))) right in
-      let one = or_parts (not (aligned (pointer b) == link_target shape i)) (not (is_link (kind b))) two.0 in (
-        eqb-true (aligned (pointer b)) (link_target shape i) (not-false (aligned (pointer b) == link_target shape i) one.0),
-        not-false (is_link (kind b)) one.1,
-        same_is (is_set (word b 3) 1) (toggles shape i) (not-false (same (is_set (word b 3) 1) (toggles shape i)) two.1),
-      )
+  leads q i b right = search (rules, or_parts, eqb-true, not-false, same_is)
 
   link_read : (q : ℕ) → floor_number v ≤ q → is_crossing shape q ≡ true → v.crossed q ≡ true → IsRead shape memory v (Link q)
   link_read q low crossing given =
@@ -142,11 +137,7 @@ module _ (shape : Shape) (is : IsShape shape) (other : shape.kind ≡ Evt → �
 
   -- a floor behind the Link has its crossing given
   floor_below : is_crossing shape (given_count shape v) ≡ true → v.crossed (given_count shape v) ≡ false → rank v.floor ≤ 2 * given_count shape v
-  floor_below crossing missing =
-      elim (cases_lt (2 * given_count shape v) (rank v.floor)) [
-        | inl above ↦ absurd (false≢true (sym missing ∙ k.passed_links (given_count shape v) crossing above))
-        | inr within ↦ within
-      ]
+  floor_below crossing missing = search (rules, cases_lt, false≢true)
 
   pub waits : (t : Spot) × Waits shape memory v t
   waits =

@@ -1,4 +1,5 @@
 -- A descriptor that is withdrawn, and what is free that is restored: what the rules keep of a ring stays
+use Rattle.std.proofs.Common.{rules}
 use Rattle.segments.proofs.Words.{and_cases, leb-false, ltb-false, nat_le, nat_lt, unwrap_or, is_not_whole, ◌%◌, ◌≡◌, ◌+◌, ◌<◌, ◌≤◌, ◌⊎◌, ◌==◌, ◌&&◌, ◌∷◌, ◌++◌, ◌∙◌, ℕ, suc, zero, not, true, false, List, [], All, length, sum, replicate, Some, slice_get, arith, refl, sym, ap, subst, inl, inr, eq-eqb, ne_eqb, eqb-true, cases_Bool, cases_eq, cond-true, cond-false, and_parts, or_cases, or_left, or_right, or_parts, false≢true, not-false, All-cons, All-head, All-tail, sum_by-cons, Block, block_at, kind, with_cycle, is_link, no_op, no_ops, split_at, Shape, is_in, address_of, cycle_of, IsShape, RingView, Withdraws, Restores, changed, floor_number, is_step_given, is_way_given, given_count, ceiling, descriptor_length, is_border, length_from, is_declared_as, is_not_restored, unrestored, RingKeeps, MayHold, MayWithdraw, MayRestore}
 use Rattle.segments.proofs.Giving.{due_from}
 use Rattle.segments.proofs.DueLists.{unrestored_position, none_passes_at}
@@ -6,6 +7,7 @@ use Rattle.segments.proofs.GivenCount.{given_count_same}
 use Rattle.segments.proofs.StepFacts.{whole_is, whole_from}
 use Rattle.segments.proofs.MemoryWords.{same_words_is}
 use Rattle.segments.proofs.Reaching.{kept_cycle}
+use Rattle.segments.proofs.GivenBorder.{length_is}
 
 -- ---- the queue
 
@@ -171,10 +173,6 @@ split_length (n ∷ rest) start p q all =
           ]
     ]
 
-length_is : (v : RingView) (p : ℕ) → descriptor_length v p ≡ length_from v.lengths 0 p
-unfolding descriptor_length
-length_is v p = refl
-
 -- ---- one ring
 
 module _ (shape : Shape) (is : IsShape shape) (memory : ℕ → ℕ) (v : RingView) (k : RingKeeps shape memory v) where
@@ -198,14 +196,7 @@ module _ (shape : Shape) (is : IsShape shape) (memory : ℕ → ℕ) (v : RingVi
 
     -- what isn't free is elsewhere
     elsewhere : (q : ℕ) → v.given q ≡ true → (is_in q p count && v.given q) ≡ false → (q < p) ⊎ (p + count ≤ q)
-    elsewhere q given out =
-        elim (and_cases (is_in q p count) (v.given q) out) [
-          | inl outside ↦ elim (and_cases (nat_le p q) (nat_lt q (p + count)) outside) [
-            | inl low ↦ inl (leb-false p q low)
-            | inr high ↦ inr (ltb-false q (p + count) high)
-          ]
-          | inr missing ↦ absurd (false≢true (sym missing ∙ given))
-        ]
+    elsewhere q given out = search (rules, and_cases, nat_le, nat_lt, leb-false, ltb-false, false≢true)
 
     kept_by : (q : ℕ) (d : Block) → floor_number v ≤ q → v.given q ≡ true → after_it.free q ≡ false → slice_get after_it.queue q ≡ Some d →
         block_at memory (address_of shape q) ≡ with_cycle d (cycle_of shape q)
@@ -214,14 +205,7 @@ module _ (shape : Shape) (is : IsShape shape) (memory : ℕ → ℕ) (v : RingVi
         k.kept q d low given parts.0 (sym (no_ops_elsewhere v.queue p count q (elsewhere q given parts.1)) ∙ at)
 
     shows_by : (q : ℕ) → floor_number v ≤ q → q < ceiling shape after_it → after_it.free q ≡ true → memory (address_of shape q + 12) % 2 ≡ cycle_of shape q
-    shows_by q low high free =
-        elim (cases_Bool (v.free q)) [
-          | inl was ↦ k.free_shows q low (omega (arith, ceiling_kept)) was
-          | inr kept ↦ elim (or_cases (v.free q) (is_in q p count && v.given q) free) [
-            | inl was ↦ absurd (false≢true (sym kept ∙ was))
-            | inr now ↦ kept_cycle shape is memory v k q low (and_parts (is_in q p count) (v.given q) now).1 kept
-          ]
-        ]
+    shows_by q low high free = search (rules, after_it, ceiling_kept, or_cases, false≢true, kept_cycle, and_parts)
 
     whole_by : (q : ℕ) → v.given q ≡ true → is_not_whole shape after_it q ≡ false
     whole_by q given =

@@ -1,6 +1,5 @@
 -- The success of an Address Device: the default control endpoint's ring is bound, or stays where it is
-use Rattle.std.proofs.Common.{◌<◌, ◌∷◌, ℕ, Bool, [], arith, refl, inl, inr}
-use Rattle.safety.proofs.LazyRuns.Words.{cases_Bool, Command, AddressDevice, Running, SlotGoesOn, Places, changes, is_off, context_pointer, context_cycle, Header, IsHeader, World, Known, next_command, DriverKeeps, CommandKeeps, Stands, bad_context_parts, bad_command_context, same_context, address_same, slot_above, first_binds, second_moves, slot_binds, slot_moves, StatesMatch}
+use Rattle.safety.proofs.LazyRuns.Words.{◌<◌, ◌∷◌, ℕ, Bool, [], arith, refl, inl, inr, cases_Bool, Command, AddressDevice, Running, SlotGoesOn, Places, changes, is_off, context_pointer, context_cycle, Header, IsHeader, World, Known, next_command, DriverKeeps, CommandKeeps, Stands, bad_context_parts, bad_command_context, same_context, address_same, slot_above, first_binds, second_moves, slot_binds, slot_moves, StatesMatch}
 use Rattle.ring_knowledge.specs.Completions as completions
 use Rattle.safety.proofs.LazyRuns.ChangesGo.{ChangeGoes, ListGoes, no_change_goes, change_then_goes, change_goes}
 use Rattle.safety.proofs.LazyRuns.PlacesGo.{bind_goes, move_goes}

@@ -1,6 +1,5 @@
 -- A run whose events are all read: the world agrees with what is known now
-use Rattle.std.proofs.Common.{◌≡◌, ◌+◌, ◌∷◌, List, [], length, arith}
-use Rattle.safety.proofs.LazyRuns.Words.{Block, Header, World, Known, Agrees, Runs, all_read}
+use Rattle.safety.proofs.LazyRuns.Words.{◌≡◌, ◌+◌, ◌∷◌, List, [], length, arith, Block, Header, World, Known, Agrees, Runs, all_read}
 
 module _ (h : Header) where
   by : (k : Known) (w : World) (unread : List Block) → w.posted ≡ w.reads → Agrees h (all_read h k unread) unread w → Agrees h k [] w

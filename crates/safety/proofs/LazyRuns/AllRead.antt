@@ -1,6 +1,5 @@
 -- Behind all rows of a trace nothing is left to read: from the law of the lazy run behind each row
-use Rattle.std.proofs.Common.{◌≡◌, ◌++◌, ◌∙◌, List, [], All, reverse, refl, sym, ap, subst, append-nil}
-use Rattle.safety.proofs.LazyRuns.Words.{reverse-reverse, Header, TraceRow, scene_reached, scene_with, FitsFields, header_now, ContainsAll, GoesSoFar, LazyLaw, AllAreRead}
+use Rattle.safety.proofs.LazyRuns.Words.{◌≡◌, ◌++◌, ◌∙◌, List, [], All, reverse, refl, sym, ap, subst, append-nil, reverse-reverse, Header, TraceRow, scene_reached, scene_with, FitsFields, header_now, ContainsAll, GoesSoFar, LazyLaw, AllAreRead}
 use Rattle.safety.specs.LazyRuns.Lazy as lazy
 
 module _ (h : Header) where

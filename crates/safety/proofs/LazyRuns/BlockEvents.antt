@@ -1,6 +1,5 @@
 -- A Transfer Event of a success or an error: the lazy run brings its ring behind the block that it names, reports it, and reads it
-use Rattle.std.proofs.Common.{◌≡◌, ◌≢◌, ◌≤◌, ◌&&◌, ◌||◌, ◌∷◌, ◌∙◌, ℕ, true, false, List, [], Option, Some, arith, sym, ap, subst}
-use Rattle.safety.proofs.LazyRuns.Words.{false≢true, not-false, and_from, Block, IsBlock, kind, code, slot, endpoint, is_transfer_event, is_success, is_halting, is_trb_error, is_stopping, Spot, Data, is_open, RingView, floor_number, MayReach, rank, number, after, ceiling_within, after_reached, next_later, Header, Read, TraceRow, Plain, IsHeader, shape_of, command_id, World, Known, learned, lenient, RingSpot, transferred, IsDriverRing, DriverKeeps, Agrees, transfer_driver, ring_shape, is_held_ring, is_late, brought}
+use Rattle.safety.proofs.LazyRuns.Words.{◌≡◌, ◌≢◌, ◌≤◌, ◌&&◌, ◌||◌, ◌∷◌, ◌∙◌, ℕ, true, false, List, [], Option, Some, arith, sym, ap, subst, false≢true, not-false, and_from, Block, IsBlock, kind, code, slot, endpoint, is_transfer_event, is_success, is_halting, is_trb_error, is_stopping, Spot, Data, is_open, floor_number, MayReach, rank, number, after, ceiling_within, after_reached, next_later, Header, Read, TraceRow, Plain, IsHeader, shape_of, command_id, World, Known, learned, lenient, RingSpot, transferred, IsDriverRing, DriverKeeps, Agrees, transfer_driver, ring_shape, is_held_ring, is_late, brought}
 use Rattle.safety.proofs.LazyRuns.Follows.{StandsAt, IsActiveIfOpen, Follows, Carries, Leads, Past}
 use Rattle.safety.proofs.LazyRuns.Preparing.{AllFit}
 use Rattle.safety.proofs.LazyRuns.ReportPossible.{Reports, names, ahead, success_reports, error_reports}
@@ -9,10 +8,6 @@ use Rattle.safety.proofs.LazyRuns.Traced.{Traced, traced_behind}
 use Rattle.safety.proofs.LazyRuns.TransferFacts.{TransferFacts, NamesBlock, success_names, error_names}
 use Rattle.safety.proofs.LazyRuns.TransferGoals.{success_goes_on, error_goes_on, block_goal, brought_here, brought_off, read_is, learns, success_floor, error_ring}
 use Rattle.safety.proofs.LazyRuns.TransferRow.{facts, keeps, agrees, other_ring, row_carries}
-
-open_as_before : (v w : RingView) → w.held ≡ v.held → is_open w ≡ true → is_open v ≡ true
-unfolding is_open
-open_as_before v w same opened = rw (sym same) opened
 
 module _ (h : Header) where
   -- where no event is late, the ring of a success is open

@@ -1,15 +1,11 @@
 -- The changes of a command's success, one after the other: each is possible, and the rings go as they should
-use Rattle.std.proofs.Common.{◌≡◌, ◌==◌, ◌&&◌, if◌then◌else◌, ◌∷◌, ◌∙◌, ℕ, not, Bool, true, false, List, [], Option, Some, None, option_and_then, refl, sym, ap, subst, inl, inr, eqb-true, eq-eqb}
-use Rattle.safety.proofs.LazyRuns.Words.{cases_eq, and_from, and_parts, or_parts, or_from, false≢true, false_from_ne_true, not_from_false, none-some, Spot, is_open, ceiling, RingView, Holds, Command, Stopped, Change, SlotGoesOn, DeviceLeft, Disables, Places, Stops, Resets, Header, command_id, is_ring, shape_of, World, next_take, Known, on_ring, ring_here, ring_elsewhere, StatesMatch, ChangeKeeps, none_keeps, both_keep, IsNoPlacing, AreNoPlacings, change_keeps, cond_is, put_off, none_in_range}
+use Rattle.safety.proofs.LazyRuns.Words.{◌≡◌, ◌==◌, ◌&&◌, if◌then◌else◌, ◌∷◌, ◌∙◌, ℕ, not, Bool, false, List, [], Option, Some, None, option_and_then, refl, sym, ap, subst, eq-eqb, rules, and_from, and_parts, or_parts, or_from, false≢true, false_from_ne_true, not_from_false, none-some, Spot, is_open, Holds, Command, Stopped, Change, SlotGoesOn, DeviceLeft, Disables, Places, Stops, Resets, Header, command_id, is_ring, World, Known, on_ring, ring_here, ring_elsewhere, StatesMatch, ChangeKeeps, none_keeps, both_keep, IsNoPlacing, AreNoPlacings, change_keeps, cond_is, put_off, none_in_range}
 use Rattle.controller_model.specs.Bindings as bindings
 use Rattle.ring_knowledge.specs.Completions as completions
 use Rattle.safety.specs.LazyRuns.Needs as needs
 use Rattle.safety.proofs.LazyRuns.Follows.{StandsAt, IsActiveIfOpen}
 use Rattle.safety.proofs.LazyRuns.RingsGo.{HadBefore, AtFloors, RingsGo}
-
-pub is_ring_is : (r : ℕ) (o : Option ℕ) → is_ring r o ≡ true → o ≡ Some r
-is_ring_is r None at = absurd (false≢true at)
-is_ring_is r (Some q) at = ap (λ n. Some n) (eqb-true q r at)
+use Rattle.safety.proofs.BoundRings.{ring_is}
 
 module _ (h : Header) (c : Command) where
   -- one change
@@ -28,12 +24,7 @@ module _ (h : Header) (c : Command) where
 
   pub no_change_goes : (k : Known) (w : World) → StatesMatch h k w → AtFloors h k w → ListGoes k w []
   unfolding bindings.changed_by_all completions.changed_by_all needs.is_placed_by_all
-  no_change_goes k w m at = record {
-    world = w;
-    made = refl;
-    keeps = none_keeps h k w m;
-    goes = record { at_floors = at; had = λ s i r has other. record { slot = s; index = i; had = has; floor = refl }; not_command = refl };
-  }
+  no_change_goes k w m at = search (rules, none_keeps)
 
   both_had : (k l m : Known) (r : ℕ) (two : HadBefore l m r) → HadBefore k l r → HadBefore k m r
   both_had k l m r two one = record { slot = one.slot; index = one.index; had = one.had; floor = two.floor ∙ one.floor }
@@ -69,12 +60,7 @@ module _ (h : Header) (c : Command) where
     active : (s i r : ℕ) → l.ring_of s i ≡ Some r → IsActiveIfOpen k w r → IsActiveIfOpen l v r
 
   stands_still : (w v : World) (r : ℕ) (t : Spot) → v.pointer_of ≡ w.pointer_of → v.cycle_state ≡ w.cycle_state → v.events ≡ w.events → StandsAt h w r t → StandsAt h v r t
-  stands_still w v r t pointer cycle events at = record {
-    is_spot = at.is_spot;
-    pointer = ap (λ f. f r) pointer ∙ at.pointer;
-    cycle = ap (λ f. f r) cycle ∙ at.cycle;
-    next = ap (λ f. next_take (shape_of h r) (f r)) events ∙ at.next;
-  }
+  stands_still w v r t pointer cycle events at = search rules
 
   rings_left : (k l : Known) (w v : World) (placed : ℕ → Bool) → LeavesRings k l w v → AtFloors h k w → placed (command_id h) ≡ false → RingsGo h k l v placed
   rings_left k l w v placed x at none = record {
@@ -90,12 +76,7 @@ module _ (h : Header) (c : Command) where
     -- from what the change makes of the world
     goes_to : (change : Change) (v : World) → IsNoPlacing change → bindings.changed_by h c w change ≡ Some v → LeavesRings k (completions.changed_by h c k change) w v →
         is_ring (command_id h) (needs.ring_placed h k change) ≡ false → ChangeGoes k w change
-    goes_to change v plain made leaves none = record {
-      world = v;
-      made = made;
-      keeps = change_keeps h c change plain k w v m made;
-      goes = rings_left k (completions.changed_by h c k change) w v (λ r. is_ring r (needs.ring_placed h k change)) leaves at none;
-    }
+    goes_to change v plain made leaves none = search (rules, change_keeps, rings_left)
 
     slot_goes : (s : ℕ) → ChangeGoes k w (SlotGoesOn s)
     unfolding bindings.changed_by completions.changed_by needs.ring_placed
@@ -116,18 +97,10 @@ module _ (h : Header) (c : Command) where
 
     module _ (s : ℕ) (which : ℕ → Bool) where
       still_had : (z j r : ℕ) → (if z == s && which j then None else k.ring_of z j) ≡ Some r → (z == s && which j) ≡ false
-      still_had z j r has =
-          elim (cond_is (z == s && which j) None (k.ring_of z j) (Some r) has) [
-            | inl gone ↦ absurd (none-some r gone.1)
-            | inr still ↦ still.0
-          ]
+      still_had z j r has = search (rules, cond_is, none-some)
 
       had_then : (z j r : ℕ) → (if z == s && which j then None else k.ring_of z j) ≡ Some r → k.ring_of z j ≡ Some r
-      had_then z j r has =
-          elim (cond_is (z == s && which j) None (k.ring_of z j) (Some r) has) [
-            | inl gone ↦ absurd (none-some r gone.1)
-            | inr still ↦ still.1
-          ]
+      had_then z j r has = search (rules, cond_is, none-some)
 
       -- a ring that an endpoint still has isn't that of one that is disabled
       not_let_go : (z j r : ℕ) → (z == s && which j) ≡ false → k.ring_of z j ≡ Some r → bindings.has_one_of w s which r ≡ false
@@ -136,7 +109,7 @@ module _ (h : Header) (c : Command) where
           none_in_range (λ i. which i && is_ring r (w.ring_of s i)) 1 31
           (λ i low high. false_from_ne_true (which i && is_ring r (w.ring_of s i)) (λ both.
           let parts = and_parts (which i) (is_ring r (w.ring_of s i)) both in
-          let own : k.ring_of s i ≡ Some r = sym (m.ring_of s i) ∙ is_ring_is r (w.ring_of s i) parts.1 in
+          let own : k.ring_of s i ≡ Some r = sym (m.ring_of s i) ∙ ring_is r (w.ring_of s i) parts.1 in
           let same = m.one_endpoint s i z j r own has in
           false≢true (sym stays ∙ and_from (z == s) (which j) (eq-eqb z s (sym same.0)) (ap which (sym same.1) ∙ parts.0))))
 
@@ -161,11 +134,7 @@ module _ (h : Header) (c : Command) where
     none_stops s i = record { had = λ z j r has. has; floor = λ r. refl; pointer = refl; cycle = refl; events = refl; active = λ z j r has was opened. was opened }
 
     held_floor : (l : Known) (r n q : ℕ) → ((on_ring h l r (Holds n)).ring q).floor ≡ (l.ring q).floor
-    held_floor l r n q =
-        elim (cases_eq q r) [
-          | inl same ↦ ap (λ x. ((on_ring h l r (Holds n)).ring x).floor) same ∙ ap (λ (v : RingView). v.floor) (ring_here h l r (Holds n)) ∙ ap (λ x. (l.ring x).floor) (sym same)
-          | inr other ↦ ap (λ (v : RingView). v.floor) (ring_elsewhere h l r q (Holds n) other)
-        ]
+    held_floor l r n q = search (rules, ring_here, ring_elsewhere)
 
     held_closed : (l : Known) (r n : ℕ) → is_open ((on_ring h l r (Holds n)).ring r) ≡ false
     unfolding is_open
@@ -173,20 +142,7 @@ module _ (h : Header) (c : Command) where
 
     ring_stops : (s i r : ℕ) → LeavesRings k (completions.held_at_ceiling h (completions.in_state h k s i Stopped) (Some r)) w (bindings.inactive (bindings.in_state w s i Stopped) (Some r))
     unfolding bindings.in_state completions.in_state bindings.inactive completions.held_at_ceiling on_ring
-    ring_stops s i r =
-        let l : Known = completions.in_state h k s i Stopped in
-        let n : ℕ = ceiling (shape_of h r) (k.ring r) in
-        record {
-          had = λ z j q has. has;
-          floor = λ q. held_floor l r n q;
-          pointer = refl;
-          cycle = refl;
-          events = refl;
-          active = λ z j q has was opened. elim (cases_eq q r) [
-            | inl same ↦ absurd (false≢true (sym (held_closed l r n) ∙ ap (λ x. is_open ((on_ring h l r (Holds n)).ring x)) (sym same) ∙ opened))
-            | inr other ↦ put_off w.is_active r false q other ∙ was (ap (λ v. is_open v) (sym (ring_elsewhere h l r q (Holds n) other)) ∙ opened)
-          ];
-        }
+    ring_stops s i r = search (rules, held_floor, false≢true, held_closed, put_off, ring_elsewhere)
 
     stops_by : (s i : ℕ) (o : Option ℕ) → LeavesRings k (completions.held_at_ceiling h (completions.in_state h k s i Stopped) o) w (bindings.inactive (bindings.in_state w s i Stopped) o)
     unfolding bindings.inactive completions.held_at_ceiling

@@ -1,6 +1,5 @@
 -- The world directly before the controller finishes a command: the next command is taken, and no more than that
-use Rattle.std.proofs.Common.{◌≡◌, ◌≢◌, ◌⊎◌, ◌+◌, ◌≤◌, ◌==◌, if◌then◌else◌, ◌∷◌, ◌∙◌, ℕ, suc, true, List, [], Option, Some, None, arith, refl, sym, ap, subst, inl, inr}
-use Rattle.safety.proofs.LazyRuns.Words.{flat_map, cases_Bool, cases_eq, cases_lt, cond-true, cond-false, put, Block, kind, code, slot, is_command_completion, Spot, Data, Link, Shape, Reaches, Holds, IsSpot, number, rank, after, is_open, ceiling, MayReach, crossing_positive, after_reached, number-after, rank_least, rank_most, Command, NoOp, EnableSlot, DisableSlot, AddressDevice, ConfigureEndpoint, EvaluateContext, ResetEndpoint, StopEndpoint, SetTrDequeue, ResetDevice, Stopped, changes, Header, Read, TraceRow, Plain, Step, IsHeader, shape_of, command_id, World, UnderWay, Known, RingSpot, command_at, next_command, event_read, learned, DriverKeeps, Agrees, UnderWayMatches, TakenCommand, ring_here, ring_elsewhere, completion_kind, transfer_not_command, put_at, put_off, next_is, need}
+use Rattle.safety.proofs.LazyRuns.Words.{◌≡◌, ◌≢◌, ◌⊎◌, ◌+◌, ◌≤◌, ◌==◌, if◌then◌else◌, ◌∷◌, ◌∙◌, ℕ, suc, true, List, [], Option, Some, None, arith, refl, sym, ap, subst, inl, inr, rules, flat_map, cases_Bool, cases_eq, cases_lt, cond-true, cond-false, put, Block, kind, code, is_command_completion, Spot, Data, Link, Shape, Holds, IsSpot, number, rank, after, is_open, ceiling, MayReach, crossing_positive, after_reached, number-after, rank_least, rank_most, Command, StopEndpoint, Stopped, changes, Header, Read, TraceRow, Plain, Step, IsHeader, shape_of, command_id, World, UnderWay, Known, RingSpot, command_at, next_command, event_read, learned, DriverKeeps, Agrees, UnderWayMatches, TakenCommand, ring_here, ring_elsewhere, completion_kind, transfer_not_command, put_at, put_off, next_is, need}
 use Rattle.ring_knowledge.specs.Completions as completions
 use Rattle.safety.specs.LazyRuns.Lazy as lazy
 use Rattle.safety.proofs.LazyRuns.AllEventsRead.{agrees_now}
@@ -52,16 +51,7 @@ module _ (h : Header) where
   stop_held : (k : Known) (b : Block) (s i r : ℕ) → r ≢ command_id h → is_command_completion (kind b) ≡ true → (code b == 1) ≡ true → command_at h k (next_command h k) ≡ Some (StopEndpoint s i) →
       k.ring_of s i ≡ Some r → IsHeld (learned h k (Read b)) r
   unfolding learned event_read completions.completed completions.finished
-  stop_held k b s i r other completion one here had =
-      let c : Command = StopEndpoint s i in
-      let m : Known = completions.succeeded h k (slot b) c in
-      let t : Spot = after (shape_of h (command_id h)) (next_command h k) in
-      let done : IsHeld (completions.finished h k b (Some c)) r =
-      stop_ended_held (if code b == 1 then m else k) s i r (subst (λ (x : Known). IsHeld x r) (sym (cond-true (code b == 1) m k one)) (stop_succeeded k (slot b) s i r had)) in
-      let now : IsHeld (completions.finished h k b (command_at h k (next_command h k))) r = subst (λ o. IsHeld (completions.finished h k b o) r) (sym here) done in
-      let behind : IsHeld (completions.completed h k b) r =
-      ap (λ v. is_open v) (ring_elsewhere h (completions.finished h k b (command_at h k (next_command h k))) (command_id h) r (Reaches t) other) ∙ now in
-      subst (λ n. IsHeld (event_read h k n b) r) (sym (completion_kind (kind b) completion)) behind
+  stop_held k b s i r other completion one here had = search (rules, stop_ended_held, cond-true, stop_succeeded, ring_elsewhere, completion_kind)
 
   module _ (is : IsHeader h) (past : Past h) (later : List TraceRow) (b : Block) (completion : is_command_completion (kind b) ≡ true) (timely : AreTimely h past.known (Plain (Read b) ∷ later))
       (d : DriverKeeps h past.known) where
@@ -90,16 +80,7 @@ module _ (h : Header) where
     stopped_idle : (o : Option Command) → command_at h k (next_command h k) ≡ o → IsIdle k (lazy.stopped_goals h k later b o)
     unfolding lazy.stopped_goals
     stopped_idle (Some (StopEndpoint s i)) here = stop_idle s i here
-    stopped_idle None here = inl refl
-    stopped_idle (Some NoOp) here = inl refl
-    stopped_idle (Some EnableSlot) here = inl refl
-    stopped_idle (Some (DisableSlot s)) here = inl refl
-    stopped_idle (Some (AddressDevice s bsr c)) here = inl refl
-    stopped_idle (Some (ConfigureEndpoint s dc c)) here = inl refl
-    stopped_idle (Some (EvaluateContext s c)) here = inl refl
-    stopped_idle (Some (ResetEndpoint s i)) here = inl refl
-    stopped_idle (Some (SetTrDequeue s i p c)) here = inl refl
-    stopped_idle (Some (ResetDevice s)) here = inl refl
+    stopped_idle _ here = inl refl
 
     goals_are : lazy.goals h k later (kind b) b ≡ lazy.command_taken h k ∷ lazy.stopped_goals h k later b (command_at h k (next_command h k))
     unfolding lazy.goals
@@ -108,9 +89,6 @@ module _ (h : Header) where
     -- ---- they fit
 
     module _ (w : World) (says : CompletionSays h k b) (pointers : ℕ → Spot) (trace : Traced h past.known pointers w) where
-      agrees : Agrees h k [] w
-      agrees = agrees_now h past.known w trace.runs trace.all_read
-
       opened : CommandsOpen h k
       opened = commands_open h k d says.below
 
@@ -197,13 +175,7 @@ module _ (h : Header) where
       -- the pointer is behind the next command
       past_it : next_command h k + 1 ≤ number at_command
       unfolding at_command
-      past_it =
-          elim (cases_lt (rank (pointers (command_id h))) (rank goal)) [
-            | inl before ↦ omega (arith, ap number (further_then (pointers (command_id h)) goal before), goal_number)
-            | inr behind ↦
-                let stays = ap number (further_not (pointers (command_id h)) goal (omega (arith, behind))) in
-                omega (arith, stays, goal_number, behind, rank_least goal, rank_most (pointers (command_id h)))
-          ]
+      past_it = search (rules, k, at_command, cases_lt, goal, further_then, goal_number, further_not, rank_least, rank_most)
 
       -- the run comes to where the event is posted
       pub prepared : (made : List Step) → Leads h past made (Plain (Read b) ∷ later) w →

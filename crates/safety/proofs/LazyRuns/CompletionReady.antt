@@ -1,6 +1,5 @@
 -- The lazy run directly before a finish: the command is under way, and the controller can end it as a clean event says
-use Rattle.std.proofs.Common.{◌≡◌, ◌==◌, ◌&&◌, ◌∷◌, ◌++◌, ◌∙◌, ℕ, not, true, List, [], reverse, Some, None, sym, ap, subst, eq-eqb}
-use Rattle.safety.proofs.LazyRuns.Words.{and_from, cond-true, not_from_false, Block, kind, code, pointer, slot, is_command_completion, Spot, cycle_of, is_open, cycle_of_bit, command_of, may_answer_slot, Header, Read, TraceRow, Plain, Step, IsHeader, shape_of, command_id, World, UnderWay, can_post, Known, lenient, next_command, was_stop_seen, DriverKeeps, Agrees, next_at_floor, AtFloor, command_at_is, command_of-with_cycle}
+use Rattle.safety.proofs.LazyRuns.Words.{◌≡◌, ◌∷◌, ◌++◌, ◌∙◌, ℕ, true, List, [], reverse, Some, sym, ap, subst, eq-eqb, rules, and_from, cond-true, not_from_false, Block, kind, pointer, is_command_completion, Spot, cycle_of, is_open, cycle_of_bit, command_of, Header, Read, TraceRow, Plain, Step, IsHeader, shape_of, command_id, World, UnderWay, can_post, Known, lenient, next_command, was_stop_seen, DriverKeeps, Agrees, next_at_floor, AtFloor, command_at_is, command_of-with_cycle}
 use Rattle.controller_model.specs.Finishes as finishes
 use Rattle.safety.specs.LazyRuns.Lazy as lazy
 use Rattle.safety.proofs.LazyRuns.AllEventsRead.{agrees_now}
@@ -80,14 +79,4 @@ module _ (h : Header) where
   pub finish_posted : (past : Past h) (later : List TraceRow) (b : Block) (v : World) → is_command_completion (kind b) ≡ true → (ready : ReadyToFinish past later b) →
       finishes.ended_with h ready.world b ready.taken ≡ Some v → finishes.finished h ready.world b ≡ Some v
   unfolding finishes.finished finishes.finished_as
-  finish_posted past later b v completion ready ends =
-      let w : World = ready.world in
-      let u : UnderWay = ready.taken in
-      let answers : may_answer_slot (command_of u.block) (slot b) ≡ true = ap (λ o. may_answer_slot o (slot b)) ready.command_is ∙ ready.says.answers in
-      cond-true (can_post h w b && is_command_completion (kind b) && not (code b == 0)) (finishes.finished_as h w b w.under_way) None
-      (and_from (can_post h w b && is_command_completion (kind b)) (not (code b == 0)) (and_from (can_post h w b) (is_command_completion (kind b)) ready.can completion)
-      (not_from_false (code b == 0) ready.says.some_code))
-      ∙ ap (λ o. finishes.finished_as h w b o) ready.under_way
-      ∙ cond-true (pointer b == u.address && may_answer_slot (command_of u.block) (slot b)) (finishes.ended_with h w b u) None
-      (and_from (pointer b == u.address) (may_answer_slot (command_of u.block) (slot b)) (eq-eqb (pointer b) u.address ready.named) answers)
-      ∙ ends
+  finish_posted past later b v completion ready ends = search (rules, cond-true, and_from, not_from_false, eq-eqb)

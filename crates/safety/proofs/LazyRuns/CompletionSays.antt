@@ -1,6 +1,5 @@
 -- What a clean Command Completion Event says: the next command was given, and a controller can have finished it so
-use Rattle.std.proofs.Common.{◌≡◌, ◌<◌, ◌==◌, if◌then◌else◌, ◌∙◌, true, false, not, [], Option, Some, None, refl, sym, ap, inl, inr, arith, ltb-true, eqb-true}
-use Rattle.safety.proofs.LazyRuns.Words.{false≢true, or_parts, and_parts, not-false, Block, kind, code, pointer, slot, is_command_completion, Shape, RingView, address_of, ceiling, given_count, is_open, Command, may_answer_slot, can_succeed, Header, Read, Config, shape_of, command_id, register_or_zero, Known, command_at, next_command, may_be_taken, can_finish, is_impossible_by_kind, is_impossible_completion, was_stop_seen, lenient, DriverKeeps, EventFacts, event_facts, completion_kind, ceiling_open, ceiling_held}
+use Rattle.safety.proofs.LazyRuns.Words.{◌≡◌, ◌<◌, ◌==◌, if◌then◌else◌, ◌∙◌, true, false, not, [], Option, Some, None, refl, sym, ap, ltb-true, eqb-true, rules, false≢true, or_parts, and_parts, not-false, Block, kind, code, pointer, slot, is_command_completion, RingView, address_of, ceiling, given_count, is_open, Command, may_answer_slot, can_succeed, Header, Read, Config, shape_of, command_id, register_or_zero, Known, command_at, next_command, may_be_taken, can_finish, is_impossible_by_kind, is_impossible_completion, was_stop_seen, lenient, DriverKeeps, EventFacts, event_facts, completion_kind, ceiling_open, ceiling_held}
 
 pub record CompletionSays (h : Header) (k : Known) (b : Block) : Type 0 where
   pub started : k.started ≡ true
@@ -60,10 +59,4 @@ module _ (h : Header) where
     pub given : next_command h k < given_count (shape_of h (command_id h)) (k.ring (command_id h))
 
   pub commands_open : (k : Known) → DriverKeeps h k → next_command h k < ceiling (shape_of h (command_id h)) (k.ring (command_id h)) → CommandsOpen k
-  commands_open k d below =
-      let shape : Shape = shape_of h (command_id h) in
-      let v : RingView = k.ring (command_id h) in
-      elim d.command_ring.held [
-        | inl none ↦ record { opened = open_view v none; given = omega (arith, below, ceiling_open shape v none) }
-        | inr first ↦ absurd (let c : ceiling shape v ≡ 0 = ceiling_held shape v 0 first.0 in omega (arith, below, c))
-      ]
+  commands_open k d below = search (rules, open_view, ceiling_open, ceiling_held)

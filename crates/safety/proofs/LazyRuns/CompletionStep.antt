@@ -1,6 +1,5 @@
 -- The step of a row with a Command Completion Event, where the controller can finish its command and rings go as they should
-use Rattle.std.proofs.Common.{◌≡◌, ◌≢◌, ◌+◌, ◌<◌, ◌∷◌, ◌++◌, ◌∙◌, ℕ, true, false, List, [], reverse, Some, None, option_map, option_and_then, arith, refl, sym, ap, subst, inl, inr}
-use Rattle.safety.proofs.LazyRuns.Words.{cases_Bool, cond-false, cond-true, false≢true, reverse-append, Block, IsBlock, block_at, kind, same_words, is_command_completion, Spot, address_of, is_open, RingView, Header, Read, Step, NextRow, Finish, TraceRow, Plain, IsHeader, command_id, event_shape, World, event_at, read_made, Known, learned, lenient, DriverKeeps, RingState, state_of, Agrees, Runs, kept_driver, run_keeps, scene_with, step_made, completion_kind, finish_is, finish_runs, transfer_not_command, words_itself, post_keeps, read_runs}
+use Rattle.safety.proofs.LazyRuns.Words.{◌≡◌, ◌≢◌, ◌+◌, ◌<◌, ◌∷◌, ◌++◌, ◌∙◌, ℕ, true, false, List, [], reverse, Some, None, option_map, option_and_then, arith, refl, sym, ap, subst, inl, inr, cases_Bool, cond-false, cond-true, false≢true, reverse-append, Block, IsBlock, block_at, kind, same_words, is_command_completion, Spot, address_of, is_open, RingView, Header, Read, Step, NextRow, Finish, TraceRow, Plain, IsHeader, command_id, event_shape, World, event_at, read_made, Known, learned, lenient, DriverKeeps, RingState, state_of, Agrees, Runs, kept_driver, run_keeps, scene_with, step_made, completion_kind, finish_is, finish_runs, transfer_not_command, words_itself, post_keeps, read_runs}
 use Rattle.world_state.specs.World as of_world
 use Rattle.controller_model.specs.DriverRows as driver
 use Rattle.controller_model.specs.Posts as posts

@@ -1,6 +1,5 @@
 -- The step of a row that reads a Command Completion Event, whatever its command and its code
-use Rattle.std.proofs.Common.{◌≡◌, ◌==◌, ◌∙◌, true, false, List, Some, refl, ap, subst, inl, inr}
-use Rattle.safety.proofs.LazyRuns.Words.{cases_Bool, Block, code, slot, is_command_completion, Command, NoOp, EnableSlot, DisableSlot, AddressDevice, ConfigureEndpoint, EvaluateContext, ResetEndpoint, StopEndpoint, SetTrDequeue, ResetDevice, command_of, Header, TraceRow, IsHeader, next_command, CommandKeeps, PlacesNone, command_numbered}
+use Rattle.safety.proofs.LazyRuns.Words.{◌≡◌, ◌==◌, ◌∙◌, List, Some, true, false, refl, ap, subst, inl, inr, rules, cases_Bool, Block, code, slot, is_command_completion, Command, ConfigureEndpoint, command_of, Header, TraceRow, IsHeader, next_command, CommandKeeps, PlacesNone, command_numbered}
 use Rattle.safety.proofs.LazyRuns.AddressCompletions.{address_effect}
 use Rattle.safety.proofs.LazyRuns.CompletionReady.{ReadyToFinish, ready_to_finish, floors_then}
 use Rattle.safety.proofs.LazyRuns.ConfigureCompletions.{configure_effect}
@@ -23,23 +22,9 @@ module _ (h : Header) (is : IsHeader h) (past : Past h) (later : List TraceRow) 
   plain c none = slot_effect h past.known ready.world (slot b) c none (states_then h past later b is ready) (floors_then h past later b ready)
 
   command_effect : (c : Command) → ready.says.command ≡ c → EffectGoes h past.known ready.world (slot b) c
-  command_effect NoOp here = plain NoOp tt
-  command_effect EnableSlot here = plain EnableSlot tt
-  command_effect (DisableSlot s) here = plain (DisableSlot s) tt
-  command_effect (AddressDevice s bsr n) here =
-      address_effect h is past.known ready.world ready.keeps (states_then h past later b is ready) (floors_then h past later b ready) s n bsr
-      (command_numbered ready.taken.block (AddressDevice s bsr n) (command_there (AddressDevice s bsr n) here)) (command_keeps (AddressDevice s bsr n) here) (slot b) ready.agrees.stands
-  command_effect (ConfigureEndpoint s false a) here =
-      configure_effect h is past.known ready.world ready.keeps (states_then h past later b is ready) (floors_then h past later b ready) s a
-      (command_numbered ready.taken.block (ConfigureEndpoint s false a) (command_there (ConfigureEndpoint s false a) here)) (command_keeps (ConfigureEndpoint s false a) here) (slot b) ready.agrees.stands
-  command_effect (ConfigureEndpoint s true a) here = plain (ConfigureEndpoint s true a) tt
-  command_effect (EvaluateContext s n) here = plain (EvaluateContext s n) tt
-  command_effect (ResetEndpoint s i) here = plain (ResetEndpoint s i) tt
-  command_effect (StopEndpoint s i) here = plain (StopEndpoint s i) tt
-  command_effect (SetTrDequeue s i p cycle) here =
-      dequeue_effect h is past.known ready.world (slot b) s i p cycle ready.keeps (states_then h past later b is ready) (floors_then h past later b ready)
-      (command_keeps (SetTrDequeue s i p cycle) here)
-  command_effect (ResetDevice s) here = plain (ResetDevice s) tt
+  command_effect (ConfigureEndpoint s false a) here = search (rules, plain, address_effect, states_then, floors_then, command_numbered, command_there, command_keeps, configure_effect, dequeue_effect)
+  command_effect (ConfigureEndpoint s true a) here = search (rules, plain)
+  command_effect _ here = search (rules, plain, address_effect, states_then, floors_then, command_numbered, command_there, command_keeps, configure_effect, dequeue_effect)
 
 pub completion_law : (h : Header) → EventLawOf h is_command_completion
 completion_law h past later b w completion is block clean timely run f =

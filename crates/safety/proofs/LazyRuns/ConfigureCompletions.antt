@@ -1,6 +1,5 @@
 -- The success of a Configure Endpoint: the rings of the endpoints that it adds are bound
-use Rattle.std.proofs.Common.{◌≡◌, ◌≢◌, ◌<◌, ◌∷◌, ◌∙◌, ℕ, Bool, false, List, [], map, All, refl, sym, ap, get_or, eq-eqb}
-use Rattle.safety.proofs.LazyRuns.Words.{list_any, or_parts, All-head, All-tail, Command, ConfigureEndpoint, Running, Change, SlotGoesOn, Disables, Places, changes, placed_by_context, added_endpoints, is_dropped, context_pointer, context_cycle, Header, IsHeader, is_ring, World, Known, next_command, is_among, has_repeats, ring_bound, binding_in, DriverKeeps, CommandKeeps, Stands, bad_context_parts, bad_command_context, same_context, configure_same, slot_above, StatesMatch, may_add, have_none, numbered, apart, ReadyAt, HasNone, ring_at, ready_next, placed_there, none_there, false≢true, each_fails, any_of_map}
+use Rattle.safety.proofs.LazyRuns.Words.{◌≡◌, ◌≢◌, ◌<◌, ◌∷◌, ◌∙◌, ℕ, Bool, false, List, [], map, All, refl, sym, ap, get_or, eq-eqb, list_any, or_parts, All-head, All-tail, Command, ConfigureEndpoint, Running, Change, SlotGoesOn, Disables, Places, changes, placed_by_context, added_endpoints, is_dropped, context_pointer, context_cycle, Header, IsHeader, is_ring, World, Known, next_command, is_among, has_repeats, ring_bound, binding_in, DriverKeeps, CommandKeeps, Stands, bad_context_parts, bad_command_context, same_context, configure_same, slot_above, StatesMatch, may_add, have_none, numbered, apart, ReadyAt, HasNone, ring_at, ready_next, placed_there, none_there, false≢true, each_fails, any_of_map}
 use Rattle.ring_knowledge.specs.Completions as completions
 use Rattle.safety.proofs.LazyRuns.ChangesGo.{ChangeGoes, ListGoes, no_change_goes, change_then_goes, change_goes}
 use Rattle.safety.proofs.LazyRuns.PlacesGo.{bind_goes}

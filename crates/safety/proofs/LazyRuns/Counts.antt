@@ -1,6 +1,5 @@
 -- How many positions of a ring are given: a write gives one more at most, and none of a ring that doesn't have its word
-use Rattle.std.proofs.Common.{◌≡◌, ◌+◌, ◌<◌, ◌≤◌, ◌||◌, ◌∙◌, ℕ, Bool, true, false, arith, refl, sym, ap, inl, inr}
-use Rattle.safety.proofs.LazyRuns.Words.{cases_Bool, false≢true, is_inside, RingView, Writes, changed, gives, IsShape, Shape, address_inside, gives_is, gives_one}
+use Rattle.safety.proofs.LazyRuns.Words.{◌≡◌, ◌+◌, ◌<◌, ◌≤◌, ◌||◌, ◌∙◌, ℕ, Bool, true, false, arith, refl, sym, ap, inl, inr, cases_Bool, false≢true, is_inside, RingView, Writes, changed, gives, IsShape, Shape, address_inside, gives_is, gives_one}
 use Rattle.safety.proofs.LazyRuns.Totals.{total, total_le, total_none, total_one, total_ones}
 
 pub bit : Bool → ℕ

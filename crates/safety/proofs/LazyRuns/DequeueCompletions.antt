@@ -1,6 +1,5 @@
 -- The success of a Set TR Dequeue: the ring stands where it was moved
-use Rattle.std.proofs.Common.{ℕ, Bool, [], refl}
-use Rattle.safety.proofs.LazyRuns.Words.{Command, SetTrDequeue, Stopped, Change, Places, changes, Header, IsHeader, World, Known, next_command, DriverKeeps, CommandKeeps, StatesMatch, may_move, MayMove}
+use Rattle.safety.proofs.LazyRuns.Words.{ℕ, Bool, [], refl, Command, SetTrDequeue, Stopped, Change, Places, changes, Header, IsHeader, World, Known, next_command, DriverKeeps, CommandKeeps, StatesMatch, may_move, MayMove}
 use Rattle.ring_knowledge.specs.Completions as completions
 use Rattle.safety.proofs.LazyRuns.ChangesGo.{ChangeGoes, no_change_goes, change_then_goes}
 use Rattle.safety.proofs.LazyRuns.PlacesGo.{move_goes}

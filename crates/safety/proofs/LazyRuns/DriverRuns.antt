@@ -1,6 +1,5 @@
 -- The lazy run makes no step of the controller for a row of the driver: it goes from one row to the next
-use Rattle.std.proofs.Common.{◌≡◌, ◌∷◌, ◌++◌, ◌∙◌, ℕ, List, [], reverse, Some, option_map, option_and_then, refl, sym, ap, subst}
-use Rattle.safety.proofs.LazyRuns.Words.{Spot, Header, Row, Sub, Write, Reg, Bell, Read, Step, NextRow, TraceRow, Plain, World, Known, IsDriverRow, scene_with, step_made}
+use Rattle.safety.proofs.LazyRuns.Words.{◌≡◌, ◌∷◌, ◌++◌, ◌∙◌, ℕ, List, [], reverse, Some, option_map, option_and_then, refl, sym, ap, subst, Spot, Header, Row, Read, Step, NextRow, TraceRow, Plain, World, Known, IsDriverRow, scene_with, step_made}
 use Rattle.controller_model.specs.DriverRows as driver
 use Rattle.controller_model.specs.Steps as steps
 use Rattle.safety.specs.LazyRuns.Lazy as lazy
@@ -9,19 +8,13 @@ use Rattle.safety.proofs.LazyRuns.Follows.{Leads, Past}
 module _ (h : Header) where
   pub no_steps : (k : Known) (pointers : ℕ → Spot) (row : Row) (later : List TraceRow) → IsDriverRow row → lazy.steps_before h k pointers row later ≡ []
   unfolding lazy.steps_before
-  no_steps k pointers (Sub r blocks) later driver_row = refl
-  no_steps k pointers (Write a x) later driver_row = refl
-  no_steps k pointers (Reg r x) later driver_row = refl
-  no_steps k pointers (Bell s t) later driver_row = refl
   no_steps k pointers (Read e) later driver_row = absurd driver_row
+  no_steps k pointers _ later driver_row = refl
 
   pub pointers_same : (k : Known) (pointers : ℕ → Spot) (row : Row) (later : List TraceRow) (r : ℕ) → IsDriverRow row → lazy.pointers_after h k pointers row later r ≡ pointers r
   unfolding lazy.pointers_after
-  pointers_same k pointers (Sub q blocks) later r driver_row = refl
-  pointers_same k pointers (Write a x) later r driver_row = refl
-  pointers_same k pointers (Reg q x) later r driver_row = refl
-  pointers_same k pointers (Bell s t) later r driver_row = refl
   pointers_same k pointers (Read e) later r driver_row = absurd driver_row
+  pointers_same k pointers _ later r driver_row = refl
 
   -- the next row is made
   pub next_reached : (past : Past h) (made : List Step) (w v : World) (row : Row) (later : List TraceRow) → Leads h past made (Plain row ∷ later) w →

@@ -1,6 +1,5 @@
 -- The induction's step for a row of the driver
-use Rattle.std.proofs.Common.{◌≡◌, ◌≢◌, ◌⊎◌, ◌≤◌, ◌∷◌, ◌∙◌, ℕ, true, false, List, [], Some, arith, sym, ap, subst, inl, inr}
-use Rattle.safety.proofs.LazyRuns.Words.{cases_Bool, false≢true, Spot, Data, Link, Shape, number, rank, Header, Row, TraceRow, Plain, IsHeader, shape_of, command_id, IsRow, World, RingEvent, next_take, counted, Known, learned, MayCome, DriverKeeps, IsDriverRow, Agrees, CommandMatches, Runs, kept_driver, transfer_not_command, more_law, row_runs, square_law, still_rings, pointers_after, AreAtFloors}
+use Rattle.safety.proofs.LazyRuns.Words.{◌≡◌, ◌≢◌, ◌⊎◌, ◌≤◌, ◌∷◌, ◌∙◌, ℕ, true, false, List, [], Some, arith, sym, ap, subst, inl, inr, rules, cases_Bool, false≢true, Spot, Data, Link, Shape, number, rank, Header, Row, TraceRow, Plain, IsHeader, command_id, IsRow, World, RingEvent, next_take, counted, Known, learned, MayCome, DriverKeeps, IsDriverRow, Agrees, Runs, kept_driver, transfer_not_command, more_law, row_runs, square_law, still_rings, pointers_after, AreAtFloors}
 use Rattle.safety.proofs.LazyRuns.AllEventsRead.{agrees_now}
 use Rattle.safety.proofs.LazyRuns.DriverRuns.{pointers_same, driver_reached}
 use Rattle.safety.proofs.LazyRuns.Follows.{StandsAt, IsActiveIfOpen, Follows, Carries, Leads, Past}
@@ -18,12 +17,7 @@ next_none shape events none = ap (λ e. next_take shape e) none
 
 module _ (h : Header) where
   stands_still : (w v : World) (r : ℕ) (t : Spot) → StandsAt h w r t → PointerStays w v r → v.events r ≡ w.events r → StandsAt h v r t
-  stands_still w v r t s p events = record {
-    is_spot = s.is_spot;
-    pointer = p.pointer ∙ s.pointer;
-    cycle = p.cycle ∙ s.cycle;
-    next = ap (λ e. next_take (shape_of h r) e) events ∙ s.next;
-  }
+  stands_still w v r t s p events = search rules
 
   module _ (is : IsHeader h) (row : Row) (past : Past h) (later : List TraceRow) (w : World) (driver_row : IsDriverRow row) (is_row : IsRow row) (may : MayCome h past.known row)
       (f : Follows h past.known past.pointers w) where
@@ -105,25 +99,12 @@ module _ (h : Header) where
       -- it was started before
       goes_on : k.started ≡ true → l.started ≡ true → StandsAt h (counted h v) (command_id h) (past.pointers (command_id h))
       unfolding counted k
-      goes_on started still =
-          let same : v.started ≡ w.started = agrees_then.stands.started ∙ still ∙ sym started ∙ sym agrees.stands.started in
-          let p = leaves.pointers (command_id h) (inr same) in
-          let there = stands_still w v (command_id h) (past.pointers (command_id h)) (f.command started)
-          (record { pointer = p.pointer; cycle = p.cycle }) (leaves.events (command_id h)) in
-          record { is_spot = there.is_spot; pointer = there.pointer; cycle = there.cycle; next = there.next }
+      goes_on started still = search (rules, k, l, v, agrees_then, agrees, leaves, stands_still)
 
       -- the row starts it: nothing is taken yet
       begins : k.started ≡ false → l.started ≡ true → StandsAt h (counted h v) (command_id h) (past.pointers (command_id h))
       unfolding counted k
-      begins waits started =
-          let c : CommandMatches h l (counted h v) = agrees_then.matches.command started in
-          let none : v.events (command_id h) ≡ [] = leaves.events (command_id h) ∙ (agrees.matches.before waits).no_events in
-          let zero : number c.spot ≡ 0 = sym c.ring.next ∙ next_none (shape_of h (command_id h)) (v.events (command_id h)) none in
-          let floor : (l.ring (command_id h)).floor ≡ Data 0 = learns.floors (command_id h) ∙ (keeps.unstarted waits).floors (command_id h) in
-          let some : 1 ≤ rank c.spot = subst (λ t. rank t ≤ rank c.spot) floor c.ring.reached in
-          let first : c.spot ≡ past.pointers (command_id h) = zero_spot c.spot zero some ∙ sym (f.before waits) in
-          let here : StandsAt h (counted h v) (command_id h) c.spot = record { is_spot = c.ring.is_spot; pointer = c.ring.pointer; cycle = c.ring.cycle; next = c.ring.next } in
-          subst (λ t. StandsAt h (counted h v) (command_id h) t) first here
+      begins waits started = search (rules, k, l, v, agrees_then, leaves, agrees, before, next_none, learns, floors, keeps, zero_spot)
 
       command : l.started ≡ true → StandsAt h (counted h v) (command_id h) (pointers_after h past.known past.pointers row later (command_id h))
       command started =

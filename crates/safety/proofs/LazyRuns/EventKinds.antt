@@ -1,6 +1,5 @@
 -- The step of a row that reads an event, from those of Transfer Events and Command Completion Events
-use Rattle.std.proofs.Common.{◌≡◌, ◌∷◌, ◌||◌, Bool, true, List, [], inl, inr}
-use Rattle.safety.proofs.LazyRuns.Words.{or_cases, Block, BlockKind, IsBlock, kind, is_transfer_event, is_command_completion, is_other_event, Header, Read, TraceRow, Plain, IsHeader, World, lenient}
+use Rattle.safety.proofs.LazyRuns.Words.{◌≡◌, ◌∷◌, ◌||◌, Bool, true, List, [], inl, inr, or_cases, Block, BlockKind, IsBlock, kind, is_transfer_event, is_command_completion, is_other_event, Header, Read, TraceRow, Plain, IsHeader, World, lenient}
 use Rattle.safety.proofs.LazyRuns.NeedsOfHeld.{AreTimely}
 use Rattle.safety.proofs.LazyRuns.Follows.{Follows, Carries, EventLaw, Leads, Past}
 use Rattle.safety.proofs.LazyRuns.MayPost.{is_event_read}

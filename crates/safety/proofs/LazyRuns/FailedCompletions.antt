@@ -1,6 +1,5 @@
 -- The completion of a command that doesn't succeed: it leaves all rings of endpoints
-use Rattle.std.proofs.Common.{◌≡◌, ◌+◌, ◌==◌, ◌&&◌, if◌then◌else◌, ◌∷◌, ◌∙◌, ℕ, not, true, false, List, [], Some, None, option_map, refl, sym, subst}
-use Rattle.safety.proofs.LazyRuns.Words.{and_left, and_right, cond-false, not-true, Block, IsBlock, kind, code, slot, is_command_completion, Command, command_of, Header, Read, TraceRow, Plain, IsHeader, command_id, World, posted, Known, learned, lenient, command_at, next_command, was_stop_seen, learned_read, let_go, next_known, seen_after, failed_read, put_off}
+use Rattle.safety.proofs.LazyRuns.Words.{◌≡◌, ◌+◌, ◌==◌, ◌&&◌, if◌then◌else◌, ◌∷◌, ◌∙◌, ℕ, not, true, false, List, [], Some, None, option_map, refl, sym, subst, rules, and_left, and_right, cond-false, not-true, Block, IsBlock, kind, code, slot, is_command_completion, Command, command_of, Header, Read, TraceRow, Plain, IsHeader, command_id, World, posted, Known, learned, lenient, command_at, next_command, was_stop_seen, learned_read, let_go, next_known, seen_after, failed_read, put_off}
 use Rattle.world_state.specs.World as of_world
 use Rattle.controller_model.specs.Finishes as finishes
 use Rattle.safety.specs.LazyRuns.Needs as needs
@@ -39,11 +38,7 @@ module _ (h : Header) where
         ∙ cond-false ready.taken.has_stopped None (Some (let_go (posted h ready.world b))) (ready.stopped_is ∙ fresh)
 
     rings_go : RingsGo h past.known past.known ready.world (λ r. needs.is_placed h past.known r b)
-    rings_go = record {
-      at_floors = floors_then h past later b ready;
-      had = λ s i r has other. record { slot = s; index = i; had = has; floor = refl };
-      not_command = not_placed past.known (command_id h) b fails;
-    }
+    rings_go = search (rules, floors_then, not_placed)
 
   pub failed_step : (past : Past h) (later : List TraceRow) (b : Block) (w : World) → is_command_completion (kind b) ≡ true → (code b == 1) ≡ false → IsHeader h → IsBlock b → lenient h past.known (Read b) ≡ [] →
       AreTimely h past.known (Plain (Read b) ∷ later) → Leads h past past.made (Plain (Read b) ∷ later) w → Follows h past.known past.pointers w → Carries h past (Read b) later

@@ -1,7 +1,6 @@
 -- What an induction over the rows has to carry beside the lazy law: all events are read, the schedule knows where the pointers stand,
 -- also that of the command ring, and a ring that is open is active. Without it neither a look nor a post is known to be possible
-use Rattle.std.proofs.Common.{◌≡◌, ◌⊎◌, ◌∷◌, ◌++◌, ℕ, true, false, List, [], reverse, Some}
-use Rattle.safety.proofs.LazyRuns.Words.{Block, IsBlock, Spot, Data, is_open, IsSpot, number, spot_address, spot_cycle, Header, Row, Read, Step, NextRow, TraceRow, Plain, IsHeader, shape_of, command_id, World, next_take, Known, learned, lenient, DriverKeeps, Runs, scene_reached, scene_with, steps_before, pointers_after, AreAtFloors}
+use Rattle.safety.proofs.LazyRuns.Words.{◌≡◌, ◌⊎◌, ◌∷◌, ◌++◌, ℕ, true, false, List, [], reverse, Some, Block, IsBlock, Spot, Data, is_open, IsSpot, number, spot_address, spot_cycle, Header, Row, Read, Step, NextRow, TraceRow, Plain, IsHeader, shape_of, command_id, World, next_take, Known, learned, lenient, DriverKeeps, Runs, scene_reached, scene_with, steps_before, pointers_after, AreAtFloors}
 use Rattle.safety.proofs.LazyRuns.NeedsOfHeld.{AreTimely}
 
 abbrev pub IsActiveIfOpen : Known → World → ℕ → Type 0

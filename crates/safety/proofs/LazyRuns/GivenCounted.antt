@@ -1,6 +1,5 @@
 -- Each position before a ring's floor was given by a write of its own: floors, summed, and events that are read are no more than rows
-use Rattle.std.proofs.Common.{◌≡◌, ◌≢◌, ◌+◌, ◌<◌, ◌≤◌, ◌∷◌, ◌∙◌, ◌==◌, if◌then◌else◌, ℕ, suc, true, false, List, [], All, length, Option, Some, None, arith, refl, sym, ap, inl, inr}
-use Rattle.safety.proofs.LazyRuns.Words.{cases_Bool, cases_eq, cond_both, All-head, All-tail, is_inside, put, put_at, put_off, Opens, Restores, RingChange, RingView, new_ring, floor_number, Header, Row, Sub, Write, Reg, Bell, Read, TraceRow, Comes, Goes, Plain, Withdraws, IsHeader, shape_of, command_id, Register, Known, on_ring, nothing, endpoint_rung, rung, learned, AreKept, FitsFields, header_now, known_now, forgotten, restored, restored_on, ring_restored, with_ring, without_ring, register_leaves, view_after, kind, Block, DriverKeeps, IsDriverRing, ring_shape, Declares, Writes, changed, ring_with, is_driver_ring, driver_ring, endpoints_of, rings_of, nothing_keeps, row_keeps, still_of, not_in_both, transfer_driver, written_view, event_same, still_reads}
+use Rattle.safety.proofs.LazyRuns.Words.{◌≡◌, ◌≢◌, ◌+◌, ◌<◌, ◌≤◌, ◌∷◌, ◌∙◌, ◌==◌, if◌then◌else◌, ℕ, suc, true, false, List, [], All, length, Option, Some, None, arith, refl, sym, ap, inl, inr, rules, cases_eq, cond_both, All-head, All-tail, is_inside, put, put_at, put_off, Opens, Restores, RingChange, RingView, new_ring, floor_number, Header, Row, Sub, Write, Reg, Bell, Read, TraceRow, Comes, Goes, Plain, Withdraws, IsHeader, shape_of, command_id, Register, Known, on_ring, nothing, endpoint_rung, rung, learned, AreKept, FitsFields, header_now, known_now, forgotten, restored, restored_on, ring_restored, with_ring, without_ring, register_leaves, view_after, kind, Block, DriverKeeps, IsDriverRing, ring_shape, Declares, Writes, changed, ring_with, is_driver_ring, driver_ring, endpoints_of, rings_of, nothing_keeps, row_keeps, still_of, not_in_both, transfer_driver, written_view, event_same, still_reads}
 use Rattle.safety.specs.RingsKeep as rings
 use Rattle.segments.specs.RingView as changes
 use Rattle.safety.proofs.RingChanges.GoneRings as rings_gone
@@ -81,18 +80,7 @@ module _ (h : Header) where
 
       near : (r : ℕ) → of_ring l r ≤ of_ring k r + 1
       unfolding of_ring
-      near r =
-          elim (cases_Bool (is_driver_ring (ring_with h r))) [
-            | inl driver ↦
-                omega (
-                  arith,
-                  on_driver h r (given_among (l.ring r) (n r)) driver,
-                  on_driver h r (given_among (k.ring r) (n r)) driver,
-                  ring_is r,
-                  one_more (shape_of h r) (ring_shape h is r (driver_ring h r driver)).is (k.ring r) a w (n r),
-                )
-            | inr other ↦ omega (arith, off_driver h r (given_among (l.ring r) (n r)) other)
-          ]
+      near r = search (rules, l, on_driver, given_among, ring_is, one_more, ring_shape, driver_ring, off_driver)
 
       -- the ring has the word
       record IsWritten (r : ℕ) : Type 0 where
@@ -101,23 +89,7 @@ module _ (h : Header) where
 
       written : (r : ℕ) → of_ring k r < of_ring l r → IsWritten r
       unfolding of_ring
-      written r more =
-          elim (cases_Bool (is_driver_ring (ring_with h r))) [
-            | inl driver ↦
-                elim (cases_Bool (is_inside (shape_of h r) a)) [
-                  | inl inside ↦ record { driver = driver_ring h r driver; inside = inside }
-                  | inr outside ↦
-                      absurd (omega (
-                        arith,
-                        more,
-                        on_driver h r (given_among (l.ring r) (n r)) driver,
-                        on_driver h r (given_among (k.ring r) (n r)) driver,
-                        ring_is r,
-                        no_more (shape_of h r) (ring_shape h is r (driver_ring h r driver)).is (k.ring r) a w (n r) outside,
-                      ))
-                ]
-            | inr other ↦ absurd (omega (arith, more, off_driver h r (given_among (l.ring r) (n r)) other))
-          ]
+      written r more = search (rules, l, driver_ring, on_driver, given_among, ring_is, no_more, ring_shape, off_driver)
 
       write_one : all_rings l ≤ all_rings k + 1
       unfolding all_rings
@@ -169,12 +141,7 @@ module _ (h g : Header) (k : Known) (id : ℕ) (o : OthersStay h g k id) (n : �
 
   comes_most : all_rings g n without ≤ all_rings h n k
   unfolding all_rings
-  comes_most =
-      total_le (of_ring g n without) (of_ring h n k) 256
-      (λ r. elim (cases_eq r id) [
-        | inl same ↦ let none : of_ring g n without r ≡ 0 = ap (of_ring g n without) same ∙ here_none in omega (arith, none)
-        | inr other ↦ omega (arith, other_same r other)
-      ])
+  comes_most = search (rules, without, total_le, here_none, other_same)
 
   -- where the first m positions of it were given
   goes_most : (m : ℕ) → id < 256 → given_among (k.ring id) m ≡ m → all_rings g n without + of_driver h id m ≤ all_rings h (put n id m) k

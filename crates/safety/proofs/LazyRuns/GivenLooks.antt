@@ -1,6 +1,5 @@
 -- A look at what is given moves the pointer on: a block that is given is taken, and a Link that is given is followed
-use Rattle.std.proofs.Common.{◌≡◌, ◌==◌, ◌&&◌, if◌then◌else◌, ◌∙◌, ℕ, true, false, not, Option, Some, None, is_some, sym, ap, eq-eqb}
-use Rattle.safety.proofs.LazyRuns.Words.{cond-false, cond-true, block_at, cycle, kind, is_link, Data, Link, Header, IsHeader, shape_of, command_id, World, Known, IsDriverRing, DriverKeeps, Stands, RingMatches, state_of, takeable, crossable, ring_shape, seen, block_no_link, link_is, stands_at, block_found}
+use Rattle.safety.proofs.LazyRuns.Words.{◌≡◌, ◌==◌, ◌&&◌, if◌then◌else◌, ◌∙◌, ℕ, true, false, not, Option, Some, None, is_some, sym, ap, eq-eqb, cond-false, cond-true, block_at, cycle, kind, is_link, Data, Link, Header, IsHeader, shape_of, command_id, World, Known, IsDriverRing, DriverKeeps, Stands, RingMatches, state_of, takeable, crossable, ring_shape, seen, block_no_link, link_is, stands_at, block_found}
 use Rattle.controller_model.specs.Looks as looks
 
 module _ (h : Header) (is : IsHeader h) (k : Known) (w : World) (d : DriverKeeps h k) (s : Stands h k w) (r : ℕ) (ring : IsDriverRing h r) (on : w.is_active r ≡ true) where

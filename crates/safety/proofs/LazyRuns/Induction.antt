@@ -1,6 +1,5 @@
 -- The lazy law by induction over the rows, from the step of a row that reads an event
-use Rattle.std.proofs.Common.{◌≡◌, ◌⊎◌, ◌∷◌, ◌++◌, ◌∙◌, true, false, List, [], All, reverse, Some, option_and_then, refl, sym, ap, subst, inl, inr, append_assoc}
-use Rattle.safety.proofs.LazyRuns.Words.{false≢true, reverse-append, All-cons, All-head, All-nil, All-tail, Header, Row, Sub, Write, Reg, Bell, Read, TraceRow, Comes, Goes, Plain, Withdraws, NextRow, IsHeader, command_id, IsRow, IsDriverRow, World, opening, counted, emptied, with_ring, without_ring, without_descriptor, Known, DriverKeeps, MayCome, scene_reached, step_made, scene_with, AreKept, FitsFields, IsKept, header_after, header_now, known_now, restored, restored_on, ring_restored, clean_tests, IsTimely, lazy_run, pointers_at, pointers_for, steps_for, AreAtFloors, LazyLaw, AllAreRead}
+use Rattle.safety.proofs.LazyRuns.Words.{◌≡◌, ◌⊎◌, ◌∷◌, ◌++◌, ◌∙◌, true, false, List, [], All, reverse, Some, option_and_then, refl, sym, ap, subst, inl, inr, append_assoc, false≢true, reverse-append, All-cons, All-head, All-nil, All-tail, Header, Row, Sub, Write, Reg, Bell, Read, TraceRow, Comes, Goes, Plain, Withdraws, NextRow, IsHeader, command_id, IsRow, IsDriverRow, World, opening, counted, emptied, with_ring, without_ring, without_descriptor, Known, DriverKeeps, MayCome, scene_reached, step_made, scene_with, AreKept, FitsFields, IsKept, header_after, header_now, known_now, restored, restored_on, ring_restored, clean_tests, IsTimely, lazy_run, pointers_at, pointers_for, steps_for, AreAtFloors, LazyLaw, AllAreRead}
 use Rattle.safety.proofs.RingChanges.Restored.{row_comes, row_keeps, stopped_still}
 use Rattle.safety.proofs.RingChanges.RingsHeadline.{Keeps, now_keeps}
 use Rattle.safety.proofs.LazyRuns.AllRead.{all_are_read}
@@ -13,9 +12,7 @@ use Rattle.safety.proofs.LazyRuns.RingRows.{comes_follows, comes_stay, goes_foll
 -- a row that is kept isn't behind a stop
 pub kept_on : (h : Header) (k : Known) (row : TraceRow) → IsKept h k row → k.stopped ≡ false
 kept_on h k (Plain row) kept = sym (stopped_still h k (ring_restored h k row)) ∙ (clean_tests h (restored h k row) row kept.0).0
-kept_on h k (Comes ring) kept = kept.0
-kept_on h k (Goes id) kept = kept.0
-kept_on h k (Withdraws r p) kept = kept.0
+kept_on h k _ kept = kept.0
 
 -- rows told from their history
 pub one_more : (row : TraceRow) (rest past : List TraceRow) → reverse (row ∷ rest) ++ past ≡ reverse rest ++ (row ∷ past)
@@ -40,14 +37,13 @@ module _ (h : Header) where
     -- ---- the rows to come
 
     command_stays : (past : List TraceRow) (row : TraceRow) → All FitsFields (row ∷ past) → AreKept h (row ∷ past) → command_id (header_after (header_now h past) row) ≡ command_id (header_now h past)
-    command_stays past (Plain row) are kept = refl
-    command_stays past (Withdraws r p) are kept = refl
     command_stays past (Comes ring) are kept =
         let p : Keeps h is past = now_keeps h is past (All-tail FitsFields (Comes ring) past are) kept.0 kept.1.0 in
         (comes_stay (header_now h past) p.headed (known_now h past) p.keeps ring (All-head FitsFields (Comes ring) past are) kept.1.1).command
     command_stays past (Goes id) are kept =
         let p : Keeps h is past = now_keeps h is past (All-tail FitsFields (Goes id) past are) kept.0 kept.1.0 in
         (goes_stay (header_now h past) p.headed (known_now h past) p.keeps id kept.1.1).command
+    command_stays past _ are kept = refl
 
     timely_from : (later past : List TraceRow) → All FitsFields past → All FitsFields later → AreKept h (reverse later ++ past) → IsTimely h (reverse later ++ past) → AreTimely (header_now h past) (known_now h past) later
     timely_from [] past made left kept timely = tt

@@ -1,6 +1,5 @@
 -- The looks of the lazy schedule at one ring are a run, and bring the ring to its spot
-use Rattle.std.proofs.Common.{◌≡◌, ◌≢◌, ◌+◌, ◌<◌, ◌≤◌, ◌++◌, ℕ, true, List, reverse}
-use Rattle.safety.proofs.LazyRuns.Words.{Spot, rank, number, MayReach, Header, TraceRow, Step, IsHeader, shape_of, command_id, World, Known, RingSpot, next_command, state_of, Runs, further, looks_to}
+use Rattle.safety.proofs.LazyRuns.Words.{◌≡◌, ◌≢◌, ◌+◌, ◌<◌, ◌≤◌, ◌++◌, ℕ, true, List, reverse, Spot, rank, number, MayReach, Header, TraceRow, Step, IsHeader, shape_of, command_id, World, Known, RingSpot, next_command, state_of, Runs, further, looks_to}
 use Rattle.safety.proofs.LazyRuns.Follows.{StandsAt, Leads, Past}
 
 -- what the looks at ring r leave

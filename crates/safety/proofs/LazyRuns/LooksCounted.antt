@@ -1,6 +1,5 @@
 -- How many looks bring a ring to a spot: no more than there are places between the two
-use Rattle.std.proofs.Common.{◌≡◌, ◌+◌, ◌-◌, ◌*◌, ◌<◌, ◌≤◌, ◌∷◌, ◌∙◌, ℕ, suc, zero, List, filter, length, max, nat_lt, arith, ltb-true, ltb-false}
-use Rattle.safety.proofs.LazyRuns.Words.{cond_both, length-map, Shape, next, number, rank, spots_from, Spot, number-after, next_later, Header, Look, shape_of, RingSpot}
+use Rattle.safety.proofs.LazyRuns.Words.{◌≡◌, ◌+◌, ◌-◌, ◌<◌, ◌≤◌, ◌∷◌, ◌∙◌, ℕ, suc, zero, List, filter, length, max, nat_lt, arith, ltb-true, ltb-false, rules, cond_both, length-map, Shape, next, number, rank, spots_from, Spot, number-after, next_later, Header, RingSpot}
 use Rattle.safety.specs.LazyRuns.Lazy as lazy
 
 spots_few : (shape : Shape) (s t : Spot) (n : ℕ) → length (filter (λ u. nat_lt (rank u) (rank t)) (spots_from shape s n)) + rank s ≤ max (rank s) (rank t)
@@ -34,8 +33,4 @@ module _ (h : Header) where
   pub looks_few : (pointers : ℕ → Spot) (goal : RingSpot) →
       length (lazy.looks_to h pointers goal) + rank (pointers goal.ring) ≤ rank (lazy.further (pointers goal.ring) goal.spot)
   unfolding lazy.looks_to lazy.spots_before
-  looks_few pointers goal =
-      let s : Spot = pointers goal.ring in
-      let n : ℕ = 2 * (number goal.spot - number s) + 2 in
-      let on : List Spot = filter (λ u. nat_lt (rank u) (rank goal.spot)) (spots_from (shape_of h goal.ring) s n) in
-      omega (arith, length-map on (λ t. Look goal.ring), spots_few (shape_of h goal.ring) s goal.spot n, further_rank s goal.spot)
+  looks_few pointers goal = search (rules, length, filter, nat_lt, length-map, spots_few, further_rank)

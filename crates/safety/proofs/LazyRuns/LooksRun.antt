@@ -1,6 +1,5 @@
 -- The looks of the lazy schedule at one ring are a run: by induction over the spots on the way
-use Rattle.std.proofs.Common.{◌≡◌, ◌+◌, ◌-◌, ◌*◌, ◌<◌, ◌≤◌, ◌∷◌, ◌++◌, ◌∙◌, ℕ, suc, zero, List, [], filter, map, nat_lt, reverse, arith, refl, sym, ap, subst, inl, inr, lt-ltb, le-ltb, append_assoc}
-use Rattle.safety.proofs.LazyRuns.Words.{cases_lt, cond-true, cond-false, reverse-append, Spot, Shape, IsSpot, number, rank, next, spots_from, rank_least, rank_most, same_rank, next_later, next_least, Header, TraceRow, Step, Look, IsHeader, shape_of, World, counted, Known, DriverKeeps, Agrees, Runs, run_keeps, look_runs}
+use Rattle.safety.proofs.LazyRuns.Words.{◌≡◌, ◌+◌, ◌-◌, ◌*◌, ◌<◌, ◌≤◌, ◌∷◌, ◌++◌, ◌∙◌, ℕ, suc, zero, List, [], filter, map, nat_lt, reverse, arith, refl, sym, ap, subst, inl, inr, lt-ltb, le-ltb, append_assoc, rules, cases_lt, cond-true, cond-false, reverse-append, Spot, Shape, IsSpot, number, rank, next, spots_from, rank_least, rank_most, same_rank, next_later, next_least, Header, TraceRow, Step, Look, IsHeader, shape_of, World, counted, Known, DriverKeeps, Agrees, Runs, run_keeps, look_runs}
 use Rattle.safety.specs.LazyRuns.Lazy as lazy
 use Rattle.safety.proofs.LazyRuns.AllEventsRead.{agrees_now}
 use Rattle.safety.proofs.LazyRuns.Follows.{StandsAt, Leads, Past}
@@ -37,40 +36,10 @@ first_made s steps made = ap (λ l. l ++ made) (reverse-append (s ∷ []) steps)
 
 module _ (h : Header) where
   leaves_nothing : (w : World) (r : ℕ) → LooksLeave h w w r
-  leaves_nothing w r = record {
-    others = λ q other. refl;
-    active = refl;
-    reported = refl;
-    under_way = λ other. refl;
-    rows = refl;
-    started = refl;
-    stopped = refl;
-    memory = refl;
-    slot_state = refl;
-    endpoint_state = refl;
-    ring_of = refl;
-    posted = refl;
-    reads = refl;
-    dequeue = refl;
-  }
+  leaves_nothing w r = search rules
 
   leaves_then : (w v x : World) (r : ℕ) → LooksLeave h w v r → LooksLeave h v x r → LooksLeave h w x r
-  leaves_then w v x r a b = record {
-    others = λ q other. b.others q other ∙ a.others q other;
-    active = b.active ∙ a.active;
-    reported = b.reported ∙ a.reported;
-    under_way = λ other. b.under_way other ∙ a.under_way other;
-    rows = b.rows ∙ a.rows;
-    started = b.started ∙ a.started;
-    stopped = b.stopped ∙ a.stopped;
-    memory = b.memory ∙ a.memory;
-    slot_state = b.slot_state ∙ a.slot_state;
-    endpoint_state = b.endpoint_state ∙ a.endpoint_state;
-    ring_of = b.ring_of ∙ a.ring_of;
-    posted = b.posted ∙ a.posted;
-    reads = b.reads ∙ a.reads;
-    dequeue = b.dequeue ∙ a.dequeue;
-  }
+  leaves_then w v x r a b = search rules
 
   -- the looks on n spots from s on, where they are before t
   looks_on : ℕ → Spot → Spot → ℕ → List Step
@@ -87,13 +56,7 @@ module _ (h : Header) where
   module _ (is : IsHeader h) (past : Past h) (to_come : List TraceRow) (r : ℕ) where
     -- no look is made
     stays : (made : List Step) (w : World) (t : Spot) (steps : List Step) → steps ≡ [] → Leads h past made to_come w → Runs h past.known w → StandsAt h w r t → Looked h past to_come made w r t steps
-    stays made w t steps none run runs at = record {
-      world = w;
-      run = subst (λ l. Leads h past (reverse l ++ made) to_come w) (sym none) run;
-      runs = runs;
-      stands = at;
-      leaves = leaves_nothing w r;
-    }
+    stays made w t steps none run runs at = search (rules, reverse, leaves_nothing)
 
     still_may : (w v : World) (t : Spot) → LooksLeave h w v r → MayBring h past.known w r t → MayBring h past.known v r t
     still_may w v t leaves may = record { active = leaves.active ∙ may.active; reach = may.reach; one_command = may.one_command }

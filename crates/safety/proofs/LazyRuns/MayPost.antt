@@ -1,6 +1,5 @@
 -- Where all events are read, the controller can post an event that is possible
-use Rattle.std.proofs.Common.{◌≡◌, ◌+◌, ◌-◌, ◌<◌, ◌≤◌, ◌==◌, ◌&&◌, ◌||◌, ◌%◌, ◌∙◌, ℕ, nat_lt, not, true, false, [], arith, sym, ap, ne_eqb, lt-ltb, ltb-false}
-use Rattle.safety.proofs.LazyRuns.Words.{and_from, or_parts, not-false, not_from_false, Block, cycle, kind, is_event, place_count, cycle_of, same_in_lap, shape_facts, has_room, Header, Read, IsHeader, event_shape, event_size, World, can_post, Known, is_past_room, is_impossible_by_kind, is_impossible, event_tests, lenient_tests, lenient, DriverKeeps, Agrees, EventFacts, event_facts, EventRing, event_ring_is, size_is, AllFail, tests_fail}
+use Rattle.safety.proofs.LazyRuns.Words.{◌≡◌, ◌+◌, ◌-◌, ◌<◌, ◌≤◌, ◌==◌, ◌&&◌, ◌||◌, ◌%◌, ◌∙◌, ℕ, nat_lt, not, true, false, [], arith, sym, ap, ne_eqb, lt-ltb, ltb-false, and_from, or_parts, not-false, not_from_false, Block, cycle, kind, is_event, place_count, cycle_of, same_in_lap, shape_facts, has_room, Header, Read, IsHeader, event_shape, event_size, World, can_post, Known, is_past_room, is_impossible_by_kind, is_impossible, event_tests, lenient_tests, lenient, DriverKeeps, Agrees, EventFacts, event_facts, EventRing, event_ring_is, size_is, AllFail, tests_fail}
 
 room_left : (size posted dequeue : ℕ) → dequeue ≤ posted → posted + 2 ≤ dequeue + size → has_room size posted dequeue ≡ true
 room_left size posted dequeue low high =

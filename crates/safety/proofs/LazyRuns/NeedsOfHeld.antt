@@ -1,6 +1,5 @@
 -- The need of a ring that is held is 0, where no event is late: until its doorbell no success of its blocks is read
-use Rattle.std.proofs.Common.{◌≡◌, ◌≢◌, ◌+◌, ◌==◌, ◌&&◌, if◌then◌else◌, ◌∷◌, ◌∙◌, ℕ, not, max, Bool, false, List, [], Option, Some, None, option_map, refl, sym, ap, subst, inl, inr, ne_eqb, eq-eqb}
-use Rattle.safety.proofs.LazyRuns.Words.{cond_both, cond-false, false≢true, not_from_false, Block, BlockKind, TransferEvent, CommandCompletion, kind, code, pointer, slot, endpoint, is_success, is_halting, is_trb_error, is_stopping, Spot, number, after, RingView, RingChange, changed, new_ring, Shape, put, put_at, put_off, cases_eq, Opens, Holds, Reaches, Restores, is_open, ceiling, named, stopped_number, target, Command, StopEndpoint, is_off, Change, SlotGoesOn, DeviceLeft, Disables, Places, Stops, Resets, changes, Header, Row, Sub, Write, Reg, Bell, Read, TraceRow, Plain, Comes, Goes, Withdraws, IsDriverRow, shape_of, command_id, is_ring, ring_having, Known, RingSpot, on_ring, spot_on, command_at, next_command, endpoint_rung, rung, event_read, learned, declaration_leaves, write_leaves, register_leaves, view_after, is_report_of_success, is_held_ring, is_late, is_late_row, number_behind, begins_anew, number_reported, ends_need, number_needed, need, header_after, known_after, forgotten, restored, restored_on, ring_restored}
+use Rattle.safety.proofs.LazyRuns.Words.{◌≡◌, ◌≢◌, ◌+◌, ◌==◌, ◌&&◌, if◌then◌else◌, ◌∷◌, ◌∙◌, ℕ, not, max, Bool, false, List, [], Option, Some, None, option_map, refl, sym, ap, subst, inl, inr, ne_eqb, eq-eqb, cond_both, cond-false, false≢true, not_from_false, Block, BlockKind, TransferEvent, CommandCompletion, kind, code, pointer, slot, endpoint, is_success, is_halting, is_trb_error, is_stopping, Spot, number, after, RingView, RingChange, changed, new_ring, Shape, put, put_at, put_off, cases_eq, Opens, Holds, Reaches, Restores, is_open, ceiling, named, stopped_number, target, Command, StopEndpoint, is_off, Change, Places, Stops, changes, Header, Row, Sub, Write, Reg, Bell, Read, TraceRow, Plain, Comes, Goes, Withdraws, IsDriverRow, shape_of, command_id, is_ring, ring_having, Known, RingSpot, on_ring, spot_on, command_at, next_command, endpoint_rung, rung, event_read, learned, declaration_leaves, write_leaves, register_leaves, view_after, is_report_of_success, is_held_ring, is_late, is_late_row, number_behind, begins_anew, number_reported, ends_need, number_needed, need, header_after, known_after, forgotten, restored, restored_on, ring_restored}
 use Rattle.ring_knowledge.specs.Rings.{event_at}
 use Rattle.ring_knowledge.specs.Transfers as transfers
 use Rattle.segments.specs.RingView as changes
@@ -76,12 +75,9 @@ module _ (h : Header) where
 
   change_held : (c : Command) (k : Known) (change : Change) (r : ℕ) → StaysHeld k (completions.changed_by h c k change) r
   unfolding completions.changed_by completions.disabled completions.in_state
-  change_held c k (SlotGoesOn s) r held = held
-  change_held c k (DeviceLeft s) r held = held
-  change_held c k (Disables s which) r held = held
   change_held c k (Places s i p cycle state) r held = pointed_held k s i p cycle r held
   change_held c k (Stops s i) r held = ceiling_held (completions.in_state h k s i _) (k.ring_of s i) r held
-  change_held c k (Resets s i) r held = held
+  change_held c k _ r held = held
 
   changes_held : (c : Command) (k : Known) (all : List Change) (r : ℕ) → StaysHeld k (completions.changed_by_all h c k all) r
   unfolding completions.changed_by_all
@@ -150,15 +146,12 @@ module _ (h : Header) where
 
   none_reported : (k : Known) (r : ℕ) (row : Row) → IsHeld k r → is_late k row ≡ false → number_reported h k r row ≡ 0
   unfolding number_reported is_late event_at
-  none_reported k r (Sub q blocks) held timely = refl
-  none_reported k r (Write a x) held timely = refl
-  none_reported k r (Reg q x) held timely = refl
-  none_reported k r (Bell s t) held timely = refl
   none_reported k r (Read b) held timely =
       cond_both (is_report_of_success b) (number_behind r (event_at h k b)) 0 (λ n. n ≡ 0)
       (λ success. on_open_ring k r (pointer b) (k.ring_of (slot b) (endpoint b)) held
       (sym (ap (λ c. c && is_held_ring k (k.ring_of (slot b) (endpoint b))) success) ∙ timely))
       (λ _. refl)
+  none_reported k r _ held timely = refl
 
 -- none of the rows to come is late, and the command ring stays the same one
 abbrev pub AreTimely : Header → Known → List TraceRow → Type 0
@@ -221,9 +214,7 @@ module _ (h : Header) where
   none_needed : (k : Known) (r : ℕ) (row : TraceRow) → IsHeld k r → is_late_row k row ≡ false → number_needed h k r row ≡ 0
   unfolding number_needed
   none_needed k r (Plain row) held timely = none_reported h k r row held timely
-  none_needed k r (Comes ring) held timely = refl
-  none_needed k r (Goes id) held timely = refl
-  none_needed k r (Withdraws q p) held timely = refl
+  none_needed k r _ held timely = refl
 
 pub need_of_held : (later : List TraceRow) (h : Header) (k : Known) (r : ℕ) → r ≢ command_id h → IsHeld k r → AreTimely h k later → need h k r later ≡ 0
 unfolding need

@@ -1,6 +1,5 @@
 -- One look at what is given: the ring stands at its next spot, and all else stays
-use Rattle.std.proofs.Common.{◌≡◌, ◌≢◌, ◌+◌, ◌<◌, ◌≤◌, ◌==◌, ◌&&◌, if◌then◌else◌, ◌∙◌, ℕ, Bool, true, false, [], Option, Some, None, is_some, arith, refl, sym, ap, subst, inl, inr, ne_eqb}
-use Rattle.safety.proofs.LazyRuns.Words.{cases_Bool, cases_eq, cond-false, and_left, and_right, Block, cycle, kind, is_link, Spot, Data, Link, number, rank, next, after, rank_most, Header, IsHeader, shape_of, command_id, World, UnderWay, counted, Known, next_command, DriverKeeps, RingState, RingMatches, UnderWayMatches, Agrees, state_of, Takeable, Crossable, takeable, crossable, ring_shape, seen, only_crossed, only_taken, only_begun, behind_link, behind_block, TakeDone, CrossDone, take_done, cross_done, block_no_link, link_is, OnlyRing, looked_left, stands_at, block_found}
+use Rattle.safety.proofs.LazyRuns.Words.{◌≡◌, ◌≢◌, ◌+◌, ◌<◌, ◌≤◌, ◌==◌, ◌&&◌, if◌then◌else◌, ◌∙◌, ℕ, Bool, true, false, [], Option, Some, None, is_some, arith, refl, sym, ap, subst, inl, inr, ne_eqb, rules, cases_Bool, cases_eq, cond-false, and_left, and_right, Block, cycle, kind, is_link, Spot, Data, Link, number, rank, next, after, rank_most, Header, IsHeader, shape_of, command_id, World, UnderWay, counted, Known, next_command, DriverKeeps, RingState, RingMatches, UnderWayMatches, Agrees, state_of, Takeable, Crossable, takeable, crossable, ring_shape, seen, only_crossed, only_taken, only_begun, behind_link, behind_block, TakeDone, CrossDone, take_done, cross_done, block_no_link, link_is, OnlyRing, looked_left, stands_at, block_found}
 use Rattle.controller_model.specs.Looks as looks
 use Rattle.safety.proofs.LazyRuns.Follows.{StandsAt}
 use Rattle.safety.proofs.LazyRuns.GivenLooks.{block_taken, link_followed}
@@ -34,22 +33,7 @@ module _ (h : Header) where
   leaves_from : (w v : World) (r : ℕ) (s : RingState) → OnlyRing w v r s → s.active ≡ w.is_active r → s.reported ≡ w.reported r → v.rows ≡ w.rows →
       (r ≢ command_id h → v.under_way ≡ w.under_way) → LooksLeave h w (counted h v) r
   unfolding counted
-  leaves_from w v r s o active reported rows under_way = record {
-    others = o.others;
-    active = ap (λ (x : RingState). x.active) o.here ∙ active;
-    reported = ap (λ (x : RingState). x.reported) o.here ∙ reported;
-    under_way = under_way;
-    rows = rows;
-    started = o.started;
-    stopped = o.stopped;
-    memory = o.memory;
-    slot_state = o.slot_state;
-    endpoint_state = o.endpoint_state;
-    ring_of = o.ring_of;
-    posted = o.posted;
-    reads = o.reads;
-    dequeue = o.dequeue;
-  }
+  leaves_from w v r s o active reported rows under_way = search rules
 
   pub record LookDone (w : World) (r : ℕ) (s : Spot) : Type 0 where
     pub world : World

@@ -1,6 +1,5 @@
 -- An event of the controller itself: the lazy run posts it directly before it is read, and needs no look for it
-use Rattle.std.proofs.Common.{◌≡◌, ◌+◌, ◌<◌, ◌==◌, ◌&&◌, ◌∷◌, ◌++◌, ◌∙◌, ℕ, true, false, List, [], reverse, Some, None, option_map, option_and_then, arith, refl, sym, ap, subst, inl}
-use Rattle.safety.proofs.LazyRuns.Words.{flat_map, and_from, cond-false, cond-true, false≢true, Block, BlockKind, IsBlock, kind, code, slot, same_words, is_command_completion, is_other_event, Spot, is_open, Header, Read, Step, NextRow, Other, TraceRow, Plain, IsHeader, command_id, World, event_at, stored, stored_block, read_made, Known, command_at, next_command, learned, lenient, DriverKeeps, Agrees, Runs, run_keeps, learned_read, scene_with, step_made, words_itself, says_nothing, other_runs, post_keeps, read_runs, with_reads}
+use Rattle.safety.proofs.LazyRuns.Words.{◌≡◌, ◌+◌, ◌<◌, ◌&&◌, ◌∷◌, ◌++◌, ◌∙◌, ℕ, true, false, List, [], reverse, Some, None, option_map, option_and_then, arith, refl, sym, ap, subst, inl, rules, and_from, cond-false, cond-true, false≢true, Block, BlockKind, IsBlock, kind, same_words, is_command_completion, is_other_event, Spot, is_open, Header, Read, Step, NextRow, Other, TraceRow, Plain, IsHeader, command_id, World, event_at, stored, stored_block, read_made, Known, learned, lenient, DriverKeeps, Agrees, Runs, run_keeps, learned_read, scene_with, step_made, words_itself, says_nothing, other_runs, post_keeps, read_runs, with_reads}
 use Rattle.trb.specs.declared.kind.BlockKind.TheVariants as kinds
 use Rattle.controller_model.specs.DriverRows as driver
 use Rattle.controller_model.specs.Posts as posts
@@ -32,23 +31,12 @@ module _ (h : Header) where
   lazy_event : (b : Block) (past : Past h) (later : List TraceRow) → is_other_event (kind b) ≡ true →
       NextRow ∷ reverse (lazy.steps_before h past.known past.pointers (Read b) later) ++ past.made ≡ NextRow ∷ Other b ∷ past.made
   unfolding lazy.steps_before
-  lazy_event b past later other =
-      let n = needs_nothing past.known later b (kind b) other in
-      let pointers : ℕ → Spot = past.pointers in
-      let older : List Step = past.made in
-      ap (λ g. NextRow ∷ reverse (flat_map (lazy.looks_to h pointers) g ++ lazy.post_of h (kind b) b ∷ []) ++ older) n.goals
-      ∙ ap (λ s. NextRow ∷ reverse (s ∷ []) ++ older) n.post
+  lazy_event b past later other = search (rules, reverse, needs_nothing)
 
   pointers_same : (b : Block) (past : Past h) (later : List TraceRow) (r : ℕ) → is_other_event (kind b) ≡ true →
       lazy.pointers_after h past.known past.pointers (Read b) later r ≡ past.pointers r
   unfolding lazy.pointers_after lazy.brought needs.is_placed
-  pointers_same b past later r other =
-      let k : Known = past.known in
-      let n = needs_nothing k later b (kind b) other in
-      let pointers : ℕ → Spot = past.pointers in
-      let no_place : needs.is_placed h k r b ≡ false = ap (λ c. c && code b == 1 && needs.is_placed_by h k r (slot b) (command_at h k (next_command h k))) n.no_completion in
-      cond-false (needs.is_placed h k r b) ((learned h k (Read b)).ring r).floor (lazy.brought h pointers (lazy.goals h k later (kind b) b) r) no_place
-      ∙ ap (λ g. lazy.brought h pointers g r) n.goals
+  pointers_same b past later r other = search (rules, needs_nothing, cond-false)
 
   post_made : (w : World) (b : Block) → posts.can_post h w b ≡ true → is_other_event (kind b) ≡ true → posts.other_posted h w b ≡ Some (posts.posted h w b)
   unfolding posts.other_posted

@@ -1,14 +1,14 @@
 -- A change that binds or moves a ring is possible, and the ring stands at its floor then
-use Rattle.std.proofs.Common.{◌≡◌, ◌≢◌, ◌<◌, ◌≤◌, ◌==◌, ◌&&◌, if◌then◌else◌, ◌∷◌, ◌∙◌, ℕ, not, Bool, true, false, List, [], find, Option, Some, None, arith, refl, sym, ap, subst, inl, inr, eq-eqb, ne_eqb}
-use Rattle.safety.proofs.LazyRuns.Words.{list_any, range_with_len, cases_eq, and_from, and_parts, cond-true, cond-false, false≢true, false_from_ne_true, not-true, none-some, same_Some, Spot, is_inside, RingView, IsSpot, number, rank, spot_address, is_open, ceiling, cases_option, rank_least, rank_most, Command, EndpointState, Places, is_off, Header, Ring, IsHeader, shape_of, command_id, id_of, is_ring, is_transfer_kind, ring_having, World, Known, IsIn, IsTransferRing, RingState, state_of, BoundRing, StatesMatch, ChangeKeeps, found_in, shape_is, ring_shape, transfer_driver, transfer_not_command, cond_is, MoveSpot, move_spot, transfer_ring, having_transfer, Ready, bound_spot, floor_number, moved_having, spot_inside, ceiling_held, MayBind, MayMove, bind_keeps, move_keeps, binds_placed, moves_placed, placed_state, placed_world, placed_world_is, placed_here, placed_elsewhere, rest_active, rest_still, PlacedTo, none_in_range}
+use Rattle.safety.proofs.LazyRuns.Words.{◌≡◌, ◌≢◌, ◌<◌, ◌≤◌, ◌==◌, ◌&&◌, if◌then◌else◌, ◌∷◌, ◌∙◌, ℕ, not, Bool, true, false, List, [], find, Option, Some, None, arith, refl, sym, ap, subst, inl, inr, eq-eqb, ne_eqb, rules, list_any, range_with_len, cases_eq, and_from, and_parts, cond-true, cond-false, false≢true, false_from_ne_true, not-true, none-some, same_Some, Spot, is_inside, RingView, IsSpot, number, rank, spot_address, is_open, ceiling, cases_option, rank_least, rank_most, Command, EndpointState, Places, is_off, Header, Ring, IsHeader, shape_of, command_id, id_of, is_ring, is_transfer_kind, ring_having, World, Known, IsIn, IsTransferRing, RingState, state_of, BoundRing, StatesMatch, ChangeKeeps, found_in, shape_is, ring_shape, transfer_driver, transfer_not_command, cond_is, MoveSpot, move_spot, transfer_ring, having_transfer, Ready, bound_spot, floor_number, moved_having, spot_inside, ceiling_held, MayBind, MayMove, bind_keeps, move_keeps, binds_placed, moves_placed, placed_state, placed_world, placed_world_is, placed_here, placed_elsewhere, rest_active, rest_still, PlacedTo, none_in_range}
 use Rattle.controller_model.specs.Bindings as bindings
 use Rattle.ring_knowledge.specs.Completions as completions
 use Rattle.safety.specs.LazyRuns.Needs as needs
-use Rattle.safety.proofs.LazyRuns.ChangesGo.{ChangeGoes, is_ring_is}
+use Rattle.safety.proofs.LazyRuns.ChangesGo.{ChangeGoes}
 use Rattle.safety.proofs.LazyRuns.Follows.{StandsAt, IsActiveIfOpen}
 use Rattle.safety.proofs.LazyRuns.Preparing.{stands_same}
 use Rattle.safety.proofs.LazyRuns.RingsGo.{AtFloors}
 use Rattle.safety.proofs.LazyRuns.StandingSpots.{one_spot}
+use Rattle.safety.proofs.BoundRings.{ring_is as is_ring_is}
 
 -- a search among what has one that passes finds one
 finds_one : {X : Type 0} (p : X → Bool) (xs : List X) (x : X) → IsIn x xs → p x ≡ true → find p xs ≡ None → ⊥
@@ -132,11 +132,7 @@ module _ (h : Header) (is : IsHeader h) where
     -- another ring was had before
     had_before : (z j q : ℕ) → q ≢ r → l.ring_of z j ≡ Some q → k.ring_of z j ≡ Some q
     unfolding l
-    had_before z j q other has =
-        elim (cond_is (z == s && j == i) (Some r) (k.ring_of z j) (Some q) (sym (to.ring_of z j) ∙ has)) [
-          | inl here ↦ absurd (other (sym (same_Some r q here.1)))
-          | inr there ↦ there.1
-        ]
+    had_before z j q other has = search (rules, l, cond_is, same_Some)
 
     view_elsewhere : (q : ℕ) → q ≢ r → l.ring q ≡ k.ring q
     unfolding l
@@ -165,18 +161,7 @@ module _ (h : Header) (is : IsHeader h) where
 
     pub placed_goes : ChangeGoes h c k w (Places s i p cycle state)
     unfolding l
-    placed_goes = record {
-      world = v;
-      made = made;
-      keeps = keeps;
-      goes = record {
-        at_floors = record { floors = floors; active = still_active };
-        had = λ z j q has other.
-            let apart : q ≢ r = placed_ring q other in
-            record { slot = z; index = j; had = had_before z j q apart has; floor = ap (λ (g : RingView). g.floor) (view_elsewhere q apart) };
-        not_command = ap (is_ring (command_id h)) ring_is ∙ ne_eqb r (command_id h) other_than;
-      };
-    }
+    placed_goes = search (rules, l, v, made, keeps, floors, still_active, placed_ring, had_before, view_elsewhere, ne_eqb, other_than)
 
   -- ---- a ring is bound, or moved
 

@@ -1,6 +1,5 @@
 -- Behind each row of a clean trace no pointer is past its floor, or past what is needed later; the command ring's by one place
-use Rattle.std.proofs.Common.{◌≡◌, ◌+◌, ◌≤◌, ◌==◌, ◌∷◌, ◌∙◌, if◌then◌else◌, ℕ, true, List, [], All, max, arith, refl, sym, ap, subst, inl, inr, eq-eqb}
-use Rattle.safety.proofs.LazyRuns.Words.{cases_eq, cond_both, cond-true, All-head, All-tail, put, put_at, put_off, Block, kind, Spot, Data, number, RingView, new_ring, floor_number, Header, Ring, Row, Sub, Write, Reg, Bell, Read, TraceRow, Comes, Goes, Plain, Withdraws, IsHeader, command_id, Known, RingSpot, learned, lenient, IsDriverRow, DriverKeeps, AreKept, FitsFields, IsKept, header_after, header_now, known_after, known_now, forgotten, restored, restored_on, ring_restored, with_ring, without_ring, need, begins_anew, ends_need, number_needed, number_reported, pointers_after, pointers_at, pointers_for, further, brought, goals, floors_grow}
+use Rattle.safety.proofs.LazyRuns.Words.{◌≡◌, ◌+◌, ◌≤◌, ◌==◌, ◌∷◌, if◌then◌else◌, ℕ, true, List, [], All, max, arith, refl, sym, ap, subst, inl, inr, eq-eqb, rules, cases_eq, cond_both, cond-true, All-head, All-tail, put, put_at, put_off, Block, kind, Spot, Data, number, floor_number, Header, Ring, Row, Sub, Write, Reg, Bell, Read, TraceRow, Comes, Goes, Plain, Withdraws, IsHeader, command_id, Known, RingSpot, learned, lenient, IsDriverRow, DriverKeeps, AreKept, FitsFields, IsKept, header_after, header_now, known_after, known_now, forgotten, restored, restored_on, ring_restored, with_ring, without_ring, need, begins_anew, ends_need, number_needed, number_reported, pointers_after, pointers_at, pointers_for, further, brought, goals, floors_grow}
 use Rattle.safety.proofs.RingChanges.RingsHeadline.{Keeps, now_keeps}
 use Rattle.safety.specs.LazyRuns.Needs as needs
 use Rattle.safety.proofs.LazyRuns.Counts.{bit}
@@ -40,11 +39,8 @@ module _ (h : Header) where
 
   reports_none : (k : Known) (r : ℕ) (row : Row) → IsDriverRow row → number_reported h k r row ≡ 0
   unfolding number_reported
-  reports_none k r (Sub q blocks) is = refl
-  reports_none k r (Write a w) is = refl
-  reports_none k r (Reg q x) is = refl
-  reports_none k r (Bell s t) is = refl
   reports_none k r (Read b) is = absurd is
+  reports_none k r _ is = refl
 
   needs_none : (k : Known) (r : ℕ) (row : Row) → IsDriverRow row → number_needed h k r (Plain row) ≡ 0
   unfolding number_needed
@@ -83,17 +79,7 @@ module _ (h : Header) where
 
   row_near : (k : Known) (pointers : ℕ → Spot) (later : List TraceRow) (row : Row) → IsDriverRow row → (r : ℕ) → IsNear k pointers (Plain row ∷ later) r →
       IsNear (learned h (restored h k row) row) (pointers_after h (restored h k row) pointers row later) later r
-  row_near k pointers later row is r near =
-      let j : Known = restored h k row in
-      omega (
-        arith,
-        near,
-        ap (λ t. number t) (pointers_same h j pointers row later r is),
-        ap (λ t. number t) ((row_learns h j row is).floors r),
-        ap (λ t. number t) ((restored_learns h k (ring_restored h k row)).floors r),
-        need_by k r (Plain row) later,
-        needs_none k r row is,
-      )
+  row_near k pointers later row is r near = search (rules, pointers_same, row_learns, restored_learns, need_by, needs_none)
 
   module _ (is : IsHeader h) (k : Known) (pointers : ℕ → Spot) (later : List TraceRow) (b : Block) (d : DriverKeeps h k) (clean : lenient h k (Read b) ≡ [])
       (near : (r : ℕ) → IsNear k pointers (Plain (Read b) ∷ later) r) where
@@ -107,12 +93,7 @@ module _ (h : Header) where
 
     pub event_near : (r : ℕ) → IsNear (learned h k (Read b)) (pointers_after h k pointers (Read b) later) later r
     unfolding top
-    event_near r =
-        let l : Known = learned h k (Read b) in
-        let now : Spot = brought h pointers (goals h k later (kind b) b) r in
-        subst (λ t. number t ≤ max (floor_number (l.ring r)) (need h l r later) + bit (r == command_id h)) (sym (event_pointer k pointers later b r))
-        (cond_both (needs.is_placed h k r b) (l.ring r).floor now (λ t. number t ≤ max (floor_number (l.ring r)) (need h l r later) + bit (r == command_id h))
-        (λ _. omega arith) (λ _. goals_near r))
+    event_near r = search (rules, top, max, bit, event_pointer, goals_near)
 
   -- a descriptor that is withdrawn moves no floor
   withdrawn_near : (k : Known) (pointers : ℕ → Spot) (later : List TraceRow) (q p r : ℕ) → IsNear k pointers (Withdraws q p ∷ later) r → IsNear (known_after h k (Withdraws q p)) pointers later r
@@ -123,22 +104,7 @@ module _ (h : Header) where
 module _ (h g : Header) (k : Known) (pointers : ℕ → Spot) (later : List TraceRow) (id : ℕ) (command : command_id g ≡ command_id h) where
   forgotten_near : (r n : ℕ) → (n ≤ need g (forgotten k id) r later) → number (pointers r) ≤ max (floor_number (k.ring r)) n + bit (r == command_id h) → IsNear g (forgotten k id) (put pointers id (Data 0)) later r
   unfolding forgotten
-  forgotten_near r n most near =
-      let same_bit = ap (λ c. bit (r == c)) command in
-      elim (cases_eq r id) [
-        | inl same ↦
-            let here : number (put pointers id (Data 0) r) ≡ 0 = ap (λ m. number (put pointers id (Data 0) m)) same ∙ ap (λ t. number t) (put_at pointers id (Data 0)) in
-            omega (arith, here)
-        | inr other ↦
-            omega (
-              arith,
-              near,
-              most,
-              same_bit,
-              ap (λ t. number t) (put_off pointers id (Data 0) r other),
-              ap (λ (v : RingView). floor_number v) (put_off k.ring id new_ring r other),
-            )
-      ]
+  forgotten_near r n most near = search (rules, max, bit, put_at, put_off)
 
 module _ (h : Header) (is : IsHeader h) where
   -- behind each row

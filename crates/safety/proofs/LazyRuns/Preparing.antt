@@ -1,6 +1,5 @@
 -- The looks for an event, at one ring after the other, are a run: each ring comes to its goal
-use Rattle.std.proofs.Common.{◌≡◌, ◌≢◌, ◌<◌, ◌∷◌, ◌++◌, ◌∙◌, ℕ, List, [], map, reverse, refl, sym, ap, subst, inl, inr, append_assoc}
-use Rattle.safety.proofs.LazyRuns.Words.{flat_map, cases_eq, reverse-append, put, Spot, rank, Header, TraceRow, Step, Look, IsHeader, shape_of, command_id, World, next_take, Known, RingSpot, RingState, state_of, Runs, put_at, put_off}
+use Rattle.safety.proofs.LazyRuns.Words.{◌≡◌, ◌≢◌, ◌<◌, ◌∷◌, ◌++◌, ◌∙◌, ℕ, List, [], map, reverse, refl, sym, ap, subst, append_assoc, rules, flat_map, reverse-append, put, Spot, rank, Header, TraceRow, Step, Look, IsHeader, shape_of, command_id, World, Known, RingSpot, state_of, Runs, put_at, put_off}
 use Rattle.safety.specs.LazyRuns.Lazy as lazy
 use Rattle.safety.proofs.LazyRuns.Follows.{StandsAt, Leads, Past}
 use Rattle.safety.proofs.LazyRuns.Looking.{MayBring, Looked, LooksLeave}
@@ -33,27 +32,14 @@ module _ (h : Header) where
     pub traced : Traced h past.known (lazy.brought h now goals) world
 
   pub stands_same : (w v : World) (q : ℕ) (t : Spot) → state_of v q ≡ state_of w q → StandsAt h w q t → StandsAt h v q t
-  stands_same w v q t same at = record {
-    is_spot = at.is_spot;
-    pointer = ap (λ (x : RingState). x.pointer) same ∙ at.pointer;
-    cycle = ap (λ (x : RingState). x.cycle) same ∙ at.cycle;
-    next = ap (λ (x : RingState). next_take (shape_of h q) x.events) same ∙ at.next;
-  }
+  stands_same w v q t same at = search rules
 
   module _ (k : Known) (w v : World) (now : ℕ → Spot) (r : ℕ) (t : Spot) (there : StandsAt h v r t) (leaves : LooksLeave h w v r) where
     moved_stands : (q : ℕ) → StandsAt h w q (now q) → StandsAt h v q (put now r t q)
-    moved_stands q at =
-        elim (cases_eq q r) [
-          | inl same ↦ subst (λ n. StandsAt h v n (put now r t n)) (sym same) (subst (λ s. StandsAt h v r s) (sym (put_at now r t)) there)
-          | inr other ↦ subst (λ s. StandsAt h v q s) (sym (put_off now r t q other)) (stands_same w v q (now q) (leaves.others q other) at)
-        ]
+    moved_stands q at = search (rules, put_at, put_off, stands_same)
 
     still_active : (q : ℕ) → v.is_active q ≡ w.is_active q
-    still_active q =
-        elim (cases_eq q r) [
-          | inl same ↦ ap v.is_active same ∙ leaves.active ∙ ap w.is_active (sym same)
-          | inr other ↦ ap (λ (x : RingState). x.active) (leaves.others q other)
-        ]
+    still_active q = search rules
 
     moved_on : Runs h k v → Traced h k now w → Traced h k (put now r t) v
     moved_on runs trace = record {
@@ -72,14 +58,7 @@ module _ (h : Header) where
   -- the looks at one ring leave the goals on others as they are
   module _ (k : Known) (w v : World) (now : ℕ → Spot) (r : ℕ) (t : Spot) (there : StandsAt h v r t) (leaves : LooksLeave h w v r) where
     fits_still : (goal : RingSpot) → goal.ring ≢ r → Fits k w now goal → Fits k v (put now r t) goal
-    fits_still goal other fits =
-        let same : put now r t goal.ring ≡ now goal.ring = put_off now r t goal.ring other in
-        record {
-          stands = moved_stands k w v now r t there leaves goal.ring fits.stands;
-          may = λ further.
-              let may = fits.may (subst (λ s. rank s < rank goal.spot) same further) in
-              record { active = still_active k w v now r t there leaves goal.ring ∙ may.active; reach = may.reach; one_command = may.one_command };
-        }
+    fits_still goal other fits = search (rules, put_off, moved_stands, still_active)
 
     all_fit_still : (goals : List RingSpot) → AreElsewhere r goals → AllFit k w now goals → AllFit k v (put now r t) goals
     all_fit_still [] other fits = tt

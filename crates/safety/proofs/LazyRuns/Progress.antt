@@ -1,6 +1,5 @@
 -- How far the pointers of a driver's rings have come, summed: looks move them on, by as many places as there are looks
-use Rattle.std.proofs.Common.{◌≡◌, ◌≢◌, ◌+◌, ◌-◌, ◌*◌, ◌<◌, ◌≤◌, ◌==◌, ◌∷◌, ◌∙◌, if◌then◌else◌, ℕ, true, false, List, [], length, map, arith, refl, ap, inl, inr, eq-eqb, ne_eqb, length-append}
-use Rattle.safety.proofs.LazyRuns.Words.{cases_Bool, cond-false, cond-true, cond_both, flat_map, put, number, rank, Spot, rank_least, rank_most, Header, Step, Look, command_id, ring_with, shape_of, is_driver_ring, RingSpot}
+use Rattle.safety.proofs.LazyRuns.Words.{◌≡◌, ◌≢◌, ◌+◌, ◌-◌, ◌*◌, ◌<◌, ◌≤◌, ◌==◌, ◌∷◌, ◌∙◌, if◌then◌else◌, ℕ, true, false, List, [], length, map, arith, refl, ap, eq-eqb, ne_eqb, length-append, rules, cond-false, cond-true, cond_both, flat_map, put, number, rank, Spot, rank_least, rank_most, Header, Step, Look, command_id, ring_with, shape_of, is_driver_ring, RingSpot}
 use Rattle.safety.specs.LazyRuns.Lazy as lazy
 use Rattle.safety.proofs.LazyRuns.LooksCounted.{looks_few}
 use Rattle.safety.proofs.LazyRuns.Totals.{total, total_grows}
@@ -41,11 +40,7 @@ module _ (h : Header) where
 
   pub driver_le : (r m n : ℕ) → (is_driver_ring (ring_with h r) ≡ true → m ≤ n) → of_driver r m ≤ of_driver r n
   unfolding of_driver
-  driver_le r m n le =
-      elim (cases_Bool (is_driver_ring (ring_with h r))) [
-        | inl driver ↦ omega (arith, cond-true (is_driver_ring (ring_with h r)) m 0 driver, cond-true (is_driver_ring (ring_with h r)) n 0 driver, le driver)
-        | inr other ↦ omega (arith, cond-false (is_driver_ring (ring_with h r)) m 0 other)
-      ]
+  driver_le r m n le = search (rules, cond-true, cond-false)
 
   pub command_value : (t : Spot) → place_value (command_id h) t ≡ rank t
   unfolding place_value

@@ -1,7 +1,6 @@
 -- The controller can report what a Transfer Event that breaks no rule says, where its ring stands directly behind the block that it
 -- names, or for a stop at the spot that it names
-use Rattle.std.proofs.Common.{◌≡◌, ◌≢◌, ◌+◌, ◌-◌, ◌<◌, ◌≤◌, ◌==◌, ◌&&◌, ◌||◌, ◌∙◌, ℕ, suc, zero, Bool, true, false, not, List, [], length, map, Option, Some, None, position, option_map, arith, refl, sym, ap, subst, inl, inr, get_or, eq-eqb}
-use Rattle.safety.proofs.LazyRuns.Words.{range_with_len, cases_Bool, and_from, cond-true, cond-false, false≢true, not_from_false, length-map-range_with_len, get_or-map-range_with_len, put, put_pair, Block, is_set, IsBlock, word, kind, code, pointer, slot, endpoint, is_transfer_event, is_success, is_halting, is_trb_error, Spot, Shape, address_of, number, after, spot_address, declared, floor_number, named, RingKeeps, named_ahead, position-None, IsNamed, named_spot-Some, EndpointState, Halted, Error, is_running, Header, Read, IsHeader, shape_of, command_id, World, unreported, Known, lenient, IsDriverRing, DriverKeeps, state_of, BoundRing, Agrees, transfer_driver, transfer_not_command, put_off, number_after, PostKeeps, post_keeps, open_takes}
+use Rattle.safety.proofs.LazyRuns.Words.{◌≡◌, ◌≢◌, ◌+◌, ◌-◌, ◌<◌, ◌≤◌, ◌==◌, ◌&&◌, ◌||◌, ◌∙◌, ℕ, suc, zero, Bool, true, false, List, [], length, map, Option, Some, None, position, option_map, arith, refl, sym, ap, subst, inl, inr, get_or, eq-eqb, rules, range_with_len, cases_Bool, and_from, cond-true, cond-false, false≢true, not_from_false, length-map-range_with_len, get_or-map-range_with_len, put, put_pair, Block, IsBlock, kind, code, pointer, slot, endpoint, is_transfer_event, is_success, is_halting, is_trb_error, Spot, Shape, address_of, number, after, spot_address, declared, floor_number, named, RingKeeps, named_ahead, position-None, IsNamed, named_spot-Some, EndpointState, Halted, Error, is_running, Header, Read, IsHeader, shape_of, command_id, World, unreported, Known, lenient, IsDriverRing, DriverKeeps, state_of, BoundRing, Agrees, transfer_driver, transfer_not_command, put_off, number_after, PostKeeps, post_keeps, open_takes}
 use Rattle.world_state.specs.World as of_world
 use Rattle.controller_model.specs.Posts as posts
 use Rattle.safety.proofs.LazyRuns.Follows.{StandsAt}
@@ -78,11 +77,7 @@ module _ (h : Header) where
 
     pub report_at : (v : World) → posts.report_code h u (code b) (slot b) (endpoint b) f.ring (pointer b) ≡ Some v → posts.reported h w b ≡ Some v
     unfolding posts.reported posts.reported_on
-    report_at v by_code =
-        cond-true (posts.can_post h w b && is_transfer_event (kind b) && not (is_set (word b 3) 2)) (posts.reported_on h w b (w.ring_of (slot b) (endpoint b))) None
-        (and_from (posts.can_post h w b && is_transfer_event (kind b)) (not (is_set (word b 3) 2)) (and_from (posts.can_post h w b) (is_transfer_event (kind b)) can transfer)
-        (not_from_false (is_set (word b 3) 2) f.no_data))
-        ∙ ap (λ o. posts.reported_on h w b o) (g.matches.ring_of (slot b) (endpoint b) ∙ f.bound) ∙ by_code
+    report_at v by_code = search (rules, u, cond-true, and_from, can, not_from_false, bound)
 
     module _ (n : NamesBlock h k f.ring f.spot) (here : StandsAt h w f.ring (after (shape_of h f.ring) n.position)) where
       number_now : number bound.spot ≡ n.position + 1
@@ -147,12 +142,7 @@ module _ (h : Header) where
 
         error_leaves : (state : EndpointState) → posts.report_code h u (code b) (slot b) (endpoint b) f.ring (pointer b) ≡ Some (ended state) → Reports w b f.ring
         unfolding ended posts.with_reported posts.posted of_world.stored_block of_world.stored
-        error_leaves state by_code = record {
-          world = ended state;
-          at = report_at (ended state) by_code;
-          leaves = record { memory = refl; posted = refl; reads = refl; pointers = refl; cycles = refl; events = refl; active = λ q other. put_off w.is_active f.ring false q other };
-          rows = refl;
-        }
+        error_leaves state by_code = search (rules, ended, report_at, put_off)
 
         -- an error: the endpoint stops at its block
         pub error_reports : is_success (code b) ≡ false → (is_halting (code b) || is_trb_error (code b)) ≡ true → Reports w b f.ring

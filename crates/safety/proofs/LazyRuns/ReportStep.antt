@@ -1,6 +1,5 @@
 -- A Transfer Event: behind its looks the lazy run reports it, and then it is read. What the report and the row leave as it was
-use Rattle.std.proofs.Common.{◌≡◌, ◌≢◌, ◌+◌, ◌<◌, ◌==◌, ◌&&◌, ◌∷◌, ◌++◌, ◌∙◌, ℕ, true, false, List, [], reverse, Some, None, option_map, option_and_then, arith, refl, sym, ap, subst, inl, inr}
-use Rattle.safety.proofs.LazyRuns.Words.{cases_eq, cond-false, false≢true, reverse-append, Block, IsBlock, kind, code, slot, same_words, block_at, is_transfer_event, is_command_completion, Spot, is_open, address_of, Header, Read, Step, NextRow, Report, TraceRow, Plain, IsHeader, command_id, event_shape, World, event_at, read_made, Known, command_at, next_command, learned, lenient, DriverKeeps, Agrees, Runs, event_facts, run_keeps, scene_with, step_made, words_itself, post_keeps, read_runs, report_runs, report_is, transfer_kind}
+use Rattle.safety.proofs.LazyRuns.Words.{◌≡◌, ◌≢◌, ◌+◌, ◌<◌, ◌==◌, ◌&&◌, ◌∷◌, ◌++◌, ◌∙◌, ℕ, true, false, List, [], reverse, Some, None, option_map, option_and_then, arith, refl, sym, ap, subst, inl, inr, cases_eq, cond-false, false≢true, reverse-append, Block, IsBlock, kind, code, slot, same_words, block_at, is_transfer_event, is_command_completion, Spot, is_open, address_of, Header, Read, Step, NextRow, Report, TraceRow, Plain, IsHeader, command_id, event_shape, World, event_at, read_made, Known, command_at, next_command, learned, lenient, DriverKeeps, Agrees, Runs, event_facts, run_keeps, scene_with, step_made, words_itself, post_keeps, read_runs, report_runs, report_is, transfer_kind}
 use Rattle.world_state.specs.World as of_world
 use Rattle.controller_model.specs.DriverRows as driver
 use Rattle.controller_model.specs.Posts as posts

@@ -1,6 +1,5 @@
 -- What the schedule follows stays where a ring comes or goes, where a descriptor is withdrawn, and where a ring is restored: no pointer moves
-use Rattle.std.proofs.Common.{◌≡◌, ◌≢◌, ◌==◌, ◌∷◌, ◌∙◌, ℕ, not, Bool, true, false, List, [], find, filter, Option, Some, None, refl, sym, ap, subst, inl, inr, eq-eqb, ne_eqb}
-use Rattle.safety.proofs.LazyRuns.Words.{cases_eq, cond_both, cond-false, cond-true, not_from_false, not_from_true, none-some, put, put_off, Spot, Data, RingView, RingChange, Restores, changed, new_ring, is_open, IsSpot, spot_address, spot_cycle, Header, Ring, Row, IsHeader, shape_of, command_id, ring_with, World, next_take, counted, Known, on_ring, DriverKeeps, IsTransferRing, Runs, view_after, IsComing, forgotten, is_bad_free, is_bad_ring, emptied, with_ring, without_ring, without_descriptor, is_bad_withdraw, is_left, restored, restored_on, ring_restored}
+use Rattle.safety.proofs.LazyRuns.Words.{◌≡◌, ◌≢◌, ◌==◌, ◌∷◌, ◌∙◌, ℕ, not, Bool, true, false, List, [], find, filter, Option, Some, None, refl, sym, ap, subst, inl, inr, eq-eqb, ne_eqb, rules, cases_eq, cond_both, cond-false, cond-true, not_from_false, not_from_true, none-some, put, put_off, Spot, Data, RingView, RingChange, Restores, changed, new_ring, is_open, Header, Ring, Row, IsHeader, shape_of, command_id, ring_with, World, counted, Known, on_ring, DriverKeeps, IsTransferRing, Runs, view_after, IsComing, forgotten, is_bad_free, is_bad_ring, emptied, with_ring, without_ring, without_descriptor, is_bad_withdraw, is_left, restored, restored_on, ring_restored}
 use Rattle.segments.specs.RingView as changes
 use Rattle.safety.proofs.RingChanges.GoneRings as gone
 use Rattle.safety.proofs.RingChanges.NewRings as new
@@ -8,6 +7,7 @@ use Rattle.safety.proofs.RingChanges.Restored as restores
 use Rattle.safety.proofs.RingChanges.RingRuns as runs
 use Rattle.safety.proofs.RingChanges.Withdrawn as withdrawn
 use Rattle.safety.proofs.LazyRuns.Follows.{StandsAt, IsActiveIfOpen, Follows}
+use Rattle.safety.proofs.LazyRuns.RowsLearn.{open_before}
 
 -- what no row of these moves
 pub record StaysPut (w v : World) : Type 0 where
@@ -17,20 +17,11 @@ pub record StaysPut (w v : World) : Type 0 where
   pub cycles : v.cycle_state ≡ w.cycle_state
   pub active : v.is_active ≡ w.is_active
 
-open_same : (v w : RingView) → w.held ≡ v.held → is_open w ≡ true → is_open v ≡ true
-unfolding is_open
-open_same v w same opened = rw (sym same) opened
-
 module _ (h : Header) where
   -- ---- the rings are the same
 
   stands_too : (w v : World) → StaysPut w v → v.events ≡ w.events → (r : ℕ) (t : Spot) → StandsAt h w r t → StandsAt h v r t
-  stands_too w v p events r t at = record {
-    is_spot = at.is_spot;
-    pointer = ap (λ f. f r) p.pointers ∙ at.pointer;
-    cycle = ap (λ f. f r) p.cycles ∙ at.cycle;
-    next = ap (λ f. next_take (shape_of h r) (f r)) events ∙ at.next;
-  }
+  stands_too w v p events r t at = search rules
 
   -- what is known goes from k to l
   pub record Learns (k l : Known) : Type 0 where
@@ -42,7 +33,7 @@ module _ (h : Header) where
   follows_too : (k l : Known) (pointers : ℕ → Spot) (w v : World) → Learns k l → StaysPut w v → v.events ≡ w.events → Runs h l v → Follows h k pointers w → Follows h l pointers v
   follows_too k l pointers w v learns p events run f =
       let had : (s i r : ℕ) → l.ring_of s i ≡ Some r → k.ring_of s i ≡ Some r = λ s i r at. ap (λ g. g s i) (sym learns.ring_of) ∙ at in
-      let still : (r : ℕ) → IsActiveIfOpen k w r → IsActiveIfOpen l v r = λ r was opened. ap (λ g. g r) p.active ∙ was (open_same (k.ring r) (l.ring r) (learns.held r) opened) in
+      let still : (r : ℕ) → IsActiveIfOpen k w r → IsActiveIfOpen l v r = λ r was opened. ap (λ g. g r) p.active ∙ was (open_before (k.ring r) (l.ring r) (learns.held r) opened) in
       record {
         runs = run;
         all_read = p.posted ∙ f.all_read ∙ sym p.reads;
@@ -58,12 +49,7 @@ module _ (h : Header) where
   one_learns : (k : Known) (r : ℕ) (change : RingChange) → ((v : RingView) → (changed (shape_of h r) v change).floor ≡ v.floor) → ((v : RingView) → (changed (shape_of h r) v change).held ≡ v.held) →
       Learns k (on_ring h k r change)
   unfolding on_ring
-  one_learns k r change floor held = record {
-    ring_of = refl;
-    started = refl;
-    floors = λ q. view_after h (λ v. v.floor ≡ (k.ring q).floor) k r change q (λ same. floor (k.ring r) ∙ ap (λ n. (k.ring n).floor) (sym same)) (λ other. refl);
-    held = λ q. view_after h (λ v. v.held ≡ (k.ring q).held) k r change q (λ same. held (k.ring r) ∙ ap (λ n. (k.ring n).held) (sym same)) (λ other. refl);
-  }
+  one_learns k r change floor held = search (rules, view_after)
 
   pub restored_learns : (k : Known) (o : Option ℕ) → Learns k (restored_on h k o)
   unfolding restored_on
@@ -139,12 +125,7 @@ module _ (h g : Header) (k : Known) (id : ℕ) (o : OthersStay h g k id) (pointe
 
   stands_on : (r : ℕ) (t : Spot) → r ≢ id → StandsAt h w r t → StandsAt g v r t
   unfolding counted emptied
-  stands_on r t other at = record {
-    is_spot = subst (λ shape. IsSpot shape t) (sym (o.shapes r other)) at.is_spot;
-    pointer = at.pointer ∙ ap (λ shape. spot_address shape t) (sym (o.shapes r other));
-    cycle = at.cycle ∙ ap (λ shape. spot_cycle shape t) (sym (o.shapes r other));
-    next = ap (λ shape. next_take shape (put w.events id [] r)) (o.shapes r other) ∙ ap (λ events. next_take (shape_of h r) events) (put_off w.events id [] r other) ∙ at.next;
-  }
+  stands_on r t other at = search (rules, v, put_off)
 
   active_on : (r : ℕ) → r ≢ id → IsActiveIfOpen k w r → IsActiveIfOpen l v r
   unfolding counted emptied

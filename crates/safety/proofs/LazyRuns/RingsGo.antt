@@ -1,6 +1,5 @@
 -- What the completion of a command leaves of rings: each that an endpoint has stands at its floor, and is active if it is open
-use Rattle.std.proofs.Common.{◌≡◌, ℕ, Bool, false, Some}
-use Rattle.safety.proofs.LazyRuns.Words.{Header, command_id, World, Known}
+use Rattle.safety.proofs.LazyRuns.Words.{◌≡◌, ℕ, Bool, false, Some, Header, command_id, World, Known}
 use Rattle.safety.proofs.LazyRuns.Follows.{StandsAt, IsActiveIfOpen}
 
 -- an endpoint had ring r before, and its floor stays

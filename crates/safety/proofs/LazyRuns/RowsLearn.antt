@@ -1,10 +1,9 @@
 -- What a row of the driver leaves as it was known: floors, and which ring an endpoint has. A ring that it opens is active then
-use Rattle.std.proofs.Common.{◌≡◌, ◌==◌, ◌&&◌, ◌||◌, if◌then◌else◌, ◌∙◌, ℕ, nat_lt, not, Bool, true, false, [], Option, Some, None, is_none, refl, sym, ap, subst, inl, inr}
-use Rattle.safety.proofs.LazyRuns.Words.{cases_Bool, cond_both, cond-true, cond-false, or_parts, and_from, not-false, put_pair, RingView, Opens, is_open, Running, is_running, is_stopped, Header, Row, Sub, Write, Reg, Bell, Read, Register, Usbcmd, Erdp, command_id, run_bit, reset_bit, World, Known, on_ring, run_or_stop, valued, register_written, endpoint_rung, rung, learned, is_bad_bell, is_touched, lenient, IsDriverRow, BellFacts, bell_facts, put_at, declaration_leaves, write_leaves, register_leaves, bell_leaves, view_after}
+use Rattle.safety.proofs.LazyRuns.Words.{◌≡◌, ◌==◌, ◌&&◌, ◌||◌, if◌then◌else◌, ◌∙◌, ℕ, nat_lt, not, true, false, [], Option, Some, None, is_none, refl, sym, ap, subst, inl, inr, rules, cases_Bool, cond_both, cond-true, cond-false, or_parts, and_from, not-false, put_pair, RingView, Opens, is_open, Running, is_running, is_stopped, Header, Row, Sub, Write, Reg, Bell, Read, Register, Usbcmd, command_id, World, Known, on_ring, run_or_stop, valued, register_written, endpoint_rung, rung, learned, is_bad_bell, lenient, IsDriverRow, BellFacts, bell_facts, put_at, declaration_leaves, write_leaves, register_leaves, bell_leaves, view_after}
 use Rattle.controller_model.specs.DriverRows as driver
 use Rattle.safety.proofs.LazyRuns.RowsLeave.{row_leaves, done}
 
-open_before : (v w : RingView) → w.held ≡ v.held → is_open w ≡ true → is_open v ≡ true
+pub open_before : (v w : RingView) → w.held ≡ v.held → is_open w ≡ true → is_open v ≡ true
 unfolding is_open
 open_before v w same opened = ap (λ o. is_none o) (sym same) ∙ opened
 
@@ -34,19 +33,8 @@ module _ (h : Header) where
   -- ---- any row of the driver
 
   pub row_learns : (k : Known) (row : Row) → IsDriverRow row → RowLearns k (learned h k row)
-  row_learns k (Sub r blocks) driver_row =
-      let l = declaration_leaves h k r blocks in
-      record { ring_of = l.slots.ring_of; floors = λ q. (l.pointers q).floor }
-  row_learns k (Write a x) driver_row =
-      let l = write_leaves h k a x in
-      record { ring_of = l.slots.ring_of; floors = λ q. (l.pointers q).floor }
-  row_learns k (Reg r x) driver_row =
-      let l = register_leaves h k r x in
-      record { ring_of = l.slots.ring_of; floors = λ q. ap (λ f. (f q).floor) l.ring }
-  row_learns k (Bell s t) driver_row =
-      let l = bell_leaves h k s t in
-      record { ring_of = l.slots.ring_of; floors = λ q. bell_floor k s t q }
-  row_learns k (Read e) driver_row = absurd driver_row
+  row_learns k (Sub r blocks) driver_row = search (rules, declaration_leaves, write_leaves, register_leaves, bell_leaves, bell_floor)
+  row_learns k _ driver_row = search (rules, declaration_leaves, write_leaves, register_leaves, bell_leaves, bell_floor)
 
   -- ---- the rings that are open
 
@@ -82,11 +70,7 @@ module _ (h : Header) where
 
   may_ring : (k : Known) (s t : ℕ) → is_bad_bell h k s t ≡ false → (is_running (k.endpoint_state s t) || is_stopped (k.endpoint_state s t)) ≡ true
   unfolding is_bad_bell
-  may_ring k s t good =
-      let may : Bool = is_running (k.endpoint_state s t) || is_stopped (k.endpoint_state s t) in
-      let four = or_parts (t == 0 || nat_lt 31 t || not may || k.must_move s t) (is_touched h k s t) good in
-      let three = or_parts (t == 0 || nat_lt 31 t || not may) (k.must_move s t) four.0 in
-      not-false may (or_parts (t == 0 || nat_lt 31 t) (not may) three.0).1
+  may_ring k s t good = search (rules, or_parts, nat_lt, not-false)
 
   module _ (k : Known) (w : World) (started : w.started ≡ k.started) (ring_of : (s i : ℕ) → w.ring_of s i ≡ k.ring_of s i)
       (endpoints : (s i : ℕ) → w.endpoint_state s i ≡ k.endpoint_state s i) where
@@ -132,17 +116,11 @@ module _ (h : Header) where
 
   run_starts : (k : Known) (x : ℕ) → k.started ≡ true → (run_or_stop k x).started ≡ true
   unfolding run_or_stop
-  run_starts k x on =
-      let started : Known = record k { started = true } in
-      let stopped : Known = record k { stopped = true } in
-      cond_both (not k.started) (if run_bit x && not (reset_bit x) then started else k) (if not (run_bit x) || reset_bit x then stopped else k) (λ (l : Known). l.started ≡ true)
-      (λ _. cond_both (run_bit x && not (reset_bit x)) started k (λ (l : Known). l.started ≡ true) (λ _. refl) (λ _. on))
-      (λ _. cond_both (not (run_bit x) || reset_bit x) stopped k (λ (l : Known). l.started ≡ true) (λ _. on) (λ _. on))
+  run_starts k x on = search rules
 
   register_starts : (k : Known) (r : Register) (x : ℕ) → k.started ≡ true → (register_written h k r x).started ≡ true
   unfolding register_written valued
   register_starts k Usbcmd x on = run_starts (valued k Usbcmd x) x on
-  register_starts k Erdp x on = on
   register_starts k r x on = on
 
   register_started : (k : Known) (r : Register) (x : ℕ) → k.started ≡ true → (learned h k (Reg r x)).started ≡ true

@@ -1,6 +1,5 @@
 -- What a row of the driver leaves as it is in the world: only the start moves a pointer, and that of the command ring alone
-use Rattle.std.proofs.Common.{◌≡◌, ◌≢◌, ◌==◌, ◌&&◌, ◌||◌, ◌⊎◌, if◌then◌else◌, ◌∙◌, ℕ, not, Bool, true, false, List, Option, Some, None, refl, sym, ap, inl, inr}
-use Rattle.safety.proofs.LazyRuns.Words.{cases_eq, cond_both, false≢true, put, put_pair, Block, Running, is_running, is_stopped, position_from, erdp_address, is_event_place, Header, Row, Sub, Write, Reg, Bell, Read, Register, Usbcmd, Erdp, Crcr, command_id, event_shape, register_or_zero, run_bit, reset_bit, base_address, ring_cycle_state, World, stored, IsDriverRow, put_at, put_off}
+use Rattle.safety.proofs.LazyRuns.Words.{◌≡◌, ◌≢◌, ◌==◌, ◌&&◌, ◌||◌, ◌⊎◌, if◌then◌else◌, ◌∙◌, ℕ, not, Bool, true, false, List, Option, Some, None, refl, sym, ap, inl, inr, cases_eq, cond_both, false≢true, put, put_pair, Block, Running, is_running, is_stopped, position_from, erdp_address, is_event_place, Header, Row, Sub, Write, Reg, Bell, Read, Register, Usbcmd, Erdp, Crcr, command_id, event_shape, register_or_zero, run_bit, reset_bit, base_address, ring_cycle_state, World, stored, IsDriverRow, put_at, put_off}
 use Rattle.controller_model.specs.DriverRows as driver
 
 -- the pointer of ring r stays, and so does its cycle state
@@ -127,11 +126,8 @@ module _ (h : Header) where
 
   pub row_is_done : (w : World) (row : Row) → IsDriverRow row → driver.row_done h w row ≡ Some (done w row)
   unfolding driver.row_done done
-  row_is_done w (Sub r blocks) driver_row = refl
-  row_is_done w (Write a x) driver_row = refl
-  row_is_done w (Reg r x) driver_row = refl
-  row_is_done w (Bell s t) driver_row = refl
   row_is_done w (Read e) driver_row = absurd driver_row
+  row_is_done w _ driver_row = refl
 
   pub row_leaves : (w : World) (row : Row) → RowLeaves w (done w row)
   unfolding done

@@ -1,7 +1,6 @@
 -- The success of a command that places no ring: No Op, Enable Slot, Disable Slot, Evaluate Context, Reset Endpoint, Stop Endpoint,
 -- Reset Device, and a Configure Endpoint that deconfigures
-use Rattle.std.proofs.Common.{◌≡◌, ℕ, true, refl}
-use Rattle.safety.proofs.LazyRuns.Words.{ContextSize, Command, NoOp, EnableSlot, DisableSlot, ConfigureEndpoint, EvaluateContext, ResetEndpoint, StopEndpoint, ResetDevice, changes, Header, World, Known, StatesMatch, AreNoPlacings, PlacesNone}
+use Rattle.safety.proofs.LazyRuns.Words.{◌≡◌, ℕ, true, refl, ContextSize, Command, NoOp, EnableSlot, DisableSlot, ConfigureEndpoint, EvaluateContext, ResetEndpoint, StopEndpoint, ResetDevice, changes, Header, World, Known, StatesMatch, AreNoPlacings, PlacesNone}
 use Rattle.safety.proofs.LazyRuns.ChangesGo.{changes_go}
 use Rattle.safety.proofs.LazyRuns.RingsGo.{AtFloors}
 use Rattle.safety.proofs.LazyRuns.SucceededCompletions.{EffectGoes}

@@ -1,6 +1,5 @@
 -- A ring that stands at a spot matches what is known of it there
-use Rattle.std.proofs.Common.{◌≡◌, ◌≢◌, ◌∙◌, ℕ, true, [], Some, sym, ap, subst, inl, inr}
-use Rattle.safety.proofs.LazyRuns.Words.{cases_Bool, cases_eq, false≢true, Spot, Data, Link, Shape, IsSpot, number, spot_address, IsShape, data_not_link, Header, IsHeader, shape_of, command_id, World, Known, IsDriverRing, DriverKeeps, RingMatches, Unreported, UnderWayMatches, Agrees, state_of, transfer_driver, ring_shape, command_is_ring}
+use Rattle.safety.proofs.LazyRuns.Words.{◌≡◌, ◌≢◌, ◌∙◌, ℕ, true, [], Some, sym, ap, subst, inl, inr, cases_Bool, cases_eq, false≢true, Spot, Data, Link, Shape, IsSpot, number, spot_address, IsShape, data_not_link, Header, IsHeader, shape_of, command_id, World, Known, IsDriverRing, DriverKeeps, RingMatches, Unreported, UnderWayMatches, Agrees, state_of, transfer_driver, ring_shape, command_is_ring}
 use Rattle.safety.proofs.LazyRuns.Follows.{StandsAt}
 
 -- two spots with one address and one number are one

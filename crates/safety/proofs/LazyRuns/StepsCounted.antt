@@ -1,10 +1,8 @@
 -- A clean trace has at most three steps for each row, and three more: rows, events posted, and looks, each of which moves a pointer on
-use Rattle.std.proofs.Common.{◌≡◌, ◌≢◌, ◌+◌, ◌*◌, ◌≤◌, ◌==◌, ◌&&◌, ◌∷◌, ◌∙◌, if◌then◌else◌, ℕ, true, false, List, [], All, length, reverse, Option, Some, None, arith, refl, sym, ap, subst, inl, inr, ne_eqb, length-append}
-use Rattle.safety.proofs.LazyRuns.Words.{none-some, driver_ring, length-reverse, flat_map, cases_Bool, cond_both, false≢true, and_parts, or_from, put_off, Block, kind, code, slot, is_command_completion, completion_kind, Spot, number, rank_most, floor_number, Command, StopEndpoint, Change, Places, changes, is_off, Header, Sub, Write, Reg, Bell, Read, Step, NextRow, IsHeader, command_id, is_ring, ring_having, Known, RingSpot, command_at, next_command, learned, IsDriverRow, DriverKeeps, transfer_not_command, need, further, brought, goals, looks_to, EndpointsKeep, endpoints_of, transfer_ring, floors_grow, having_transfer, ring_with, is_driver_ring, Row, TraceRow, Comes, Goes, Plain, Withdraws, Data, rank, put, lenient, All-head, All-tail, AreKept, FitsFields, header_now, known_now, restored, restored_on, ring_restored, with_ring, without_ring, pointers_at, pointers_after, pointers_for, steps_before, steps_for, lazy_run}
+use Rattle.safety.proofs.LazyRuns.Words.{◌≡◌, ◌≢◌, ◌+◌, ◌*◌, ◌≤◌, ◌==◌, ◌∷◌, ◌∙◌, if◌then◌else◌, ℕ, true, false, List, [], All, length, reverse, Option, Some, None, arith, refl, sym, ap, subst, inl, inr, ne_eqb, length-append, rules, FewSteps, none-some, driver_ring, length-reverse, flat_map, cases_Bool, cond_both, false≢true, and_parts, or_from, put_off, Block, kind, slot, completion_kind, Spot, number, rank_most, floor_number, Command, StopEndpoint, Change, Places, changes, is_off, Header, Sub, Write, Reg, Bell, Read, Step, NextRow, IsHeader, command_id, is_ring, ring_having, Known, RingSpot, learned, IsDriverRow, DriverKeeps, transfer_not_command, need, further, brought, goals, looks_to, EndpointsKeep, endpoints_of, transfer_ring, floors_grow, having_transfer, ring_with, is_driver_ring, Row, TraceRow, Comes, Goes, Plain, Withdraws, Data, rank, put, lenient, All-head, All-tail, AreKept, FitsFields, header_now, known_now, restored, restored_on, ring_restored, with_ring, without_ring, pointers_at, pointers_after, pointers_for, steps_before, steps_for, lazy_run}
 use Rattle.ring_knowledge.specs.Completions as completions
 use Rattle.safety.proofs.Endpoints.{change_keeps}
 use Rattle.safety.proofs.RingChanges.RingRuns.{no_ring}
-use Rattle.safety.specs.LazyRuns.Law.{FewSteps}
 use Rattle.safety.specs.LazyRuns.Lazy as lazy
 use Rattle.safety.specs.LazyRuns.Needs as needs
 use Rattle.safety.proofs.LazyRuns.Counts.{bit, bit_clear, bit_most}
@@ -59,17 +57,7 @@ module _ (h : Header) where
 
   placed_so : IsHeader h → (k : Known) (later : List TraceRow) (b : Block) (r : ℕ) → EndpointsKeep h k → needs.is_placed h k r b ≡ true → IsPlacedSo k later b r
   unfolding needs.is_placed goals
-  placed_so is k later b r endpoints placed =
-      let parts = and_parts (is_command_completion (kind b) && code b == 1) (needs.is_placed_by h k r (slot b) (command_at h k (next_command h k))) placed in
-      let completion = (and_parts (is_command_completion (kind b)) (code b == 1) parts.0).0 in
-      record {
-        other = λ same.
-            false≢true (sym (never_placed is k (slot b) (command_at h k (next_command h k)) endpoints)
-            ∙ ap (λ q. needs.is_placed_by h k q (slot b) (command_at h k (next_command h k))) (sym same) ∙ parts.1);
-        goals_are =
-            ap (λ n. goals h k later n b) (completion_kind (kind b) completion)
-            ∙ ap (λ g. lazy.command_taken h k ∷ g) (no_stop k later b r (command_at h k (next_command h k)) parts.1);
-      }
+  placed_so is k later b r endpoints placed = search (rules, and_parts, false≢true, never_placed, completion_kind, no_stop)
 
   command_off : (k : Known) (pointers : ℕ → Spot) (r : ℕ) → r ≢ command_id h → brought h pointers (lazy.command_taken h k ∷ []) r ≡ pointers r
   unfolding brought lazy.command_taken lazy.taken_up_to
@@ -88,18 +76,7 @@ module _ (h : Header) where
     now = brought h before (goals h k later (kind b) b)
 
     placed_on : (r : ℕ) → needs.is_placed h k r b ≡ true → come_to h r (now r) ≤ come_to h r ((learned h k (Read b)).ring r).floor
-    placed_on r placed =
-        let so : IsPlacedSo k later b r = placed_so is k later b r (endpoints_of h k keeps.states) placed in
-        let same : now r ≡ before r = ap (λ g. brought h before g r) so.goals_are ∙ command_off k before r so.other in
-        come_le r (now r) ((learned h k (Read b)).ring r).floor so.other
-        (omega (
-          arith,
-          ap (λ t. number t) same,
-          near r,
-          need_placed h k r b later placed,
-          bit_clear (r == command_id h) (ne_eqb r (command_id h) so.other),
-          floors_grow h is k keeps b clean r,
-        ))
+    placed_on r placed = search (rules, come_to, now, placed_so, endpoints_of, command_off, come_le, need_placed, bit_clear, ne_eqb, floors_grow)
 
     -- no ring's pointer goes back
     goes_on : progress h now ≤ progress h (pointers_after h k before (Read b) later)
@@ -126,11 +103,7 @@ module _ (h : Header) where
 
   twice : (r m n d : ℕ) → m ≤ 2 * n + d → of_driver h r m ≤ 2 * of_driver h r n + d
   unfolding of_driver
-  twice r m n d low =
-      elim (cases_Bool (is_driver_ring (ring_with h r))) [
-        | inl driver ↦ omega (arith, low, on_driver h r m driver, on_driver h r n driver)
-        | inr other ↦ omega (arith, off_driver h r m other)
-      ]
+  twice r m n d low = search (rules, of_driver, on_driver, off_driver)
 
   come_absent : (r : ℕ) (t : Spot) → is_driver_ring (ring_with h r) ≡ false → come_to h r t ≡ 0
   unfolding come_to

@@ -1,6 +1,5 @@
 -- A Transfer Event of a stop: the lazy run takes its Stop Endpoint, brings its ring to the spot that it names, reports it, and reads it
-use Rattle.std.proofs.Common.{◌≡◌, ◌≢◌, ◌+◌, ◌≤◌, ◌==◌, ◌||◌, ◌∷◌, ◌∙◌, ℕ, true, false, List, [], Some, arith, sym, ap, subst, inl, inr, ne_eqb}
-use Rattle.safety.proofs.LazyRuns.Words.{cases_lt, cond-true, cond-false, false≢true, put, Block, IsBlock, kind, code, slot, endpoint, is_transfer_event, is_success, is_halting, is_trb_error, is_stopping, Spot, is_open, rank, number, after, after_reached, number-after, stop_spot_reached, rank_least, rank_most, Header, Read, TraceRow, Plain, IsHeader, shape_of, command_id, World, Known, learned, lenient, RingSpot, next_command, transferred, DriverKeeps, Agrees, event_facts, transfer_not_command, put_at, put_off, next_is, StopCode, goals, brought, further, report_goals, command_taken, taken_up_to, stop_goal, need}
+use Rattle.safety.proofs.LazyRuns.Words.{◌≡◌, ◌≢◌, ◌+◌, ◌≤◌, ◌==◌, ◌||◌, ◌∷◌, ◌∙◌, ℕ, true, false, List, [], Some, arith, sym, ap, subst, ne_eqb, rules, cases_lt, cond-true, cond-false, false≢true, put, Block, IsBlock, kind, code, slot, endpoint, is_transfer_event, is_success, is_halting, is_trb_error, is_stopping, Spot, is_open, rank, number, after, after_reached, number-after, stop_spot_reached, rank_least, rank_most, Header, Read, TraceRow, Plain, IsHeader, shape_of, command_id, World, Known, learned, lenient, RingSpot, next_command, transferred, DriverKeeps, Agrees, event_facts, transfer_not_command, put_at, put_off, next_is, StopCode, goals, brought, further, report_goals, command_taken, taken_up_to, stop_goal, need}
 use Rattle.safety.proofs.LazyRuns.LooksRun.{further_then, further_not}
 use Rattle.safety.proofs.LazyRuns.CompletionSays.{CommandsOpen, commands_open}
 use Rattle.safety.proofs.LazyRuns.Follows.{StandsAt, IsActiveIfOpen, Follows, Carries, Leads, Past}
@@ -16,11 +15,7 @@ use Rattle.safety.proofs.LazyRuns.TransferRow.{facts, keeps, agrees, other_ring,
 
 -- the further one of two spots is no less far than the second
 further_most : (s t : Spot) → rank t ≤ rank (further s t)
-further_most s t =
-    elim (cases_lt (rank s) (rank t)) [
-      | inl before ↦ let same : rank (further s t) ≡ rank t = ap rank (further_then s t before) in omega (arith, same)
-      | inr there ↦ let same : rank (further s t) ≡ rank s = ap rank (further_not s t there) in omega (arith, same, there)
-    ]
+further_most s t = search (rules, cases_lt, further_then, further_not)
 
 module _ (h : Header) where
   taken_spot : (k : Known) → command_taken h k ≡ record { ring = command_id h; spot = after (shape_of h (command_id h)) (next_command h k) }
@@ -103,12 +98,7 @@ module _ (h : Header) where
 
     beyond : next_command h k + 1 ≤ number at_command
     unfolding at_command
-    beyond =
-        let t : Spot = after (shape_of h (command_id h)) (next_command h k) in
-        let most = further_most (at_first (command_id h)) t in
-        let low = rank_least t in
-        let high = rank_most (further (at_first (command_id h)) t) in
-        omega (arith, most, low, high, number-after (shape_of h (command_id h)) (next_command h k))
+    beyond = search (rules, k, at_command, further_most, at_first, rank_least, rank_most, number-after)
 
     near : rank (at_first e.ring) ≤ rank e.spot
     unfolding at_first

@@ -1,6 +1,5 @@
 -- The controller can report a stop that breaks no rule, where its Stop Endpoint is taken and the ring stands at the spot that it names
-use Rattle.std.proofs.Common.{◌≡◌, ◌+◌, ◌-◌, ◌<◌, ◌≤◌, ◌==◌, ◌&&◌, ◌∙◌, ℕ, true, false, not, [], length, Option, Some, None, arith, refl, sym, ap, subst, inl, inr, ltb-true, eq-eqb}
-use Rattle.safety.proofs.LazyRuns.Words.{cases_Bool, and_parts, and_from, cond-true, cond-false, not_from_true, Block, IsBlock, kind, code, pointer, slot, endpoint, is_transfer_event, Spot, number, ceiling, cycle_of_bit, command_of, is_stop_of, is_running, Header, Read, IsHeader, shape_of, command_id, World, UnderWay, unreported, Known, command_at, next_command, is_stopping_now, may_be_taken, lenient, DriverKeeps, UnderWayMatches, CommandMatches, Agrees, event_facts, put_off, at_floor, command_is_ring, command_at_is, command_of-with_cycle, StopCode}
+use Rattle.safety.proofs.LazyRuns.Words.{◌≡◌, ◌+◌, ◌-◌, ◌<◌, ◌≤◌, ◌==◌, ◌&&◌, ◌∙◌, ℕ, true, false, not, [], length, Option, Some, None, refl, sym, ap, subst, inl, inr, ltb-true, eq-eqb, rules, cases_Bool, and_parts, and_from, cond-true, cond-false, not_from_true, Block, IsBlock, kind, code, pointer, slot, endpoint, is_transfer_event, Spot, number, ceiling, cycle_of_bit, command_of, is_stop_of, is_running, Header, Read, IsHeader, shape_of, command_id, World, UnderWay, unreported, Known, command_at, next_command, is_stopping_now, may_be_taken, lenient, DriverKeeps, UnderWayMatches, CommandMatches, Agrees, event_facts, put_off, at_floor, command_is_ring, command_at_is, command_of-with_cycle, StopCode}
 use Rattle.world_state.specs.World as of_world
 use Rattle.controller_model.specs.Posts as posts
 use Rattle.safety.proofs.LazyRuns.CompletionSays.{commands_open}
@@ -35,11 +34,8 @@ module _ (h : Header) where
 
     under_by : (o : Option UnderWay) (c : CommandMatches h k w) → w.under_way ≡ o → posts.is_stop_under_way h (slot b) (endpoint b) o ≡ true
     unfolding posts.is_stop_under_way
-    under_by None c at =
-        let under : UnderWayMatches h k c.spot None = subst (λ o. UnderWayMatches h k c.spot o) at c.under_way in
-        let same : number c.spot ≡ number t = sym c.ring.next ∙ commands.next in
-        absurd (omega (arith, under.0, same, taken))
-    under_by (Some y) c at = ap (λ o. is_stop_of (slot b) (endpoint b) o) (command_is y c at) ∙ next.stop
+    under_by None c at = search (rules, command_is)
+    under_by (Some y) c at = search (rules, command_is)
 
     under : posts.is_stop_under_way h (slot b) (endpoint b) w.under_way ≡ true
     under = under_by w.under_way (g.matches.command started) refl

@@ -1,6 +1,5 @@
 -- The success of a command, from its changes: the lazy run goes on
-use Rattle.std.proofs.Common.{◌≡◌, ◌+◌, ◌==◌, ◌&&◌, ◌||◌, if◌then◌else◌, ◌∙◌, ℕ, not, true, false, List, [], Option, Some, None, is_some, option_map, unwrap_or, refl, sym, ap, subst}
-use Rattle.safety.proofs.LazyRuns.Words.{or_from, or_parts, cond-false, cond-true, not_from_true, Block, IsBlock, kind, code, slot, is_command_completion, Spot, after, Reaches, Command, EndpointState, changes, command_of, named_context, named_slot, named_endpoint, can_succeed, slot_success, endpoint_success, slot_meant, endpoint_meant, is_slot_enabled, Header, Read, TraceRow, Config, IsHeader, shape_of, command_id, register_or_zero, World, posted, Known, event_read, learned, lenient, on_ring, command_at, next_command, is_bad_area, has_bad_context, CommandKeeps, Agrees, bad_command_context, ring_elsewhere, StatesMatch, ChangeKeeps, LeavesRest, states_match, let_go, completion_kind, seen_after, stop_ended_is, next_unfinished}
+use Rattle.safety.proofs.LazyRuns.Words.{◌≡◌, ◌+◌, ◌==◌, ◌&&◌, ◌||◌, if◌then◌else◌, ◌∙◌, ℕ, not, true, false, List, [], Option, Some, None, is_some, option_map, unwrap_or, refl, sym, ap, rules, or_from, or_parts, cond-false, cond-true, not_from_true, Block, IsBlock, kind, code, slot, is_command_completion, after, Reaches, Command, changes, command_of, named_context, can_succeed, Header, Read, TraceRow, Config, IsHeader, shape_of, command_id, register_or_zero, World, posted, Known, event_read, learned, lenient, on_ring, command_at, next_command, is_bad_area, has_bad_context, CommandKeeps, Agrees, bad_command_context, ring_elsewhere, StatesMatch, ChangeKeeps, LeavesRest, states_match, let_go, completion_kind, seen_after, stop_ended_is, next_unfinished}
 use Rattle.world_state.specs.World as of_world
 use Rattle.controller_model.specs.Bindings as bindings
 use Rattle.controller_model.specs.Finishes as finishes
@@ -11,10 +10,7 @@ use Rattle.safety.proofs.LazyRuns.CompletionReady.{ReadyToFinish, finish_posted,
 use Rattle.safety.proofs.LazyRuns.CompletionStep.{CompletionLearns, FinishLeaves, completion_step}
 use Rattle.safety.proofs.LazyRuns.Follows.{Carries, Past}
 use Rattle.safety.proofs.LazyRuns.RingsGo.{RingsGo}
-
-same_meant : (f g : ℕ → ℕ → EndpointState) (o : Option (ℕ × ℕ)) → ((s i : ℕ) → f s i ≡ g s i) → endpoint_meant f o ≡ endpoint_meant g o
-same_meant f g None same = refl
-same_meant f g (Some at) same = same at.0 at.1
+use Rattle.safety.proofs.FinishSuccess.{same_meant}
 
 module _ (h : Header) where
   -- ---- it can succeed in the world as in what is known
@@ -22,13 +18,7 @@ module _ (h : Header) where
   same_success : (k : Known) (w : World) (n : ℕ) (c : Command) → Agrees h k [] w →
       can_succeed w.slot_state w.endpoint_state (register_or_zero w.register Config) n c ≡ can_succeed k.slot_state k.endpoint_state (register_or_zero k.register Config) n c
   unfolding can_succeed
-  same_success k w n c g =
-      let x : ℕ = register_or_zero w.register Config in
-      ap (λ z. is_some (slot_success c z) && is_some (endpoint_success c (endpoint_meant w.endpoint_state (named_endpoint c))) && is_slot_enabled x n c) (g.matches.slots (slot_meant n (named_slot c)))
-      ∙ ap (λ z. is_some (slot_success c (k.slot_state (slot_meant n (named_slot c)))) && is_some (endpoint_success c z) && is_slot_enabled x n c)
-      (same_meant w.endpoint_state k.endpoint_state (named_endpoint c) g.matches.endpoints)
-      ∙ ap (λ o. is_some (slot_success c (k.slot_state (slot_meant n (named_slot c)))) && is_some (endpoint_success c (endpoint_meant k.endpoint_state (named_endpoint c))) && is_slot_enabled (unwrap_or o 0) n c)
-      (g.stands.registers Config)
+  same_success k w n c g = search (rules, is_some, same_meant, unwrap_or)
 
   low_end : (k : Known) (o : Option ℕ) → has_bad_context h k o ≡ false → finishes.passes_end h o ≡ false
   unfolding finishes.passes_end has_bad_context is_bad_area
@@ -39,33 +29,17 @@ module _ (h : Header) where
 
   success_leaves : (k m : Known) (w x : World) (b : Block) → LeavesRest h k m w x → FinishLeaves h w (let_go (posted h x b)) x b
   unfolding posted of_world.stored_block of_world.stored
-  success_leaves k m w x b rest = record {
-    memory = ap (λ (y : World). (posted h y b).memory) rest.world;
-    posted = ap (λ (y : World). y.posted + 1) rest.world;
-    reads = ap (λ (y : World). y.reads) rest.world;
-    rings = λ q. refl;
-    command = rest.command_world;
-  }
+  success_leaves k m w x b rest = search (rules, let_go)
 
   ended_learns : (k m : Known) (b : Block) (c : Command) → m.started ≡ k.started →
       CompletionLearns h k (let l : Known = record (on_ring h (completions.stop_ended h m c) (command_id h) (Reaches (after (shape_of h (command_id h)) (next_command h k)))) { reads = k.reads + 1 } in l) m
   unfolding on_ring
-  ended_learns k m b c started =
-      let done : Known = record m { stop_seen = seen_after m c } in
-      let t : Spot = after (shape_of h (command_id h)) (next_command h k) in
-      subst (λ (y : Known). CompletionLearns h k (let l : Known = record (on_ring h y (command_id h) (Reaches t)) { reads = k.reads + 1 } in l) m) (sym (stop_ended_is h m c))
-      (record { started = started; ring_of = λ s i. refl; rings = λ q other. ring_elsewhere h done (command_id h) q (Reaches t) other })
+  ended_learns k m b c started = search (rules, seen_after, stop_ended_is, ring_elsewhere)
 
   success_learns : (k : Known) (b : Block) (c : Command) → is_command_completion (kind b) ≡ true → (code b == 1) ≡ true → command_at h k (next_command h k) ≡ Some c →
       (completions.succeeded h k (slot b) c).started ≡ k.started → CompletionLearns h k (learned h k (Read b)) (completions.succeeded h k (slot b) c)
   unfolding learned event_read completions.completed completions.finished
-  success_learns k b c completion one here started =
-      let m : Known = completions.succeeded h k (slot b) c in
-      let t : Spot = after (shape_of h (command_id h)) (next_command h k) in
-      subst (λ n. CompletionLearns h k (let l : Known = record (event_read h k n b) { reads = k.reads + 1 } in l) m) (sym (completion_kind (kind b) completion))
-      (subst (λ o. CompletionLearns h k (let l : Known = record (on_ring h (completions.finished h k b o) (command_id h) (Reaches t)) { reads = k.reads + 1 } in l) m) (sym here)
-      (subst (λ (y : Known). CompletionLearns h k (let l : Known = record (on_ring h (completions.stop_ended h y c) (command_id h) (Reaches t)) { reads = k.reads + 1 } in l) m) (sym (cond-true (code b == 1) m k one))
-      (ended_learns k m b c started)))
+  success_learns k b c completion one here started = search (rules, completion_kind, cond-true, ended_learns)
 
   placed_is : (k : Known) (r : ℕ) (b : Block) (c : Command) → is_command_completion (kind b) ≡ true → (code b == 1) ≡ true → command_at h k (next_command h k) ≡ Some c →
       needs.is_placed h k r b ≡ needs.is_placed_by_all h c k r (changes h.context_size k.memory (slot b) c)

@@ -1,6 +1,5 @@
 -- Sums of a function over the numbers below a bound
-use Rattle.std.proofs.Common.{◌≡◌, ◌≢◌, ◌+◌, ◌*◌, ◌<◌, ◌≤◌, ℕ, suc, zero, arith, sym, subst, inl, inr}
-use Rattle.safety.proofs.LazyRuns.Words.{cases_eq, cases_lt}
+use Rattle.safety.proofs.LazyRuns.Words.{◌≡◌, ◌≢◌, ◌+◌, ◌*◌, ◌<◌, ◌≤◌, ℕ, suc, zero, arith, sym, subst, inl, inr, cases_eq, cases_lt}
 
 -- f 0 + .. + f (n - 1)
 pub total : (ℕ → ℕ) → ℕ → ℕ

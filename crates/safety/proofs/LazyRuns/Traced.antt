@@ -1,6 +1,5 @@
 -- The world directly before the controller posts an event: each ring stands where the schedule says
-use Rattle.std.proofs.Common.{◌≡◌, ℕ, true, List, Some, sym, subst}
-use Rattle.safety.proofs.LazyRuns.Words.{flat_map, Block, kind, Spot, Header, TraceRow, Step, command_id, World, Known, Runs}
+use Rattle.safety.proofs.LazyRuns.Words.{◌≡◌, ℕ, true, List, Some, sym, subst, flat_map, Block, kind, Spot, Header, TraceRow, Step, command_id, World, Known, Runs}
 use Rattle.safety.specs.LazyRuns.Lazy as lazy
 use Rattle.safety.proofs.LazyRuns.Follows.{StandsAt, IsActiveIfOpen, Follows, Past}
 

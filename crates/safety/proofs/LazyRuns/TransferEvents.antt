@@ -1,6 +1,5 @@
 -- The law of Transfer Events, whatever their code: the lazy run goes on behind each
-use Rattle.std.proofs.Common.{◌||◌, inl, inr}
-use Rattle.safety.proofs.LazyRuns.Words.{cases_Bool, code, is_success, is_halting, is_trb_error, is_transfer_event, Header}
+use Rattle.safety.proofs.LazyRuns.Words.{◌||◌, inl, inr, cases_Bool, code, is_success, is_halting, is_trb_error, is_transfer_event, Header}
 use Rattle.safety.proofs.LazyRuns.BlockEvents.{success_carries, error_carries}
 use Rattle.safety.proofs.LazyRuns.EventKinds.{EventLawOf}
 use Rattle.safety.proofs.LazyRuns.StopEvents.{stop_carries}

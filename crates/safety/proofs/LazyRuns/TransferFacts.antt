@@ -1,6 +1,5 @@
 -- What a Transfer Event says that breaks no rule, by its code: the spot that it names, and what the controller did there
-use Rattle.std.proofs.Common.{◌≡◌, ◌<◌, ◌&&◌, ◌||◌, ◌∙◌, ℕ, not, Bool, true, false, [], Option, Some, None, option_map, refl, sym, ap, inl, inr, ltb-true}
-use Rattle.safety.proofs.LazyRuns.Words.{and_cases, and_parts, or_parts, or_cases, or_from, not-false, not-true, false≢true, none-some, same_Some, Block, is_set, word, kind, code, pointer, slot, endpoint, is_transfer_event, is_success, is_halting, is_trb_error, is_stopping, is_transfer_code, Spot, Data, Link, ceiling, named, is_data_below, is_open, is_stop_spot, is_off, is_running, Header, Read, shape_of, Known, RingSpot, spot_on, is_in_profile, is_working, is_stopping_now, can_report, can_report_at, is_impossible_by_kind, is_impossible_transfer, lenient, event_facts, transfer_kind, StopCode, chain, spot_is}
+use Rattle.safety.proofs.LazyRuns.Words.{◌≡◌, ◌<◌, ◌&&◌, ◌||◌, ◌∙◌, ℕ, not, Bool, true, false, [], Option, Some, None, option_map, refl, sym, ap, ltb-true, rules, and_cases, and_parts, or_parts, or_cases, or_from, not-false, not-true, false≢true, none-some, same_Some, Block, is_set, word, kind, code, pointer, slot, endpoint, is_transfer_event, is_success, is_halting, is_trb_error, is_transfer_code, Spot, Data, Link, ceiling, named, is_data_below, is_open, is_stop_spot, is_running, Header, Read, shape_of, Known, RingSpot, spot_on, is_in_profile, is_working, is_stopping_now, can_report, can_report_at, is_impossible_by_kind, is_impossible_transfer, lenient, event_facts, transfer_kind, StopCode, chain, spot_is}
 use Rattle.ring_knowledge.specs.Rings.{event_at}
 
 module _ (h : Header) where
@@ -17,26 +16,13 @@ module _ (h : Header) where
 
   ring_named : (k : Known) (a : ℕ) (o : Option ℕ) (at : RingSpot) → spot_on h k a o ≡ Some at → o ≡ Some at.ring
   unfolding spot_on
-  ring_named k a None at e = absurd (none-some at e)
-  ring_named k a (Some r) at e = by (named (shape_of h r) (k.ring r) a) e
-    where
-      by : (m : Option Spot) → option_map (λ t. let x : RingSpot = record { ring = r; spot = t } in x) m ≡ Some at → ◌≡◌ {A = Option ℕ} (Some r) (Some at.ring)
-      by None found = absurd (none-some at found)
-      by (Some t) found = ap (λ (x : RingSpot). Some x.ring) (same_Some (record { ring = r; spot = t }) at found)
+  ring_named k a None at e = search (rules, none-some, option_map, same_Some)
+  ring_named k a (Some r) at e = search (rules, none-some, option_map, same_Some)
 
   named_by : (k : Known) (b : Block) (o : Option RingSpot) → event_at h k b ≡ o → can_report_at h k b o ≡ true → is_set (word b 3) 2 ≡ false → is_transfer_code (code b) ≡ true → TransferFacts k b
   unfolding can_report_at event_at
-  named_by k b None found can no_data code_is = absurd (false≢true can)
-  named_by k b (Some at) found can no_data code_is = record {
-    ring = at.ring;
-    spot = at.spot;
-    bound = ring_named k (pointer b) (k.ring_of (slot b) (endpoint b)) at found;
-    named_is = spot_is h k (pointer b) (k.ring_of (slot b) (endpoint b)) at found;
-    at = found;
-    no_data = no_data;
-    code_is = code_is;
-    may = can;
-  }
+  named_by k b None found can no_data code_is = search rules
+  named_by k b (Some at) found can no_data code_is = search (rules, ring_named, spot_is)
 
   by_kind : (k : Known) (b : Block) → is_transfer_event (kind b) ≡ true → is_impossible_by_kind h k (kind b) b ≡ is_impossible_transfer h k b
   unfolding is_impossible_by_kind
@@ -44,14 +30,7 @@ module _ (h : Header) where
 
   facts_from : (k : Known) (b : Block) → is_impossible_transfer h k b ≡ false → is_in_profile b ≡ true → TransferFacts k b
   unfolding is_impossible_transfer is_in_profile
-  facts_from k b possible inside =
-      let parts = and_parts (not (is_set (word b 3) 2)) (is_transfer_code (code b)) inside in
-      elim (and_cases (is_in_profile b) (is_off (k.endpoint_state (slot b) (endpoint b)) || not (can_report_at h k b (event_at h k b))) possible) [
-        | inl outside ↦ absurd (false≢true (sym outside ∙ inside))
-        | inr none ↦
-            let can = or_parts (is_off (k.endpoint_state (slot b) (endpoint b))) (not (can_report_at h k b (event_at h k b))) none in
-            named_by k b (event_at h k b) refl (not-false (can_report_at h k b (event_at h k b)) can.1) (not-true (is_set (word b 3) 2) parts.0) parts.1
-      ]
+  facts_from k b possible inside = search (rules, and_parts, and_cases, false≢true, or_parts, named_by, not-false, not-true)
 
   pub transfer_facts : (k : Known) (b : Block) → lenient h k (Read b) ≡ [] → is_transfer_event (kind b) ≡ true → TransferFacts k b
   transfer_facts k b clean transfer =
@@ -119,14 +98,4 @@ module _ (h : Header) where
 
     -- a code of the profile that is none of the others is that of a stop
     pub stop_code : is_success (code b) ≡ false → (is_halting (code b) || is_trb_error (code b)) ≡ false → StopCode (code b)
-    stop_code fails quiet =
-        let two = or_parts (is_halting (code b)) (is_trb_error (code b)) quiet in
-        record {
-          success = fails;
-          halting = two.0;
-          error = two.1;
-          stopping = elim (or_cases (is_success (code b) || is_halting (code b) || is_trb_error (code b)) (is_stopping (code b)) f.code_is) [
-            | inl other ↦ absurd (false≢true (sym (or_from (is_success (code b) || is_halting (code b)) (is_trb_error (code b)) (or_from (is_success (code b)) (is_halting (code b)) fails two.0) two.1) ∙ other))
-            | inr stopping ↦ stopping
-          ];
-        }
+    stop_code fails quiet = search (rules, or_parts, or_cases, false≢true, or_from)

@@ -1,6 +1,5 @@
 -- For a Transfer Event the schedule brings its ring behind the block that it names, and what is known of the ring then
-use Rattle.std.proofs.Common.{◌≡◌, ◌≢◌, ◌+◌, ◌≤◌, ◌==◌, ◌||◌, ◌∷◌, ◌∙◌, ℕ, suc, nat_lt, true, false, List, [], Some, arith, refl, sym, ap, subst, inl, inr, lt-ltb, le-ltb, eqb-true}
-use Rattle.safety.proofs.LazyRuns.Words.{cases_lt, cond_both, cond-true, cond-false, or_cases, false≢true, Block, kind, code, slot, endpoint, is_transfer_event, is_success, is_halting, is_trb_error, is_stopping, Spot, Shape, number, rank, after, Reaches, Holds, is_open, stopped_number, same_rank, Header, TraceRow, Read, shape_of, Known, RingSpot, on_ring, event_read, learned, passed, broken_off, stopped_at, transferred, transferred_at, transfer_read, ring_here, learned_read, put_at, put_off, transfer_kind, TransferLeaves, transferred_leaves, with_reads, behind_taken, further, taken_up_to, report_goals, goals, brought}
+use Rattle.safety.proofs.LazyRuns.Words.{◌≡◌, ◌≢◌, ◌+◌, ◌≤◌, ◌==◌, ◌||◌, ◌∷◌, ◌∙◌, ℕ, suc, nat_lt, true, false, List, [], Some, arith, refl, sym, ap, subst, inl, inr, lt-ltb, le-ltb, eqb-true, rules, cases_lt, cond-true, cond-false, or_cases, false≢true, Block, kind, code, slot, endpoint, is_transfer_event, is_success, is_halting, is_trb_error, is_stopping, Spot, Shape, number, rank, after, Reaches, Holds, is_open, same_rank, Header, TraceRow, Read, shape_of, Known, RingSpot, on_ring, event_read, learned, passed, broken_off, stopped_at, transferred, transferred_at, transfer_read, ring_here, learned_read, put_at, put_off, transfer_kind, TransferLeaves, transferred_leaves, with_reads, behind_taken, further, taken_up_to, report_goals, goals, brought}
 use Rattle.safety.proofs.LazyRuns.ReportStep.{EventLearns}
 use Rattle.safety.proofs.LazyRuns.TransferFacts.{TransferFacts, NamesBlock}
 
@@ -13,27 +12,13 @@ pub success_goes_on : (c : ℕ) → is_success c ≡ true → is_stopping c ≡ 
 success_goes_on c success = elim (or_cases (c == 1) (c == 13) success) [ inl one ↦ not_stopping c 1 one refl | inr short ↦ not_stopping c 13 short refl ]
 
 pub error_goes_on : (c : ℕ) → (is_halting c || is_trb_error c) ≡ true → is_stopping c ≡ false
-error_goes_on c breaks =
-    elim (or_cases (is_halting c) (is_trb_error c) breaks) [
-      | inl halting ↦ elim (or_cases (c == 3 || c == 4 || c == 6) (c == 36) halting) [
-        | inl most ↦ elim (or_cases (c == 3 || c == 4) (c == 6) most) [
-          | inl two ↦ elim (or_cases (c == 3) (c == 4) two) [ inl three ↦ not_stopping c 3 three refl | inr four ↦ not_stopping c 4 four refl ]
-          | inr six ↦ not_stopping c 6 six refl
-        ]
-        | inr split ↦ not_stopping c 36 split refl
-      ]
-      | inr error ↦ not_stopping c 5 error refl
-    ]
+error_goes_on c breaks = search (rules, or_cases, not_stopping)
 
 -- ---- spots
 
 pub further_is : (s t : Spot) → rank s ≤ rank t → further s t ≡ t
 unfolding further
-further_is s t near =
-    elim (cases_lt (rank s) (rank t)) [
-      | inl before ↦ cond-true (nat_lt (rank s) (rank t)) t s (lt-ltb (rank s) (rank t) before)
-      | inr there ↦ cond-false (nat_lt (rank s) (rank t)) t s (le-ltb (rank s) (rank t) there) ∙ same_rank s t (omega arith)
-    ]
+further_is s t near = search (rules, cases_lt, cond-true, nat_lt, lt-ltb, cond-false, le-ltb, same_rank)
 
 behind_next : (shape : Shape) (p n : ℕ) → n ≡ suc p → behind_taken shape n ≡ after shape p
 unfolding behind_taken
@@ -74,11 +59,7 @@ module _ (h : Header) where
 
     started_still : (c s i r : ℕ) (t : Spot) → (transferred h k c s i r t).started ≡ k.started
     unfolding transferred passed broken_off stopped_at on_ring
-    started_still c s i r t =
-        cond_both (is_success c) _ _ (λ (l : Known). l.started ≡ k.started) (λ _. refl)
-        (λ _. cond_both (is_halting c) _ _ (λ (l : Known). l.started ≡ k.started) (λ _. refl)
-        (λ _. cond_both (is_trb_error c) _ _ (λ (l : Known). l.started ≡ k.started) (λ _. refl)
-        (λ _. cond_both (is_stopping c) _ k (λ (l : Known). l.started ≡ k.started) (λ _. refl) (λ _. refl))))
+    started_still c s i r t = search rules
 
     learns_at : (t : Spot) (l : Known) → learned h k (Read b) ≡ with_reads l (k.reads + 1) → l.started ≡ k.started → TransferLeaves k l (slot b) (endpoint b) f.ring → (l.ring f.ring).floor ≡ t →
         EventLearns h k (learned h k (Read b)) f.ring t
@@ -97,11 +78,6 @@ module _ (h : Header) where
       success_floor success =
           ap (λ (l : Known). (l.ring r).floor) (cond-true (is_success c) (passed h k r t) _ success) ∙ ap (λ v. v.floor) (ring_here h k r (Reaches (after (shape_of h r) (number t))))
 
-      pub success_held : is_success c ≡ true → ((transferred h k c s i r t).ring r).held ≡ (k.ring r).held
-      unfolding transferred passed
-      success_held success =
-          ap (λ (l : Known). (l.ring r).held) (cond-true (is_success c) (passed h k r t) _ success) ∙ ap (λ v. v.held) (ring_here h k r (Reaches (after (shape_of h r) (number t))))
-
       -- held, with the floor at a spot
       pub record IsHeldAt (l : Known) (u : Spot) : Type 0 where
         pub floor : (l.ring r).floor ≡ u
@@ -116,17 +92,8 @@ module _ (h : Header) where
 
       pub error_ring : is_success c ≡ false → (is_halting c || is_trb_error c) ≡ true → IsHeldAt (transferred h k c s i r t) (after (shape_of h r) (number t))
       unfolding transferred broken_off
-      error_ring fails breaks =
-          subst (λ l. IsHeldAt l (after (shape_of h r) (number t))) (sym (cond-false (is_success c) (passed h k r t) _ fails))
-          (cond_both (is_halting c) _ _ (λ l. IsHeldAt l (after (shape_of h r) (number t))) (λ _. broken_ring _ refl)
-          (λ quiet. cond_both (is_trb_error c) _ _ (λ l. IsHeldAt l (after (shape_of h r) (number t))) (λ _. broken_ring _ refl)
-          (λ fine. absurd (false≢true (sym (ap (λ x. x || is_trb_error c) quiet ∙ fine) ∙ breaks)))))
+      error_ring fails breaks = search (rules, cond-false, broken_ring, false≢true)
 
       pub stop_ring : is_success c ≡ false → is_halting c ≡ false → is_trb_error c ≡ false → is_stopping c ≡ true → IsHeldAt (transferred h k c s i r t) t
       unfolding transferred stopped_at is_open
-      stop_ring fails quiet fine stopping =
-          let n : ℕ = stopped_number (shape_of h r) (k.ring r) t in
-          let there = ring_here h (on_ring h k r (Holds n)) r (Reaches t) in
-          subst (λ l. IsHeldAt l t)
-          (sym (cond-false (is_success c) (passed h k r t) _ fails ∙ cond-false (is_halting c) _ _ quiet ∙ cond-false (is_trb_error c) _ _ fine ∙ cond-true (is_stopping c) (stopped_at h k s i r t) k stopping))
-          (record { floor = ap (λ v. v.floor) there; held = ap (λ v. is_open v) there ∙ ap (λ v. is_open v) (ring_here h k r (Holds n)) })
+      stop_ring fails quiet fine stopping = search (rules, ring_here, cond-false, cond-true)

@@ -1,6 +1,5 @@
 -- A Transfer Event: from its goals and its report to the run behind its row
-use Rattle.std.proofs.Common.{◌≡◌, ◌≢◌, ◌∷◌, ◌++◌, ◌∙◌, ℕ, true, List, [], reverse, Some, sym, ap, subst}
-use Rattle.safety.proofs.LazyRuns.Words.{flat_map, Block, IsBlock, kind, is_transfer_event, Spot, Header, Read, TraceRow, Plain, IsHeader, command_id, World, learned, lenient, RingSpot, DriverKeeps, Agrees, goals, brought, looks_to}
+use Rattle.safety.proofs.LazyRuns.Words.{◌≡◌, ◌≢◌, ◌∷◌, ◌++◌, ◌∙◌, ℕ, true, List, [], reverse, Some, sym, ap, subst, flat_map, Block, IsBlock, kind, is_transfer_event, Spot, Header, Read, TraceRow, Plain, IsHeader, command_id, World, learned, lenient, RingSpot, DriverKeeps, Agrees, goals, brought, looks_to}
 use Rattle.safety.proofs.LazyRuns.AllEventsRead.{agrees_now}
 use Rattle.safety.proofs.LazyRuns.Follows.{IsActiveIfOpen, Follows, Carries, Leads, Past}
 use Rattle.safety.proofs.LazyRuns.Preparing.{AllFit, AreApart, AllBrought, goals_reached}

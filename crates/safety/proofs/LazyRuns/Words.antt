@@ -1,8 +1,8 @@
 -- The words of std, of the crates below and of this crate's own definitions that its proofs cite, passed on by one file
 pub use Rattle.commands.specs.Changes.{Change, DeviceLeft, Disables, Places, Resets, SlotGoesOn, Stops, placed_by_context}
 unfoldable pub use Rattle.commands.specs.Changes.{changes}
-pub use Rattle.commands.specs.Command.{command_of, is_stop_of, may_answer_slot, named_context, named_endpoint, named_slot}
-pub use Rattle.commands.specs.States.{endpoint_meant, endpoint_success, is_off, is_running, is_slot_enabled, is_stopped, slot_meant, slot_success}
+pub use Rattle.commands.specs.Command.{command_of, is_stop_of, may_answer_slot, named_context}
+pub use Rattle.commands.specs.States.{is_off, is_running, is_stopped}
 unfoldable pub use Rattle.commands.specs.States.{can_succeed}
 pub use Rattle.commands.specs.declared.command.Command.{Command}
 pub use Rattle.commands.specs.declared.command.Command.TheVariants.{AddressDevice, ConfigureEndpoint, DisableSlot, EnableSlot, EvaluateContext, NoOp, ResetDevice, ResetEndpoint, SetTrDequeue, StopEndpoint}
@@ -13,22 +13,21 @@ unfoldable pub use Rattle.contexts.specs.Contexts.{added_endpoints}
 pub use Rattle.contexts.specs.declared.size.ContextSize.{ContextSize}
 pub use Rattle.controller_model.proofs.ReadLemmas.{read_made}
 unfoldable pub use Rattle.controller_model.specs.Posts.{can_post, posted}
-pub use Rattle.controller_model.specs.Scenes.{Scene, scene_reached, step_made}
+pub use Rattle.controller_model.specs.Scenes.{scene_reached, step_made}
 unfoldable pub use Rattle.controller_model.specs.RingRows.{emptied, with_ring, without_descriptor, without_ring}
 unfoldable pub use Rattle.controller_model.specs.Steps.{counted}
 pub use Rattle.event_ring.specs.EventRing.{erdp_address, has_room, is_event_place, position_from}
 pub use Rattle.guest_memory.specs.Memory.{put, put_pair}
 pub use Rattle.safety.specs.LazyRuns.LateEvents.{IsTimely, is_late_row, is_report_of_success}
 unfoldable pub use Rattle.safety.specs.LazyRuns.LateEvents.{is_held_ring, is_late}
-pub use Rattle.safety.specs.LazyRuns.Law.{AllAreRead, AreAtFloors, ContainsAll, GoesSoFar, LazyLaw, scene_with}
+pub use Rattle.safety.specs.LazyRuns.Law.{AllAreRead, AreAtFloors, ContainsAll, FewSteps, GoesSoFar, LazyLaw, scene_with}
 unfoldable pub use Rattle.safety.specs.LazyRuns.Lazy.{behind_taken, brought, command_taken, further, goals, lazy_run, looks_to, pointers_after, pointers_at, pointers_for, report_goals, steps_before, steps_for, stop_goal, taken_up_to}
 unfoldable pub use Rattle.safety.specs.LazyRuns.Needs.{begins_anew, ends_need, need, number_behind, number_needed, number_reported}
 pub use Rattle.ownership_rules.proofs.Among.{IsIn}
 unfoldable pub use Rattle.ownership_rules.specs.Areas.{is_bad_area}
-pub use Rattle.ownership_rules.specs.Clean.{IsLenient}
 unfoldable pub use Rattle.ownership_rules.specs.Commands.{has_bad_context}
 pub use Rattle.ownership_rules.specs.Declarations.{is_driver_ring}
-unfoldable pub use Rattle.ownership_rules.specs.Doorbells.{is_bad_bell, is_touched}
+unfoldable pub use Rattle.ownership_rules.specs.Doorbells.{is_bad_bell}
 unfoldable pub use Rattle.ownership_rules.specs.Events.{can_finish, can_report, can_report_at, event_tests, is_impossible, is_impossible_by_kind, is_impossible_completion, is_impossible_transfer, is_in_profile, is_past_room, is_stopping_now, is_working, may_be_taken, was_stop_seen}
 unfoldable pub use Rattle.ownership_rules.specs.Moves.{binding_in, has_repeats, is_among, ring_bound}
 unfoldable pub use Rattle.ownership_rules.specs.Rules.{lenient, lenient_tests}
@@ -36,10 +35,10 @@ pub use Rattle.safety.specs.RingChanges.Histories.{AreKept, FitsFields, IsKept, 
 pub use Rattle.safety.specs.RingChanges.Changes.{IsComing}
 unfoldable pub use Rattle.safety.specs.RingChanges.Changes.{forgotten, is_bad_free, is_bad_ring}
 pub use Rattle.safety.specs.RingChanges.Withdrawals.{restored}
-unfoldable pub use Rattle.safety.specs.RingChanges.Withdrawals.{is_bad_withdraw, is_left, restored_on, ring_restored, some_flips}
+unfoldable pub use Rattle.safety.specs.RingChanges.Withdrawals.{is_bad_withdraw, is_left, restored_on, ring_restored}
 pub use Rattle.ring_knowledge.specs.Known.{Known}
 unfoldable pub use Rattle.ring_knowledge.specs.Known.{nothing}
-unfoldable pub use Rattle.ring_knowledge.specs.Learned.{event_read, known, learned}
+unfoldable pub use Rattle.ring_knowledge.specs.Learned.{event_read, learned}
 unfoldable pub use Rattle.ring_knowledge.specs.Registers.{endpoint_rung, register_written, run_or_stop, rung, valued}
 pub use Rattle.ring_knowledge.specs.Rings.{RingSpot}
 unfoldable pub use Rattle.ring_knowledge.specs.Rings.{command_at, next_command, on_ring, spot_on}
@@ -48,7 +47,7 @@ pub use Rattle.safety.proofs.Areas.{bad_command_context, bad_context_parts}
 pub use Rattle.safety.proofs.AtSpots.{Crossable, Takeable, crossable, takeable}
 pub use Rattle.safety.proofs.CleanRows.{BellFacts, EventFacts, bell_facts, event_facts}
 pub use Rattle.safety.proofs.ContextWords.{address_same, configure_same, same_context}
-pub use Rattle.safety.proofs.DriverHistories.{driver_keeps, kept_driver, run_keeps}
+pub use Rattle.safety.proofs.DriverHistories.{kept_driver, run_keeps}
 pub use Rattle.safety.proofs.DriverRings.{driver_ring, driver_test, endpoints_of, rings_of, transfer_ring}
 pub use Rattle.safety.proofs.DriverRows.{nothing_keeps, ring_elsewhere, ring_here}
 pub use Rattle.safety.proofs.EndpointsOff.{slot_above}
@@ -62,10 +61,8 @@ pub use Rattle.safety.proofs.FinishRuns.{finish_runs}
 pub use Rattle.safety.proofs.FinishSlots.{AreNoPlacings, IsNoPlacing, PlacesNone, change_keeps}
 pub use Rattle.safety.proofs.FloorsGrow.{floors_grow}
 pub use Rattle.safety.proofs.Headers.{EventRing, each_passes, event_ring_is, found_in, header_parts, ring_shape, shape_is, transfer_driver, transfer_not_command}
-pub use Rattle.safety.proofs.HeadlineFrom.{later_clean, one_more, runs_rest}
 pub use Rattle.safety.proofs.HeldFurther.{more_law}
 pub use Rattle.safety.proofs.Histories.{row_keeps}
-pub use Rattle.safety.proofs.NothingFree.{may_come}
 pub use Rattle.safety.proofs.KeptRings.{next_at_floor, next_unfinished, still_of}
 pub use Rattle.safety.proofs.LookKinds.{behind_block, behind_link, cond_is, only_begun, only_crossed, only_taken, put_at, put_off, seen}
 pub use Rattle.safety.proofs.LookRuns.{look_runs}
@@ -75,7 +72,6 @@ pub use Rattle.safety.proofs.MoveSpots.{MoveSpot, move_spot}
 pub use Rattle.safety.proofs.NamedRings.{moved_having, spot_inside}
 pub use Rattle.safety.proofs.NoWait.{ceiling_held, ceiling_open}
 pub use Rattle.safety.proofs.NumberedChanges.{command_numbered}
-pub use Rattle.safety.proofs.NumberedHistories.{are_numbered}
 pub use Rattle.safety.proofs.OnlyRing.{OnlyRing}
 pub use Rattle.safety.proofs.Opens.{opens}
 pub use Rattle.safety.proofs.Other.{other_runs, says_nothing}
@@ -96,7 +92,7 @@ pub use Rattle.safety.proofs.ReportedRing.{open_takes}
 pub use Rattle.safety.proofs.RingIds.{having_transfer}
 pub use Rattle.safety.proofs.RowFrames.{bell_leaves, declaration_leaves, register_leaves, write_leaves, written_view}
 pub use Rattle.safety.proofs.RowRuns.{row_runs}
-pub use Rattle.safety.proofs.RowsLeft.{looked_left, row_left}
+pub use Rattle.safety.proofs.RowsLeft.{looked_left}
 pub use Rattle.safety.proofs.Safe.{block_found, stands_at}
 pub use Rattle.safety.proofs.SafeContext.{AtFloor, at_floor, command_at_is, command_is_ring, next_is, none_in_range}
 pub use Rattle.safety.proofs.SameCommand.{command_of-with_cycle}
@@ -128,7 +124,6 @@ pub use Rattle.segments.proofs.Search.{cases_option, position-None}
 pub use Rattle.segments.proofs.ShapeFacts.{shape_facts}
 pub use Rattle.segments.proofs.SpotOrder.{data_not_link, next_later, next_least, rank_least, rank_most, same_rank}
 unfoldable pub use Rattle.segments.specs.Ceiling.{ceiling, given_count, is_data_below, is_open, is_stop_spot, named, stopped_number}
-unfoldable pub use Rattle.segments.specs.Moves.{target}
 pub use Rattle.segments.specs.Places.{address_of, cycle_of, is_inside, place_count}
 pub use Rattle.segments.specs.RingKeeps.{MayReach, RingKeeps}
 pub use Rattle.segments.specs.RingView.{Declares, Holds, Opens, Reaches, Restores, RingChange, RingView, Writes, changed, declared, floor_number, gives, new_ring}
@@ -167,3 +162,5 @@ pub use Rattle.trb.specs.declared.kind.BlockKind.TheVariants.{CommandCompletion,
 unfoldable pub use Rattle.world_state.specs.Takes.{next_take, unreported}
 pub use Rattle.world_state.specs.World.{RingEvent, UnderWay, World}
 unfoldable pub use Rattle.world_state.specs.World.{event_at, opening, stored, stored_block}
+pub use Rattle.std.proofs.Common.{All, Bool, List, None, Option, Some, [], ap, append-nil, append_assoc, arith, eq-eqb, eqb-true, false, filter, find, get_or, if◌then◌else◌, inl, inr, is_none, is_some, le-ltb, length, length-append, lt-ltb, ltb-false, ltb-true, map, max, nat_lt, ne_eqb, not, option_and_then, option_map, position, refl, reverse, rules, subst, suc, sym, true, unwrap_or, zero, ℕ, ◌%◌, ◌&&◌, ◌*◌, ◌++◌, ◌+◌, ◌-◌, ◌<◌, ◌==◌, ◌||◌, ◌∙◌, ◌∷◌, ◌≡◌, ◌≢◌, ◌≤◌, ◌⊎◌}
+unfoldable pub use Rattle.segments.specs.Moves.{target}

@@ -1,7 +1,5 @@
 -- An event says the same where other rings are there, so long as those that endpoints have and commands bind are as they were
-use Rattle.std.proofs.Common.{◌≡◌, ◌+◌, ◌==◌, ◌&&◌, if◌then◌else◌, ◌∷◌, ◌∙◌, ℕ, Bool, true, false, List, [], Option, Some, None, refl, sym, ap, subst}
-use Rattle.guest_memory.specs.Memory.{put, put_pair}
-use Rattle.safety.proofs.Words.{cond_both, none-some, same_Some, option_map, Block, code, slot, endpoint, pointer, is_success, is_halting, is_trb_error, is_stopping, Spot, number, after, RingView, RingChange, Reaches, Holds, changed, ceiling, named, stopped_number, target, Command, EndpointState, Halted, Error, Stopped, is_off, Change, SlotGoesOn, DeviceLeft, Disables, Places, Stops, Resets, Header, Ring, shape_of, command_id, event_shape, event_size, ring_having, Known, RingSpot, on_ring, spot_on, event_at, passed, broken_off, stopped_at, transferred, transferred_at, transfer_read, set_to, bound_to, moved_to, moved, pointed, disabled, in_state, held_at_ceiling, changed_by, changed_by_all}
+use Rattle.safety.proofs.Words.{◌≡◌, ◌==◌, ◌&&◌, if◌then◌else◌, ◌∷◌, ◌∙◌, ℕ, Bool, true, false, List, [], Option, Some, None, refl, sym, ap, rules, put, put_pair, cond_both, none-some, same_Some, option_map, Block, code, slot, endpoint, pointer, is_success, is_halting, is_trb_error, is_stopping, Spot, number, after, RingView, RingChange, Reaches, Holds, changed, ceiling, named, target, Command, EndpointState, Halted, Error, Stopped, is_off, Change, Disables, Places, Stops, Header, Ring, shape_of, command_id, event_shape, event_size, ring_having, Known, RingSpot, on_ring, spot_on, event_at, passed, broken_off, stopped_at, transferred, transferred_at, transfer_read, set_to, bound_to, moved_to, moved, pointed, disabled, in_state, held_at_ceiling, changed_by, changed_by_all}
 
 module _ (h : Header) (rings : List Ring) (over : (ℕ → RingView) → ℕ → RingView) (Kept : ℕ → Type 0) where
   abbrev g : Header
@@ -62,21 +60,11 @@ module _ (h : Header) (rings : List Ring) (over : (ℕ → RingView) → ℕ →
 
     broken_alike : (k : Known) (s i r : ℕ) (t : Spot) (state : EndpointState) → Kept r → broken_off g (other k) s i r t state ≡ other (broken_off h k s i r t state)
     unfolding broken_off
-    broken_alike k s i r t state kept =
-        let held : RingChange = Holds (number t + 1) in
-        let two : on_ring g (passed g (other k) r t) r held ≡ other (on_ring h (passed h k r t) r held) =
-        ap (λ x. on_ring g x r held) (passed_alike k r t kept) ∙ on_alike (passed h k r t) r held kept in
-        λ j. record (two j) { endpoint_state = put_pair k.endpoint_state s i state }
+    broken_alike k s i r t state kept = search (rules, g, other, passed_alike, on_alike)
 
     stopped_alike : (k : Known) (s i r : ℕ) (t : Spot) → Kept r → stopped_at g (other k) s i r t ≡ other (stopped_at h k s i r t)
     unfolding stopped_at
-    stopped_alike k s i r t kept =
-        let held : RingChange = Holds (stopped_number (shape_of h r) (k.ring r) t) in
-        let one : on_ring g (other k) r (Holds (stopped_number (shape_of g r) (over k.ring r) t)) ≡ other (on_ring h k r held) =
-        (λ j. on_ring g (other k) r (Holds (stopped_number (o.shape r kept j) (o.view k.ring r kept j) t))) ∙ on_alike k r held kept in
-        let two : on_ring g (on_ring g (other k) r (Holds (stopped_number (shape_of g r) (over k.ring r) t))) r (Reaches t) ≡ other (on_ring h (on_ring h k r held) r (Reaches t)) =
-        ap (λ x. on_ring g x r (Reaches t)) one ∙ on_alike (on_ring h k r held) r (Reaches t) kept in
-        λ j. record (two j) { stop_seen = put_pair k.stop_seen s i true }
+    stopped_alike k s i r t kept = search (rules, g, other, on_alike)
 
     spot_alike : (k : Known) (a : ℕ) (q : Option ℕ) → IsKept q → spot_on g (other k) a q ≡ spot_on h k a q
     unfolding spot_on
@@ -89,12 +77,8 @@ module _ (h : Header) (rings : List Ring) (over : (ℕ → RingView) → ℕ →
 
     spot_kept : (k : Known) (a : ℕ) (q : Option ℕ) (at : RingSpot) → IsKept q → spot_on h k a q ≡ Some at → Kept at.ring
     unfolding spot_on
-    spot_kept k a None at kept is = absurd (none-some at is)
-    spot_kept k a (Some r) at kept is = by (named (shape_of h r) (k.ring r) a) is
-      where
-        by : (t : Option Spot) → option_map (λ t. let x : RingSpot = record { ring = r; spot = t } in x) t ≡ Some at → Kept at.ring
-        by None is = absurd (none-some at is)
-        by (Some t) is = subst Kept (ap (λ (x : RingSpot). x.ring) (same_Some (record { ring = r; spot = t }) at is)) (kept r refl)
+    spot_kept k a None at kept is = search (rules, none-some, same_Some)
+    spot_kept k a (Some r) at kept is = search (rules, none-some, same_Some)
 
     pub event_kept : (k : Known) (b : Block) (at : RingSpot) → HasKept k → event_at h k b ≡ Some at → Kept at.ring
     unfolding event_at
@@ -142,13 +126,7 @@ module _ (h : Header) (rings : List Ring) (over : (ℕ → RingView) → ℕ →
 
     pointed_alike : (k : Known) (s i p : ℕ) (cycle : Bool) → HasKept k → (is_off (k.endpoint_state s i) ≡ true → HavesAlike p) → pointed g (other k) s i p cycle ≡ other (pointed h k s i p cycle)
     unfolding pointed
-    pointed_alike k s i p cycle kept haves = by (is_off (k.endpoint_state s i)) refl
-      where
-        by : (b : Bool) → is_off (k.endpoint_state s i) ≡ b →
-            (if b then bound_to g (other k) s i (ring_having g p) p cycle else moved g (other k) (k.ring_of s i) p cycle)
-            ≡ other (if b then bound_to h k s i (ring_having h p) p cycle else moved h k (k.ring_of s i) p cycle)
-        by true off = let same = haves off in ap (λ q. bound_to g (other k) s i q p cycle) same.0 ∙ bound_alike k s i (ring_having h p) p cycle same.1
-        by false on = moved_alike k (k.ring_of s i) p cycle (kept s i)
+    pointed_alike k s i p cycle kept haves = search (rules, g, other, bound_alike, moved_alike)
 
     held_alike : (k : Known) (q : Option ℕ) → IsKept q → held_at_ceiling g (other k) q ≡ other (held_at_ceiling h k q)
     unfolding held_at_ceiling
@@ -158,14 +136,11 @@ module _ (h : Header) (rings : List Ring) (over : (ℕ → RingView) → ℕ →
 
     change_alike : (c : Command) (k : Known) (change : Change) → HasKept k → ChangeAlike k change → changed_by g c (other k) change ≡ other (changed_by h c k change)
     unfolding changed_by disabled in_state
-    change_alike c k (SlotGoesOn s) kept may = refl
-    change_alike c k (DeviceLeft s) kept may = refl
-    change_alike c k (Disables s which) kept may = refl
     change_alike c k (Places s i p cycle state) kept may =
         let m = pointed_alike k s i p cycle kept may in
         λ j. record (m j) { endpoint_state = put_pair (m j).endpoint_state s i state; must_move = put_pair k.must_move s i false }
     change_alike c k (Stops s i) kept may = held_alike (in_state h k s i Stopped) (k.ring_of s i) (kept s i)
-    change_alike c k (Resets s i) kept may = refl
+    change_alike c k _ kept may = refl
 
     -- ---- endpoints have kept rings still
 
@@ -199,13 +174,11 @@ module _ (h : Header) (rings : List Ring) (over : (ℕ → RingView) → ℕ →
 
     change_has : (c : Command) (k : Known) (change : Change) → HasKept k → ChangeAlike k change → HasKept (changed_by h c k change)
     unfolding changed_by disabled in_state
-    change_has c k (SlotGoesOn s) kept may = kept
-    change_has c k (DeviceLeft s) kept may = kept
     change_has c k (Disables s which) kept may = λ t n x at.
         cond_both (t == s && which n) None (k.ring_of t n) (λ q. q ≡ Some x → Kept x) (λ here is. absurd (none-some x is)) (λ apart is. kept t n x is) at
     change_has c k (Places s i p cycle state) kept may = pointed_has k s i p cycle kept may
     change_has c k (Stops s i) kept may = λ t n x at. kept t n x (ap (λ f. f t n) (sym (held_has (in_state h k s i Stopped) (k.ring_of s i))) ∙ at)
-    change_has c k (Resets s i) kept may = kept
+    change_has c k _ kept may = kept
 
     pub changes_alike : (c : Command) (changes : List Change) (k : Known) → HasKept k → ChangesAlike c k changes →
         (changed_by_all g c (other k) changes ≡ other (changed_by_all h c k changes)) × HasKept (changed_by_all h c k changes)

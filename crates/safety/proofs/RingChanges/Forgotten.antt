@@ -1,14 +1,10 @@
 -- Of an ID that no ring has all may be forgotten
-use Rattle.std.proofs.Common.{◌≡◌, ◌≢◌, ◌<◌, ◌==◌, ◌∙◌, ℕ, List, [], Some, None, get_or, arith, refl, sym, ap, subst, inl, inr, eq-eqb, ne_eqb}
-use Rattle.guest_memory.specs.Memory.{put}
-use Rattle.safety.proofs.Words.{cases_eq, cases_option, cond-true, cond-false, none-some, Block, RingView, RingKeeps, Header, Ring, Read, IsHeader, ring_with, ring_having, shape_of, command_id, command_ring, World, Known, learned, lenient, Binding, binds, ring_bound, IsTransferRing, DriverKeeps, Stands, FreeRing, state_of, Agrees}
-use Rattle.segments.specs.RingView.{new_ring}
+use Rattle.safety.proofs.Words.{◌≡◌, ◌≢◌, ◌<◌, ◌==◌, ◌∙◌, ℕ, List, [], Some, None, get_or, refl, sym, ap, subst, inl, inr, eq-eqb, ne_eqb, rules, put, new_ring, emptied, forgotten, cases_eq, cases_option, cond-true, cond-false, none-some, Block, RingView, RingKeeps, Header, Ring, Read, IsHeader, ring_with, ring_having, shape_of, command_id, command_ring, World, Known, learned, lenient, Binding, binds, ring_bound, IsTransferRing, DriverKeeps, Stands, FreeRing, state_of, Agrees}
 use Rattle.safety.proofs.Areas.{context_lies}
 use Rattle.safety.proofs.DriverRings.{transfer_ring}
 use Rattle.safety.proofs.Headers.{command_named}
 use Rattle.safety.proofs.KeptCommandRing.{command_with}
 use Rattle.safety.proofs.RingIds.{having_transfer}
-use Rattle.safety.specs.RingChanges.Changes.{emptied, forgotten}
 use Rattle.safety.proofs.RingChanges.EventsAlike.{KeepsRings}
 use Rattle.safety.proofs.RingChanges.OtherRings.{BindsAsBefore, IsAsBefore, OtherRings, other_rings_keep}
 use Rattle.safety.proofs.RingChanges.OtherWorlds.{OtherTakes, free_new, other_worlds_agree}
@@ -20,11 +16,7 @@ module _ (h : Header) (is : IsHeader h) (k : Known) (d : DriverKeeps h k) (id : 
   other s q found same = none-some q (sym absent ∙ ap (λ n. ring_with h n) (sym same) ∙ found)
 
   pub no_command : command_id h ≢ id
-  no_command same =
-      elim (cases_option (command_ring h)) [
-        | inl none ↦ let named = command_named h is None none in absurd (omega (arith, same, named, low))
-        | inr some ↦ other (command_id h) some.0 (command_with h is some.0 some.1) same
-      ]
+  no_command same = search (rules, cases_option, command_named, other, command_with)
 
   not_had : (s i x : ℕ) → k.ring_of s i ≡ Some x → x ≢ id
   not_had s i x at = let ring = d.states.transfer s i x at in other x ring.ring ring.found
@@ -106,15 +98,7 @@ module _ (h : Header) (is : IsHeader h) (k : Known) (d : DriverKeeps h k) (id : 
   -- ---- an event
 
   rings_same : KeepsRings h h.rings (cleared id) (Other id)
-  rings_same = record {
-    shape = λ s away. refl;
-    view = cleared_apart id;
-    changes = cleared_put id;
-    command = refl;
-    command_kept = no_command;
-    events = refl;
-    size = refl;
-  }
+  rings_same = search (rules, cleared_apart, cleared_put, no_command)
 
   binds_same : BindsAlike h h.rings (cleared id) (Other id) rings_same k
   binds_same p c u i b l = (refl, not_bound (get_or (binds h k c) i b).pointer)

@@ -1,16 +1,11 @@
 -- A ring that goes: what a driver keeps it keeps still
-use Rattle.std.proofs.Common.{◌≡◌, ◌≢◌, ◌<◌, ◌==◌, ◌&&◌, ◌||◌, ◌∷◌, ◌∙◌, ℕ, not, Bool, true, false, List, [], Option, Some, None, find, filter, get_or, length, nat_lt, arith, refl, sym, ap, subst, inl, inr, eqb-true, eq-eqb, ne_eqb}
-use Rattle.guest_memory.specs.Memory.{put}
-use Rattle.safety.proofs.Words.{list_all, and_from, is_shape, may_stand_together, Block, World, Stands, FreeRing, state_of, Agrees, Cmd, Evt, Xfer, RingKind, same_Some, cases_Bool, cases_eq, list_any, list_any_at, range_with_len, cond-true, cond-false, false≢true, false_from_ne_true, none-some, not-false, not_from_false, not-true, or_parts, is_inside, place_count, RingView, RingKeeps, Command, device_context_bytes, input_context_bytes, Header, Ring, IsHeader, clash, is_command_kind, is_event_kind, is_transfer_kind, is_ring, ring_with, shape_of, shape_or, command_ring, command_id, event_ring, event_shape, event_size, ring_having, id_of, id_or_none, touches_ring, Known, entry_of, Binding, binds, ring_bound, binds_ring, is_being_bound, any_of, from_filter, some_of, IsIn, is_transfer_ring, IsDriverRing, IsTransferRing, IsUnfinished, DriverKeeps}
+use Rattle.safety.proofs.Words.{◌≡◌, ◌≢◌, ◌<◌, ◌==◌, ◌&&◌, ◌||◌, ◌∷◌, ◌∙◌, ℕ, not, Bool, true, false, List, [], Option, Some, None, find, filter, get_or, length, nat_lt, arith, refl, sym, ap, subst, inl, inr, eqb-true, eq-eqb, ne_eqb, rules, put, new_ring, emptied, forgotten, is_bad_free, is_had, without_ring, list_all, and_from, is_shape, may_stand_together, Block, World, Stands, FreeRing, state_of, Agrees, Evt, Xfer, RingKind, same_Some, cases_Bool, cases_eq, list_any, list_any_at, range_with_len, cond-true, cond-false, false≢true, false_from_ne_true, none-some, not-false, not_from_false, not-true, or_parts, is_inside, place_count, RingView, RingKeeps, Command, device_context_bytes, input_context_bytes, Header, Ring, IsHeader, is_command_kind, is_event_kind, is_transfer_kind, is_ring, ring_with, shape_of, shape_or, command_ring, command_id, event_ring, event_shape, event_size, ring_having, id_of, id_or_none, touches_ring, Known, entry_of, Binding, binds, ring_bound, binds_ring, is_being_bound, any_of, from_filter, some_of, IsIn, is_transfer_ring, IsDriverRing, IsTransferRing, IsUnfinished, DriverKeeps}
 use Rattle.segments.specs.Places.{touches}
-use Rattle.segments.specs.RingView.{new_ring}
-use Rattle.segments.specs.Shape.{rings_overlap}
 use Rattle.safety.proofs.Areas.{context_lies}
 use Rattle.safety.proofs.DriverRings.{transfer_ring}
 use Rattle.safety.proofs.Headers.{found_in, header_parts, together, transfer_not_command}
-use Rattle.safety.proofs.RingIds.{having_transfer}
+use Rattle.safety.proofs.RingIds.{having_transfer, other_ids}
 use Rattle.safety.proofs.UnfinishedLists.{in_range, unfinished_fails}
-use Rattle.safety.specs.RingChanges.Changes.{emptied, forgotten, is_bad_free, is_had, without_ring}
 use Rattle.safety.proofs.RingChanges.ListedRings.{all_kept, together_kept}
 use Rattle.safety.proofs.RingChanges.OtherWorlds.{OtherTakes, free_new, other_worlds_agree}
 use Rattle.safety.proofs.RingChanges.OtherRings.{OtherRings, IsAsBefore, BindsAsBefore, other_rings_keep}
@@ -61,21 +56,13 @@ module _ (p keep : Ring → Bool) where
       let q = some_of p (filter keep rs) t in
       false≢true (sym none ∙ any_of p rs q.0 (from_filter keep rs q.0 q.1).0 q.2))
 
-ids_differ : (x r : Ring) → clash x r ≡ false → (x.id == r.id) ≡ false
-ids_differ x r none =
-    let three = or_parts (x.id == r.id || rings_overlap x.shape r.shape || (is_command_kind x.shape.kind && is_command_kind r.shape.kind)) (is_event_kind x.shape.kind && is_event_kind r.shape.kind) none in
-    let two = or_parts (x.id == r.id || rings_overlap x.shape r.shape) (is_command_kind x.shape.kind && is_command_kind r.shape.kind) three.0 in
-    (or_parts (x.id == r.id) (rings_overlap x.shape r.shape) two.0).0
-
 transfer_no_command : (kind : RingKind) → is_transfer_kind kind ≡ true → is_command_kind kind ≡ false
-transfer_no_command Cmd t = absurd (false≢true t)
-transfer_no_command Evt t = absurd (false≢true t)
 transfer_no_command Xfer t = refl
+transfer_no_command _ t = absurd (false≢true t)
 
 transfer_no_event : (kind : RingKind) → is_transfer_kind kind ≡ true → is_event_kind kind ≡ false
-transfer_no_event Cmd t = absurd (false≢true t)
-transfer_no_event Evt t = absurd (false≢true t)
 transfer_no_event Xfer t = refl
+transfer_no_event _ t = absurd (false≢true t)
 
 module _ (h : Header) (is : IsHeader h) (k : Known) (d : DriverKeeps h k) (id : ℕ) (good : is_bad_free h k id ≡ false) where
   abbrev keep : Ring → Bool
@@ -110,8 +97,8 @@ module _ (h : Header) (is : IsHeader h) (k : Known) (d : DriverKeeps h k) (id : 
       elim (together h.rings q gone.ring (header_parts h is).1 at there.0) [
         | inl one ↦ one
         | inr apart ↦ elim apart [
-          | inl first ↦ absurd (false≢true (sym (ids_differ q gone.ring first) ∙ eq-eqb q.id gone.ring.id both))
-          | inr second ↦ absurd (false≢true (sym (ids_differ gone.ring q second) ∙ eq-eqb gone.ring.id q.id (sym both)))
+          | inl first ↦ absurd (false≢true (sym (other_ids q gone.ring first) ∙ eq-eqb q.id gone.ring.id both))
+          | inr second ↦ absurd (false≢true (sym (other_ids gone.ring q second) ∙ eq-eqb gone.ring.id q.id (sym both)))
         ]
       ]
 
@@ -140,11 +127,7 @@ module _ (h : Header) (is : IsHeader h) (k : Known) (d : DriverKeeps h k) (id : 
   view_same s other = cond-false (s == id) new_ring (k.ring s) (ne_eqb s id other)
 
   transfer_still : (s : ℕ) → s ≢ id → IsTransferRing h s → IsAsBefore h (filter keep h.rings) k views s
-  transfer_still s other ring = record {
-    transfer = record { ring = ring.ring; found = ring_same s other ∙ ring.found; kind = ring.kind };
-    shape = shape_same s other;
-    view = view_same s other;
-  }
+  transfer_still s other ring = search (rules, views, ring_same, shape_same, view_same)
 
   command_ring_same : command_ring g ≡ command_ring h
   unfolding command_ring

@@ -1,23 +1,12 @@
 -- A ring that comes: what a driver keeps it keeps still
-use Rattle.std.proofs.Common.{◌≡◌, ◌≢◌, ◌+◌, ◌-◌, ◌*◌, ◌%◌, ◌<◌, ◌≤◌, ◌==◌, ◌&&◌, ◌||◌, ◌++◌, ◌∷◌, ◌∙◌, ℕ, Bool, true, false, List, [], Option, Some, None, find, get_or, is_some, arith, refl, sym, ap, subst, inl, inr, eq-eqb, ne_eqb, add-zero, lt-ltb, nat_lt}
-use Rattle.std.specs.Option.{option_or}
-use Rattle.std.proofs.lemmas.List.Folds.{find-append}
-use Rattle.safety.proofs.Words.{list_all, and_from, and_right, clash, is_shape, may_stand_together, Block, World, FreeRing, state_of, Agrees, Data, Evt, Shape, list_any, list_any-append, cases_eq, cases_option, cond-true, cond-false, false≢true, none-some, or_parts, or_from, is_inside, place_count, address_of, cycle_of, link_address, RingKeeps, address_inside, link_address_inside, address_aligned, cycle_of-first, place_count_pos, due_is, Xfer, device_context_bytes, input_context_bytes, Header, Ring, IsHeader, is_command_kind, is_event_kind, is_transfer_kind, ring_with, shape_of, shape_or, command_ring, command_id, event_ring, event_shape, event_size, ring_having, id_of, id_or_none, touches_ring, Known, entry_of, Binding, binds, ring_bound, covers, open_ranges, overlap, IsIn, IsDriverRing, IsTransferRing, DriverKeeps}
-use Rattle.segments.specs.declared.segment.Segment.{Segment}
+use Rattle.safety.proofs.Words.{◌≡◌, ◌≢◌, ◌+◌, ◌-◌, ◌*◌, ◌%◌, ◌<◌, ◌≤◌, ◌==◌, ◌&&◌, ◌||◌, ◌++◌, ◌∷◌, ◌∙◌, ℕ, Bool, true, false, List, [], Option, Some, None, find, get_or, is_some, arith, refl, sym, ap, subst, inl, inr, eq-eqb, ne_eqb, add-zero, lt-ltb, nat_lt, rules, option_or, find-append, Segment, new_ring, crossing_positive, link_address_is, crossed_link, crosses, link_aligned, crossing_due_is, new_ring_keeps, rings_overlap, IsComing, with_ring, is_bad_ring, is_bad_segment, list_all, and_from, and_right, clash, is_shape, may_stand_together, Block, World, FreeRing, state_of, Agrees, Data, Evt, Shape, list_any, list_any-append, cases_eq, cases_option, cond-true, cond-false, false≢true, none-some, or_parts, or_from, is_inside, place_count, address_of, cycle_of, link_address, RingKeeps, address_inside, link_address_inside, address_aligned, cycle_of-first, place_count_pos, due_is, Xfer, device_context_bytes, input_context_bytes, Header, Ring, IsHeader, is_command_kind, is_event_kind, is_transfer_kind, ring_with, shape_of, shape_or, command_ring, command_id, event_ring, event_shape, event_size, ring_having, id_of, id_or_none, touches_ring, Known, entry_of, Binding, binds, ring_bound, covers, open_ranges, overlap, IsIn, IsDriverRing, IsTransferRing, DriverKeeps}
 use Rattle.segments.specs.Places.{touches}
-use Rattle.segments.specs.RingView.{new_ring}
-use Rattle.segments.proofs.Crossings.{crossing_positive, link_address_is, crossed_link, crosses}
-use Rattle.segments.proofs.DataPlaces.{link_aligned}
-use Rattle.segments.proofs.Giving.{crossing_due_is}
-use Rattle.segments.proofs.NewRing.{new_ring_keeps}
-use Rattle.segments.specs.Shape.{rings_overlap}
 use Rattle.safety.proofs.Areas.{context_lies, ring_untouched}
 use Rattle.safety.proofs.AreaFacts.{context_free, device_free, entry_free}
 use Rattle.safety.proofs.DriverRings.{transfer_ring}
 use Rattle.safety.proofs.Headers.{command_named, header_parts, shape_is}
 use Rattle.safety.proofs.KeptCommandRing.{command_with}
 use Rattle.safety.proofs.RingIds.{having_transfer}
-use Rattle.safety.specs.RingChanges.Changes.{IsComing, with_ring, is_bad_ring, is_bad_segment}
 use Rattle.safety.proofs.RingChanges.OtherWorlds.{free_new, other_worlds_agree}
 use Rattle.safety.proofs.RingChanges.OtherRings.{OtherRings, IsAsBefore, BindsAsBefore, other_rings_keep}
 use Rattle.safety.proofs.RingChanges.Segments.{block_shows, each_good, segment_some, touches_none, words_clean}
@@ -124,11 +113,7 @@ module _ (h : Header) (is : IsHeader h) (k : Known) (d : DriverKeeps h k) (r : R
   driver_still s ring = record { ring = ring.ring; found = found_still (λ q. q.id == s) h.rings r ring.ring ring.found; kind = ring.kind }
 
   transfer_still : (s : ℕ) → IsTransferRing h s → IsAsBefore h (h.rings ++ r ∷ []) k k.ring s
-  transfer_still s ring = record {
-    transfer = record { ring = ring.ring; found = found_still (λ q. q.id == s) h.rings r ring.ring ring.found; kind = ring.kind };
-    shape = shape_same s (another s ring.ring ring.found);
-    view = refl;
-  }
+  transfer_still s ring = search (rules, found_still, shape_same, another)
 
   command_ring_same : command_ring g ≡ command_ring h
   unfolding command_ring
@@ -151,11 +136,7 @@ module _ (h : Header) (is : IsHeader h) (k : Known) (d : DriverKeeps h k) (r : R
   size_same = ap place_count events_same
 
   pub no_command : command_id h ≢ r.id
-  no_command same =
-      elim (cases_option (command_ring h)) [
-        | inl none ↦ let low = coming.low in let id = command_named h is None none in absurd (omega (arith, same, id, low))
-        | inr some ↦ another (command_id h) some.0 (command_with h is some.0 some.1) same
-      ]
+  no_command same = search (rules, cases_option, command_named, another, command_with)
 
   -- ---- it lies apart from all that is under lease
 

@@ -1,9 +1,5 @@
 -- What a driver keeps is kept where other rings are there, so long as those that endpoints and commands speak of are as they were
-use Rattle.std.proofs.Common.{◌≡◌, ◌≢◌, ◌≤◌, ◌+◌, ◌%◌, ◌^◌, ◌<◌, ◌&&◌, ◌||◌, ◌⊎◌, ◌∷◌, ◌∙◌, ℕ, not, Bool, true, false, List, [], map, All, Option, Some, None, nat_lt, option_and_then, slice_get, is_none, refl, sym, ap, subst, inl, inr}
-use Rattle.safety.proofs.Words.{Data, device_named, is_soiled, declared, is_placement, overlap, list_any-append, is_at_rest, drops, context_pointer, context_cycle, base_address, table_bytes, list_any, flat_map, false≢true, or_parts, or_from, cases_option, All-head, All-tail, All-cons, All-nil, RingView, is_inside, is_due, ceiling, floor_number, is_move, RingKeeps, address_of, Command, NoOp, EnableSlot, DisableSlot, AddressDevice, ConfigureEndpoint, EvaluateContext, ResetEndpoint, StopEndpoint, SetTrDequeue, ResetDevice, command_of, is_stop_of, named_slot, named_endpoint, named_context, device_context_bytes, input_context_bytes, Header, Ring, shape_of, command_id, event_shape, event_size, touches_ring, is_ring, Known, entry_of, command_at, next_command, may_be_taken, is_stopping_now, device_ranges, range_of_device, slots, covers, lease_start, lease_bytes, is_bad_area, Binding, binds, binding_in, ring_bound, binds_ring, has_repeats, is_placed, is_bad_dequeue, is_bad_move, IsDriverRing, IsTransferRing, IsUnfinished, was_stop_seen, CommandRingKeeps, CommandRingNamed, StatesKeep, Unstarted, DeviceKeeps, Stays, StaysIf, MovesIf, CommandKeeps, DriverKeeps}
-use Rattle.segments.specs.RingKeeps.{IsRestored}
-use Rattle.segments.specs.RingView.{new_ring}
-use Rattle.traces.specs.declared.register.Register.TheVariants.{Dcbaap}
+use Rattle.safety.proofs.Words.{◌≡◌, ◌≢◌, ◌≤◌, ◌+◌, ◌%◌, ◌^◌, ◌<◌, ◌&&◌, ◌||◌, ◌⊎◌, ◌∷◌, ◌∙◌, ℕ, not, Bool, true, false, List, [], map, All, Option, Some, None, nat_lt, option_and_then, slice_get, is_none, refl, sym, ap, subst, inl, inr, rules, IsRestored, new_ring, Dcbaap, device_named, is_soiled, overlap, list_any-append, is_at_rest, drops, context_pointer, context_cycle, base_address, table_bytes, list_any, flat_map, false≢true, or_parts, or_from, cases_option, All-head, All-tail, All-cons, All-nil, RingView, is_inside, ceiling, floor_number, is_move, RingKeeps, Command, AddressDevice, ConfigureEndpoint, StopEndpoint, SetTrDequeue, command_of, is_stop_of, named_slot, named_endpoint, named_context, device_context_bytes, input_context_bytes, Header, Ring, shape_of, command_id, event_shape, event_size, touches_ring, is_ring, Known, entry_of, command_at, next_command, may_be_taken, is_stopping_now, device_ranges, range_of_device, slots, covers, lease_start, lease_bytes, is_bad_area, Binding, binds, binding_in, ring_bound, binds_ring, has_repeats, is_placed, is_bad_dequeue, is_bad_move, IsDriverRing, IsTransferRing, IsUnfinished, was_stop_seen, CommandRingKeeps, CommandRingNamed, StatesKeep, Unstarted, DeviceKeeps, Stays, StaysIf, MovesIf, CommandKeeps, DriverKeeps}
 use Rattle.ownership_rules.specs.Commands as commands
 
 -- where a list is mapped alike, what passes of it is the same
@@ -25,15 +21,7 @@ module _ (h : Header) (rings : List Ring) (k : Known) (views : ℕ → RingView)
   pub stop_seen_same : (c : Command) → was_stop_seen l c ≡ was_stop_seen k c
   unfolding was_stop_seen
   stop_seen_same (StopEndpoint s i) = refl
-  stop_seen_same NoOp = refl
-  stop_seen_same EnableSlot = refl
-  stop_seen_same (DisableSlot s) = refl
-  stop_seen_same (AddressDevice s bsr n) = refl
-  stop_seen_same (ConfigureEndpoint s dc n) = refl
-  stop_seen_same (EvaluateContext s n) = refl
-  stop_seen_same (ResetEndpoint s i) = refl
-  stop_seen_same (SetTrDequeue s i p cycle) = refl
-  stop_seen_same (ResetDevice s) = refl
+  stop_seen_same _ = refl
 
   -- ring r is there, with its shape and what was known of it
   pub record IsAsBefore (r : ℕ) : Type 0 where
@@ -66,13 +54,7 @@ module _ (h : Header) (rings : List Ring) (k : Known) (views : ℕ → RingView)
     -- ---- the command ring and endpoints
 
     command_ring_keeps : CommandRingKeeps g l
-    command_ring_keeps =
-        let old = d.command_ring in
-        record {
-          commands = λ p b at. old.commands p b (ap (λ (v : RingView). slice_get v.queue p) (sym o.command_view) ∙ at);
-          alone = subst (λ (v : RingView). All (λ n. n ≡ 1) v.lengths) (sym o.command_view) old.alone;
-          held = subst (λ (v : RingView). (v.held ≡ None) ⊎ ((v.held ≡ Some 0) × (v.floor ≡ Data 0))) (sym o.command_view) old.held;
-        }
+    command_ring_keeps = search (rules, g, l, slice_get)
 
     stopping_same : (s i : ℕ) → is_stopping_now g l s i ≡ is_stopping_now h k s i
     unfolding is_stopping_now may_be_taken next_command command_at
@@ -100,24 +82,10 @@ module _ (h : Header) (rings : List Ring) (k : Known) (views : ℕ → RingView)
         }
 
     unstarted_keeps : Unstarted h k → Unstarted g l
-    unstarted_keeps old =
-        record {
-          reads = old.reads;
-          dequeue = old.dequeue;
-          slots = old.slots;
-          rings = old.rings;
-          floors = λ r. elim (o.each r) [ inl same ↦ ap (λ (v : RingView). v.floor) same ∙ old.floors r | inr new ↦ ap (λ (v : RingView). v.floor) new ];
-          held = λ r. elim (o.each r) [ inl same ↦ ap (λ (v : RingView). v.held) same ∙ old.held r | inr new ↦ ap (λ (v : RingView). v.held) new ];
-          seen = old.seen;
-        }
+    unstarted_keeps old = search (rules, g, l)
 
     named : (v : ℕ) → CommandRingNamed h v → CommandRingNamed g v
-    named v old =
-        record {
-          is_ring = subst (λ r. IsDriverRing g r) (sym o.command) (o.command_ring old.is_ring);
-          base = old.base ∙ ap (λ s. address_of s 0) (sym o.command_shape);
-          cycle = old.cycle;
-        }
+    named v old = search (rules, g)
 
     -- ---- device contexts
 
@@ -144,12 +112,7 @@ module _ (h : Header) (rings : List Ring) (k : Known) (views : ℕ → RingView)
 
     pub unfinished_before : (p : ℕ) (c : Command) → IsUnfinished g l p c → IsUnfinished h k p c
     unfolding command_at
-    unfinished_before p c u =
-        record {
-          due = sym (λ j. is_due (o.command_shape j) (o.command_view j).floor p) ∙ u.due;
-          given = sym (ap (λ (v : RingView). v.given p) o.command_view) ∙ u.given;
-          command = sym (ap (λ (v : RingView). option_and_then command_of (slice_get v.queue p)) o.command_view) ∙ u.command;
-        }
+    unfinished_before p c u = search (rules, g, l, option_and_then, slice_get)
 
     device_covers : (from len s : ℕ) (a : Option ℕ) → list_any (covers g from len) (range_of_device g s a) ≡ list_any (covers h from len) (range_of_device h s a)
     unfolding range_of_device covers lease_start lease_bytes
@@ -175,10 +138,8 @@ module _ (h : Header) (rings : List Ring) (k : Known) (views : ℕ → RingView)
     context_good : (n : Option ℕ) → ((a : ℕ) → n ≡ Some a → touches_ring g a (input_context_bytes h.context_size) ≡ false) → commands.has_bad_context h k n ≡ false →
         commands.has_bad_context g l n ≡ false
     unfolding commands.has_bad_context is_soiled
-    context_good None apart good = refl
-    context_good (Some a) apart good =
-        let parts = or_parts (is_bad_area h k a (input_context_bytes h.context_size)) _ good in
-        or_from (is_bad_area g l a (input_context_bytes h.context_size)) _ (area_same a (input_context_bytes h.context_size) (apart a refl) parts.0) parts.1
+    context_good None apart good = search rules
+    context_good (Some a) apart good = search (rules, g, l, or_parts, or_from, area_same)
 
     -- an Address Device that is unfinished has its device context
     content_good : (c : Command) → ((s n : ℕ) (bsr : Bool) → c ≡ AddressDevice s bsr n → k.device s ≢ None) → commands.has_bad_content h k c ≡ false →
@@ -191,15 +152,7 @@ module _ (h : Header) (rings : List Ring) (k : Known) (views : ℕ → RingView)
           | inr some ↦ ap (λ (a : Option ℕ). is_none a && (is_none (k.register Dcbaap) || commands.has_bad_entry g l s || commands.is_bad_device g l s n (device_named k s))) some.1
         ])
     content_good (ConfigureEndpoint s false n) device good = good
-    content_good (ConfigureEndpoint s true n) device good = refl
-    content_good NoOp device good = refl
-    content_good EnableSlot device good = refl
-    content_good (DisableSlot s) device good = refl
-    content_good (EvaluateContext s n) device good = refl
-    content_good (ResetEndpoint s i) device good = refl
-    content_good (StopEndpoint s i) device good = refl
-    content_good (SetTrDequeue s i p cycle) device good = refl
-    content_good (ResetDevice s) device good = refl
+    content_good _ device good = refl
 
     slot_same : (n : Option ℕ) → commands.names_disabled_slot l n ≡ commands.names_disabled_slot k n
     unfolding commands.names_disabled_slot
@@ -229,29 +182,12 @@ module _ (h : Header) (rings : List Ring) (k : Known) (views : ℕ → RingView)
     pub binds_same : (c : Command) → binds g l c ≡ binds h k c
     unfolding binds binding_in
     binds_same (AddressDevice s bsr n) = refl
-    binds_same (ConfigureEndpoint s false n) = refl
-    binds_same (ConfigureEndpoint s true n) = refl
-    binds_same NoOp = refl
-    binds_same EnableSlot = refl
-    binds_same (DisableSlot s) = refl
-    binds_same (EvaluateContext s n) = refl
-    binds_same (ResetEndpoint s i) = refl
-    binds_same (StopEndpoint s i) = refl
-    binds_same (SetTrDequeue s i p cycle) = refl
-    binds_same (ResetDevice s) = refl
+    binds_same _ = refl
 
     -- a binding that is placed names a ring, and the same one
     one_placed : (b : Binding) → BindsAsBefore b → is_placed h k (ring_bound h b) b ≡ true → (ring_bound g b ≡ ring_bound h b) × (is_placed g l (ring_bound g b) b ≡ true)
     unfolding is_placed
-    one_placed b as_before placed =
-        elim (cases_option (ring_bound h b)) [
-          | inl none ↦ absurd (false≢true (sym (ap (λ q. is_placed h k q b) none) ∙ placed))
-          | inr some ↦
-              let now = as_before some.0 some.1 in (
-                now.0 ∙ sym some.1,
-                ap (λ q. is_placed g l q b) now.0 ∙ (λ j. is_placement (now.1.shape j) (now.1.view j) b.pointer b.cycle) ∙ sym (ap (λ q. is_placed h k q b) some.1) ∙ placed,
-              )
-        ]
+    one_placed b as_before placed = search (rules, g, l, cases_option, false≢true)
 
     all_placed : (bs : List Binding) → All BindsAsBefore bs → All (λ b. is_placed h k (ring_bound h b) b ≡ true) bs →
         (map (ring_bound g) bs ≡ map (ring_bound h) bs) × All (λ b. is_placed g l (ring_bound g b) b ≡ true) bs
@@ -280,24 +216,15 @@ module _ (h : Header) (rings : List Ring) (k : Known) (views : ℕ → RingView)
 
     dequeue_still : (q : Option ℕ) (p : ℕ) (cycle : Bool) → ((r : ℕ) → q ≡ Some r → IsAsBefore r) → is_bad_dequeue g l q p cycle ≡ is_bad_dequeue h k q p cycle
     unfolding is_bad_dequeue
-    dequeue_still None p cycle before = refl
-    dequeue_still (Some r) p cycle before =
-        let b = before r refl in
-        λ j. not (is_move (b.shape j) (b.view j) p cycle (ceiling (b.shape j) (b.view j)) (declared (b.view j)))
+    dequeue_still None p cycle before = search rules
+    dequeue_still (Some r) p cycle before = search (rules, g, l)
 
     moves_still : (c : Command) → MovesIf h k c → MovesIf g l c
     unfolding is_bad_move
     moves_still (SetTrDequeue s i p cycle) good =
         ap (λ b. not (is_at_rest (k.endpoint_state s i)) || b) (dequeue_still (k.ring_of s i) p cycle (λ r at. o.had s i r at)) ∙ good
     moves_still (AddressDevice s bsr n) good = tt
-    moves_still (ConfigureEndpoint s dc n) good = refl
-    moves_still NoOp good = refl
-    moves_still EnableSlot good = refl
-    moves_still (DisableSlot s) good = refl
-    moves_still (EvaluateContext s n) good = refl
-    moves_still (ResetEndpoint s i) good = refl
-    moves_still (StopEndpoint s i) good = refl
-    moves_still (ResetDevice s) good = refl
+    moves_still _ good = refl
 
     stays_still : (c : Command) → StaysIf h k c → StaysIf g l c
     stays_still (AddressDevice s bsr n) stays = λ r at.
@@ -307,43 +234,17 @@ module _ (h : Header) (rings : List Ring) (k : Known) (views : ℕ → RingView)
           here = (λ j. is_move (b.shape j) (b.view j) (context_pointer h.context_size k.memory n 1) (context_cycle h.context_size k.memory n 1) (floor_number (b.view j)) (floor_number (b.view j))) ∙ old.here;
           nothing = λ p low. ap (λ (v : RingView). v.given p) b.view ∙ old.nothing p (subst (λ (v : RingView). floor_number v ≤ p) b.view low);
         }
-    stays_still NoOp stays = tt
-    stays_still EnableSlot stays = tt
-    stays_still (DisableSlot s) stays = tt
-    stays_still (ConfigureEndpoint s dc n) stays = tt
-    stays_still (EvaluateContext s n) stays = tt
-    stays_still (ResetEndpoint s i) stays = tt
-    stays_still (StopEndpoint s i) stays = tt
-    stays_still (SetTrDequeue s i p cycle) stays = tt
-    stays_still (ResetDevice s) stays = tt
+    stays_still _ stays = tt
 
     drops_same : (c : Command) (s i : ℕ) → drops l c s i ≡ drops k c s i
     unfolding drops
     drops_same (ConfigureEndpoint t false n) s i = refl
-    drops_same (ConfigureEndpoint t true n) s i = refl
-    drops_same (AddressDevice t bsr n) s i = refl
-    drops_same NoOp s i = refl
-    drops_same EnableSlot s i = refl
-    drops_same (DisableSlot t) s i = refl
-    drops_same (EvaluateContext t n) s i = refl
-    drops_same (ResetEndpoint t j) s i = refl
-    drops_same (StopEndpoint t j) s i = refl
-    drops_same (SetTrDequeue t j p cycle) s i = refl
-    drops_same (ResetDevice t) s i = refl
+    drops_same _ s i = refl
 
     streams_same : (c : Command) → commands.adds_streams g l c ≡ commands.adds_streams h k c
     unfolding commands.adds_streams commands.streams_in
     streams_same (AddressDevice s bsr n) = refl
-    streams_same (ConfigureEndpoint s false n) = refl
-    streams_same (ConfigureEndpoint s true n) = refl
-    streams_same NoOp = refl
-    streams_same EnableSlot = refl
-    streams_same (DisableSlot s) = refl
-    streams_same (EvaluateContext s n) = refl
-    streams_same (ResetEndpoint s i) = refl
-    streams_same (StopEndpoint s i) = refl
-    streams_same (SetTrDequeue s i p cycle) = refl
-    streams_same (ResetDevice s) = refl
+    streams_same _ = refl
 
     command_keeps : (p : ℕ) (c : Command) → IsUnfinished h k p c → CommandKeeps g l p c
     command_keeps p c u =

@@ -1,10 +1,6 @@
 -- A world agrees with what is known still where other rings are there, so long as those that endpoints have are as they were
-use Rattle.std.proofs.Common.{◌≡◌, ◌≢◌, ◌+◌, ◌<◌, ◌∙◌, ℕ, false, List, [], Option, Some, None, option_and_then, slice_get, arith, sym, ap, subst, inl, inr}
-use Rattle.safety.proofs.Words.{Block, block_at, address_of, cycle_of, with_cycle, Spot, floor_number, Shape, RingView, command_of, named_context, Header, Ring, shape_of, command_id, AreInOrder, World, RingEvent, UnderWay, Known, command_at, next_command, DriverKeeps, Stands, EventsStand, RingState, state_of, RingMatches, BoundRing, FreeRing, EndpointRing, UnderWayMatches, TakenCommand, IsUnchanged, Matches, Agrees}
-use Rattle.segments.specs.Places.{touches}
-use Rattle.segments.specs.RingView.{new_ring}
+use Rattle.safety.proofs.Words.{◌≡◌, ◌≢◌, ◌+◌, ◌<◌, ◌∙◌, ℕ, false, List, [], Option, Some, None, option_and_then, slice_get, sym, ap, subst, inl, inr, rules, new_ring, next_take, Block, block_at, address_of, Spot, floor_number, Shape, RingView, named_context, Header, Ring, shape_of, command_id, AreInOrder, World, RingEvent, UnderWay, Known, command_at, next_command, DriverKeeps, Stands, EventsStand, RingState, state_of, RingMatches, BoundRing, FreeRing, EndpointRing, UnderWayMatches, TakenCommand, IsUnchanged, Matches, Agrees}
 use Rattle.world_state.specs.Harms as of_harms
-use Rattle.world_state.specs.Takes.{next_take}
 use Rattle.world_state.specs.World.{event_at}
 use Rattle.safety.proofs.RingChanges.OtherRings.{OtherRings, IsAsBefore, stop_seen_same, unfinished_before}
 
@@ -12,15 +8,7 @@ use Rattle.safety.proofs.RingChanges.OtherRings.{OtherRings, IsAsBefore, stop_se
 pub free_new : (shape : Shape) (ring_of : ℕ → ℕ → Option ℕ) (y : RingView) (s : RingState) (r : ℕ) → ((t i : ℕ) → ring_of t i ≢ Some r) → s.active ≡ false → s.events ≡ [] → y ≡ new_ring →
     FreeRing shape ring_of y s r
 unfolding of_harms.is_out_of_order of_harms.has_other_words next_take
-free_new shape ring_of y s r none inactive empty new =
-    let zero : next_take shape s.events ≡ 0 = ap (next_take shape) empty in
-    let floor : floor_number y ≡ 0 = ap (λ (y : RingView). floor_number y) new in
-    record {
-      none = none;
-      rests = record { inactive = inactive; in_order = ap (of_harms.is_out_of_order shape) empty; as_declared = ap (of_harms.has_other_words shape) empty };
-      from = omega (arith, zero, floor);
-      to = omega (arith, zero);
-    }
+free_new shape ring_of y s r none inactive empty new = search rules
 
 module _ (h : Header) (rings : List Ring) (k : Known) (views : ℕ → RingView) (w : World) (queue : ℕ → List Block) (lengths : ℕ → List ℕ) (events : ℕ → List RingEvent) (reported : ℕ → ℕ) where
   abbrev g : Header
@@ -49,15 +37,7 @@ module _ (h : Header) (rings : List Ring) (k : Known) (views : ℕ → RingView)
     command_state = ap (λ n. state_of v n) o.command ∙ state_same (command_id h) x.command.0 x.command.1
 
     stands_still : Stands h k w → Stands g l v
-    stands_still s = record {
-      started = s.started;
-      stopped = s.stopped;
-      registers = s.registers;
-      queues = x.queues;
-      lengths = x.counts;
-      dequeue = s.dequeue;
-      quiet = λ a clean apart. s.quiet a clean (ap (λ shape. touches shape a 4) (sym o.events) ∙ apart);
-    }
+    stands_still s = search (rules, g, l, v)
 
     events_stand_still : (unread : List Block) → EventsStand h w unread → EventsStand g v unread
     unfolding event_at
@@ -83,11 +63,7 @@ module _ (h : Header) (rings : List Ring) (k : Known) (views : ℕ → RingView)
 
     taken_still : (u : UnderWay) → TakenCommand h k u → TakenCommand g l u
     unfolding next_command command_at
-    taken_still u t = record {
-      address = t.address ∙ sym (λ j. address_of (o.command_shape j) (floor_number (o.command_view j)));
-      words = λ b at. t.words b (sym (λ j. slice_get (o.command_view j).queue (floor_number (o.command_view j))) ∙ at) ∙ sym (λ j. with_cycle b (cycle_of (o.command_shape j) (floor_number (o.command_view j))));
-      stopped = λ c at. t.stopped c (sym (λ j. option_and_then command_of (slice_get (o.command_view j).queue (floor_number (o.command_view j)))) ∙ at) ∙ sym (stop_seen_same h rings k views c);
-    }
+    taken_still u t = search (rules, g, l, slice_get, option_and_then, stop_seen_same)
 
     under_way_still : (t : Spot) (u : Option UnderWay) → UnderWayMatches h k t u → UnderWayMatches g l t u
     under_way_still t None m = (m.0 ∙ sym next_same, m.1)
@@ -123,10 +99,4 @@ module _ (h : Header) (rings : List Ring) (k : Known) (views : ℕ → RingView)
     }
 
     pub other_worlds_agree : (unread : List Block) → Agrees h k unread w → Agrees g l unread v
-    other_worlds_agree unread a = record {
-      stands = stands_still a.stands;
-      events = events_stand_still unread a.events;
-      matches = matches_still a.matches;
-      read = a.read;
-      stamps = a.stamps;
-    }
+    other_worlds_agree unread a = search (rules, stands_still, events_stand_still, matches_still)

@@ -1,7 +1,6 @@
 -- A descriptor that is withdrawn, or a ring that is restored, beneath an event that isn't read yet: the event stays possible, and the order
 -- doesn't matter but for the numbers at which rings are held
-use Rattle.std.proofs.Common.{◌≡◌, ◌≢◌, ◌<◌, ◌∙◌, ℕ, true, [], option_and_then, slice_get, arith, refl, sym, ap, subst, ltb-true}
-use Rattle.safety.proofs.Words.{Block, RingView, RingChange, changed, ceiling, command_of, Header, Read, IsHeader, shape_of, command_id, Known, on_ring, command_at, next_command, learned, may_be_taken, lenient, DriverKeeps, IsUnfinished, IsHeldMore, HeldMore}
+use Rattle.safety.proofs.Words.{◌≡◌, ◌≢◌, ◌<◌, ◌∙◌, ℕ, true, [], option_and_then, slice_get, arith, refl, sym, ap, subst, ltb-true, rules, Block, RingView, RingChange, changed, ceiling, command_of, Header, Read, IsHeader, shape_of, command_id, Known, on_ring, command_at, next_command, learned, may_be_taken, lenient, DriverKeeps, IsUnfinished, IsHeldMore, HeldMore}
 use Rattle.safety.proofs.Headers.{transfer_driver}
 use Rattle.safety.proofs.CleanRows.{event_facts}
 use Rattle.safety.proofs.KeptRings.{next_unfinished, command_holds}
@@ -25,16 +24,7 @@ module _ (h : Header) (r : ℕ) (change : RingChange) (quiet : IsQuiet change) w
 
   alike : (k : Known) → Alike EverySlot k (quieted k)
   unfolding on_ring
-  alike k = record {
-    rings = λ q. quiet_alike (k.ring q) ((quieted k).ring q) (quiet_rings k q);
-    was_bound = refl;
-    slot_state = refl;
-    endpoint_state = refl;
-    ring_of = refl;
-    must_move = refl;
-    stop_seen = refl;
-    device = λ s _. refl;
-  }
+  alike k = search (rules, quiet_alike, quiet_rings)
 
   -- ---- what an event reads
 
@@ -81,16 +71,7 @@ module _ (h : Header) (r : ℕ) (change : RingChange) (quiet : IsQuiet change) w
 
     drivers : (k l : Known) → SameDriver k l → SameDriver (quieted k) (quieted l)
     unfolding on_ring
-    drivers k l d = record {
-      started = d.started;
-      stopped = d.stopped;
-      register = d.register;
-      memory = d.memory;
-      soiled = d.soiled;
-      reads = d.reads;
-      dequeue = d.dequeue;
-      rings = rings_given k l d;
-    }
+    drivers k l d = search (rules, quieted, rings_given)
 
     counted_quieted : (k : Known) → quieted (counted h k) ≡ counted h (quieted k)
     unfolding on_ring
@@ -98,15 +79,7 @@ module _ (h : Header) (r : ℕ) (change : RingChange) (quiet : IsQuiet change) w
 
     states_quieted : (k l : Known) → SameStates k l → SameStates (quieted k) l
     unfolding on_ring
-    states_quieted k l s = record {
-      was_bound = s.was_bound;
-      slot_state = s.slot_state;
-      endpoint_state = s.endpoint_state;
-      ring_of = s.ring_of;
-      must_move = s.must_move;
-      stop_seen = s.stop_seen;
-      device = s.device;
-    }
+    states_quieted k l s = search (rules, quieted)
 
     -- ---- the event behind the change, and before it
 

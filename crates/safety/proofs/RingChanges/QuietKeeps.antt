@@ -1,7 +1,6 @@
 -- A descriptor that is withdrawn, or a ring that is restored, keeps what a driver keeps, where the rules of its ring are kept and no
 -- unfinished command moves what is free
-use Rattle.std.proofs.Common.{◌≡◌, ◌≢◌, ◌∙◌, ◌&&◌, ◌⊎◌, ℕ, nat_lt, All, None, Some, option_and_then, slice_get, refl, sym, ap, subst}
-use Rattle.safety.proofs.Words.{Data, RingView, RingChange, RingKeeps, IsRestored, changed, ceiling, floor_number, command_of, is_stop_of, Command, Header, shape_of, command_id, Known, on_ring, command_at, next_command, device_named, entry_of, may_be_taken, is_stopping_now, is_soiled, MovesRestored, IsDriverRing, IsUnfinished, CommandRingKeeps, StatesKeep, Unstarted, DeviceKeeps, DriverKeeps}
+use Rattle.safety.proofs.Words.{◌≡◌, ◌≢◌, ◌&&◌, ℕ, nat_lt, option_and_then, slice_get, refl, sym, ap, subst, rules, RingView, RingChange, RingKeeps, IsRestored, changed, ceiling, floor_number, command_of, is_stop_of, Command, Header, shape_of, command_id, Known, on_ring, command_at, next_command, device_named, entry_of, may_be_taken, is_stopping_now, is_soiled, MovesRestored, IsDriverRing, IsUnfinished, CommandRingKeeps, StatesKeep, Unstarted, DeviceKeeps, DriverKeeps}
 use Rattle.safety.proofs.CommandsSame.{SameStates, RingsStay, same_stay}
 use Rattle.safety.proofs.MovesSame.{unfinished_view}
 use Rattle.safety.proofs.SameDriver.{SameGiven, view_after}
@@ -11,9 +10,6 @@ use Rattle.safety.proofs.RingChanges.QuietViews.{IsQuiet, quiet_ahead, quiet_flo
 module _ (h : Header) (r : ℕ) (change : RingChange) (quiet : IsQuiet change) (other : r ≢ command_id h) (k : Known) (d : DriverKeeps h k) where
   abbrev l : Known
   l = on_ring h k r change
-
-  abbrev c : ℕ
-  c = command_id h
 
   same : l.ring (command_id h) ≡ k.ring (command_id h)
   same = command_same h r change quiet other k
@@ -25,13 +21,7 @@ module _ (h : Header) (r : ℕ) (change : RingChange) (quiet : IsQuiet change) (
   held_is q = quiet_held (k.ring q) (l.ring q) (quiet_rings h r change quiet k q)
 
   command_ring_keeps : CommandRingKeeps h l
-  command_ring_keeps =
-      let old = d.command_ring in
-      record {
-        commands = λ p b at. old.commands p b (ap (λ (v : RingView). slice_get v.queue p) (sym same) ∙ at);
-        alone = subst (λ (v : RingView). All (λ n. n ≡ 1) v.lengths) (sym same) old.alone;
-        held = subst (λ (v : RingView). (v.held ≡ None) ⊎ ((v.held ≡ Some 0) × (v.floor ≡ Data 0))) (sym same) old.held;
-      }
+  command_ring_keeps = search (rules, l, slice_get, same)
 
   stopping_same : (s i : ℕ) → is_stopping_now h l s i ≡ is_stopping_now h k s i
   unfolding is_stopping_now may_be_taken next_command command_at
@@ -40,70 +30,23 @@ module _ (h : Header) (r : ℕ) (change : RingChange) (quiet : IsQuiet change) (
 
   states_keep : StatesKeep h l
   unfolding on_ring
-  states_keep =
-      let old = d.states in
-      record {
-        no_slot = old.no_slot;
-        no_endpoint = old.no_endpoint;
-        off = old.off;
-        on = old.on;
-        transfer = old.transfer;
-        one_endpoint = old.one_endpoint;
-        open_runs = λ s i q at none. old.open_runs s i q at (sym (held_is q) ∙ none);
-        seen_command = λ s i seen. stopping_same s i ∙ old.seen_command s i seen;
-        seen_runs = old.seen_runs;
-        seen_held = λ s i q seen at none. old.seen_held s i q seen at (sym (held_is q) ∙ none);
-        slots = old.slots;
-        first = old.first;
-        no_device = old.no_device;
-      }
+  states_keep = search (rules, l, held_is, stopping_same)
 
   unstarted_keeps : Unstarted h k → Unstarted h l
   unfolding on_ring
-  unstarted_keeps old = record {
-    reads = old.reads;
-    dequeue = old.dequeue;
-    slots = old.slots;
-    rings = old.rings;
-    floors = λ q. floor_is q ∙ old.floors q;
-    held = λ q. held_is q ∙ old.held q;
-    seen = old.seen;
-  }
+  unstarted_keeps old = search (rules, l, floor_is, held_is)
 
   device_keeps : (s e : ℕ) → DeviceKeeps h k s e → DeviceKeeps h l s e
   unfolding on_ring entry_of device_named is_soiled
-  device_keeps s e old = record {
-    slot = old.slot;
-    aligned = old.aligned;
-    ends = old.ends;
-    rings = old.rings;
-    soiled = old.soiled;
-    written = old.written;
-    entry = old.entry;
-    entry_clean = old.entry_clean;
-    entry_rings = old.entry_rings;
-    others = old.others;
-    entries = old.entries;
-    table = old.table;
-  }
+  device_keeps s e old = search (rules, l)
 
   states : SameStates k l
   unfolding on_ring
   states = record { memory = refl; soiled = refl; device = refl; slot_state = refl; off = λ s i. refl; ring_of = refl; was_bound = refl }
 
-  endpoint_state_is : l.endpoint_state ≡ k.endpoint_state
-  unfolding on_ring
-  endpoint_state_is = refl
-
   stays : (f : Command) → (MovesRestored k f → MovesRestored l f) → RingsStay h k l f
   unfolding on_ring
-  stays f moved = record {
-    rest = λ s i p cycle at rests. rests;
-    ahead = λ s i p q cycle at has rests. quiet_ahead (k.ring q) (l.ring q) (quiet_rings h r change quiet k q) (shape_of h q);
-    standing = λ s n q bsr at has. quiet_standing (k.ring q) (l.ring q) (quiet_rings h r change quiet k q) (shape_of h q);
-    still = λ q bound. quiet_places (k.ring q) (l.ring q) (quiet_rings h r change quiet k q) (shape_of h q);
-    moved = moved;
-  }
+  stays f moved = search (rules, l, quiet_ahead, quiet_rings, quiet_standing, quiet_places)
 
   before : (p : ℕ) (f : Command) → IsUnfinished h l p f → IsUnfinished h k p f
   before =

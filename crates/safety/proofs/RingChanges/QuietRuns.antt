@@ -1,6 +1,5 @@
 -- A descriptor that is withdrawn, or a ring that is restored, beneath all events that aren't read yet: the run goes on
-use Rattle.std.proofs.Common.{◌≡◌, ◌∷◌, ◌∙◌, ℕ, ◌≢◌, false, List, [], refl, sym, ap}
-use Rattle.safety.proofs.Words.{Block, RingChange, Header, Read, IsHeader, command_id, World, Known, on_ring, learned, lenient, DriverKeeps, HeldMore, Agrees, ArePossible, Runs, all_read}
+use Rattle.safety.proofs.Words.{◌≡◌, ◌∷◌, ◌∙◌, ℕ, ◌≢◌, false, List, [], refl, sym, ap, Block, RingChange, Header, Read, IsHeader, command_id, World, Known, on_ring, learned, lenient, DriverKeeps, HeldMore, Agrees, ArePossible, Runs, all_read}
 use Rattle.safety.proofs.DriverHistories.{kept_driver}
 use Rattle.safety.proofs.HeldFurther.{more_law}
 use Rattle.safety.proofs.HeldTwice.{held_more_same, held_more_twice}

@@ -1,14 +1,10 @@
 -- A descriptor that is withdrawn, or a ring that is restored, where all events are read: what is known agrees with the world
-use Rattle.std.proofs.Common.{◌≡◌, ◌≢◌, ◌∙◌, ℕ, List, None, Some, Option, slice_get, refl, sym, ap, subst}
-use Rattle.safety.proofs.Words.{put, Block, address_of, RingView, RingChange, changed, named_context, Command, Header, shape_of, command_id, World, Known, on_ring, next_command, IsUnfinished, IsUnchanged, Matches, Agrees}
-use Rattle.segments.specs.Descriptors.{length_from, no_ops, split_at}
-use Rattle.segments.specs.RingView.{Withdraws, Restores}
+use Rattle.safety.proofs.Words.{◌≡◌, ◌≢◌, ◌∙◌, ℕ, List, None, Some, Option, slice_get, refl, sym, ap, subst, rules, length_from, no_ops, split_at, Withdraws, Restores, without_descriptor, put, Block, address_of, RingView, RingChange, changed, named_context, Command, Header, shape_of, command_id, World, Known, on_ring, next_command, IsUnfinished, IsUnchanged, Matches, Agrees}
 use Rattle.world_state.specs.World as of_world
 use Rattle.safety.proofs.LookKinds.{put_at, put_off}
 use Rattle.safety.proofs.MatchesGoesOn.{KnownGoesOn, SameController, matches_go_on, same_controller}
 use Rattle.safety.proofs.MovesSame.{unfinished_view}
 use Rattle.safety.proofs.SameDriver.{SameGiven, view_after}
-use Rattle.safety.specs.RingChanges.Withdrawals.{without_descriptor}
 use Rattle.safety.proofs.RingChanges.QuietEvents.{command_same, quiet_rings}
 use Rattle.safety.proofs.RingChanges.QuietViews.{IsQuiet, quiet_goes_on}
 
@@ -21,16 +17,7 @@ module _ (h : Header) (r : ℕ) (change : RingChange) (quiet : IsQuiet change) (
 
   goes_on : KnownGoesOn h k m
   unfolding on_ring
-  goes_on = record {
-    started = refl;
-    slot_state = refl;
-    endpoint_state = refl;
-    ring_of = refl;
-    was_bound = refl;
-    stop_seen = refl;
-    device = λ s some. some;
-    rings = λ q. quiet_goes_on (k.ring q) (m.ring q) (quiet_rings h r change quiet k q) (shape_of h q);
-  }
+  goes_on = search (rules, m, quiet_goes_on, quiet_rings)
 
   before : (p : ℕ) (f : Command) → IsUnfinished h m p f → IsUnfinished h k p f
   before =
@@ -97,18 +84,4 @@ module _ (h : Header) (r p : ℕ) (other : r ≢ command_id h) (k : Known) (unre
 
   pub withdrawn_agrees : Agrees h (on_ring h k r (Withdraws p)) unread (without_descriptor w r p)
   unfolding on_ring without_descriptor of_world.event_at
-  withdrawn_agrees = record {
-    stands = record {
-      started = g.stands.started;
-      stopped = g.stands.stopped;
-      registers = g.stands.registers;
-      queues = queues;
-      lengths = lengths;
-      dequeue = g.stands.dequeue;
-      quiet = g.stands.quiet;
-    };
-    events = let e = g.events in record { order = e.order; count = e.count; places = e.places; started = e.started; ring = e.ring };
-    matches = quiet_matches h r (Withdraws p) tt other k unread w (without_descriptor w r p) controller g unchanged;
-    read = g.read;
-    stamps = g.stamps;
-  }
+  withdrawn_agrees = search (rules, queues, lengths, quiet_matches, controller, unchanged)

@@ -1,6 +1,5 @@
 -- What is read is possible, and learned, as it was where other rings are there
-use Rattle.std.proofs.Common.{◌≡◌, ◌+◌, ◌-◌, ◌==◌, ◌&&◌, ◌||◌, if◌then◌else◌, ◌∷◌, ◌∙◌, ℕ, not, Bool, true, false, List, [], map, All, Option, Some, None, nat_lt, option_and_then, slice_get, refl, sym, ap, subst}
-use Rattle.safety.proofs.Words.{or_parts, false≢true, cond-true, All-head, All-tail, Block, BlockKind, TransferEvent, CommandCompletion, kind, code, slot, endpoint, pointer, cycle, is_event, is_success, is_halting, is_trb_error, is_transfer_event, is_command_completion, Spot, after, floor_number, address_of, cycle_of, RingView, Reaches, ceiling, is_data_below, is_open, is_stop_spot, Command, NoOp, EnableSlot, DisableSlot, AddressDevice, ConfigureEndpoint, EvaluateContext, ResetEndpoint, StopEndpoint, SetTrDequeue, ResetDevice, command_of, named_slot, named_context, is_stop_of, is_off, is_running, may_answer_slot, can_succeed, Config, register_or_zero, placed_by_context, changes, added_endpoints, Header, Read, IsHeader, Ring, shape_of, command_id, Known, RingSpot, on_ring, event_at, command_at, next_command, succeeded, stop_ended, finished, completed, event_read, learned, Binding, binding_in, binds, can_finish, may_be_taken, is_stopping_now, is_working, can_report, can_report_at, is_in_profile, is_impossible_transfer, is_impossible_completion, is_impossible_by_kind, is_past_room, is_impossible, event_tests, lenient_tests, lenient, broken_of, AfterStop, ImpossibleEvent, NotInProfile, changed_by, is_bad_command, names_disabled_endpoint, names_disabled_slot, has_bad_context, has_bad_content, IsUnfinished, DriverKeeps}
+use Rattle.safety.proofs.Words.{◌≡◌, ◌+◌, ◌-◌, ◌==◌, ◌&&◌, ◌||◌, if◌then◌else◌, ◌∷◌, ◌∙◌, ℕ, not, Bool, true, false, List, [], map, All, Option, Some, None, nat_lt, option_and_then, slice_get, refl, sym, ap, subst, rules, or_parts, false≢true, cond-true, All-head, All-tail, Block, BlockKind, TransferEvent, CommandCompletion, kind, code, slot, endpoint, pointer, is_success, is_halting, is_trb_error, is_command_completion, Spot, after, floor_number, address_of, RingView, Reaches, ceiling, is_data_below, is_open, is_stop_spot, Command, NoOp, DisableSlot, AddressDevice, ConfigureEndpoint, EvaluateContext, StopEndpoint, SetTrDequeue, ResetDevice, command_of, is_stop_of, is_off, is_running, may_answer_slot, can_succeed, Config, register_or_zero, placed_by_context, changes, added_endpoints, Header, Read, IsHeader, Ring, shape_of, command_id, Known, RingSpot, on_ring, event_at, command_at, next_command, succeeded, stop_ended, finished, completed, event_read, learned, Binding, binding_in, binds, can_finish, may_be_taken, is_stopping_now, is_working, can_report, can_report_at, is_in_profile, is_impossible_transfer, is_impossible_completion, is_impossible_by_kind, is_past_room, is_impossible, event_tests, lenient_tests, lenient, changed_by, is_bad_command, names_disabled_endpoint, IsUnfinished, DriverKeeps}
 use Rattle.safety.proofs.CleanRows.{EventFacts, event_facts}
 use Rattle.safety.proofs.KeptRings.{CompletionFacts, completion_facts, next_unfinished}
 use Rattle.safety.proofs.TransferFrames.{transfer_slots}
@@ -89,11 +88,7 @@ module _ (h : Header) (rings : List Ring) (over : (ℕ → RingView) → ℕ →
 
   pub read_possible : (k : Known) (b : Block) → Has k → lenient g (l k) (Read b) ≡ lenient h k (Read b)
   unfolding lenient lenient_tests event_tests is_impossible is_past_room
-  read_possible k b kept = λ j.
-      if k.stopped then AfterStop ∷ []
-      else broken_of (
-      (ImpossibleEvent, not k.started || nat_lt (o.size j - 2) (k.reads - k.dequeue) || not (cycle b == cycle_of (o.events j) k.reads) || not (is_event (kind b)) || kind_possible k (kind b) b kept j)
-      ∷ (NotInProfile, is_transfer_event (kind b) && not (is_in_profile b)) ∷ [])
+  read_possible k b kept = search (rules, g, l, nat_lt, kind_possible)
 
   -- ---- what is learned
 
@@ -109,16 +104,11 @@ module _ (h : Header) (rings : List Ring) (over : (ℕ → RingView) → ℕ →
     -- the endpoint of a Set TR Dequeue is there
     there : (s i p : ℕ) (bit : Bool) → is_bad_command h k (SetTrDequeue s i p bit) ≡ false → is_off (k.endpoint_state s i) ≡ false
     unfolding is_bad_command names_disabled_endpoint
-    there s i p bit good =
-        let content = or_parts _ (has_bad_content h k (SetTrDequeue s i p bit)) good in
-        let context = or_parts _ (has_bad_context h k (named_context (SetTrDequeue s i p bit))) content.0 in
-        let names = or_parts (names_disabled_slot k (named_slot (SetTrDequeue s i p bit))) (i == 0 || is_off (k.endpoint_state s i)) context.0 in
-        (or_parts (i == 0) (is_off (k.endpoint_state s i)) names.1).1
+    there s i p bit good = search (rules, or_parts)
 
     success_alike : (n p : ℕ) (c : Command) → IsUnfinished h k p c → ChangesAlike h rings over Kept c k (changes h.context_size k.memory n c)
     unfolding changes binds binding_in changed_by
     success_alike n p NoOp u = tt
-    success_alike n p EnableSlot u = (tt, tt)
     success_alike n p (DisableSlot s) u = (tt, (tt, (tt, tt)))
     success_alike n p (AddressDevice s bsr m) u = (
       tt,
@@ -131,37 +121,20 @@ module _ (h : Header) (rings : List Ring) (over : (ℕ → RingView) → ℕ →
     success_alike n p (ConfigureEndpoint s false m) u = (tt, (tt, places_alike (ConfigureEndpoint s false m) s m (added_endpoints k.memory m) _ (bound p (ConfigureEndpoint s false m) u)))
     success_alike n p (ConfigureEndpoint s true m) u = (tt, (tt, tt))
     success_alike n p (EvaluateContext s m) u = tt
-    success_alike n p (ResetEndpoint s i) u = (tt, tt)
-    success_alike n p (StopEndpoint s i) u = (tt, tt)
     success_alike n p (SetTrDequeue s i a bit) u =
         ((λ off. absurd (false≢true (sym (there s i a bit (d.unfinished p (SetTrDequeue s i a bit) u).good) ∙ off))), tt)
     success_alike n p (ResetDevice s) u = (tt, (tt, tt))
+    success_alike n p _ u = (tt, tt)
 
     ended_alike : (x : Known) (c : Command) → stop_ended g (l x) c ≡ l (stop_ended h x c)
     unfolding stop_ended
     ended_alike x (StopEndpoint s i) = refl
-    ended_alike x NoOp = refl
-    ended_alike x EnableSlot = refl
-    ended_alike x (DisableSlot s) = refl
-    ended_alike x (AddressDevice s bsr n) = refl
-    ended_alike x (ConfigureEndpoint s dc n) = refl
-    ended_alike x (EvaluateContext s n) = refl
-    ended_alike x (ResetEndpoint s i) = refl
-    ended_alike x (SetTrDequeue s i p bit) = refl
-    ended_alike x (ResetDevice s) = refl
+    ended_alike x _ = refl
 
     ended_has : (x : Known) (c : Command) → (stop_ended h x c).ring_of ≡ x.ring_of
     unfolding stop_ended
     ended_has x (StopEndpoint s i) = refl
-    ended_has x NoOp = refl
-    ended_has x EnableSlot = refl
-    ended_has x (DisableSlot s) = refl
-    ended_has x (AddressDevice s bsr n) = refl
-    ended_has x (ConfigureEndpoint s dc n) = refl
-    ended_has x (EvaluateContext s n) = refl
-    ended_has x (ResetEndpoint s i) = refl
-    ended_has x (SetTrDequeue s i p bit) = refl
-    ended_has x (ResetDevice s) = refl
+    ended_has x _ = refl
 
     abbrev Alike : Known → Known → Type 0
     Alike x y = (y ≡ l x) × Has x

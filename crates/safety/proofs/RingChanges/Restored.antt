@@ -1,9 +1,5 @@
 -- A ring that a row starts or moves is restored first: all of it stands as declared, and nothing of it is free any more
-use Rattle.std.proofs.Common.{◌≡◌, ◌≢◌, ◌||◌, ◌∷◌, ◌∙◌, ℕ, not, Bool, false, [], List, Option, None, Some, option_and_then, slice_get, refl, sym, ap, subst, inl, inr}
-use Rattle.safety.proofs.Words.{command_of, flat_map, or_parts, Ring, cases_eq, list_any, none-some, same_Some, Block, block_at, RingView, IsRestored, address_of, cycle_of, positions_given, flips_passed, unrestored, is_declared_as, Command, SetTrDequeue, Header, Row, Sub, Write, Reg, Bell, Read, IsHeader, shape_of, command_id, driver_rings, World, Known, on_ring, command_at, command_given, learned, lenient, MayCome, MovesRestored, KeepsPassed, IsRestoring, IsTransferRing, DriverKeeps, Runs}
-use Rattle.segments.specs.Givings.{is_not_restored}
-use Rattle.segments.specs.RingView.{Restores}
-use Rattle.segments.proofs.Withdrawing.{restores_keeps}
+use Rattle.safety.proofs.Words.{◌≡◌, ◌≢◌, ◌||◌, ◌∷◌, ◌∙◌, ℕ, not, Bool, false, [], List, Option, None, Some, option_and_then, slice_get, refl, sym, ap, subst, inl, inr, rules, is_not_restored, Restores, restores_keeps, is_left, restored, restored_on, ring_moved, ring_restored, some_flips, command_of, flat_map, or_parts, Ring, list_any, none-some, same_Some, Block, block_at, RingView, IsRestored, address_of, cycle_of, positions_given, flips_passed, unrestored, is_declared_as, Command, SetTrDequeue, Header, Row, Write, Bell, Read, IsHeader, shape_of, command_id, driver_rings, World, Known, on_ring, command_at, command_given, learned, lenient, MayCome, MovesRestored, KeepsPassed, IsTransferRing, DriverKeeps, Runs}
 use Rattle.safety.specs.RingsKeep.{IsDriverRing}
 use Rattle.safety.proofs.DriverRings.{driver_test}
 use Rattle.safety.proofs.DriverRows.{ring_elsewhere, ring_here}
@@ -13,7 +9,6 @@ use Rattle.safety.proofs.HeldFurther.{read_same}
 use Rattle.safety.proofs.LeasesBehind.{none_fewer}
 use Rattle.safety.proofs.PassedBehind.{unrestored_before}
 use Rattle.safety.proofs.RingsOfHeader.{HasRing, has_ring, none_of_ring}
-use Rattle.safety.specs.RingChanges.Withdrawals.{is_left, restored, restored_on, ring_moved, ring_restored, some_flips}
 use Rattle.safety.proofs.RingChanges.QuietKeeps.{quiet_keeps}
 use Rattle.safety.proofs.RingChanges.QuietRuns.{IsGood, quiet_runs}
 use Rattle.safety.proofs.RingChanges.QuietWorlds.{restored_agrees}
@@ -32,11 +27,7 @@ module _ (h : Header) (is : IsHeader h) (r : ℕ) (transfer : IsTransferRing h r
 
   moved : (k : Known) (c : Command) → MovesRestored k c → MovesRestored (on_ring h k r Restores) c
   unfolding on_ring
-  moved k c restored t i x cycle at q has =
-      elim (cases_eq q r) [
-        | inl same ↦ subst IsRestored (sym (ap (λ n. (on_ring h k r Restores).ring n) same ∙ ring_here h k r Restores)) (λ p. refl)
-        | inr away ↦ subst IsRestored (sym (ring_elsewhere h k r q Restores away)) (restored t i x cycle at q has)
-      ]
+  moved k c restored t i x cycle at q has = search (rules, ring_here, ring_elsewhere)
 
   pub restored_keeps : (k : Known) → DriverKeeps h k → Stands k → DriverKeeps h (on_ring h k r Restores)
   restored_keeps k d stands =
@@ -78,8 +69,7 @@ module _ (h : Header) (is : IsHeader h) (k : Known) (d : DriverKeeps h k) where
   moved_of : (o : Option Command) (r : ℕ) → ring_moved k o ≡ Some r → OfEndpoint r
   unfolding ring_moved
   moved_of (Some (SetTrDequeue s i p cycle)) r at = record { slot = s; index = i; has = at }
-  moved_of None r at = absurd (none-some r at)
-  moved_of (Some _) r at = absurd (none-some r at)
+  moved_of _ r at = absurd (none-some r at)
 
   restored_of : (row : Row) (r : ℕ) → ring_restored h k row ≡ Some r → OfEndpoint r
   unfolding ring_restored
@@ -153,11 +143,4 @@ module _ (h : Header) (is : IsHeader h) (k : Known) (d : DriverKeeps h k) where
       ap (λ s. flips_passed s (m.ring r) a w) has.shape ∙ ap (λ n. flips_passed has.ring.shape (m.ring n) a w) (sym has.id) ∙ here
 
   pub row_comes : (row : Row) → lenient h (restored h k row) row ≡ [] → some_flips h (restored h k row) row ≡ false → MayCome h (restored h k row) row
-  row_comes row clean none = (clean, by row none)
-    where
-      by : (row : Row) → some_flips h (restored h k row) row ≡ false → IsRestoring h (restored h k row) row
-      by (Sub r blocks) none = tt
-      by (Write a w) none = (passed_kept (restored h k (Write a w)) a w none, λ c given. moved_restored a w c (sym (given_same (Write a w) a w) ∙ given))
-      by (Reg r x) none = tt
-      by (Bell s t) none = λ r has. bell_restored s t r has
-      by (Read b) none = tt
+  row_comes row clean none = search (rules, passed_kept, moved_restored, given_same, bell_restored)

@@ -1,19 +1,13 @@
 -- Behind a ring that comes or goes the run goes on, whatever is unread
-use Rattle.std.proofs.Common.{◌≡◌, ◌++◌, ◌∷◌, ◌∙◌, ℕ, false, List, [], filter, Option, Some, None, option_and_then, slice_get, is_some, arith, refl, sym, ap, subst, inl, inr, ◌||◌, ◌==◌, ◌*◌, eq-eqb}
-use Rattle.safety.proofs.Words.{fun_ext, range_of_entry, entry_of, slots, cond-true, Erstba, segment_ranges, table_range, entry_ranges, device_ranges, touches_ring, is_soiled, cases_option, false≢true, flat_map, list_any, or_parts, Block, RingView, due_positions, shape_of, command_of, Header, Read, Ring, IsHeader, ring_with, command_id, World, counted, Known, command_at, unfinished_positions, learned, lenient, open_ranges, context_ranges, range_of_command, covers, is_in_range_lease, DriverKeeps, Agrees, ArePossible, Runs, all_read}
-use Rattle.segments.specs.RingView.{new_ring}
-use Rattle.safety.proofs.Counted.{agrees_counted}
+use Rattle.safety.proofs.Words.{◌≡◌, ◌++◌, ◌∷◌, ◌∙◌, ℕ, false, List, [], filter, Option, Some, None, option_and_then, slice_get, is_some, refl, sym, ap, subst, inl, inr, ◌||◌, ◌==◌, ◌*◌, eq-eqb, new_ring, IsComing, emptied, forgotten, is_bad_free, is_bad_ring, is_bad_segment, shows_first_lap, with_ring, without_ring, fun_ext, range_of_entry, entry_of, slots, cond-true, Erstba, segment_ranges, table_range, entry_ranges, device_ranges, touches_ring, is_soiled, cases_option, false≢true, flat_map, list_any, or_parts, Block, RingView, due_positions, shape_of, command_of, Header, Read, Ring, IsHeader, ring_with, command_id, World, counted, Known, command_at, unfinished_positions, learned, lenient, open_ranges, context_ranges, range_of_command, covers, is_in_range_lease, DriverKeeps, Agrees, ArePossible, Runs, all_read}
 use Rattle.safety.proofs.DriverHistories.{kept_driver}
 use Rattle.safety.proofs.RowBeneath.{read_on}
-use Rattle.safety.specs.RingChanges.Changes.{IsComing, emptied, forgotten, is_bad_free, is_bad_ring, is_bad_segment, shows_first_lap, with_ring, without_ring}
 use Rattle.safety.proofs.RingChanges.Forgotten.{forgotten_agrees, forgotten_keeps, forgotten_learned, forgotten_read}
 use Rattle.safety.proofs.RingChanges.GoneRings.{gone_ring_agrees}
 use Rattle.safety.proofs.RingChanges.NewRings.{new_ring_agrees, new_ring_kept, new_ring_header}
 use Rattle.safety.proofs.RingChanges.Squares.{cleared, cleared_apart, cleared_here, learned_with, learned_without, read_with, read_without, still_comes, still_goes}
 use Rattle.safety.proofs.RingChanges.Forgotten as forgets
-
-counted_agrees : (h : Header) (k : Known) (unread : List Block) (w : World) → Agrees h k unread w → Agrees h k unread (counted h w)
-counted_agrees h k unread w a = agrees_counted h k unread w a.stands a.events a.matches a.read (λ x. let low = a.stamps x in omega (arith, low))
+use Rattle.safety.proofs.RowRegister.{agrees_once_counted}
 
 -- ---- a ring that comes
 
@@ -126,7 +120,7 @@ module _ (h : Header) (is : IsHeader h) (r : Ring) (coming : IsComing r) where
         blocks = run.blocks;
         on = stopped_same k ∙ run.on;
         agrees = subst (λ x. Agrees (with_ring h r) x run.unread (counted (with_ring h r) (emptied w r.id))) (sym c.same)
-            (counted_agrees (with_ring h r) (forgotten later r.id) run.unread (emptied w r.id) there);
+            (agrees_once_counted (with_ring h r) (forgotten later r.id) run.unread (emptied w r.id) there);
       }
 
 -- ---- a ring that goes
@@ -168,5 +162,5 @@ module _ (h : Header) (is : IsHeader h) (id : ℕ) where
         blocks = run.blocks;
         on = stopped_still k ∙ run.on;
         agrees = subst (λ x. Agrees (without_ring h id) x run.unread (counted (without_ring h id) (emptied w id))) (sym c.same)
-            (counted_agrees (without_ring h id) (forgotten later id) run.unread (emptied w id) there);
+            (agrees_once_counted (without_ring h id) (forgotten later id) run.unread (emptied w id) there);
       }

@@ -1,7 +1,6 @@
 -- The headline where rings come and go: behind each step of each run beside rows that break no rule the world is safe
-use Rattle.std.proofs.Common.{◌≡◌, ◌∷◌, ◌++◌, ◌∙◌, false, List, [], Option, Some, None, All, reverse, option_map, option_and_then, refl, sym, ap, subst, inl, inr, append_assoc, append-nil}
-use Rattle.safety.proofs.Words.{Row, cases_Bool, cond-true, false≢true, reverse-append, All-cons, All-head, All-nil, All-tail, none-some, same_Some, Header, Step, NextRow, Look, Report, Finish, Other, Scribble, IsHeader, IsStep, World, IsSafe, Known, DriverKeeps, Runs}
-use Rattle.world_state.specs.World.{opening}
+use Rattle.std.proofs.Common.{◌≡◌, ◌∷◌, ◌++◌, ◌∙◌, false, List, [], Option, Some, All, reverse, option_map, refl, sym, ap, subst, inl, inr, append_assoc, append-nil, rules}
+use Rattle.safety.proofs.Words.{opening, TraceRow, AreKept, IsKept, FitsFields, RingsHeadline, Scene, header_after, header_now, known_after, known_now, row_made, row_next, scene_reached, step_made, restored, ring_restored, Row, cond-true, false≢true, reverse-append, All-cons, All-head, All-tail, none-some, same_Some, Header, Step, NextRow, Look, Report, Finish, Other, Scribble, IsHeader, IsStep, World, IsSafe, Known, DriverKeeps, Runs}
 use Rattle.controller_model.specs.Finishes as finishes
 use Rattle.controller_model.specs.Looks as looks
 use Rattle.controller_model.specs.Posts as posts
@@ -22,23 +21,13 @@ use Rattle.safety.proofs.Scribble.{scribble_runs}
 use Rattle.safety.proofs.Squares.{square_law}
 use Rattle.safety.proofs.StillRings.{still_rings}
 use Rattle.safety.proofs.TestsPassed.{clean_tests}
-use Rattle.safety.specs.RingChanges.Changes.{emptied}
-use Rattle.traces.specs.declared.trace_row.TraceRow.{TraceRow}
 use Rattle.traces.specs.declared.trace_row.TraceRow.TheVariants.{Comes, Goes, Plain, Withdraws}
-use Rattle.safety.specs.RingChanges.Histories.{AreKept, IsKept, FitsFields, RingsHeadline, Scene, header_after, header_now, known_after, known_now, row_made, row_next, scene_reached, step_made}
-use Rattle.safety.specs.RingChanges.Withdrawals.{restored, ring_restored, without_descriptor}
 use Rattle.safety.proofs.RingChanges.Restored.{row_comes, row_keeps, row_runs as restored_row_runs, stopped_still}
 use Rattle.safety.proofs.RingChanges.Withdrawn.{withdraw_keeps, withdraw_runs}
 use Rattle.safety.proofs.RingChanges.GoneRings.{gone_ring_header, gone_ring_kept}
 use Rattle.safety.proofs.RingChanges.RingRuns.{comes_header, comes_keeps, comes_runs, goes_runs}
-
-some_then : {A B : Type 0} (f : A → Option B) (o : Option A) (y : B) → option_and_then f o ≡ Some y → (x : A) × (o ≡ Some x) × (f x ≡ Some y)
-some_then f None y at = absurd (none-some y at)
-some_then f (Some x) y at = (x, refl, at)
-
-some_of : {A B : Type 0} (f : A → B) (o : Option A) (y : B) → option_map f o ≡ Some y → (x : A) × (o ≡ Some x) × (f x ≡ y)
-some_of f None y at = absurd (none-some y at)
-some_of f (Some x) y at = (x, refl, same_Some (f x) y at)
+use Rattle.safety.proofs.ReportSuccess.{mapped}
+use Rattle.safety.proofs.FinishSlots.{some_then}
 
 -- ---- one row, one step, where the header is that of the rings that are there
 
@@ -47,13 +36,10 @@ module _ (h : Header) (is : IsHeader h) (k : Known) (keeps : DriverKeeps h k) wh
   law = row_runs h is (kept_driver h) (still_rings h) (square_law h) (more_law h)
 
   row_goes : (row : TraceRow) (w v : World) → FitsFields row → Runs h k w → IsKept h k row → row_made h w row ≡ Some v → Holds (header_after h row) (known_after h k row) (steps.counted h v)
-  row_goes (Plain row) w v is_row run kept at =
-      row_holds h is law (restored h k row) row w v is_row (row_keeps h is k keeps row kept.1) (restored_row_runs h is k keeps row w kept.1 run) (row_comes h is k keeps row kept.0 kept.2) at
-  row_goes (Withdraws r p) w v is_row run kept at =
-      inl (subst (λ x. Runs h (known_after h k (Withdraws r p)) (steps.counted h x)) (same_Some (without_descriptor w r p) v at) (withdraw_runs h r p is k w keeps kept.1 run))
-  row_goes (Comes b) w v coming run kept at =
-      inl (subst (λ x. Runs (header_after h (Comes b)) (known_after h k (Comes b)) (steps.counted h x)) (same_Some (emptied w b.id) v at) (comes_runs h is b coming k w keeps kept.1 run))
-  row_goes (Goes id) w v is_row run kept at = inl (subst (λ x. Runs (header_after h (Goes id)) (known_after h k (Goes id)) (steps.counted h x)) (same_Some (emptied w id) v at) (goes_runs h is id k w keeps kept.1 run))
+  row_goes (Plain row) w v is_row run kept at = search (rules, row_holds, law, row_keeps, restored_row_runs, row_comes, same_Some)
+  row_goes (Withdraws r p) w v is_row run kept at = search (rules, row_holds, law, row_keeps, restored_row_runs, row_comes, same_Some, withdraw_runs, comes_runs, goes_runs)
+  row_goes (Comes b) w v coming run kept at = search (rules, row_holds, law, row_keeps, restored_row_runs, row_comes, same_Some, withdraw_runs, comes_runs, goes_runs)
+  row_goes (Goes id) w v is_row run kept at = search (rules, row_holds, law, row_keeps, restored_row_runs, row_comes, same_Some, withdraw_runs, comes_runs, goes_runs)
 
   record StepGoes (w u : World) : Type 0 where
     pub running : w.stopped ≡ false
@@ -81,11 +67,7 @@ module _ (h : Header) (is : IsHeader h) (k : Known) (keeps : DriverKeeps h k) wh
 
 running : (h : Header) (w u : World) (o : Option World) → steps.while_running h w o ≡ Some u → w.stopped ≡ false
 unfolding steps.while_running
-running h w u o at =
-    elim (cases_Bool w.stopped) [
-      | inl stopped ↦ absurd (none-some u (sym (cond-true w.stopped None o stopped) ∙ at))
-      | inr on ↦ on
-    ]
+running h w u o at = search (rules, none-some, cond-true)
 
 -- a step of the controller is made before a stop alone
 runs_on : (h : Header) (w u : World) (s : Step) → steps.made h w s ≡ Some u → (s ≡ NextRow → ⊥) → w.stopped ≡ false
@@ -161,7 +143,7 @@ module _ (h : Header) (is : IsHeader h) where
       (row : TraceRow) × CameTo (row ∷ past) y
   next past x y [] same c at = absurd (none-some y at)
   next past x y (row ∷ rest) same c at =
-      let there = some_of (λ w. let z : Scene = record { header = header_after (header_now h past) row; rows = rest; world = steps.counted (header_now h past) w } in z) (row_made (header_now h past) x.world row) y at in
+      let there = mapped (λ w. let z : Scene = record { header = header_after (header_now h past) row; rows = rest; world = steps.counted (header_now h past) w } in z) (row_made (header_now h past) x.world row) y at in
       let kept : AreKept h (reverse rest ++ (row ∷ past)) = subst (AreKept h) (one_more row rest past) (subst (λ l. AreKept h (reverse l ++ past)) same c.kept) in
       let own : AreKept h (row ∷ past) = later_kept (reverse rest) (row ∷ past) kept in
       let left : All FitsFields (row ∷ rest) = subst (All FitsFields) same c.left in
@@ -191,7 +173,7 @@ module _ (h : Header) (is : IsHeader h) where
   stays : (past : List TraceRow) (x y : Scene) (s : Step) → IsStep s → (s ≡ NextRow → ⊥) → CameTo past x →
       option_map (λ w. let z : Scene = record { header = header_now h past; rows = x.rows; world = steps.counted (header_now h past) w } in z) (steps.made (header_now h past) x.world s) ≡ Some y → CameTo past y
   stays past x y s is_step other c at =
-      let there = some_of (λ w. let z : Scene = record { header = header_now h past; rows = x.rows; world = steps.counted (header_now h past) w } in z) (steps.made (header_now h past) x.world s) y at in
+      let there = mapped (λ w. let z : Scene = record { header = header_now h past; rows = x.rows; world = steps.counted (header_now h past) w } in z) (steps.made (header_now h past) x.world s) y at in
       subst (CameTo past) there.2
       (record {
         made = c.made;
@@ -221,13 +203,7 @@ module _ (h : Header) (is : IsHeader h) where
       by (Scribble a w) is_step at = (past, stays past x y (Scribble a w) is_step (λ e. cc) c at)
 
   first : (rows : List TraceRow) → All FitsFields rows → AreKept h (reverse rows) → CameTo [] (record { header = h; rows = rows; world = opening [] })
-  first rows are kept = record {
-    made = All-nil FitsFields;
-    left = are;
-    kept = subst (AreKept h) (sym (append-nil (reverse rows))) kept;
-    header = refl;
-    holds = inl (opens h []);
-  }
+  first rows are kept = search (rules, reverse, append-nil, opens)
 
   came : (rows : List TraceRow) → All FitsFields rows → AreKept h (reverse rows) → (made : List Step) (x : Scene) → All IsStep made → scene_reached h rows made ≡ Some x →
       (past : List TraceRow) × CameTo past x

@@ -1,27 +1,14 @@
 -- What is said of each segment of a ring holds of each of its blocks and words
-use Rattle.std.proofs.Common.{◌≡◌, ◌+◌, ◌-◌, ◌*◌, ◌/◌, ◌%◌, ◌^◌, length, ◌<◌, ◌≤◌, ◌==◌, ◌&&◌, ◌∙◌, ℕ, true, false, nat_le, nat_lt, arith, sym, ap, leb-true, ltb-true, eqb-true}
-use Rattle.safety.proofs.Words.{list_any, list_all, range_with_len, and_parts, or_parts, false_from_ne_true, false≢true, some_of, IsIn, is_inside, overlap, segment_has, Shape, IsShape, place_count, Xfer, Header, touches_ring, Known, is_in_range_lease, is_soiled, open_ranges, covers}
-use Rattle.segments.specs.declared.segment.Segment.{Segment}
+use Rattle.safety.proofs.Words.{◌≡◌, ◌+◌, ◌-◌, ◌*◌, ◌/◌, ◌%◌, length, ◌<◌, ◌≤◌, ◌==◌, ◌∙◌, ℕ, true, false, nat_le, nat_lt, arith, sym, ap, leb-true, ltb-true, eqb-true, rules, Segment, is_bad_segment, shows_first_lap, list_any, range_with_len, and_parts, or_parts, false_from_ne_true, false≢true, some_of, IsIn, is_inside, overlap, segment_has, Shape, IsShape, Xfer, Header, touches_ring, Known, is_in_range_lease, is_soiled, open_ranges, covers}
 use Rattle.segments.specs.Places.{touches}
-use Rattle.segments.specs.Shape.{are_apart, is_in_one_page, is_segment, most_blocks, most_segments}
 use Rattle.safety.proofs.Areas.{clean_word}
 use Rattle.safety.proofs.AreaFacts.{overlap_turned}
 use Rattle.safety.proofs.Headers.{each_passes}
 use Rattle.safety.proofs.UnfinishedLists.{fails_in, in_range}
-use Rattle.safety.specs.RingChanges.Changes.{is_bad_segment, shows_first_lap}
 
 -- a segment of a transfer ring lies on a boundary of 16 bytes, and isn't empty
 segment_lies : (shape : Shape) → IsShape shape → shape.kind ≡ Xfer → (s : Segment) → IsIn s shape.segments → (s.base % 16 ≡ 0) × (0 < s.count)
-segment_lies shape is kind s at =
-    let a = and_parts (nat_le (length shape.segments) most_segments && list_all (is_segment shape.kind) shape.segments && nat_le 2 (place_count shape)) (are_apart shape.segments) is in
-    let b = and_parts (nat_le (length shape.segments) most_segments && list_all (is_segment shape.kind) shape.segments) (nat_le 2 (place_count shape)) a.0 in
-    let c = and_parts (nat_le (length shape.segments) most_segments) (list_all (is_segment shape.kind) shape.segments) b.0 in
-    let one : is_segment Xfer s ≡ true = ap (λ n. is_segment n s) (sym kind) ∙ each_passes (is_segment shape.kind) shape.segments s c.1 at in
-    let four = and_parts (nat_lt s.base (2 ^ 64) && s.base % 16 == 0 && nat_le 2 s.count && nat_le s.count most_blocks) (is_in_one_page s) one in
-    let three = and_parts (nat_lt s.base (2 ^ 64) && s.base % 16 == 0 && nat_le 2 s.count) (nat_le s.count most_blocks) four.0 in
-    let two = and_parts (nat_lt s.base (2 ^ 64) && s.base % 16 == 0) (nat_le 2 s.count) three.0 in
-    let several = leb-true 2 s.count two.1 in
-    (eqb-true (s.base % 16) 0 (and_parts (nat_lt s.base (2 ^ 64)) (s.base % 16 == 0) two.0).1, omega (arith, several))
+segment_lies shape is kind s at = search (rules, and_parts, nat_le, length, each_passes, nat_lt, leb-true, eqb-true)
 
 segment_aligned : (shape : Shape) → IsShape shape → shape.kind ≡ Xfer → (s : Segment) → IsIn s shape.segments → s.base % 16 ≡ 0
 segment_aligned shape is kind s at = (segment_lies shape is kind s at).0
@@ -52,11 +39,7 @@ pub record IsGood (h : Header) (k : Known) (s : Segment) : Type 0 where
 module _ (h : Header) (k : Known) where
   good_parts : (s : Segment) → is_bad_segment h k s ≡ false → IsGood h k s
   unfolding is_bad_segment is_in_range_lease
-  good_parts s good =
-      let two = or_parts _ (shows_first_lap k s) good in
-      let one = or_parts _ (is_soiled k s.base (16 * s.count)) two.0 in
-      let zero = or_parts (touches_ring h s.base (16 * s.count)) (list_any (covers h s.base (16 * s.count)) (open_ranges h k)) one.0 in
-      record { rings = zero.0; leases = zero.1; clean = one.1; shows = two.1 }
+  good_parts s good = search (rules, or_parts)
 
   module _ (shape : Shape) (is : IsShape shape) (kind : shape.kind ≡ Xfer) (good : list_any (is_bad_segment h k) shape.segments ≡ false) where
     pub each_good : (s : Segment) → IsIn s shape.segments → IsGood h k s

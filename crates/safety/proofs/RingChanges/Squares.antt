@@ -1,16 +1,11 @@
 -- A ring that comes or goes beneath an event that isn't read yet: the two may change places
-use Rattle.std.proofs.Common.{◌≡◌, ◌≢◌, ◌*◌, ◌==◌, ◌||◌, if◌then◌else◌, ◌++◌, ◌∷◌, ◌∙◌, ℕ, not, Bool, true, false, [], Some, filter, get_or, is_some, refl, sym, ap, inl, inr, eq-eqb, ne_eqb}
-use Rattle.guest_memory.specs.Memory.{put}
-use Rattle.safety.proofs.Words.{cases_eq, cases_option, cond-true, cond-false, false≢true, false_from_ne_true, or_from, fun_ext, All-weaker, All-get_or, some_of, range_with_len, list_any, Block, RingView, Header, Read, IsHeader, Ring, ring_with, ring_having, touches_ring, is_in_range_lease, is_soiled, open_ranges, covers, is_ring, is_being_bound, Known, learned, lenient, Binding, binds, ring_bound, is_placed, DriverKeeps, is_transfer_ring}
-use Rattle.segments.specs.declared.segment.Segment.{Segment}
-use Rattle.segments.specs.RingView.{new_ring}
+use Rattle.safety.proofs.Words.{◌≡◌, ◌≢◌, ◌*◌, ◌==◌, ◌||◌, ◌++◌, ◌∷◌, ◌∙◌, ℕ, not, Bool, true, false, [], Some, filter, get_or, is_some, refl, sym, ap, inl, inr, eq-eqb, ne_eqb, rules, put, Segment, new_ring, IsComing, forgotten, is_bad_free, is_bad_ring, is_bad_segment, is_had, shows_first_lap, with_ring, without_ring, cases_eq, cases_option, cond-true, cond-false, false≢true, false_from_ne_true, or_from, fun_ext, All-weaker, All-get_or, some_of, range_with_len, list_any, Block, RingView, Header, Read, IsHeader, Ring, ring_with, ring_having, touches_ring, is_in_range_lease, is_soiled, open_ranges, covers, is_ring, is_being_bound, Known, learned, lenient, Binding, binds, ring_bound, is_placed, DriverKeeps, is_transfer_ring}
 use Rattle.safety.proofs.BoundBehind.{bound_before}
 use Rattle.safety.proofs.BoundRings.{ring_is}
 use Rattle.safety.proofs.DriverRings.{transfer_ring}
 use Rattle.safety.proofs.EventBehind.{event_behind}
 use Rattle.safety.proofs.LeasesBehind.{Behind, none_fewer, ranges_fewer}
 use Rattle.safety.proofs.RingIds.{having_transfer}
-use Rattle.safety.specs.RingChanges.Changes.{IsComing, forgotten, is_bad_free, is_bad_ring, is_bad_segment, is_had, shows_first_lap, with_ring, without_ring}
 use Rattle.safety.proofs.RingChanges.EventsAlike.{HasKept, HavesAlike, KeepsRings}
 use Rattle.safety.proofs.RingChanges.ReadAlike.{BindsAlike, read_alike, read_possible}
 use Rattle.safety.proofs.RingChanges.Segments.{IsGood, each_good}
@@ -40,15 +35,7 @@ module _ (id : ℕ) where
   ])
 
   pub cleared_put : (m : ℕ → RingView) (r : ℕ) (v : RingView) → r ≢ id → cleared (put m r v) ≡ put (cleared m) r v
-  cleared_put m r v other = fun_ext (λ x. elim (cases_eq x id) [
-    | inl here ↦
-        let apart : (x == r) ≡ false = ne_eqb x r (λ same. other (sym same ∙ here)) in
-        cond-true (x == id) new_ring (put m r v x) (eq-eqb x id here)
-        ∙ sym (cond-false (x == r) v (cleared m x) apart ∙ cond-true (x == id) new_ring (m x) (eq-eqb x id here))
-    | inr away ↦
-        cond-false (x == id) new_ring (put m r v x) (ne_eqb x id away)
-        ∙ ap (λ y. if x == r then v else y) (sym (cleared_apart m x away))
-  ])
+  cleared_put m r v other = search (rules, cleared, ne_eqb, cond-true, eq-eqb, cond-false, cleared_apart)
 
 -- ---- a ring that comes
 
@@ -106,10 +93,6 @@ module _ (h : Header) (is : IsHeader h) (k : Known) (d : DriverKeeps h k) (r : R
   behind_new : (learned h k (Read e)) ≡ record l { ring = cleared r.id l.ring }
   behind_new = sym (ap (λ x. learned h x (Read e)) same) ∙ (read_alike h h.rings (cleared r.id) (Other r.id) rings_old is k d has_others binds_old e may).0
 
-  -- behind the event nothing is known of it still
-  pub still_new : l.ring r.id ≡ new_ring
-  still_new = ap (λ (x : Known). x.ring r.id) behind_new ∙ cleared_here r.id l.ring
-
   -- the event is possible, and learned, with the ring as without it
   pub read_with : lenient (with_ring h r) k (Read e) ≡ []
   unfolding with_ring
@@ -134,12 +117,7 @@ module _ (h : Header) (is : IsHeader h) (k : Known) (d : DriverKeeps h k) (r : R
   -- it may come behind the event too
   pub still_comes : is_bad_ring h l r ≡ false
   unfolding is_bad_ring
-  still_comes =
-      let p = new.parts h is k d r coming fresh good in
-      or_from (is_some (ring_with h r.id)) (list_any (is_bad_segment h l) r.shape.segments) p.0
-      (false_from_ne_true (list_any (is_bad_segment h l) r.shape.segments) (λ t.
-      let s = some_of (is_bad_segment h l) r.shape.segments t in
-      false≢true (sym (segment_still s.0 (each_good h k r.shape coming.shape coming.kind p.1 s.0 s.1)) ∙ s.2)))
+  still_comes = search (rules, l, or_from, is_some, false_from_ne_true, some_of, false≢true, segment_still, each_good)
 
 -- ---- a ring that goes
 

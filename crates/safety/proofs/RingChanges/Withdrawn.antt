@@ -1,10 +1,6 @@
 -- A descriptor that is withdrawn of a ring whose endpoint has stopped: what a driver keeps stays, and the row may be made behind any event
 -- that isn't read yet
-use Rattle.std.proofs.Common.{◌≡◌, ◌≢◌, ◌==◌, ◌&&◌, ◌||◌, ◌∙◌, ℕ, not, Bool, true, false, [], None, Some, refl, sym, ap, subst, inl, inr, eq-eqb, arith}
-use Rattle.safety.proofs.Words.{cases_eq, list_any, range_with_len, or_parts, or_from, and_parts, and_from, not-false, not_from_true, not_from_false, not-true, false≢true, false_from_ne_true, Block, RingView, IsRestored, is_open, descriptor_length, Command, EndpointState, Running, Stopped, is_stopped, Header, Read, IsHeader, is_ring, shape_of, command_id, Known, on_ring, learned, is_touched, lenient, IsIn, some_of, any_of, MovesRestored, IsTransferRing, IsUnfinished, DriverKeeps, World, counted, Agrees, Runs}
-use Rattle.segments.specs.Descriptors.{length_from}
-use Rattle.segments.specs.RingView.{Withdraws}
-use Rattle.segments.proofs.Withdrawing.{withdraws_keeps}
+use Rattle.safety.proofs.Words.{◌≡◌, ◌≢◌, ◌==◌, ◌&&◌, ◌||◌, ◌∙◌, ℕ, not, Bool, true, false, [], None, Some, refl, sym, ap, subst, inl, inr, eq-eqb, arith, rules, length_from, Withdraws, withdraws_keeps, has_stopped, is_bad_withdraw, rests_with, without_descriptor, cases_eq, list_any, range_with_len, or_parts, or_from, and_parts, and_from, not-false, not_from_true, not_from_false, not-true, false≢true, false_from_ne_true, Block, RingView, IsRestored, is_open, descriptor_length, Command, EndpointState, Running, Stopped, is_stopped, Header, Read, IsHeader, is_ring, shape_of, command_id, Known, on_ring, learned, is_touched, lenient, IsIn, some_of, any_of, MovesRestored, IsTransferRing, IsUnfinished, DriverKeeps, World, counted, Agrees, Runs}
 use Rattle.safety.proofs.BoundRings.{ring_is}
 use Rattle.safety.proofs.CommandsRung.{set_touches}
 use Rattle.safety.proofs.DriverRows.{ring_elsewhere}
@@ -14,7 +10,6 @@ use Rattle.safety.proofs.HeldFurther.{read_same}
 use Rattle.safety.proofs.OpenRings.{open_held}
 use Rattle.safety.proofs.StillRings.{untouched_behind}
 use Rattle.safety.proofs.Counted.{agrees_counted}
-use Rattle.safety.specs.RingChanges.Withdrawals.{has_stopped, is_bad_withdraw, rests_with, without_descriptor}
 use Rattle.safety.proofs.RingChanges.QuietWorlds.{withdrawn_agrees}
 use Rattle.safety.proofs.RingChanges.QuietKeeps.{quiet_keeps}
 use Rattle.safety.proofs.RingChanges.QuietRuns.{IsGood, quiet_runs}
@@ -120,12 +115,7 @@ module _ (h : Header) (r p : ℕ) where
 
     behind : (k : Known) (e : Block) → DriverKeeps h k → lenient h k (Read e) ≡ [] → is_bad_withdraw h k r p ≡ false → is_bad_withdraw h (learned h k (Read e)) r p ≡ false
     unfolding is_bad_withdraw
-    behind k e d may good =
-        let before = parts k good in
-        let l : Known = learned h k (Read e) in
-        let same = (read_same h k e).rings r in
-        or_from (not (has_stopped h l r)) (cut (l.ring r)) (not_from_true (has_stopped h l r) (with_stopped l (stopped_behind k d before.0 e may)))
-        (cut_same (k.ring r) (l.ring r) same.lengths same.withdrawn before.1)
+    behind k e d may good = search (rules, parts, read_same, or_from, not_from_true, with_stopped, stopped_behind, cut_same)
 
     -- where it may be withdrawn
     pub may_withdraw : (k : Known) → DriverKeeps h k → is_bad_withdraw h k r p ≡ false → r ≢ command_id h

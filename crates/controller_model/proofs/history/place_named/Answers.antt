@@ -1,5 +1,4 @@
-use Rattle.controller_model.proofs.Words.{◌≡◌, ◌∙◌, ap, sym, inl, inr, link_target-crossed}
-use Rattle.segments.specs.Places.{link_target}
+use Rattle.controller_model.proofs.Words.{link_target, ◌≡◌, ◌∙◌, ap, sym, inl, inr, link_target-crossed}
 use Rattle.controller_model.proofs.NamedPlaces.{at_block, at_crossing, names}
 use Rattle.controller_model.proofs.history.place_named.Goals as goal
 

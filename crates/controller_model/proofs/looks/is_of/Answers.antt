@@ -1,5 +1,4 @@
-use Rattle.std.specs.Option.{option_copied}
-use Rattle.controller_model.proofs.Words.{◌∙◌, ap, sym, Xfer, is_inside, shape_of, shape_or}
+use Rattle.controller_model.proofs.Words.{option_copied, ◌∙◌, ap, sym, Xfer, is_inside, shape_of, shape_or}
 use Rattle.controller_model.proofs.looks.is_of.Goals as goal
 
 pub returns-in-None : goal.returns-in-None

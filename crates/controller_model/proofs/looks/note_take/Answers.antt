@@ -1,5 +1,4 @@
-use Rattle.std.specs.Option.{option_copied}
-use Rattle.controller_model.proofs.Words.{◌≡◌, ◌∷◌, ◌∙◌, Option, Some, IsSome, false≢true, ap, sym, subst, refl, Shape, Ring, Xfer, Took, shape_or, shape_of, ring_with, as_declared, option_map, Keeps, ShowsHarms}
+use Rattle.controller_model.proofs.Words.{option_copied, ◌≡◌, ◌∷◌, ◌∙◌, Option, Some, IsSome, false≢true, ap, sym, subst, refl, Shape, Ring, Xfer, Took, shape_or, shape_of, ring_with, as_declared, option_map, Keeps, ShowsHarms}
 use Rattle.controller_model.proofs.LookLemmas.{noted_follows}
 use Rattle.controller_model.proofs.looks.note_take.Goals as goal
 

@@ -1,6 +1,4 @@
-use Rattle.controller_model.proofs.Words.{◌∙◌, Some, ap, sym, refl, RowSeen, Follows}
-use Rattle.traces.specs.declared.ring.Ring.{Ring}
-use Rattle.controller_model.specs.RingRows.{emptied, row_made, without_descriptor}
+use Rattle.controller_model.proofs.Words.{Ring, emptied, row_made, without_descriptor, ◌∙◌, Some, ap, sym, refl, RowSeen, Follows}
 use Rattle.controller_model.proofs.LookBranches.{step_made}
 use Rattle.controller_model.proofs.next_row.make_trace_row.Goals as goal
 

@@ -1,8 +1,4 @@
-use Rattle.std.specs.Option.{option_copied}
-use Rattle.controller_model.proofs.Words.{◌≡◌, ◌∙◌, [], ap, sym, refl, drop, err_from_is_err_and, RowSeen, counted, Follows, Ok, Err, option_map}
-use Rattle.controller_model.specs.RingHarms.{FollowsScene}
-use Rattle.controller_model.specs.RingRows.{header_after, row_made}
-use Rattle.controller_model.specs.Scenes.{Scene, row_next}
+use Rattle.controller_model.proofs.Words.{option_copied, FollowsScene, header_after, row_made, Scene, row_next, ◌≡◌, ◌∙◌, [], ap, sym, refl, drop, err_from_is_err_and, RowSeen, counted, Follows, Ok, Err, option_map}
 use Rattle.controller_model.proofs.NextRowLemmas.{first_left, nothing_left, row_next_is, scene_behind, step_failed, step_mapped, step_none, step_same}
 use Rattle.controller_model.proofs.next_row.next_row.Goals as goal
 

@@ -1,6 +1,4 @@
-use Rattle.controller_model.proofs.Words.{◌≡◌, ◌==◌, ◌<◌, ◌∙◌, [], List, not, filter, ap, length, sym, arith, Header, Ring}
-use Rattle.std.proofs.lemmas.List.Edits.{length-remove}
-use Rattle.std.specs.List.{remove}
+use Rattle.controller_model.proofs.Words.{length-remove, remove, ◌≡◌, ◌==◌, ◌<◌, ◌∙◌, [], List, not, filter, ap, length, sym, arith, Header, Ring}
 use Rattle.controller_model.proofs.RingRowLemmas.{none_dropped, nothing_listed, one_dropped, without_is}
 use Rattle.controller_model.proofs.ring_rows.drop_ring.Goals as goal
 

@@ -1,5 +1,4 @@
-use Rattle.controller_model.proofs.Words.{◌<◌, length, arith, ring_held, shape_of}
-use Rattle.controller_model.specs.RingRows.{emptied}
+use Rattle.controller_model.proofs.Words.{emptied, ◌<◌, length, arith, ring_held, shape_of}
 use Rattle.controller_model.proofs.RingLemmas.{read_at}
 use Rattle.controller_model.proofs.RingRowLemmas.{emptied_here, emptied_other, follows_other}
 use Rattle.controller_model.proofs.ring_rows.empty.Goals as goal

@@ -1,5 +1,4 @@
-use Rattle.controller_model.proofs.Words.{◌<◌, length, arith, ring_held}
-use Rattle.controller_model.specs.RingRows.{without_descriptor}
+use Rattle.controller_model.proofs.Words.{without_descriptor, ◌<◌, length, arith, ring_held}
 use Rattle.controller_model.proofs.RingLemmas.{follows_change, read_at}
 use Rattle.controller_model.proofs.RingRowLemmas.{withdrawn_here, withdrawn_other}
 use Rattle.controller_model.proofs.ring_rows.withdraw.Goals as goal

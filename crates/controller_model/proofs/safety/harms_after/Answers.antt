@@ -1,5 +1,4 @@
-use Rattle.controller_model.proofs.Words.{◌∙◌, ap, sym, subst, [], Header, HasRingHarms, Look, stepped}
-use Rattle.controller_model.specs.Scenes.{step_made}
+use Rattle.controller_model.proofs.Words.{step_made, ◌∙◌, ap, sym, subst, [], Header, HasRingHarms, Look, stepped}
 use Rattle.controller_model.proofs.RingHarmLemmas.{look_came}
 use Rattle.controller_model.proofs.safety.harms_after.Goals as goal
 

@@ -1,7 +1,4 @@
-use Rattle.std.specs.Option.{option_copied}
-use Rattle.traces.specs.declared.trace_row.TraceRow.TheVariants.{Plain}
-use Rattle.controller_model.proofs.Words.{◌∙◌, Some, ap, sym}
-use Rattle.controller_model.specs.Scenes.{step_made}
+use Rattle.controller_model.proofs.Words.{option_copied, Plain, step_made, ◌∙◌, Some, ap, sym}
 use Rattle.controller_model.proofs.NextRowLemmas.{first_left}
 use Rattle.controller_model.proofs.RingHarmLemmas.{row_harms}
 use Rattle.controller_model.proofs.safety.is_quiet.Goals as goal

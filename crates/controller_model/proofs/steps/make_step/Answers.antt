@@ -1,6 +1,4 @@
-use Rattle.controller_model.proofs.Words.{◌∙◌, [], ap, option_map, Header, RowSeen, shows, stepped, Follows}
-use Rattle.controller_model.specs.RingHarms.{FollowsScene}
-use Rattle.controller_model.specs.Scenes.{row_next, step_made}
+use Rattle.controller_model.proofs.Words.{FollowsScene, row_next, step_made, ◌∙◌, [], ap, option_map, Header, RowSeen, shows, stepped, Follows}
 use Rattle.controller_model.proofs.NextRowLemmas.{scene_with, step_made_is, step_mapped, step_same}
 use Rattle.controller_model.proofs.steps.make_step.Goals as goal
 

@@ -1,6 +1,4 @@
-use Rattle.controller_model.proofs.Words.{IsFollowed, shows}
-use Rattle.controller_model.specs.RingHarms.{FollowsScene}
-use Rattle.controller_model.specs.Scenes.{step_made}
+use Rattle.controller_model.proofs.Words.{FollowsScene, step_made, IsFollowed, shows}
 use Rattle.controller_model.proofs.StepLemmas.{step_more}
 use Rattle.controller_model.proofs.world.make_followed.Goals as goal
 

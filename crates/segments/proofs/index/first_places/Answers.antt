@@ -1,5 +1,4 @@
-use Rattle.segments.proofs.Words.{◌+◌, ℕ, List, length, arith, sym, ap, subst}
-use Rattle.segments.specs.Index.{AreFirsts}
+use Rattle.segments.proofs.Words.{AreFirsts, ◌+◌, ℕ, List, length, arith, sym, ap, subst}
 use Rattle.segments.proofs.Blocks.{before-zero, before-next}
 use Rattle.segments.proofs.IndexSearch.{firsts_push}
 use Rattle.segments.proofs.index.first_places.Goals as goal

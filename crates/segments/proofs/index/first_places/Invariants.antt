@@ -1,5 +1,4 @@
-use Rattle.segments.proofs.Words.{◌≡◌, ◌≤◌, ◌*◌}
-use Rattle.segments.specs.Index.{AreFirsts, before}
+use Rattle.segments.proofs.Words.{AreFirsts, before, ◌≡◌, ◌≤◌, ◌*◌}
 use Rattle.segments.proofs.index.first_places.Given as goal
 
 abbrev pub invariant-loop-segment : goal.invariant-loop-segment

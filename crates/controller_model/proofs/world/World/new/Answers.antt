@@ -1,5 +1,4 @@
-use Rattle.controller_model.proofs.Words.{[], refl, sym, subst, Header, HasRingHarms}
-use Rattle.world_state.specs.World.{opening}
+use Rattle.controller_model.proofs.Words.{opening, [], refl, sym, subst, Header, HasRingHarms}
 use Rattle.controller_model.proofs.world.World.new.Goals as goal
 
 pub returns : goal.returns

@@ -1,5 +1,4 @@
-use Rattle.ring_knowledge.proofs.Words.{Some, AtData, ◌≡◌, ◌%◌, ◌∙◌, ap, sym, arith, number, not, lt-ltb, le-ltb, place_at, place_count, floor_number, ceiling}
-use Rattle.segments.proofs.DueLists.{no_flips}
+use Rattle.ring_knowledge.proofs.Words.{no_flips, Some, AtData, ◌≡◌, ◌%◌, ◌∙◌, ap, sym, arith, number, not, lt-ltb, le-ltb, place_at, place_count, floor_number, ceiling}
 use Rattle.ring_knowledge.proofs.DueNumbers.{IsDue}
 use Rattle.ring_knowledge.proofs.DueWrites.{found, data_no_link}
 use Rattle.ring_knowledge.proofs.FreeNumbers.{none_in}

@@ -1,6 +1,4 @@
-use Rattle.ring_knowledge.proofs.Words.{arith, ◌≤◌, ◌≡◌, ◌∙◌, [], ap, sym, not, number, list_any, and_from, le-leb}
-use Rattle.std.specs.Map.Iter.{deref}
-use Rattle.std.proofs.lemmas.Map.Iter.{rest_all, rest_more}
+use Rattle.ring_knowledge.proofs.Words.{deref, rest_all, rest_more, arith, ◌≤◌, ◌≡◌, ◌∙◌, [], ap, sym, not, number, list_any, and_from, le-leb}
 use Rattle.ring_knowledge.proofs.FreeNumbers.{first_passes, not_restored_is}
 use Rattle.ring_knowledge.proofs.ring_record.RingRecord.is_not_restored.Goals as goal
 

@@ -1,6 +1,4 @@
-use Rattle.ring_knowledge.proofs.Words.{◌-◌, ◌≤◌, ◌≡◌, ◌&&◌, not, nat_le, list_any, address_of, cycle_of, is_declared_as}
-use Rattle.std.specs.Prelude.{slice_get}
-use Rattle.trb.specs.Block.{block_at}
+use Rattle.ring_knowledge.proofs.Words.{slice_get, block_at, ◌-◌, ◌≤◌, ◌≡◌, ◌&&◌, not, nat_le, list_any, address_of, cycle_of, is_declared_as}
 use Rattle.ring_knowledge.proofs.ring_record.RingRecord.is_not_restored.Given as goal
 
 -- none so far is left

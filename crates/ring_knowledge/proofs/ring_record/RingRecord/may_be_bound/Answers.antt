@@ -1,6 +1,5 @@
-use Rattle.ring_knowledge.proofs.Words.{◌≡◌, ◌≢◌, ◌∙◌, ap, sym, arith, ceiling, floor_number, is_move, place_count_pos}
+use Rattle.ring_knowledge.proofs.Words.{is_placement, ◌≡◌, ◌≢◌, ◌∙◌, ap, sym, arith, ceiling, floor_number, is_move, place_count_pos}
 use Rattle.segments.specs.Spots.{number}
-use Rattle.segments.specs.Moves.{is_placement}
 use Rattle.ring_knowledge.proofs.MoveTests.{no_move_between}
 use Rattle.ring_knowledge.proofs.ring_record.RingRecord.may_be_bound.Goals as goal
 

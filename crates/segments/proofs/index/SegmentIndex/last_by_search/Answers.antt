@@ -1,5 +1,4 @@
-use Rattle.segments.proofs.Words.{◌≡◌, ◌≤◌, List, true, false, length, sym, subst, ap, arith, leb, rules, IsNonDecreasingBy, IsPartitionPoint, IsPartitionPoint-from_clause, IsPartitionedBy-leb}
-use Rattle.segments.specs.declared.index.Start.{Start}
+use Rattle.segments.proofs.Words.{Start, ◌≡◌, ◌≤◌, List, true, false, length, sym, subst, ap, arith, leb, rules, IsNonDecreasingBy, IsPartitionPoint, IsPartitionPoint-from_clause, IsPartitionedBy-leb}
 use Rattle.segments.proofs.IndexSearch.{nothing_starts, last_found}
 use Rattle.segments.proofs.index.SegmentIndex.last_by_search.Goals as goal
 

@@ -1,6 +1,5 @@
-use Rattle.segments.proofs.Words.{◌%◌, ◌≢◌, ◌∙◌, ap, sym}
+use Rattle.segments.proofs.Words.{AreMultiples, ◌%◌, ◌≢◌, ◌∙◌, ap, sym}
 use Rattle.segments.proofs.Lookups.{crossed_between}
-use Rattle.segments.specs.Index.{AreMultiples}
 use Rattle.segments.proofs.shape.RingShape.crossing.Goals as goal
 
 pub returns-then-q-from-ne0-clause-value : goal.returns-then-q-from-ne0-clause-value

@@ -1,5 +1,4 @@
-use Rattle.segments.proofs.Words.{◌≡◌, ◌≢◌, ◌%◌, ◌-◌, ◌+◌, ◌<◌, ◌∙◌, arith, rules, refl, sym, ap, length, Some, mod-lt, get_or_read, data_count, link_crossed}
-use Rattle.segments.specs.Index.{IsSegmentOf}
+use Rattle.segments.proofs.Words.{IsSegmentOf, ◌≡◌, ◌≢◌, ◌%◌, ◌-◌, ◌+◌, ◌<◌, ◌∙◌, arith, rules, refl, sym, ap, length, Some, mod-lt, get_or_read, data_count, link_crossed}
 use Rattle.segments.proofs.Blocks.{segment_at, before, before-next}
 use Rattle.segments.proofs.DataPlaces.{place_count_most}
 use Rattle.segments.proofs.ShapeFacts.{shape_facts}

@@ -1,6 +1,4 @@
-use Rattle.std.specs.Prelude.{min}
-use Rattle.segments.proofs.Words.{◌≡◌, ◌+◌, ◌-◌, ◌*◌, ◌^◌, ◌∙◌, arith, ap, sym, subst, false, get_or_read, Shape, overlap, touches}
-use Rattle.segments.specs.Index.{IsLastOf, IsLastStart}
+use Rattle.segments.proofs.Words.{min, IsLastOf, IsLastStart, ◌≡◌, ◌+◌, ◌-◌, ◌*◌, ◌^◌, ◌∙◌, arith, ap, sym, subst, false, get_or_read, Shape, overlap, touches}
 use Rattle.segments.proofs.Blocks.{segment_at}
 use Rattle.segments.proofs.Touching.{nothing_touched, touched_last}
 use Rattle.segments.proofs.shape.RingShape.overlaps.Goals as goal

@@ -1,5 +1,4 @@
-use Rattle.segments.proofs.Words.{◌≡◌, ◌%◌, ◌+◌, ◌/◌, ◌∙◌, if◌then◌else◌, arith, refl, sym, ap, subst, length, Some, None, nat_lt, lt-ltb, le-ltb, cond-true, cond-false, get_or_read, data_count, place_count, place_at}
-use Rattle.segments.specs.Index.{IsNear}
+use Rattle.segments.proofs.Words.{IsNear, ◌≡◌, ◌%◌, ◌+◌, ◌/◌, ◌∙◌, if◌then◌else◌, arith, refl, sym, ap, subst, length, Some, None, nat_lt, lt-ltb, le-ltb, cond-true, cond-false, get_or_read, data_count, place_count, place_at}
 use Rattle.segments.specs.declared.place.Place.TheVariants.{Data, Link}
 use Rattle.segments.proofs.Blocks.{segment_at, before}
 use Rattle.segments.proofs.DataPlaces.{place_count_most}
