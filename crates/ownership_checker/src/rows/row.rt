@@ -89,7 +89,14 @@ fn check_word<M: WordMemory>(
     ensures events { OnOk result (kept.new.events ≡ kept.old.events) }
 {
     if write.place.giving.is_some() {
-        return check_giving_word(header, finder, kept, memory, write);
+        // (a copy for the function that stays apart: the write itself can then be kept in registers)
+        let giving = WordWrite {
+            at: write.at,
+            word: write.word,
+            place: write.place,
+            owned: write.owned,
+        };
+        return check_giving_word(header, finder, kept, memory, &giving);
     }
     check_plain_word(header, kept, memory, write)
 }
