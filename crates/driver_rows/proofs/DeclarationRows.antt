@@ -1,3 +1,2 @@
 pub mod DeclarationRules
-pub mod FoundRing
 pub mod Declared

@@ -1,4 +1,3 @@
 pub mod Followed
 pub mod Touching
-pub mod Bells
 pub mod Ringing

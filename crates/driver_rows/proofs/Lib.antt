@@ -6,3 +6,5 @@ pub mod MemoryWrites
 pub mod WriteEffects
 pub mod DoorbellRows
 pub mod RingRows
+pub mod Words
+pub mod Laws

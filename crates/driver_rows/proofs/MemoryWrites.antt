@@ -1,8 +1,6 @@
-pub mod WrongLinks
 pub mod Given
 pub mod GivenTests
 pub mod OnRing
 pub mod CommandsOn
-pub mod SaidCommands
 pub mod RingWrites
 pub mod WriteSteps

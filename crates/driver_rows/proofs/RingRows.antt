@@ -1,5 +1,4 @@
 pub mod NamedRings
-pub mod BadSegments
 pub mod OtherRecords
 pub mod Lists
 pub mod Came

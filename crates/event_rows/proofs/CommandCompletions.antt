@@ -9,4 +9,3 @@ pub mod Slots
 pub mod Finished
 pub mod BoundBehind
 pub mod Followed
-pub mod Words

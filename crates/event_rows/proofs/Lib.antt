@@ -1,2 +1,4 @@
 pub mod TransferEvents
 pub mod CommandCompletions
+pub mod Words
+pub mod Laws

@@ -10,4 +10,3 @@ pub mod EndingOne
 pub mod PassingOn
 pub mod Beginning
 pub mod Listed
-pub mod CitedWords

@@ -11,7 +11,6 @@ pub mod RangesAlone
 pub mod PassedLeases
 pub mod Completing
 pub mod Writing
-pub mod Given
 pub mod Ordering
 pub mod NoIndexes
 pub mod FirstBook
@@ -29,4 +28,3 @@ pub mod DevicesAfter
 pub mod Finishing
 pub mod GivingCommands
 pub mod OpenLent
-pub mod Words

@@ -1,7 +1,6 @@
 pub mod EventSegments
 pub mod OtherRows
 pub mod TakenRanges
-pub mod WordsApart
 pub mod GivenHere
 pub mod RowWrites
 pub mod TransferRows
@@ -12,4 +11,3 @@ pub mod FloorsStay
 pub mod FloorsMove
 pub mod LentEvents
 pub mod Histories
-pub mod Words

@@ -1,3 +1,5 @@
+pub mod BaseWords
+pub mod Words
 pub mod LeaseBooks
 pub mod CertificateLogs
 pub mod LeaseRows

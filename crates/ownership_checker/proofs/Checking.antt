@@ -1,29 +1,11 @@
 -- A trace, row by row: what was checked and lent so far, and what the check answers
-use Rattle.std.proofs.Common.{◌≡◌, ℕ, ◌+◌, ◌<◌, ◌≤◌, List, [], ◌∷◌, ap, sym, ◌∙◌, arith, length, subst, get_or}
-use Rattle.std.specs.Prelude.{reverse, take}
-use Rattle.std.proofs.lemmas.Grind.{common_steps}
-use Rattle.traces.specs.declared.row.Row.{Row}
-use Rattle.traces.specs.declared.header.Header.{Header}
-use Rattle.traces.specs.Header.{IsHeader}
+use Rattle.ownership_checker.proofs.Words.{◌≡◌, ℕ, ◌+◌, ◌<◌, ◌≤◌, List, [], ◌∷◌, ap, sym, ◌∙◌, arith, length, subst, get_or, reverse, take, common_steps, Row, Header, IsHeader, Known, nothing, known, Lease, without_end, RangeIndexes, FollowsLeases, HoldsLents, FollowsBook, IsCleanRow, TraceRecord, FollowsTrace, IsWithin, IsRowStep, IsAccepted, IsTracked, IsProgress}
 use Rattle.ownership_checker.specs.Walks.{WalksRead}
 use Rattle.ownership_checker.proofs.Walks.{walks}
-use Rattle.ring_knowledge.specs.Known.{Known, nothing}
-use Rattle.ring_knowledge.specs.Learned.{known}
-use Rattle.ring_knowledge.specs.declared.lease.Lease.{Lease}
-use Rattle.ownership_rules.specs.Leases.{leases as leases_of, without_end}
+use Rattle.ownership_rules.specs.Leases.{leases as leases_of}
 use Rattle.leases.specs.declared.book.lease_book.LeaseBook.{LeaseBook}
-use Rattle.leases.specs.declared.book.ranges.RangeIndexes.{RangeIndexes}
-use Rattle.leases.specs.LeaseBooks.Books.{FollowsLeases, HoldsLents}
-use Rattle.leases.specs.LeaseRows.CleanRows.{FollowsBook, IsCleanRow}
-use Rattle.trace_record.specs.declared.trace_record.TraceRecord.{TraceRecord}
-use Rattle.trace_record.specs.FollowsTrace.{FollowsTrace}
-use Rattle.trace_record.specs.Fresh.{IsWithin}
-use Rattle.trace_record.specs.Steps.{IsRowStep}
-use Rattle.ownership_checker.specs.JudgedRows.Accepted.{IsAccepted}
-use Rattle.ownership_checker.specs.JudgedRows.Tracking.{IsTracked}
 use Rattle.ownership_checker.proofs.JudgedRows.CleanHistories.{lenient_history, lenient_row}
 use Rattle.ownership_checker.proofs.JudgedRows.Passes as passes
-use Rattle.ownership_checker.specs.Tracking.{IsProgress}
 
 length_reversed : (rows : List Row) → length (reverse rows) ≡ length rows
 length_reversed rows = grind (arith, common_steps)

@@ -1,11 +1,5 @@
 -- A trace that the check accepts is harmless
-use Rattle.std.specs.Prelude.{ℕ, List, Result, Ok, Err, IfOk, OnOk}
-use Rattle.traces.specs.declared.header.Header.{Header}
-use Rattle.traces.specs.declared.row.Row.{Row}
-use Rattle.traces.specs.Header.{IsHeader}
-use Rattle.traces.specs.Rows.{AreRows}
-use Rattle.safety.specs.Headline.{IsHarmless}
-use Rattle.ownership_checker.specs.JudgedRows.Accepted.{IsAccepted}
+use Rattle.ownership_checker.proofs.Words.{ℕ, List, Result, Ok, Err, IfOk, OnOk, Header, Row, IsHeader, AreRows, IsHarmless, IsAccepted}
 use Rattle.ownership_checker.proofs.JudgedRows.Harmless.{harmless}
 use Rattle.ownership_checker.specs.declared.certificate.Certificate.{Certificate}
 use Rattle.ownership_checker.specs.declared.fault.CheckFault.{CheckFault}

@@ -4,3 +4,4 @@ pub mod Checking
 pub mod Streams
 pub mod JudgedRows
 pub mod RingPasses
+pub mod Words

@@ -1,23 +1,10 @@
 -- What a pass over the rows of a trace says of it, by the log of their leases
-use Rattle.std.proofs.Common.{◌≡◌, ◌+◌, ◌∷◌, ◌++◌, ◌∙◌, ℕ, Bool, List, [], Option, Err, refl, ap, sym, length}
-use Rattle.std.specs.Prelude.{map, reverse}
-use Rattle.std.proofs.lemmas.List.{length-append, length-map}
-use Rattle.trace_reader.specs.Reading.{TraceText}
-use Rattle.traces.specs.declared.header.Header.{Header}
-use Rattle.ring_knowledge.specs.declared.lease.Lease.{Lease}
-use Rattle.ownership_rules.specs.OpenLeases.{Leased}
-use Rattle.leases.specs.LeaseBooks.Lents.{Lent, ended_where, lease_of, with_begun}
-use Rattle.leases.specs.RingLeases.RingLents.{ring_lents}
-use Rattle.trace_reader.specs.declared.row_reader.fault.StreamFault.{StreamFault}
-use Rattle.trace_reader.specs.declared.row_reader.fault.StreamFault.TheVariants.{Line, Device, Memory}
-use Rattle.trace_reader.specs.Streaming.ReaderState.{IsOpened}
-use Rattle.trace_reader.specs.Streaming.Streams.{IfBadLine}
+use Rattle.ownership_checker.proofs.Words.{◌≡◌, ◌+◌, ◌∷◌, ◌++◌, ◌∙◌, ℕ, Bool, List, [], Option, Err, refl, ap, sym, length, map, reverse, length-append, length-map, TraceText, Header, Lease, Leased, Lent, ended_where, lease_of, with_begun, ring_lents, StreamFault, Line, Device, IsOpened, IfBadLine, IsBadLine, IsWholeLog, ring_row}
+use Rattle.trace_reader.specs.declared.row_reader.fault.StreamFault.TheVariants.{Memory}
 use Rattle.trace_reader.specs.Streaming.WholeTexts.{joined_behind}
 unfoldable use Rattle.trace_reader.specs.Streaming.WholeTexts.{taken_by_calls}
 use Rattle.trace_reader.proofs.Streaming.CallsJoined.{calls_say_what_is_taken}
 use Rattle.ownership_checker.specs.RingPasses.Accepted.{IsSound, leases_of}
-use Rattle.ownership_checker.specs.RingPasses.Reading.{IsBadLine, IsWholeLog}
-use Rattle.ownership_checker.specs.RingPasses.RingRows.{ring_row}
 
 module _ {B : Type 0} (Holds : Header → List Lent → B → Type 0) (trace : TraceText) (log : B) (w : IsWholeLog Holds trace log) where
   -- the leases that the log keeps

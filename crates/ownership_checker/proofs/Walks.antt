@@ -1,25 +1,10 @@
 -- After any rows of an accepted trace the walk through each ring reads what was declared
-use Rattle.std.specs.Prelude.{◌≡◌, ℕ, true, List, [], ◌∷◌, ◌++◌, take, drop, reverse}
-use Rattle.std.proofs.Common.{sym, ◌∙◌, ap, subst}
-use Rattle.std.proofs.lemmas.Bool.{false≢true}
-use Rattle.std.proofs.lemmas.List.{reverse-append, take-append-drop}
-use Rattle.trb.specs.declared.ring_kind.RingKind.{RingKind}
-use Rattle.trb.specs.declared.ring_kind.RingKind.TheVariants.{Evt}
-use Rattle.segments.proofs.WalkReads.{walk_reads}
-use Rattle.traces.specs.declared.header.Header.{Header}
-use Rattle.traces.specs.declared.row.Row.{Row}
-use Rattle.traces.specs.Header.{IsHeader, is_driver_kind, shape_of}
-use Rattle.ring_knowledge.specs.Learned.{known}
-use Rattle.ownership_rules.specs.Clean.{IsClean, IsLenient}
+use Rattle.ownership_checker.proofs.Words.{◌≡◌, ℕ, true, List, [], ◌∷◌, ◌++◌, take, drop, reverse, sym, ◌∙◌, ap, subst, false≢true, reverse-append, take-append-drop, RingKind, Evt, walk_reads, Header, Row, IsHeader, is_driver_kind, shape_of, known, IsClean, IsLenient, clean_tests, rings_of, endpoints_of, still_reads, still_of, HasRing, has_ring}
 use Rattle.safety.specs.KeptHistories.{MayReadAll}
-use Rattle.safety.proofs.TestsPassed.{clean_tests}
 use Rattle.safety.proofs.DriverHistories.{driver_keeps}
-use Rattle.safety.proofs.DriverRings.{rings_of, endpoints_of}
-use Rattle.safety.proofs.StillPlacing.{still_reads}
-use Rattle.safety.proofs.KeptRings.{still_of}
 use Rattle.safety.proofs.Histories.{keeps_rings}
 use Rattle.safety.proofs.NothingFree.{nothing_free}
-use Rattle.safety.proofs.RingsOfHeader.{HasRing, has_ring, shape_allowed}
+use Rattle.safety.proofs.RingsOfHeader.{shape_allowed}
 use Rattle.ownership_checker.proofs.JudgedRows.CleanHistories.{earlier_clean, lenient_history}
 use Rattle.ownership_checker.specs.Walks.{WalksRead}
 

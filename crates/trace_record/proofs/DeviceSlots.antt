@@ -17,7 +17,6 @@ pub mod Inserted
 pub mod UnfinishedWritten
 pub mod UnfinishedSame
 pub mod UnfinishedFinished
-pub mod RingApart
 pub mod TransfersApart
 pub mod UnfinishedEvents
 pub mod TouchedEndpoints

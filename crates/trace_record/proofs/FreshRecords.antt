@@ -1,24 +1,13 @@
 -- Before the first row, and what a search through the rings finds
-use Rattle.trace_record.proofs.Words.{◌≡◌, ◌+◌, ◌<◌, ◌∷◌, ◌++◌, ◌∙◌, ◌⊎◌, ℕ, zero, suc, List, [], true, false, Some, None, refl, ap, sym, inl, inr, length, get_or, subst, length-append, slice_get, is_some, slice_get_read, new_ring, due_positions, Ring, Header, IsHeader, is_event_kind, event_shape, event_ring, shape_or, shape_of, command_id, RingRecord, FollowsRing, nothing, FollowsTrace, FollowsEvents, FollowsPlace, inputs_of, device_contexts, list_any, AreFresh, IsFreshSo, EventState, FollowsDevices, EventCounts, Evt, FollowsRegisters, TraceRecord, among_at, each_among, not_found, event_found, filter_nothing, device_context_bytes, input_context_bytes, FollowsUnfinished, unfinished, unfinished_positions, SoiledWords, HoldsAreas, HoldsSoiled, slots, Command}
-use Rattle.ownership_rules.specs.Moves.{binds_ring, is_being_bound}
-use Rattle.trace_record.specs.RingSets.{has}
+use Rattle.trace_record.proofs.Words.{rules, ◌≡◌, ◌+◌, ◌<◌, ◌∷◌, ◌++◌, ◌∙◌, ◌⊎◌, ℕ, zero, suc, List, [], true, false, Some, None, refl, ap, sym, inl, inr, length, get_or, subst, length-append, slice_get, is_some, slice_get_read, new_ring, due_positions, Ring, Header, IsHeader, is_event_kind, event_shape, event_ring, shape_or, shape_of, command_id, RingRecord, FollowsRing, nothing, FollowsTrace, FollowsEvents, FollowsPlace, inputs_of, device_contexts, list_any, AreFresh, IsFreshSo, EventState, FollowsDevices, FollowsRegisters, TraceRecord, among_at, each_among, not_found, event_found, filter_nothing, device_context_bytes, input_context_bytes, FollowsUnfinished, unfinished, unfinished_positions, SoiledWords, HoldsAreas, HoldsSoiled, slots, Command, binds_ring, is_being_bound, has}
 
 one_at : (rs : List Ring) (i : ℕ) (q r : Ring) → slice_get rs i ≡ Some q → slice_get rs i ≡ Some r → q ≡ r
-one_at rs i q r e f = some_is (sym e ∙ f)
-  where
-    some_is : Some q ≡ Some r → q ≡ r
-    some_is e = cc
+one_at rs i q r e f = search rules
 
 -- in a list with a new element at the end
 at_push : {X : Type 0} (xs : List X) (y : X) (i : ℕ) (x : X) → slice_get (xs ++ y ∷ []) i ≡ Some x → (slice_get xs i ≡ Some x) ⊎ ((i ≡ length xs) × (y ≡ x))
-at_push [] y zero x e = inr (refl, some_is e)
-  where
-    some_is : Some y ≡ Some x → y ≡ x
-    some_is e = cc
-at_push [] y (suc i) x e = absurd (none_some e)
-  where
-    none_some : None ≡ Some x → ⊥
-    none_some e = cc
+at_push [] y zero x e = search rules
+at_push [] y (suc i) x e = search rules
 at_push (z ∷ xs) y zero x e = inl e
 at_push (z ∷ xs) y (suc i) x e = elim (at_push xs y i x e) [ inl old ↦ inl old | inr new ↦ inr (ap suc new.0, new.1) ]
 
@@ -29,10 +18,7 @@ fresh_push rings records ring i r so item below fresh = record {
   as_many = length-append records (r ∷ []) ∙ ap (λ n. n + 1) so.as_many;
   each = λ j q x at there. elim (at_push records r j x there) [
     | inl old ↦ so.each j q x at old
-    | inr new ↦
-        let here : slice_get rings i ≡ Some ring = slice_get_read rings (length rings) i ring refl below item in
-        let same : q ≡ ring = one_at rings i q ring (ap (λ n. slice_get rings n) (sym (new.0 ∙ so.as_many)) ∙ at) here in
-        subst (λ (y : RingRecord). FollowsRing q.shape new_ring y) new.1 (subst (λ (y : Ring). FollowsRing y.shape new_ring r) (sym same) fresh)
+    | inr new ↦ search (rules, slice_get, slice_get_read, length, one_at, new_ring)
   ];
 }
 
@@ -81,15 +67,7 @@ follows_first h t fresh registers_ events_ devices_ commands_ bound_ inputs_ con
 pub place_first : (h : Header) → IsHeader h → (i : ℕ) (r : Ring) → r ≡ get_or h.rings i r → i < length h.rings → is_event_kind r.shape.kind ≡ true → (e : EventState) → e.shape ≡ r.shape →
     e.counts ≡ record { posted = 0; reads = 0; dequeue = 0 } → FollowsPlace h nothing e
 unfolding nothing event_shape
-place_first h headed i r item below event e shape_ counts =
-    let among = among_at h.rings i r (slice_get_read h.rings (length h.rings) i r refl below item) in
-    let found = event_found h headed r among event in
-    record {
-      here = ap (λ o. is_some o) found;
-      shape = ap (λ o. shape_or Evt o) found ∙ sym shape_;
-      reads = ap (λ (c : EventCounts). c.reads) (sym counts);
-      dequeue = ap (λ (c : EventCounts). c.dequeue) (sym counts);
-    }
+place_first h headed i r item below event e shape_ counts = search (rules, among_at, slice_get_read, length, event_found, is_some, shape_or)
 
 pub no_event_ring : (h : Header) → ((i : ℕ) (d : Ring) → i < length h.rings → is_event_kind (get_or h.rings i d).shape.kind ≡ false) → event_ring h ≡ None
 unfolding event_ring

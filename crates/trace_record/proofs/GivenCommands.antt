@@ -1,18 +1,9 @@
 -- Which command a write gives, by the ring that has the word, and which one is finished next
-use Rattle.trace_record.proofs.Words.{◌≡◌, ◌%◌, ◌∙◌, ℕ, List, Bool, true, false, Option, None, Some, refl, ap, sym, inl, inr, cases_Bool, false≢true, Cmd, Evt, Xfer, RingKind, Shape, floor_number, is_inside, positions_given, due_positions, Ring, Header, IsHeader, is_event_kind, command_id, shape_of, shape_or, Known, positions_of, RingGiving, false_unless, IsAmong, same_or_apart, shape_allowed, shape_there, together}
-use Rattle.std.specs.Prelude.{if◌then◌else◌}
-use Rattle.traces.specs.Header.{command_ring, is_command_kind}
-use Rattle.ring_knowledge.specs.Rings.{command_at, next_command}
-use Rattle.ring_knowledge.specs.Writes.{command_given}
-use Rattle.trace_record.specs.RingCommands.{command_in, command_on}
-use Rattle.trace_record.proofs.RingFinder.FoundRings.{command_found}
-use Rattle.trace_record.proofs.RingFinder.CommandRings.{command_id_is, commands_among, no_ring}
+use Rattle.trace_record.proofs.Words.{rules, ◌≡◌, ◌%◌, ◌∙◌, ℕ, List, true, false, Option, None, Some, refl, ap, sym, inl, inr, false≢true, RingKind, Shape, floor_number, is_inside, positions_given, due_positions, Ring, Header, IsHeader, is_event_kind, command_id, shape_of, shape_or, Known, positions_of, RingGiving, false_unless, IsAmong, same_or_apart, shape_allowed, shape_there, together, if◌then◌else◌, command_ring, is_command_kind, command_at, next_command, command_given, command_in, command_on, command_found, command_id_is, commands_among, no_ring}
 use Rattle.trace_record.proofs.WordsInside.{gives_no_position}
 
 pub no_command_event : (kind : RingKind) → is_event_kind kind ≡ true → is_command_kind kind ≡ false
-no_command_event Cmd e = absurd (cc)
-no_command_event Evt e = refl
-no_command_event Xfer e = refl
+no_command_event kind h1 = search rules
 
 -- a word of another ring isn't in it
 not_in_commands : (h : Header) → IsHeader h → (ring : Ring) → IsAmong ring h.rings → is_command_kind ring.shape.kind ≡ false → (a : ℕ) → is_inside ring.shape a ≡ true →
@@ -48,8 +39,7 @@ module _ (h : Header) (headed : IsHeader h) (k : Known) where
     -- where there is none
     none_there : command_ring h ≡ None → command_given h k a w ≡ None
     unfolding shape_of positions_given due_positions
-    none_there none =
-        given_is ∙ ap (λ o. command_on (k.ring (command_id h)) (given_on (shape_or Xfer o) (command_id h))) (no_ring h headed none)
+    none_there none = search (rules, given_is, command_id, shape_or, no_ring)
 
     -- outside the command ring none is given
     pub none_outside : a % 4 ≡ 0 → ((c : Ring) → command_ring h ≡ Some c → is_inside c.shape a ≡ false) → command_given h k a w ≡ None
@@ -68,23 +58,13 @@ module _ (h : Header) (headed : IsHeader h) (k : Known) where
     -- a ring that has the word
     pub command_is : a % 4 ≡ 0 → (r : Ring) → IsAmong r h.rings → is_inside r.shape a ≡ true →
         command_given h k a w ≡ (if is_command_kind r.shape.kind then command_on (k.ring r.id) (positions_given r.shape (k.ring r.id) a w) else None)
-    command_is aligned r among has = elim (cases_Bool (is_command_kind r.shape.kind)) [
-      | inl command ↦
-          given_there r (command_found h headed r among command)
-          ∙ ap (λ (b : Bool). if b then command_on (k.ring r.id) (positions_given r.shape (k.ring r.id) a w) else None) (sym command)
-      | inr other ↦
-          none_outside aligned (λ c there. not_in_commands h headed r among other a has c there)
-          ∙ ap (λ (b : Bool). if b then command_on (k.ring r.id) (positions_given r.shape (k.ring r.id) a w) else None) (sym other)
-    ]
+    command_is aligned r among has = search (rules, given_there, command_found, positions_given, none_outside, not_in_commands)
 
     -- the event ring has it
     pub none_in_events : a % 4 ≡ 0 → (r : Ring) → IsAmong r h.rings → is_inside r.shape a ≡ true → is_event_kind r.shape.kind ≡ true → command_given h k a w ≡ None
-    none_in_events aligned r among has event =
-        command_is aligned r among has
-        ∙ ap (λ (b : Bool). if b then command_on (k.ring r.id) (positions_given r.shape (k.ring r.id) a w) else None) (no_command_event r.shape.kind event)
+    none_in_events aligned r among has event = search (rules, command_is, positions_given, no_command_event)
 
     -- by what the write gives of the ring
     pub given_by_ring : a % 4 ≡ 0 → (r : Ring) → IsAmong r h.rings → is_inside r.shape a ≡ true → (giving : Option RingGiving) → positions_given r.shape (k.ring r.id) a w ≡ positions_of giving →
         command_given h k a w ≡ (if is_command_kind r.shape.kind then command_on (k.ring r.id) (positions_of giving) else None)
-    given_by_ring aligned r among has giving gives =
-        command_is aligned r among has ∙ ap (λ ps. if is_command_kind r.shape.kind then command_on (k.ring r.id) ps else None) gives
+    given_by_ring aligned r among has giving gives = search (rules, command_is)

@@ -8,6 +8,7 @@ mod OpenEntries
 pub mod GivenCommands
 pub mod PlacedRows
 pub mod FirstBroken
+pub mod BaseWords
 pub mod Words
 pub mod RangeWords
 pub mod RingFinder

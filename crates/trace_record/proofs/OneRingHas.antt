@@ -1,16 +1,13 @@
 -- Of the rings of a header only the one that has a word can own it, or give something by its write
-use Rattle.trace_record.proofs.Words.{◌≡◌, ◌%◌, ◌++◌, ◌∙◌, ◌||◌, ℕ, [], Bool, true, false, Option, Some, None, refl, ap, sym, inl, inr, map, append-nil, list_any, RingKind, Cmd, Evt, Xfer, is_inside, touches, overlap, address_of, link_address, positions_given, crossings_given, leased_positions, leased_crossings, touches-word, Ring, Header, IsHeader, is_driver_kind, is_event_kind, shape_or, driver_rings, event_ring, event_shape, Known, Position, Crossing, given_of, given_by, false_unless, or_false, any_append, any_map, IsAmong, Apart, same_or_apart, together, shape_allowed, shape_there, event_here, find_some, one_driver, no_driver, all_from_one, nothing_from, is_owned, rings_have}
+use Rattle.trace_record.proofs.Words.{rules, ◌≡◌, ◌%◌, ◌++◌, ◌∙◌, ◌||◌, ℕ, [], Bool, true, false, ap, sym, map, append-nil, list_any, RingKind, is_inside, touches, overlap, address_of, link_address, positions_given, crossings_given, leased_positions, leased_crossings, touches-word, Ring, Header, IsHeader, is_driver_kind, is_event_kind, shape_or, driver_rings, event_ring, event_shape, Known, Position, Crossing, given_of, given_by, false_unless, or_false, any_append, any_map, IsAmong, Apart, same_or_apart, together, shape_allowed, shape_there, event_here, find_some, one_driver, no_driver, all_from_one, nothing_from, is_owned, rings_have}
 use Rattle.ownership_rules.specs.OpenLeases as leases
 use Rattle.trace_record.proofs.WordsInside.{not_owned, gives_no_position, gives_no_crossing}
 
 pub no_driver_event : (kind : RingKind) → is_driver_kind kind ≡ true → is_event_kind kind ≡ true → ⊥
-no_driver_event Cmd d e = absurd (cc)
-no_driver_event Evt d e = absurd (cc)
-no_driver_event Xfer d e = absurd (cc)
+no_driver_event kind h1 h2 = search rules
 
 or_true : (b : Bool) → (b || true) ≡ true
-or_true true = refl
-or_true false = refl
+or_true b = search rules
 
 module _ (h : Header) (headed : IsHeader h) (k : Known) (a : ℕ) (aligned : a % 4 ≡ 0) where
   pub inside_is : (q : Ring) → IsAmong q h.rings → touches q.shape a 4 ≡ is_inside q.shape a
@@ -19,14 +16,7 @@ module _ (h : Header) (headed : IsHeader h) (k : Known) (a : ℕ) (aligned : a %
   -- the leases of one ring
   owned_on : (q : Ring) → IsAmong q h.rings → list_any (leases.covers h a 4) (leases.open_on h k q) ≡ is_owned q.shape (k.ring q.id) a
   unfolding leases.open_on leases.covers leases.lease_start leases.lease_bytes
-  owned_on q among =
-      any_append (leases.covers h a 4) (map (leases.Block q.id) (leased_positions q.shape (k.ring q.id))) (map (leases.Link q.id) (leased_crossings q.shape (k.ring q.id)))
-      ∙ rw (
-        any_map (leases.covers h a 4) (leases.Block q.id) (leased_positions q.shape (k.ring q.id)),
-        any_map (leases.covers h a 4) (leases.Link q.id) (leased_crossings q.shape (k.ring q.id)),
-      )
-      (ap (λ s. list_any (λ p. overlap a 4 (address_of s p) 16) (leased_positions q.shape (k.ring q.id))
-      || list_any (λ p. overlap a 4 (link_address s p) 16) (leased_crossings q.shape (k.ring q.id))) (shape_there h headed q among))
+  owned_on q among = search (rules, any_append, map, leased_positions, leased_crossings, any_map, list_any, overlap, address_of, link_address, shape_there)
 
   segments_cover : list_any (leases.covers h a 4) (leases.segment_ranges h) ≡ touches (event_shape h) a 4
   unfolding leases.segment_ranges leases.covers leases.lease_start leases.lease_bytes
@@ -39,24 +29,15 @@ module _ (h : Header) (headed : IsHeader h) (k : Known) (a : ℕ) (aligned : a %
   given_here : (w : ℕ) (q : Ring) → IsAmong q h.rings → given_of h k a w q.id
       ≡ map (Position q.id) (positions_given q.shape (k.ring q.id) a w) ++ map (Crossing q.id) (crossings_given q.shape (k.ring q.id) a w)
   unfolding given_of
-  given_here w q among =
-      ap (λ s. map (Position q.id) (positions_given s (k.ring q.id) a w) ++ map (Crossing q.id) (crossings_given s (k.ring q.id) a w)) (shape_there h headed q among)
+  given_here w q among = search (rules, map, positions_given, crossings_given, shape_there)
 
   none_given : (w : ℕ) (q : Ring) → IsAmong q h.rings → is_inside q.shape a ≡ false → given_of h k a w q.id ≡ []
-  none_given w q among outside =
-      given_here w q among
-      ∙ rw (gives_no_position q.shape (shape_allowed h headed q among) a aligned outside (k.ring q.id) w, gives_no_crossing q.shape (shape_allowed h headed q among) a aligned outside (k.ring q.id) w) refl
+  none_given w q among outside = search (rules, given_here, gives_no_position, shape_allowed, gives_no_crossing)
 
   -- an event segment has the word only where the event ring has
   not_in_events : ((q : Ring) → IsAmong q h.rings → is_event_kind q.shape.kind ≡ true → is_inside q.shape a ≡ false) → touches (event_shape h) a 4 ≡ false
   unfolding event_shape event_ring
-  not_in_events never = by (event_ring h) refl
-    where
-      by : (o : Option Ring) → event_ring h ≡ o → touches (shape_or Evt (event_ring h)) a 4 ≡ false
-      by None found = rw found refl
-      by (Some e) found =
-          let there = find_some (λ q. is_event_kind q.shape.kind) h.rings e found in
-          rw found (inside_is e there.0 ∙ never e there.0 there.1)
+  not_in_events never = search (rules, event_ring, touches, shape_or, find_some, is_event_kind, inside_is)
 
   -- no ring has it
   module _ (none : (q : Ring) → IsAmong q h.rings → touches q.shape a 4 ≡ false) where
@@ -65,12 +46,7 @@ module _ (h : Header) (headed : IsHeader h) (k : Known) (a : ℕ) (aligned : a %
 
     pub rings_nowhere : false ≡ rings_have h k a
     unfolding driver_rings
-    rings_nowhere =
-        sym (rw (
-          no_driver (λ q. list_any (leases.covers h a 4) (leases.open_on h k q)) h.rings (λ q among driver. unowned q among (outside q among)),
-          segments_cover,
-          not_in_events (λ q among event. outside q among),
-        ) refl)
+    rings_nowhere = search (rules, no_driver, list_any, unowned, outside, segments_cover, not_in_events)
 
     pub given_nowhere : (w : ℕ) → given_by h k a w ≡ []
     unfolding given_by driver_rings
@@ -89,20 +65,11 @@ module _ (h : Header) (headed : IsHeader h) (k : Known) (a : ℕ) (aligned : a %
     others q there apart = false_unless (is_inside q.shape a) (λ e. apart.memory a inside e)
 
     no_event_segment : touches (event_shape h) a 4 ≡ false
-    no_event_segment = not_in_events (λ q there event. elim (same_or_apart h.rings (together h headed) r q among there) [
-      | inl same ↦ absurd (no_driver_event q.shape.kind (ap (λ (y : Ring). is_driver_kind y.shape.kind) same ∙ driver) event)
-      | inr apart ↦ others q there apart
-    ])
+    no_event_segment = search (rules, not_in_events, same_or_apart, together, no_driver_event, is_driver_kind, others)
 
     pub rings_here : is_owned r.shape (k.ring r.id) a ≡ rings_have h k a
     unfolding driver_rings
-    rings_here =
-        sym (rw (
-          one_driver (λ q. list_any (leases.covers h a 4) (leases.open_on h k q)) h.rings (together h headed) r among driver (λ q there apart. unowned q there (others q there apart)),
-          segments_cover,
-          no_event_segment,
-          owned_on r among,
-        ) (or_false (is_owned r.shape (k.ring r.id) a)))
+    rings_here = search (rules, one_driver, list_any, together, unowned, others, segments_cover, no_event_segment, owned_on, or_false, is_owned)
 
     pub given_by_one : (w : ℕ) → given_by h k a w ≡ map (Position r.id) (positions_given r.shape (k.ring r.id) a w) ++ map (Crossing r.id) (crossings_given r.shape (k.ring r.id) a w)
     unfolding given_by driver_rings

@@ -1,22 +1,14 @@
 -- The contexts under lease, by the addresses at which they start
-use Rattle.trace_record.proofs.Words.{◌≡◌, ◌∷◌, ◌++◌, ◌∙◌, ◌||◌, ℕ, List, [], Bool, true, false, Option, Some, None, refl, ap, sym, list_any, filter_map, flat_map, cons_option, overlap, Command, named_context, device_context_bytes, input_context_bytes, Header, Erstba, driver_rings, Known, or_false, any_append, any_flat_map, inputs_of, device_contexts, rings_have, table_has, entries_have, ◌&&◌, ◌==◌, not, Shape, touches, event_shape, event_ring, shape_or, any_map, Evt}
+use Rattle.trace_record.proofs.Words.{rules, ◌≡◌, ◌∷◌, ◌++◌, ◌∙◌, ◌||◌, ℕ, List, [], Bool, true, false, Option, None, refl, ap, sym, list_any, filter_map, flat_map, cons_option, overlap, Command, named_context, device_context_bytes, input_context_bytes, Header, driver_rings, Known, or_false, any_append, any_flat_map, inputs_of, device_contexts, rings_have, table_has, entries_have, ◌&&◌, ◌==◌, not, Shape, touches, event_shape, event_ring, shape_or, any_map, Evt, older, stricter, writes_to_owned, changes_owned, is_three}
 use Rattle.ring_knowledge.specs.Rings as rings
 use Rattle.ownership_rules.specs.OpenLeases as leases
-use Rattle.ownership_rules.specs.Older.{older, stricter, writes_to_owned}
-use Rattle.ownership_rules.specs.Writes.{changes_owned}
-use Rattle.traces.specs.Versions.{is_three}
 
 or_groups : (d s t c e v : Bool) → (d || ((((s || t) || c) || e) || v)) ≡ (((((d || s) || t) || c) || e) || v)
-or_groups true s t c e v = refl
-or_groups false s t c e v = refl
+or_groups d s t c e v = search rules
 
 any_parts : {X : Type 0} (f : X → Bool) (xs ys zs us vs : List X) →
     list_any f (xs ++ ys ++ zs ++ us ++ vs) ≡ ((((list_any f xs || list_any f ys) || list_any f zs) || list_any f us) || list_any f vs)
-any_parts f xs ys zs us vs =
-    any_append f (xs ++ ys ++ zs ++ us) vs
-    ∙ ap (λ b. b || list_any f vs) (any_append f (xs ++ ys ++ zs) us
-    ∙ ap (λ b. b || list_any f us) (any_append f (xs ++ ys) zs
-    ∙ ap (λ b. b || list_any f zs) (any_append f xs ys)))
+any_parts f xs ys zs us vs = search (rules, any_append, list_any)
 
 module _ (h : Header) (k : Known) (a : ℕ) where
   abbrev Has : List leases.Leased → Bool
@@ -32,31 +24,25 @@ module _ (h : Header) (k : Known) (a : ℕ) where
 
   one_context : (p : ℕ) (o : Option ℕ) (rest : List ℕ) → list_any in_input (cons_option o rest) ≡ (Has (leases.range_of_context h p o) || list_any in_input rest)
   unfolding leases.range_of_context leases.covers leases.lease_start leases.lease_bytes
-  one_context p None rest = refl
-  one_context p (Some c) rest = ap (λ b. b || list_any in_input rest) (sym (or_false (in_input c)))
+  one_context p o rest = search (rules, list_any, or_false)
 
   one_command : (p : ℕ) (o : Option Command) (rest : List Command) → list_any in_input (inputs_of (cons_option o rest)) ≡ (Has (leases.range_of_command h p o) || list_any in_input (inputs_of rest))
   unfolding leases.range_of_command
-  one_command p None rest = refl
-  one_command p (Some c) rest = one_context p (named_context c) (inputs_of rest)
+  one_command p o rest = search (rules, one_context, named_context, inputs_of)
 
   all_commands : (ps : List ℕ) → list_any in_input (inputs_of (filter_map (rings.command_at h k) ps)) ≡ list_any (λ p. Has (leases.range_of_command h p (rings.command_at h k p))) ps
   all_commands [] = refl
-  all_commands (p ∷ ps) =
-      one_command p (rings.command_at h k p) (filter_map (rings.command_at h k) ps) ∙ ap (λ b. Has (leases.range_of_command h p (rings.command_at h k p)) || b) (all_commands ps)
+  all_commands (p ∷ ps) = search (rules, one_command, filter_map, all_commands ps)
 
   inputs_are : list_any in_input (inputs_of (rings.unfinished h k)) ≡ Has (leases.context_ranges h k)
   unfolding rings.unfinished leases.context_ranges
-  inputs_are =
-      all_commands (rings.unfinished_positions h k)
-      ∙ sym (any_flat_map (leases.covers h a 4) (λ p. leases.range_of_command h p (rings.command_at h k p)) (rings.unfinished_positions h k))
+  inputs_are = search (rules, all_commands, any_flat_map)
 
   -- ---- device contexts
 
   one_device : (s : ℕ) (o : Option ℕ) (rest : List ℕ) → list_any in_device (cons_option o rest) ≡ (Has (leases.range_of_device h s o) || list_any in_device rest)
   unfolding leases.range_of_device leases.covers leases.lease_start leases.lease_bytes
-  one_device s None rest = refl
-  one_device s (Some d) rest = ap (λ b. b || list_any in_device rest) (sym (or_false (in_device d)))
+  one_device s o rest = search (rules, list_any, or_false)
 
   all_devices : (ss : List ℕ) → list_any in_device (filter_map k.device ss) ≡ list_any (λ s. Has (leases.range_of_device h s (k.device s))) ss
   all_devices [] = refl
@@ -71,20 +57,12 @@ module _ (h : Header) (k : Known) (a : ℕ) where
   ranges_are : Has (leases.open_ranges h k)
       ≡ ((((Has (leases.segment_ranges h) || table_has h k a) || Has (leases.context_ranges h k)) || entries_have h k a) || Has (leases.device_ranges h k))
   unfolding leases.open_ranges
-  ranges_are =
-      any_parts (leases.covers h a 4) (leases.segment_ranges h) (leases.table_range h (k.register Erstba)) (leases.context_ranges h k) (leases.entry_ranges k) (leases.device_ranges h k)
+  ranges_are = search (rules, any_parts)
 
   pub leased_is : leases.is_leased h k a
       ≡ ((((rings_have h k a || table_has h k a) || list_any in_input (inputs_of (rings.unfinished h k))) || entries_have h k a) || list_any in_device (device_contexts k))
   unfolding leases.is_leased leases.open_leases
-  leased_is =
-      let on_rings : Bool = list_any (λ q. Has (leases.open_on h k q)) (driver_rings h) in
-      any_append (leases.covers h a 4) (flat_map (leases.open_on h k) (driver_rings h)) (leases.open_ranges h k)
-      ∙ ap (λ b. b || Has (leases.open_ranges h k)) (any_flat_map (leases.covers h a 4) (leases.open_on h k) (driver_rings h))
-      ∙ ap (λ b. on_rings || b) ranges_are
-      ∙ or_groups on_rings (Has (leases.segment_ranges h)) (table_has h k a) (Has (leases.context_ranges h k)) (entries_have h k a) (Has (leases.device_ranges h k))
-      ∙ ap (λ b. (((rings_have h k a || table_has h k a) || b) || entries_have h k a) || Has (leases.device_ranges h k)) (sym inputs_are)
-      ∙ ap (λ b. (((rings_have h k a || table_has h k a) || list_any in_input (inputs_of (rings.unfinished h k))) || entries_have h k a) || b) (sym devices_are)
+  leased_is = search (rules, list_any, driver_rings, any_append, flat_map, any_flat_map, ranges_are, or_groups, table_has, entries_have, rings_have, inputs_are, inputs_of, devices_are)
 
   -- ---- the words that only the controller may write
 
@@ -105,27 +83,15 @@ module _ (h : Header) (k : Known) (a : ℕ) where
 
   -- they are under lease
   within_leases : (r s t c e v : Bool) → (((((r || s) || t) || c) || e) || v) ≡ false → (s || v) ≡ false
-  within_leases false false false false false v none = none
-  within_leases false false false false true v none = cc
-  within_leases false false false true e v none = cc
-  within_leases false false true c e v none = cc
-  within_leases false true t c e v none = cc
-  within_leases true s t c e v none = cc
+  within_leases r s t c e v h1 = search rules
 
   pub controllers_leased : leases.is_leased h k a ≡ false → leases.is_the_controllers h k a ≡ false
-  controllers_leased free =
-      controllers_are
-      ∙ within_leases (list_any (λ q. Has (leases.open_on h k q)) (driver_rings h)) (Has (leases.segment_ranges h)) (table_has h k a) (list_any in_input (inputs_of (rings.unfinished h k)))
-      (entries_have h k a) (list_any in_device (device_contexts k)) (sym leased_is ∙ free)
+  controllers_leased free = search (rules, controllers_are, within_leases, list_any, driver_rings, table_has, inputs_of, entries_have, device_contexts, leased_is)
 
   -- ---- what a write may not do, by the trace's version
 
   judged : (leased three alone same : Bool) → (leased ≡ false → alone ≡ false) → ((leased && not three) || (alone || (leased && not same))) ≡ (leased && (not three || (not same || alone)))
-  judged false three alone same within = or_false alone ∙ within refl
-  judged true false alone same within = refl
-  judged true true false same within = sym (or_false (not same))
-  judged true true true true within = refl
-  judged true true true false within = refl
+  judged leased three alone same h1 = search (rules, or_false, not)
 
   pub owned_is : (w : ℕ) → writes_to_owned h k a w ≡ (leases.is_leased h k a && (not (is_three h.version) || (not (k.memory a == w) || leases.is_the_controllers h k a)))
   unfolding writes_to_owned stricter older changes_owned
@@ -136,13 +102,11 @@ module _ (h : Header) (k : Known) (a : ℕ) where
   disturbs w = not (k.memory a == w) || leases.is_the_controllers h k a
 
   pub owned_by_version : (w : ℕ) → leases.is_leased h k a ≡ true → not (is_three h.version) ≡ true → writes_to_owned h k a w ≡ true
-  owned_by_version w leased older =
-      owned_is w ∙ ap (λ l. l && (not (is_three h.version) || disturbs w)) leased ∙ ap (λ o. o || disturbs w) older
+  owned_by_version w leased older = search (rules, owned_is, not)
 
   pub owned_by_change : (w : ℕ) → leases.is_leased h k a ≡ true → not (is_three h.version) ≡ false →
       writes_to_owned h k a w ≡ (not (k.memory a == w) || leases.is_the_controllers h k a)
-  owned_by_change w leased newer =
-      owned_is w ∙ ap (λ l. l && (not (is_three h.version) || disturbs w)) leased ∙ ap (λ o. o || disturbs w) newer
+  owned_by_change w leased newer = search (rules, owned_is, not)
 
   pub not_owned : (w : ℕ) → leases.is_leased h k a ≡ false → writes_to_owned h k a w ≡ false
   not_owned w free = owned_is w ∙ ap (λ l. l && (not (is_three h.version) || disturbs w)) free

@@ -1,5 +1,5 @@
 -- The entries of the DCBAA under lease, by the slot whose entry has a word
-use Rattle.trace_record.proofs.Words.{◌≡◌, ◌≢◌, ◌+◌, ◌-◌, ◌*◌, ◌/◌, ◌%◌, ◌<◌, ◌≤◌, ◌∷◌, ◌∙◌, ◌||◌, ◌&&◌, ◌⊎◌, ℕ, zero, suc, List, [], Bool, true, false, Option, Some, None, refl, ap, sym, arith, inl, inr, is_some, list_any, range_with_len, cases_eq, nat_tests, overlap, Header, Dcbaap, register_or_zero, Known, entry_of, or_false, and_false, any_flat_map, entries_have}
+use Rattle.trace_record.proofs.Words.{rules, ◌≡◌, ◌≢◌, ◌+◌, ◌-◌, ◌*◌, ◌/◌, ◌%◌, ◌<◌, ◌≤◌, ◌∙◌, ◌&&◌, ◌⊎◌, ℕ, zero, suc, List, Bool, true, false, Option, refl, ap, sym, arith, inl, inr, is_some, list_any, range_with_len, cases_eq, nat_tests, overlap, Header, Dcbaap, register_or_zero, Known, entry_of, or_false, and_false, any_flat_map, entries_have}
 use Rattle.ownership_rules.specs.OpenLeases as leases
 
 range_none : (p : ℕ → Bool) (first n : ℕ) → ((s : ℕ) → first ≤ s → s < first + n → p s ≡ false) → list_any p (range_with_len first n) ≡ false
@@ -14,12 +14,10 @@ range_one p first (suc n) t low high others = elim (cases_eq first t) [
 ]
 
 and_true : (b : Bool) → (b && true) ≡ b
-and_true true = refl
-and_true false = refl
+and_true b = search rules
 
 same_any : (p q : ℕ → Bool) → ((s : ℕ) → p s ≡ q s) → (xs : List ℕ) → list_any p xs ≡ list_any q xs
-same_any p q same [] = refl
-same_any p q same (x ∷ xs) = rw (same x) (ap (λ b. q x || b) (same_any p q same xs))
+same_any p q h1 xs = search rules
 
 module _ (h : Header) (k : Known) (a : ℕ) where
   abbrev base : ℕ
@@ -30,8 +28,7 @@ module _ (h : Header) (k : Known) (a : ℕ) where
 
   one_entry : (s : ℕ) (o : Option ℕ) → list_any (leases.covers h a 4) (leases.range_of_entry k s o) ≡ (is_some o && overlap a 4 (base + 8 * s) 8)
   unfolding leases.range_of_entry leases.covers leases.lease_start leases.lease_bytes entry_of
-  one_entry s None = refl
-  one_entry s (Some d) = or_false (overlap a 4 (base + 8 * s) 8)
+  one_entry s o = search (rules, or_false, overlap)
 
   entries_are : entries_have h k a ≡ list_any in_entry (range_with_len 1 255)
   unfolding leases.entry_ranges leases.slots

@@ -4,4 +4,3 @@ pub mod Counts
 pub mod AreaLists
 pub mod MarkedWords
 pub mod WordTests
-pub mod Words

@@ -9,4 +9,3 @@ pub mod TouchedSegments
 pub mod FoundRings
 pub mod CommandRings
 pub mod HavingRings
-pub mod Words

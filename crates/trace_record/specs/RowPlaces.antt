@@ -1,5 +1,5 @@
 -- What a row is about: where the word lies that it writes, the command that it gives or ends, and whether the controller owns what it writes
-use Rattle.std.specs.Prelude.{◌≡◌, ℕ, ◌%◌, true, Bool, Option, None, Some, is_some, position, slice_get}
+use Rattle.std.specs.Prelude.{◌≡◌, ℕ, ◌%◌, true, Bool, Option, None, Some, if◌then◌else◌, is_some, option_and_then, position, slice_get}
 use Rattle.trb.specs.Block.{kind}
 use Rattle.trb.specs.declared.kind.BlockKind.TheVariants.{CommandCompletion}
 use Rattle.segments.specs.Places.{touches}
@@ -9,7 +9,7 @@ use Rattle.traces.specs.declared.ring.Ring.{Ring}
 use Rattle.traces.specs.declared.header.Header.{Header}
 use Rattle.traces.specs.declared.row.Row.{Row}
 use Rattle.traces.specs.declared.row.Row.TheVariants.{Write, Read}
-use Rattle.traces.specs.Header.{command_ring, is_driver_kind, is_event_kind}
+use Rattle.traces.specs.Header.{command_ring, is_command_kind, is_driver_kind, is_event_kind}
 use Rattle.ring_knowledge.specs.declared.ring_record.RingGiving.{RingGiving}
 use Rattle.ring_knowledge.specs.Known.{Known}
 use Rattle.ring_knowledge.specs.RingRecords.{positions_of, crossings_of}
@@ -18,6 +18,7 @@ use Rattle.ring_knowledge.specs.Writes.{command_given}
 use Rattle.ownership_rules.specs.Older.{writes_to_owned}
 use Rattle.trace_record.specs.declared.row_place.RowPlace.{RowPlace}
 use Rattle.trace_record.specs.Owned.{rings_have}
+use Rattle.trace_record.specs.RingCommands.{command_on}
 
 -- the write of a word gives this of a ring: of the event ring nothing
 pub record IsGivenOn (k : Known) (at word : ℕ) (ring : Ring) (giving : Option RingGiving) : Type 0 where
@@ -37,6 +38,18 @@ pub record IsPlacedSo (h : Header) (k : Known) (at word : ℕ) (p : RowPlace) : 
   pub lent : p.is_lent ≡ rings_have h k at
   pub given : IsGivenBy h k at word p.ring p.giving
   pub command : p.command ≡ command_given h k at word
+
+-- the command that this giving of a ring gives, if it is the command ring
+abbrev pub command_by : Known → Option RingGiving → Ring → Option Command
+command_by k giving ring = if is_command_kind ring.shape.kind then command_on (k.ring ring.id) (positions_of giving) else None
+
+-- the command that a write gives which has this place
+abbrev pub command_of_place : Header → Known → RowPlace → Option Command
+command_of_place h k p = option_and_then (command_by k p.giving) (option_and_then (slice_get h.rings) p.ring)
+
+-- the same place, with this command
+abbrev pub with_command : RowPlace → Option Command → RowPlace
+with_command p command = record { ring = p.ring; is_lent = p.is_lent; giving = p.giving; command = command }
 
 -- the command that is finished next, where there is a command ring
 abbrev pub IsNext : Header → Known → Option Command → Type 0

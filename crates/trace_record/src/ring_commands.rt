@@ -1,9 +1,9 @@
 //! The commands of the Command Ring: the one that a write gives, and the one that is finished next (xHCI 4.6).
-ghost use Rattle.std.specs.Prelude.{◌≡◌, ◌≤◌, ℕ, None, IfSome, if◌then◌else◌};
+ghost use Rattle.std.specs.Prelude.{◌≡◌, ◌≤◌, ℕ, IfSome};
 ghost use Rattle.commands.specs.Command.{IsSaid};
 ghost use Rattle.segments.specs.ShapeValue.{Shape};
 ghost use Rattle.segments.specs.RingView.{RingView, floor_number};
-ghost use Rattle.traces.specs.Header.{IsHeader, is_command_kind};
+ghost use Rattle.traces.specs.Header.{IsHeader};
 ghost use Rattle.ring_knowledge.specs.Known.{Known};
 ghost use Rattle.ring_knowledge.specs.RingRecords.{FollowsRing, IsFromFloor, positions_of};
 ghost use Rattle.trace_record.specs.RingCommands.{command_in, command_on};
@@ -11,11 +11,11 @@ ghost use Rattle.trace_record.specs.RingFinder.Finding.{IsFinder};
 ghost use Rattle.trace_record.specs.RingFinder.RecordsOfRings.{FollowsRings};
 ghost use Rattle.trace_record.specs.RowPlaces.{IsNext};
 
-use crate::ring_finder::{Finder, is_command_ring};
+use crate::ring_finder::Finder;
 use crate::trace_record::TraceRecord;
 use commands::{Command, SaidCommand};
 use ring_knowledge::{RingGiving, RingRecord};
-use traces::{Header, Ring};
+use traces::Header;
 
 /// The command that is declared at a position of a ring, from its floor on.
 pub fn declared_command(known: &RingRecord, position: u64) -> Option<SaidCommand>
@@ -27,23 +27,12 @@ pub fn declared_command(known: &RingRecord, position: u64) -> Option<SaidCommand
     }
 }
 
-/// The command that a write gives which gives this of a ring, from its floor on.
-pub(crate) fn given_command(
-    ring: &Ring,
-    known: &RingRecord,
-    giving: Option<RingGiving>,
-) -> Option<SaidCommand>
-    ensures { (v : RingView) → FollowsRing ring.now.shape v known.now → IsFromFloor v giving →
-        result ≡ (if is_command_kind ring.now.shape.kind then command_on v (positions_of giving) else None) }
+/// The command that a write gives which gives this of the command ring, from its floor on.
+pub(crate) fn given_command(known: &RingRecord, giving: Option<RingGiving>) -> Option<SaidCommand>
+    ensures { (shape : Shape) (v : RingView) → FollowsRing shape v known.now → IsFromFloor v giving → result ≡ command_on v (positions_of giving) }
 {
     match giving {
-        Some(RingGiving::Position(position)) => {
-            if is_command_ring(ring) {
-                declared_command(known, position)
-            } else {
-                None
-            }
-        }
+        Some(RingGiving::Position(position)) => declared_command(known, position),
         _ => None,
     }
 }

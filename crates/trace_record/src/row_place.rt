@@ -1,4 +1,4 @@
-ghost use Rattle.std.specs.Prelude.{◌≡◌, ℕ};
+ghost use Rattle.std.specs.Prelude.{◌≡◌, ℕ, None};
 ghost use Rattle.trb.specs.Block.{kind};
 ghost use Rattle.trb.specs.declared.kind.BlockKind.TheVariants.{CommandCompletion};
 ghost use Rattle.traces.specs.Header.{IsHeader};
@@ -6,10 +6,10 @@ ghost use Rattle.ring_knowledge.specs.Known.{Known};
 ghost use Rattle.trace_record.specs.RingFinder.Finding.{IsFinder};
 ghost use Rattle.trace_record.specs.RingFinder.RecordsOfRings.{FollowsRings};
 ghost use Rattle.trace_record.specs.FollowsTrace.{FollowsTrace};
-ghost use Rattle.trace_record.specs.RowPlaces.{IsNext, IsPlaced, IsPlacedSo};
+ghost use Rattle.trace_record.specs.RowPlaces.{IsGivenBy, IsNext, IsPlaced, IsPlacedSo, command_of_place, with_command};
 
 use crate::ring_commands::given_command;
-use crate::ring_finder::{Finder, is_event_ring};
+use crate::ring_finder::{Finder, is_command_ring, is_event_ring};
 use crate::trace_record::TraceRecord;
 use commands::SaidCommand;
 use guest_memory::Addr;
@@ -40,7 +40,7 @@ impl TraceRecord {
         ensures { (k : Known) (memory : ℕ → ℕ) → FollowsTrace header.now k self.now memory → IsPlaced header.now k row.now result }
     {
         match row {
-            Row::Write { at, word } => self.word_place(header, finder, *at, *word),
+            Row::Write { at, word } => self.write_place(header, finder, *at, *word),
             Row::Read { event } => RowPlace {
                 ring: None,
                 is_lent: false,
@@ -56,12 +56,49 @@ impl TraceRecord {
         }
     }
 
-    /// Where a word lies, and what its write gives of its ring. It stays out of `place`, which has nothing to do for most rows.
+    /// Where a word lies that is written, and the command that its write gives.
+    #[inline(always)]
+    fn write_place(&self, header: &Header, finder: &Finder, at: Addr, word: u32) -> RowPlace
+        requires headed { IsHeader header.now }
+        requires found { IsFinder header.now.rings finder.now }
+        ensures { (k : Known) → FollowsRings header.now k self.now.rings.items → IsPlacedSo header.now k at word result }
+    {
+        let mut place = self.word_place(header, finder, at, word);
+        if place.giving.is_some() {
+            place.command = self.command_there(header, &place);
+        }
+        place
+    }
+
+    /// The command that a write gives which has this place and gives something of its ring: none but on the Command Ring.
+    #[inline(always)]
+    fn command_there(&self, header: &Header, place: &RowPlace) -> Option<SaidCommand>
+        ensures { (k : Known) (at word : ℕ) → FollowsRings header.now k self.now.rings.items → IsGivenBy header.now k at word place.now.ring place.now.giving →
+            result ≡ command_of_place header.now k place.now }
+    {
+        let Some(number) = place.ring else {
+            return None;
+        };
+        let rings = header.rings.as_slice();
+        let Some(ring) = rings.get(number) else {
+            return None;
+        };
+        if !is_command_ring(ring) {
+            return None;
+        }
+        match self.rings.get(number) {
+            Some(known) => given_command(known, place.giving),
+            None => None,
+        }
+    }
+
+    /// Where a word lies, and what its write gives of its ring, but for a command. It stays out of `place`, which has nothing to do for most rows.
     #[inline(never)]
     fn word_place(&self, header: &Header, finder: &Finder, at: Addr, word: u32) -> RowPlace
         requires headed { IsHeader header.now }
         requires found { IsFinder header.now.rings finder.now }
-        ensures { (k : Known) → FollowsRings header.now k self.now.rings.items → IsPlacedSo header.now k at word result }
+        ensures placed { (k : Known) → FollowsRings header.now k self.now.rings.items → IsPlacedSo header.now k at word (with_command result (command_of_place header.now k result)) }
+        ensures bare { result.command ≡ None }
     {
         let Some(number) = finder.ring_at(header, at.get()) else {
             return RowPlace {
@@ -88,7 +125,7 @@ impl TraceRecord {
                     ring: Some(number),
                     is_lent: standing.is_lent,
                     giving: standing.giving,
-                    command: given_command(ring, known, standing.giving),
+                    command: None,
                 }
             }
             None => RowPlace {

@@ -1,6 +1,5 @@
 -- The answer of a chain of tests, each of which is asked where those before it fail
-use Rattle.std.proofs.Common.{◌≡◌, Bool, true, false, ap, sym, ◌∙◌}
-use Rattle.std.specs.Prelude.{◌||◌, ◌&&◌}
+use Rattle.driver_rows.proofs.Words.{◌≡◌, Bool, true, false, ap, sym, ◌∙◌, ◌||◌, ◌&&◌}
 
 -- the chain stops at one that holds
 pub stops : (v a b : Bool) → v ≡ a → v ≡ true → v ≡ (a || b)

@@ -1,11 +1,5 @@
 -- The event ring of a trace
-use Rattle.std.proofs.Common.{◌≡◌, Option, None, ap, subst}
-use Rattle.trb.specs.declared.ring_kind.RingKind.TheVariants.{Evt}
-use Rattle.event_ring.specs.EventPlaceValue.{EventState}
-use Rattle.traces.specs.declared.header.Header.{Header}
-use Rattle.traces.specs.Header.{event_shape, no_shape, shape_or}
-use Rattle.ring_knowledge.specs.Known.{Known}
-use Rattle.trace_record.specs.FollowsTrace.{FollowsEvents}
+use Rattle.driver_rows.proofs.Words.{◌≡◌, Option, None, ap, subst, Evt, EventState, Header, event_shape, no_shape, shape_or, Known, FollowsEvents}
 
 -- without one its shape has no segments
 pub no_events : (h : Header) (k : Known) (events : Option EventState) → FollowsEvents h k events → events ≡ None → event_shape h ≡ no_shape Evt

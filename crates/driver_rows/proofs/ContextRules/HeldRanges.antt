@@ -1,37 +1,16 @@
 -- The ranges under lease, by the addresses at which they start
-use Rattle.std.proofs.Common.{◌≡◌, ℕ, List, [], ◌∷◌, ◌++◌, Bool, false, Option, Some, None, refl, ap, sym, ◌∙◌}
-use Rattle.std.specs.Prelude.{◌*◌, ◌||◌, ◌&&◌, is_some}
-use Rattle.std.specs.List.{list_any, filter_map, cons_option}
-use Rattle.segments.specs.Places.{overlap}
-use Rattle.event_ring.specs.EventRing.{table_bytes}
-use Rattle.contexts.specs.Contexts.{device_context_bytes, input_context_bytes}
-use Rattle.commands.specs.declared.command.Command.{Command}
-use Rattle.commands.specs.Command.{named_context}
-use Rattle.traces.specs.declared.header.Header.{Header}
-use Rattle.traces.specs.declared.register.Register.TheVariants.{Erstba}
-use Rattle.traces.specs.Header.{event_shape}
-use Rattle.traces.specs.Register.{base_address}
-use Rattle.ring_knowledge.specs.Known.{Known}
-use Rattle.ring_knowledge.specs.Writes.{entry_of}
-use Rattle.ring_knowledge.specs.Rings.{command_at, unfinished, unfinished_positions}
-use Rattle.ownership_rules.specs.Areas.{is_in_range_lease}
-use Rattle.ownership_rules.specs.OpenLeases.{EventSegment, Range, context_ranges, covers, device_ranges, entry_ranges, lease_bytes, lease_start, open_ranges, range_of_command, range_of_context, range_of_device, range_of_entry, segment_ranges, slots, table_range}
-use Rattle.trace_record.proofs.RingFinder.ListTests.{any_append, any_map, any_flat_map, or_false}
-use Rattle.trace_record.specs.FollowsTrace.{device_contexts, inputs_of}
-use Rattle.driver_rows.specs.ContextRules.Entries.{touches_entry, touches_event_segment}
+use Rattle.driver_rows.proofs.Words.{rules, ◌≡◌, ℕ, List, [], ◌∷◌, Bool, false, Option, Some, None, refl, sym, ◌∙◌, ◌||◌, ◌&&◌, is_some, list_any, filter_map, cons_option, overlap, table_bytes, device_context_bytes, input_context_bytes, Command, named_context, Header, Erstba, event_shape, base_address, Known, entry_of, command_at, unfinished, unfinished_positions, is_in_range_lease, context_ranges, covers, device_ranges, entry_ranges, lease_bytes, lease_start, open_ranges, range_of_command, range_of_context, range_of_device, range_of_entry, segment_ranges, slots, table_range, any_append, any_map, any_flat_map, or_false, device_contexts, inputs_of, touches_entry, touches_event_segment}
 use Rattle.driver_rows.proofs.ContextRules.RestOfRange.{any_left}
 
 found_step : {Y : Type 0} (test : Y → Bool) (found : Option Y → Bool) (ys : List Y) (o : Option Y) → found None ≡ false → ((y : Y) → found (Some y) ≡ test y) →
     list_any test (cons_option o ys) ≡ (found o || list_any test ys)
-found_step test found ys None none some = sym (ap (λ b. b || list_any test ys) none)
-found_step test found ys (Some y) none some = sym (ap (λ b. b || list_any test ys) (some y))
+found_step test found ys o e f = search rules
 
 -- a test of what is found of the elements
 any_found : {X Y : Type 0} (test : Y → Bool) (f : X → Option Y) (xs : List X) (found : Option Y → Bool) → found None ≡ false → ((y : Y) → found (Some y) ≡ test y) →
     list_any test (filter_map f xs) ≡ list_any (λ x. found (f x)) xs
 any_found test f [] found none some = refl
-any_found test f (x ∷ xs) found none some =
-    found_step test found (filter_map f xs) (f x) none some ∙ ap (λ b. found (f x) || b) (any_found test f xs found none some)
+any_found test f (x ∷ xs) found none some = search (rules, found_step, any_found test f xs found none some)
 
 -- so many bytes from an address on touch a segment table whose base ERSTBA names
 abbrev pub of_table : Header → ℕ → ℕ → Option ℕ → Bool
@@ -86,8 +65,7 @@ module _ (h : Header) (k : Known) (from len : ℕ) where
   -- the segment table
   pub any_table : (v : Option ℕ) → list_any (covers h from len) (table_range h v) ≡ of_table h from len v
   unfolding table_range covers lease_start lease_bytes
-  any_table None = refl
-  any_table (Some v) = or_false (overlap from len (base_address v) (table_bytes (event_shape h)))
+  any_table v = search (rules, or_false)
 
   -- entries of slots
   pub any_entry : list_any (covers h from len) (entry_ranges k) ≡ any_left (touches_entry k from len) 1 256
@@ -105,13 +83,4 @@ module _ (h : Header) (k : Known) (from len : ℕ) where
       (touches_event_segment h from len || list_any (covers h from len) (table_range h (k.register Erstba)) || list_any (covers h from len) (context_ranges h k)
       || list_any (covers h from len) (entry_ranges k) || list_any (covers h from len) (device_ranges h k))
   unfolding is_in_range_lease open_ranges segment_ranges covers lease_start lease_bytes
-  any_range =
-      any_append (covers h from len) (segment_ranges h ++ table_range h (k.register Erstba) ++ context_ranges h k ++ entry_ranges k) (device_ranges h k)
-      ∙ ap (λ b. b || list_any (covers h from len) (device_ranges h k))
-      (any_append (covers h from len) (segment_ranges h ++ table_range h (k.register Erstba) ++ context_ranges h k) (entry_ranges k)
-      ∙ ap (λ b. b || list_any (covers h from len) (entry_ranges k))
-      (any_append (covers h from len) (segment_ranges h ++ table_range h (k.register Erstba)) (context_ranges h k)
-      ∙ ap (λ b. b || list_any (covers h from len) (context_ranges h k))
-      (any_append (covers h from len) (segment_ranges h) (table_range h (k.register Erstba))
-      ∙ ap (λ b. b || list_any (covers h from len) (table_range h (k.register Erstba)))
-      (any_map (covers h from len) (λ s. Range (16 * s.count) s.base EventSegment) (event_shape h).segments))))
+  any_range = search (rules, any_append, any_map)

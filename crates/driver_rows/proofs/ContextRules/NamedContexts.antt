@@ -1,8 +1,5 @@
 -- The input contexts that commands name
-use Rattle.std.proofs.Common.{◌≡◌, ℕ, Bool, false, Some, None, ap, ◌∙◌, if◌then◌else◌}
-use Rattle.commands.specs.declared.command.Command.{Command}
-use Rattle.commands.specs.declared.command.Command.TheVariants.{ConfigureEndpoint}
-use Rattle.commands.specs.Command.{named_context}
+use Rattle.driver_rows.proofs.Words.{◌≡◌, ℕ, Bool, false, Some, None, ap, ◌∙◌, if◌then◌else◌, Command, ConfigureEndpoint, named_context}
 
 -- without DC, Configure Endpoint names one
 pub configure_names : (c : Command) (s a : ℕ) (dc : Bool) → c ≡ ConfigureEndpoint s dc a → dc ≡ false → named_context c ≡ Some a

@@ -1,28 +1,8 @@
 -- Which rules a declaration breaks
-use Rattle.std.proofs.Common.{◌≡◌, ℕ, List, [], ◌∷◌, true, false, Some, refl, ap, sym, ◌∙◌}
-use Rattle.std.specs.Prelude.{◌==◌, not, if◌then◌else◌}
-use Rattle.trb.specs.declared.block.Block.{Block}
-use Rattle.trb.specs.declared.ring_kind.RingKind.{RingKind}
-use Rattle.trb.specs.declared.ring_kind.RingKind.TheVariants.{Cmd, Evt, Xfer}
-use Rattle.traces.specs.declared.ring.Ring.{Ring}
-use Rattle.traces.specs.declared.header.Header.{Header}
-use Rattle.traces.specs.declared.row.Row.TheVariants.{Sub}
-use Rattle.traces.specs.Header.{IsHeader, is_driver_kind, is_event_kind, ring_with, shape_of}
-use Rattle.ring_knowledge.specs.Known.{Known}
-use Rattle.ownership_rules.specs.declared.refusal.Refusal.TheVariants.{NotDeclared, AfterStop}
-use Rattle.ownership_rules.specs.Refusal.{first_of, first_broken, broken_of}
-use Rattle.ownership_rules.specs.Declarations.{declaration_tests, is_driver_ring}
-use Rattle.ownership_rules.specs.Older.{older, stricter}
-use Rattle.ownership_rules.specs.Rules.{broken, lenient_tests, tests}
-use Rattle.driver_rows.specs.DeclarationRows.OneRing.{room_tests}
-use Rattle.trace_record.proofs.FirstBroken.{first_broken-is}
-use Rattle.trace_record.proofs.RingFinder.RingsApart.{IsAmong}
-use Rattle.trace_record.proofs.RingFinder.HeaderRings.{ring_found, not_found, shape_there}
+use Rattle.driver_rows.proofs.Words.{rules, ◌≡◌, ℕ, List, [], ◌∷◌, true, false, Some, refl, ap, sym, ◌∙◌, ◌==◌, not, if◌then◌else◌, Block, RingKind, Ring, Header, Sub, IsHeader, is_driver_kind, is_event_kind, ring_with, shape_of, Known, NotDeclared, AfterStop, first_of, first_broken, broken_of, declaration_tests, is_driver_ring, older, stricter, broken, lenient_tests, tests, room_tests, first_broken-is, IsAmong, ring_found, not_found, shape_there}
 
 no_driver : (kind : RingKind) → is_event_kind kind ≡ true → is_driver_kind kind ≡ false
-no_driver Cmd e = absurd (cc)
-no_driver Evt e = refl
-no_driver Xfer e = absurd (cc)
+no_driver kind e = search rules
 
 module _ (h : Header) (k : Known) (on : k.stopped ≡ false) (id : ℕ) (blocks : List Block) where
   declared_is : first_of (broken h k (Sub id blocks)) ≡ first_broken (declaration_tests h k id blocks)
@@ -46,8 +26,4 @@ module _ (h : Header) (k : Known) (on : k.stopped ≡ false) (id : ℕ) (blocks 
     -- a command or transfer ring has
     pub declared_on_ring : is_driver_kind r.shape.kind ≡ true → first_of (broken h k (Sub id blocks)) ≡ first_broken (room_tests r.shape (k.ring r.id) blocks)
     unfolding declaration_tests is_driver_ring
-    declared_on_ring driver =
-        declared_is ∙ ap (λ i. first_broken (declaration_tests h k i blocks)) (sym named)
-        ∙ ap (λ o. first_broken ((NotDeclared, not (is_driver_ring o)) ∷ room_tests (shape_of h r.id) (k.ring r.id) blocks)) (ring_found h headed r among)
-        ∙ ap (λ b. first_broken ((NotDeclared, not b) ∷ room_tests (shape_of h r.id) (k.ring r.id) blocks)) driver
-        ∙ ap (λ s. first_broken (room_tests s (k.ring r.id) blocks)) (shape_there h headed r among)
+    declared_on_ring driver = search (rules, declared_is, ring_found, shape_there)

@@ -1,31 +1,6 @@
 -- What a doorbell adds to the record of a trace
-use Rattle.std.proofs.Common.{◌≡◌, ◌≢◌, ℕ, Bool, List, true, false, Option, Some, None, refl, ap, sym, ◌∙◌, inl, inr, subst}
-use Rattle.std.specs.Prelude.{◌==◌, slice_get, position, if◌then◌else◌}
-use Rattle.std.proofs.lemmas.Bool.{cases_eq, eqb-true, eq-eqb, ne_eqb, cond_both, false≢true}
-use Rattle.guest_memory.specs.Memory.{put_pair}
-use Rattle.commands.specs.declared.state.EndpointState.{EndpointState}
-use Rattle.commands.specs.declared.state.EndpointState.TheVariants.{Disabled as Off, Running, Halted, Stopped, Error}
-use Rattle.commands.specs.States.{is_off, is_stopped}
-use Rattle.segments.specs.RingView.{Opens}
-use Rattle.traces.specs.declared.ring.Ring.{Ring}
-use Rattle.traces.specs.declared.header.Header.{Header}
-use Rattle.traces.specs.declared.row.Row.TheVariants.{Bell}
-use Rattle.traces.specs.Header.{IsHeader, is_command_kind, command_id}
-use Rattle.ring_knowledge.specs.declared.ring_record.RingRecord.{RingRecord}
-use Rattle.ring_knowledge.specs.Known.{Known}
-use Rattle.ring_knowledge.specs.Rings.{on_ring, unfinished}
-use Rattle.ring_knowledge.specs.Registers.{rung, endpoint_rung}
-use Rattle.ring_knowledge.specs.Learned.{learned}
-use Rattle.trace_record.specs.DeviceSlots.Devices.{FollowsDevices}
-use Rattle.trace_record.proofs.DeviceSlots.Bells.{rung_first, rung_later}
-use Rattle.trace_record.proofs.DeviceSlots.UnfinishedSame.{ring_elsewhere, unfinished_rung}
-use Rattle.trace_record.specs.RingFinder.RecordsOfRings.{FollowsRings}
-use Rattle.trace_record.proofs.RingFinder.RingsApart.{IsAmong, among_at}
-use Rattle.trace_record.proofs.RingFinder.HeaderRings.{no_command_here}
-use Rattle.trace_record.specs.declared.trace_record.TraceRecord.{TraceRecord}
-use Rattle.trace_record.specs.FollowsTrace.{FollowsTrace}
-use Rattle.driver_rows.specs.DoorbellRows.Numbers.{number_of, number_rung}
-use Rattle.driver_rows.proofs.DoorbellRows.Followed.{AreOffAs, IsBeside, put_on, rings_same, followed, found_at, none_found, command_found, command_id_is}
+use Rattle.driver_rows.proofs.Words.{rules, ◌≡◌, ◌≢◌, ℕ, List, true, false, Option, Some, None, refl, ap, sym, ◌∙◌, inl, inr, subst, ◌==◌, slice_get, position, if◌then◌else◌, cases_eq, eqb-true, eq-eqb, ne_eqb, cond_both, false≢true, Opens, Ring, Header, Bell, IsHeader, is_command_kind, command_id, RingRecord, Known, on_ring, unfinished, rung, endpoint_rung, learned, FollowsDevices, rung_first, rung_later, ring_elsewhere, unfinished_rung, FollowsRings, IsAmong, among_at, no_command_here, TraceRecord, FollowsTrace, number_of, number_rung, found_at, command_found, command_id_is}
+use Rattle.driver_rows.proofs.DoorbellRows.Followed.{AreOffAs, IsBeside, put_on, rings_same, followed, none_found}
 
 module _ (h : Header) (k : Known) (s t : ℕ) where
   -- nothing but rings and the state of endpoints changes
@@ -35,8 +10,7 @@ module _ (h : Header) (k : Known) (s t : ℕ) where
 
   endpoint_beside : (o : Option ℕ) → IsBeside k (endpoint_rung h k s t o)
   unfolding endpoint_rung on_ring
-  endpoint_beside None = record { memory = refl; started = refl; stopped = refl; register = refl; reads = refl; dequeue = refl; device = refl; soiled = refl }
-  endpoint_beside (Some r) = record { memory = refl; started = refl; stopped = refl; register = refl; reads = refl; dequeue = refl; device = refl; soiled = refl }
+  endpoint_beside o = search rules
 
   rung_beside : IsBeside k (rung h k s t)
   unfolding rung
@@ -45,19 +19,7 @@ module _ (h : Header) (k : Known) (s t : ℕ) where
   -- a Stopped endpoint is on, and so is a Running one
   endpoint_off : (o : Option ℕ) → AreOffAs k (endpoint_rung h k s t o)
   unfolding endpoint_rung on_ring
-  endpoint_off None q = refl
-  endpoint_off (Some r) q = by (is_stopped (k.endpoint_state s t)) refl
-    where
-      on : (e : EndpointState) → is_stopped e ≡ true → is_off e ≡ false
-      on Stopped e = refl
-      on Off e = absurd (false≢true e)
-      on Running e = refl
-      on Halted e = refl
-      on Error e = refl
-
-      by : (b : Bool) → is_stopped (k.endpoint_state s t) ≡ b → is_off ((if b then put_pair k.endpoint_state s t Running else k.endpoint_state) q 1) ≡ is_off (k.endpoint_state q 1)
-      by true e = put_on k.endpoint_state s t Running (on (k.endpoint_state s t) e) refl q
-      by false e = refl
+  endpoint_off o e = search (rules, put_on)
 
   rung_off : AreOffAs k (rung h k s t)
   unfolding rung on_ring
@@ -115,5 +77,4 @@ module _ (h : Header) (k : Known) (s t : ℕ) where
       ((o : Option ℕ) (n : ℕ) (ring : Ring) → o ≡ number_rung h k s t → o ≡ Some n → slice_get h.rings n ≡ Some ring → FollowsRings h (on_ring h k ring.id Opens) after.rings.items) →
       (number_rung h k s t ≡ None → after.rings.items ≡ before.rings.items) → FollowsDevices (rung h k s t) after.devices → FollowsTrace h (learned h k (Bell s t)) after m
   unfolding learned
-  follows_rung headed before after m f is opened none devices =
-      followed h k (rung h k s t) before m f rung_beside rung_off rung_unfinished after is (rung_rings headed before.rings.items after.rings.items f.rings opened none) devices
+  follows_rung headed before after m f is opened none devices = search (rules, followed, rung_beside, rung_off, rung_unfinished, rung_rings)

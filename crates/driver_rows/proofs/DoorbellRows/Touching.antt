@@ -1,51 +1,13 @@
 -- Which endpoints an unfinished command may change
-use Rattle.std.proofs.Common.{◌≡◌, ℕ, zero, suc, ◌+◌, ◌<◌, ◌≤◌, ◌%◌, ◌^◌, List, Bool, true, false, Option, Some, None, refl, ap, sym, ◌∙◌, arith, inl, inr, get_or, subst}
-use Rattle.std.specs.Prelude.{◌==◌, ◌&&◌, ◌||◌, not, nat_le, nat_lt, map, All, IfSome}
-use Rattle.std.specs.List.{list_any, range_with_len}
-use Rattle.std.proofs.lemmas.Bool.{cases_eq, eqb-true, eq-eqb, ne_eqb, le-leb, lt-leb, lt-ltb, leb-true, and_parts}
-use Rattle.std.proofs.lemmas.Bool.Decides.{nat_tests}
-use Rattle.std.proofs.lemmas.List.Folds.{list_any_none}
-use Rattle.contexts.specs.declared.size.ContextSize.{ContextSize}
-use Rattle.contexts.specs.Contexts.{added_endpoints, input_add_flag, input_drop_flag, input_context_bytes}
-use Rattle.commands.specs.declared.command.Command.{Command}
-use Rattle.commands.specs.declared.command.Command.TheVariants.{ConfigureEndpoint}
-use Rattle.commands.specs.Command.{named_context}
-use Rattle.commands.specs.Changes.{placed_by_context, changes, touches}
-use Rattle.traces.specs.declared.header.Header.{Header}
-use Rattle.ring_knowledge.specs.Known.{Known}
-use Rattle.ring_knowledge.specs.Rings.{unfinished}
-use Rattle.trace_record.proofs.RingFinder.ListTests.{and_false, any_map, any_filter, any_nowhere}
-use Rattle.trace_record.specs.DeviceSlots.Indices.{IsOnlyAbout, is_about}
-use Rattle.trace_record.specs.DeviceSlots.Unfinished.{FollowsUnfinished, as_list}
-use Rattle.trace_record.specs.declared.device_record.unfinished.UnfinishedCommands.{UnfinishedCommands}
-use Rattle.trace_record.proofs.DeviceSlots.AtMostOne.{any_either, any_same}
-use Rattle.trace_record.proofs.DeviceSlots.TouchedEndpoints.{touched_about}
-use Rattle.ownership_rules.specs.Doorbells.{is_touched, touches_endpoint}
-use Rattle.trace_record.specs.Premises.{FitsMemory}
+use Rattle.driver_rows.proofs.Words.{rules, common_steps, ◌≡◌, ℕ, zero, suc, ◌+◌, ◌<◌, ◌≤◌, ◌%◌, ◌^◌, List, Bool, true, false, Option, Some, None, refl, ap, sym, ◌∙◌, arith, get_or, ◌==◌, ◌&&◌, ◌||◌, not, nat_le, nat_lt, map, All, IfSome, list_any, range_with_len, lt-ltb, and_parts, nat_tests, list_any_none, ContextSize, added_endpoints, input_add_flag, input_drop_flag, input_context_bytes, Command, ConfigureEndpoint, named_context, placed_by_context, changes, Header, Known, unfinished, and_false, any_map, any_filter, any_nowhere, IsOnlyAbout, is_about, FollowsUnfinished, as_list, UnfinishedCommands, any_either, any_same, touched_about, is_touched, touches_endpoint, FitsMemory}
+use Rattle.commands.specs.Changes.{touches}
 
 -- ---- an input context
 
 -- of the numbers from a on one passes a test
 any_from : (g : ℕ → Bool) (i a n : ℕ) → list_any (λ j. g j && i == j) (range_with_len a n) ≡ (nat_le a i && nat_lt i (a + n) && g i)
 any_from g i a zero = grind (arith, nat_tests)
-any_from g i a (suc n) = elim (cases_eq i a) [
-  | inl same ↦ here same (any_from g i (a + 1) n)
-  | inr other ↦ ap (λ b. (g a && b) || list_any (λ j. g j && i == j) (range_with_len (a + 1) n)) (ne_eqb i a other)
-      ∙ ap (λ b. b || list_any (λ j. g j && i == j) (range_with_len (a + 1) n)) (and_false (g a)) ∙ any_from g i (a + 1) n ∙ grind (arith, nat_tests)
-]
-  where
-    by : (x y : Bool) → ((x && true) || false) ≡ (true && true && x)
-    by true y = refl
-    by false y = refl
-
-    here : i ≡ a → list_any (λ j. g j && i == j) (range_with_len (a + 1) n) ≡ (nat_le (a + 1) i && nat_lt i (a + 1 + n) && g i) →
-        list_any (λ j. g j && i == j) (range_with_len a (suc n)) ≡ (nat_le a i && nat_lt i (a + suc n) && g i)
-    here same rest =
-        let behind : (nat_le (a + 1) i && nat_lt i (a + 1 + n) && g i) ≡ false = ap (λ b. b && nat_lt i (a + 1 + n) && g i) (lt-leb (a + 1) i (omega (arith, same))) in
-        let at : (nat_le a i && nat_lt i (a + suc n) && g i) ≡ (true && true && g i) =
-        ap (λ b. b && nat_lt i (a + suc n) && g i) (le-leb a i (omega (arith, same))) ∙ ap (λ b. true && b && g i) (lt-ltb i (a + suc n) (omega (arith, same))) in
-        ap (λ b. (g a && b) || list_any (λ j. g j && i == j) (range_with_len (a + 1) n)) (eq-eqb i a same) ∙ ap (λ b. (g a && true) || b) (rest ∙ behind)
-        ∙ ap (λ x. (g x && true) || false) (sym same) ∙ by (g i) true ∙ sym at
+any_from g i a (suc n) = search (rules, nat_tests, and_false, any_from g i (a + 1) n)
 
 -- the endpoints that it adds
 pub added_any : (size : ContextSize) (m : ℕ → ℕ) (s t c i : ℕ) → i < 32 →
@@ -71,21 +33,7 @@ added_any size m s t c i below =
 pub configured_any : (size : ContextSize) (m : ℕ → ℕ) (s t c i : ℕ) (d : Bool) → i < 32 →
     list_any (touches s i) (changes size m 0 (ConfigureEndpoint t d c)) ≡ (s == t && (nat_le 2 i && (d || (input_drop_flag m c i || input_add_flag m c i))))
 unfolding changes
-configured_any size m s t c i true below = by (s == t) (nat_le 2 i)
-  where
-    by : (a b : Bool) → ((a && b) || false) ≡ (a && (b && true))
-    by true true = refl
-    by true false = refl
-    by false b = refl
-configured_any size m s t c i false below =
-    ap (λ b. (s == t && (nat_le 2 i && input_drop_flag m c i)) || b) (added_any size m s t c i below)
-    ∙ by (s == t) (nat_le 2 i) (input_drop_flag m c i) (input_add_flag m c i)
-  where
-    by : (a b x y : Bool) → ((a && (b && x)) || (a && (b && y))) ≡ (a && (b && (x || y)))
-    by true true true y = refl
-    by true true false y = refl
-    by true false x y = refl
-    by false b x y = refl
+configured_any size m s t c i d e = grind (arith, common_steps, added_any)
 
 -- the context of a Configure Endpoint ends within the address space
 pub configured_fits : (size : ContextSize) (c : Command) (t a : ℕ) (d : Bool) → c ≡ ConfigureEndpoint t d a → FitsMemory size c → d ≡ false → (a % 4 ≡ 0) × (a + input_context_bytes size ≤ 2 ^ 64)
@@ -98,18 +46,10 @@ fits_at size None = true
 fits_at size (Some a) = a % 4 == 0 && nat_le (a + input_context_bytes size) (2 ^ 64)
 
 fits_true : (size : ContextSize) (o : Option ℕ) → ((a : ℕ) → o ≡ Some a → (a % 4 ≡ 0) × (a + input_context_bytes size ≤ 2 ^ 64)) → fits_at size o ≡ true
-fits_true size None fits = refl
-fits_true size (Some a) fits = let f = fits a refl in ap (λ b. b && nat_le (a + input_context_bytes size) (2 ^ 64)) (eq-eqb (a % 4) 0 f.0) ∙ le-leb (a + input_context_bytes size) (2 ^ 64) f.1
+fits_true size o e = search rules
 
 true_fits : (size : ContextSize) (o : Option ℕ) → fits_at size o ≡ true → (a : ℕ) → o ≡ Some a → (a % 4 ≡ 0) × (a + input_context_bytes size ≤ 2 ^ 64)
-true_fits size None holds a e = absurd (cc)
-true_fits size (Some b) holds a e =
-    let same : b ≡ a = some_is e in
-    let parts = and_parts (b % 4 == 0) (nat_le (b + input_context_bytes size) (2 ^ 64)) holds in
-    subst (λ (n : ℕ). (n % 4 ≡ 0) × (n + input_context_bytes size ≤ 2 ^ 64)) same (eqb-true (b % 4) 0 parts.0, leb-true (b + input_context_bytes size) (2 ^ 64) parts.1)
-  where
-    some_is : Some b ≡ Some a → b ≡ a
-    some_is e = cc
+true_fits size o e a f = search (rules, and_parts)
 
 abbrev misfits : ContextSize → ℕ → ℕ → Command → Bool
 misfits size s i d = is_about s i d && not (fits_at size (named_context d))
@@ -136,17 +76,14 @@ named_fits size s i all (Some c) each that =
     (that.one (misfits size s i) (λ d e. (and_parts (is_about s i d) (not (fits_at size (named_context d))) e).0) ∙ none))
   where
     fails : (x y : Bool) → y ≡ true → (x && not y) ≡ false
-    fails true true e = refl
-    fails true false e = absurd (cc)
-    fails false y e = refl
+    fails x y e = search rules
 
     none : list_any (misfits size s i) all ≡ false
     none = list_any_none (misfits size s i) all (λ k d below. fails (is_about s i (get_or all k d)) (fits_at size (named_context (get_or all k d))) (fits_true size (named_context (get_or all k d)) (each k d below)))
 
     by : (x y : Bool) → x ≡ true → ((x && not y) || false) ≡ false → y ≡ true
     by true true e f = refl
-    by true false e f = absurd (cc)
-    by false y e f = absurd (cc)
+    by _ _ e f = absurd (cc)
 
 module _ (s : ℕ) (all : List Command) (p : Command → Bool) where
   abbrev with_test : ℕ → Command → Bool
@@ -157,11 +94,7 @@ module _ (s : ℕ) (all : List Command) (p : Command → Bool) where
 
   -- what holds of the one that is kept of this
   of_one : (j : ℕ) (o : Option Command) → IsThat s j all o → list_any p (as_list o) ≡ list_any (with_test j) all
-  of_one j o that = by o that.named ∙ that.one (with_test j) (only_with j)
-    where
-      by : (o : Option Command) → IfSome o (λ c. is_about s j c ≡ true) → list_any p (as_list o) ≡ list_any (with_test j) (as_list o)
-      by None named = refl
-      by (Some c) named = sym (ap (λ b. (b && p c) || false) named)
+  of_one j o that = search (rules, only_with)
 
   -- what holds of commands alone that are about the slot as a whole or an endpoint holds of one of the two
   of_two : (i : ℕ) (slots endpoints : Option Command) → ((c : Command) → p c ≡ true → (is_about s 0 c || is_about s i c) ≡ true) →

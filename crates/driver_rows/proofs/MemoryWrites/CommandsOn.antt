@@ -1,30 +1,11 @@
 -- The command ring is neither moved nor bound
-use Rattle.std.proofs.Common.{◌≡◌, ℕ, true, false, Option, Some, None, refl, ap, sym, ◌∙◌}
-use Rattle.std.specs.Prelude.{◌==◌, ◌&&◌, not}
-use Rattle.std.proofs.lemmas.Bool.{eqb-true}
-use Rattle.trb.specs.declared.ring_kind.RingKind.{RingKind}
-use Rattle.trb.specs.declared.ring_kind.RingKind.TheVariants.{Cmd, Evt, Xfer}
-use Rattle.segments.specs.Ceiling.{is_open}
-use Rattle.commands.specs.declared.command.Command.{Command}
-use Rattle.commands.specs.declared.command.Command.TheVariants.{AddressDevice}
-use Rattle.commands.specs.States.{is_off}
-use Rattle.traces.specs.declared.ring.Ring.{Ring}
-use Rattle.traces.specs.declared.header.Header.{Header}
-use Rattle.traces.specs.Header.{IsHeader, is_command_kind, is_transfer_kind, is_ring, ring_having, ring_with}
-use Rattle.ring_knowledge.specs.Known.{Known}
-use Rattle.ring_knowledge.specs.Rings.{unfinished}
+use Rattle.driver_rows.proofs.Words.{rules, ◌≡◌, ℕ, true, false, Option, Some, None, refl, ap, sym, ◌∙◌, ◌==◌, ◌&&◌, eqb-true, RingKind, is_open, Command, Ring, Header, IsHeader, is_command_kind, is_transfer_kind, is_ring, ring_having, ring_with, Known, unfinished, DriverKeeps, IsTransferRing, false_unless, and_false, any_nowhere, IsAmong, ring_found}
 use Rattle.ownership_rules.specs.Moves as moves
-use Rattle.safety.specs.Keeps.{DriverKeeps, IsTransferRing}
-use Rattle.trace_record.proofs.RingFinder.ListTests.{false_unless, and_false, any_nowhere}
-use Rattle.trace_record.proofs.RingFinder.RingsApart.{IsAmong}
-use Rattle.trace_record.proofs.RingFinder.HeaderRings.{ring_found}
 use Rattle.driver_rows.proofs.RingBindings.RingRecords.{having_transfer}
 
 -- a ring of commands is no transfer ring
 two_kinds : (kind : RingKind) → is_command_kind kind ≡ true → is_transfer_kind kind ≡ true → ⊥
-two_kinds Cmd c t = absurd (cc)
-two_kinds Evt c t = absurd (cc)
-two_kinds Xfer c t = absurd (cc)
+two_kinds kind e f = search rules
 
 some_ring : (r q : Ring) → Some r ≡ Some q → r ≡ q
 some_ring r q e = cc
@@ -40,8 +21,7 @@ module _ (h : Header) (headed : IsHeader h) (k : Known) (keeps : DriverKeeps h k
 
   moves_none : (c : Command) → moves.moves_ring h k r.id c ≡ false
   unfolding moves.moves_ring
-  moves_none (AddressDevice s bsr n) = ap (λ b. not (is_off (k.endpoint_state s 1)) && b) (no_transfer (k.ring_of s 1) (keeps.states.transfer s 1)) ∙ and_false (not (is_off (k.endpoint_state s 1)))
-  moves_none _ = refl
+  moves_none c = search (rules, no_transfer, and_false)
 
   pub stays_put : moves.is_being_moved h k r.id ≡ false
   unfolding moves.is_being_moved

@@ -1,21 +1,7 @@
 -- Of the rings of a header only the one that has a word gives something by its write; a word of an event segment is the controller's
-use Rattle.std.proofs.Common.{◌≡◌, ℕ, ◌%◌, List, [], ◌++◌, Bool, true, false, refl, ap, sym, ◌∙◌}
-use Rattle.std.specs.Prelude.{◌||◌, map}
-use Rattle.std.specs.List.{list_any}
-use Rattle.std.proofs.lemmas.List.{append-nil}
-use Rattle.segments.specs.Places.{is_inside, touches}
-use Rattle.segments.specs.RingView.{positions_given, crossings_given}
-use Rattle.segments.proofs.InsideLemmas.{touches-word}
-use Rattle.traces.specs.declared.ring.Ring.{Ring}
-use Rattle.traces.specs.declared.header.Header.{Header}
-use Rattle.traces.specs.Header.{IsHeader, is_driver_kind, is_event_kind, driver_rings, event_shape}
-use Rattle.ring_knowledge.specs.Known.{Known}
-use Rattle.ring_knowledge.specs.Rings.{Position, Crossing, given_of, given_by}
+use Rattle.driver_rows.proofs.Words.{rules, ◌≡◌, ℕ, ◌%◌, List, [], ◌++◌, Bool, true, false, ap, sym, ◌∙◌, ◌||◌, map, list_any, append-nil, is_inside, touches, positions_given, crossings_given, touches-word, Ring, Header, IsHeader, is_driver_kind, is_event_kind, driver_rings, event_shape, Known, given_of, given_by, false_unless, any_append, any_map, IsAmong, Apart, together, shape_allowed, shape_there, event_here, all_from_one, nothing_from, gives_no_position, gives_no_crossing}
+use Rattle.ring_knowledge.specs.Rings.{Position, Crossing}
 use Rattle.ownership_rules.specs.OpenLeases as leases
-use Rattle.trace_record.proofs.RingFinder.ListTests.{false_unless, any_append, any_map}
-use Rattle.trace_record.proofs.RingFinder.RingsApart.{IsAmong, Apart}
-use Rattle.trace_record.proofs.RingFinder.HeaderRings.{together, shape_allowed, shape_there, event_here, all_from_one, nothing_from}
-use Rattle.trace_record.proofs.WordsInside.{gives_no_position, gives_no_crossing}
 
 any_first : {X : Type 0} (f : X → Bool) (xs ys : List X) → list_any f xs ≡ true → list_any f (xs ++ ys) ≡ true
 any_first f xs ys e = any_append f xs ys ∙ ap (λ b. b || list_any f ys) e
@@ -31,20 +17,15 @@ module _ (h : Header) (headed : IsHeader h) (k : Known) (a : ℕ) (aligned : a %
   -- the event ring has the word
   pub owned_in_events : (e : Ring) → IsAmong e h.rings → is_event_kind e.shape.kind ≡ true → touches e.shape a 4 ≡ true → leases.is_the_controllers h k a ≡ true
   unfolding leases.is_the_controllers
-  owned_in_events e among event touched =
-      any_first (leases.covers h a 4) (leases.segment_ranges h) (leases.device_ranges h k)
-      (segments_cover ∙ ap (λ s. touches s a 4) (event_here h headed e among event) ∙ touched)
+  owned_in_events e among event touched = search (rules, any_first, segments_cover, event_here)
 
   given_here : (w : ℕ) (q : Ring) → IsAmong q h.rings → given_of h k a w q.id
       ≡ map (Position q.id) (positions_given q.shape (k.ring q.id) a w) ++ map (Crossing q.id) (crossings_given q.shape (k.ring q.id) a w)
   unfolding given_of
-  given_here w q among =
-      ap (λ s. map (Position q.id) (positions_given s (k.ring q.id) a w) ++ map (Crossing q.id) (crossings_given s (k.ring q.id) a w)) (shape_there h headed q among)
+  given_here w q among = search (rules, shape_there)
 
   none_given : (w : ℕ) (q : Ring) → IsAmong q h.rings → is_inside q.shape a ≡ false → given_of h k a w q.id ≡ []
-  none_given w q among outside =
-      given_here w q among
-      ∙ rw (gives_no_position q.shape (shape_allowed h headed q among) a aligned outside (k.ring q.id) w, gives_no_crossing q.shape (shape_allowed h headed q among) a aligned outside (k.ring q.id) w) refl
+  none_given w q among outside = search (rules, given_here, gives_no_position, shape_allowed, gives_no_crossing)
 
   -- no ring has it
   pub given_nowhere : ((q : Ring) → IsAmong q h.rings → touches q.shape a 4 ≡ false) → (w : ℕ) → given_by h k a w ≡ []

@@ -1,37 +1,8 @@
 -- Which rules a write breaks
-use Rattle.std.proofs.Common.{◌≡◌, ℕ, ◌%◌, ◌==◌, ◌&&◌, not, List, [], ◌∷◌, Bool, true, false, Option, None, Some, refl, ap, sym, ◌∙◌}
-use Rattle.std.specs.Prelude.{◌||◌, map, if◌then◌else◌}
-use Rattle.std.specs.List.{list_any}
-use Rattle.segments.specs.Places.{touches}
-use Rattle.segments.specs.RingView.{positions_given, crossings_given}
-use Rattle.segments.specs.Givings.{is_other_than_declared, is_not_declared, is_not_whole, leads_wrong, interrupts}
-use Rattle.traces.specs.declared.ring.Ring.{Ring}
-use Rattle.traces.specs.declared.header.Header.{Header}
-use Rattle.traces.specs.declared.row.Row.TheVariants.{Write}
-use Rattle.traces.specs.Header.{IsHeader, is_driver_kind, is_event_kind, shape_of}
-use Rattle.traces.specs.Versions.{is_three}
-use Rattle.commands.specs.declared.command.Command.{Command}
-use Rattle.ring_knowledge.specs.Known.{Known}
+use Rattle.driver_rows.proofs.Words.{rules, ◌≡◌, ℕ, ◌%◌, ◌&&◌, not, List, [], ◌∷◌, Bool, true, false, Option, None, Some, refl, ap, ◌∙◌, ◌||◌, map, list_any, touches, positions_given, crossings_given, is_other_than_declared, is_not_declared, is_not_whole, leads_wrong, interrupts, Ring, Header, Write, IsHeader, is_driver_kind, is_event_kind, shape_of, is_three, Command, Known, command_given, positions_of, crossings_of, RingGiving, Position, WriteToOwned, NotAsSubmitted, NotDeclared, NotWhole, LinkFault, BadCommand, Busy, NotInProfile, BadMove, Test, first_of, first_broken, is_the_controllers, has_busy_slot, has_left_out_endpoint, older, places_badly, stricter, writes_to_owned, write_tests, changes_owned, some_given, some_crossed, some_command, holds_of, on_position, on_crossing, broken, lenient_tests, tests, IsLeast, or_left, or_right, or_false, any_append, any_map, any_nowhere, IsAmong, shape_there, GivesOnPosition, given_tests, first_broken-is}
 use Rattle.ring_knowledge.specs.Rings as rings
-use Rattle.ring_knowledge.specs.Writes.{command_given}
-use Rattle.ring_knowledge.specs.RingRecords.{positions_of, crossings_of}
-use Rattle.ring_knowledge.specs.declared.ring_record.RingGiving.{RingGiving}
-use Rattle.ring_knowledge.specs.declared.ring_record.RingGiving.TheVariants.{Position, Crossing}
-use Rattle.ownership_rules.specs.declared.refusal.Refusal.TheVariants.{WriteToOwned, NotAsSubmitted, NotDeclared, NotWhole, LinkFault, BadCommand, Busy, NotInProfile, BadMove, AfterStop}
-use Rattle.ownership_rules.specs.Refusal.{Test, broken_of, first_of, first_broken}
-use Rattle.ownership_rules.specs.OpenLeases.{is_leased, is_the_controllers}
 use Rattle.ownership_rules.specs.Commands as commands
 use Rattle.ownership_rules.specs.Moves as moves
-use Rattle.ownership_rules.specs.Older.{has_busy_slot, has_left_out_endpoint, older, places_badly, stricter, writes_to_owned}
-use Rattle.ownership_rules.specs.Writes.{write_tests, changes_owned, some_given, some_crossed, some_command, holds_of, on_position, on_crossing}
-use Rattle.ownership_rules.specs.Rules.{broken, lenient_tests, tests}
-use Rattle.trace_record.specs.Steps.{IsLeast}
-use Rattle.std.proofs.lemmas.Bool.{or_left, or_right}
-use Rattle.trace_record.proofs.RingFinder.ListTests.{or_false, any_append, any_map, any_nowhere}
-use Rattle.trace_record.proofs.RingFinder.RingsApart.{IsAmong}
-use Rattle.trace_record.proofs.RingFinder.HeaderRings.{shape_there}
-use Rattle.driver_rows.specs.MemoryWrites.WriteTests.{GivesOnPosition, given_tests}
-use Rattle.trace_record.proofs.FirstBroken.{first_broken-is}
 use Rattle.driver_rows.proofs.MemoryWrites.OnRing.{given_by_one, given_nowhere, owned_in_events}
 
 -- the tests of a write that isn't to what the controller owns, of what is given of one ring
@@ -54,27 +25,16 @@ module _ (h : Header) (k : Known) (a w : ℕ) (r : Ring) where
 
   quiet_is : (giving : Option RingGiving) → positions_of giving ≡ [] → first_broken (of_ring giving None) ≡ first_broken (given_tests h k r k.memory a w giving None)
   unfolding holds_of
-  quiet_is None none = refl
-  quiet_is (Some (Crossing q)) none = refl
-  quiet_is (Some (Position p)) none = absurd (cc)
+  quiet_is giving e = search rules
 
   placed_is : (p : ℕ) (command : Option Command) → ((c : Command) → command ≡ Some c → IsStill) →
       first_broken (of_ring (Some (Position p)) command) ≡ first_broken (given_tests h k r k.memory a w (Some (Position p)) command)
   unfolding holds_of
-  placed_is p None still =
-      let busy = moves.is_being_moved h k r.id || moves.awaits_binding h k r.id in
-      rw (or_false (busy || false), or_false busy) refl
-  placed_is p (Some c) still =
-      rw ((still c refl).0, (still c refl).1, or_false (has_busy_slot h k c || false), or_false (has_busy_slot h k c), or_false (has_left_out_endpoint h k c)) refl
+  placed_is p command e = search (rules, or_false)
 
   pub tests_are : (giving : Option RingGiving) (command : Option Command) → GivesOnPosition giving command →
       ((c : Command) → command ≡ Some c → IsStill) → first_broken (of_ring giving command) ≡ first_broken (given_tests h k r k.memory a w giving command)
-  tests_are None command quiet still =
-      ap (λ o. first_broken (of_ring None o)) quiet ∙ quiet_is None refl ∙ ap (λ o. first_broken (given_tests h k r k.memory a w None o)) (sym quiet)
-  tests_are (Some (Crossing q)) command quiet still =
-      ap (λ o. first_broken (of_ring (Some (Crossing q)) o)) quiet ∙ quiet_is (Some (Crossing q)) refl
-      ∙ ap (λ o. first_broken (given_tests h k r k.memory a w (Some (Crossing q)) o)) (sym quiet)
-  tests_are (Some (Position p)) command quiet still = placed_is p command still
+  tests_are giving command e f = search (rules, quiet_is, placed_is)
 
 module _ (h : Header) (headed : IsHeader h) (k : Known) (on : k.stopped ≡ false) (a w : ℕ) where
   -- the rules of the trace's version
@@ -98,41 +58,29 @@ module _ (h : Header) (headed : IsHeader h) (k : Known) (on : k.stopped ≡ fals
       (holds_of (places_badly h k) (command_given h k a w))
 
   or_assoc : (x y z : Bool) → (x || (y || z)) ≡ ((x || y) || z)
-  or_assoc true y z = refl
-  or_assoc false y z = refl
+  or_assoc x y z = search rules
 
   -- the rule on commands of one slot, as the trace's version has it
   busy_is : (c : Option Command) (given crossed : Bool) →
       ((holds_of (commands.shares_slot h k) c && not (is_three h.version)) || (holds_of (commands.is_busy h k) c || given || crossed)) ≡ (holds_of (has_busy_slot h k) c || given || crossed)
   unfolding holds_of has_busy_slot
-  busy_is None given crossed = refl
-  busy_is (Some c) given crossed =
-      let shares = commands.shares_slot h k c && not (is_three h.version) in
-      or_assoc shares (commands.is_busy h k c || given) crossed ∙ ap (λ b. b || crossed) (or_assoc shares (commands.is_busy h k c) given)
+  busy_is c given crossed = search (rules, or_assoc)
 
   -- and that on left-out endpoints
   left_out_is : (c : Option Command) (later : Bool) →
       ((holds_of (commands.adds_isochronous h k) c && not (is_three h.version)) || (holds_of (commands.adds_streams h k) c || later)) ≡ (holds_of (has_left_out_endpoint h k) c || later)
   unfolding holds_of has_left_out_endpoint
-  left_out_is None later = refl
-  left_out_is (Some c) later = or_assoc (commands.adds_isochronous h k c && not (is_three h.version)) (commands.adds_streams h k c) later
+  left_out_is c later = search (rules, or_assoc)
 
   -- and that on bindings
   badly_placed_is : (c : Option Command) →
       ((holds_of (moves.binds_again h k) c && not (is_three h.version)) || holds_of (λ d. moves.is_bad_binding h k d || moves.is_bad_move h k d) c) ≡ holds_of (places_badly h k) c
   unfolding holds_of places_badly
-  badly_placed_is None = refl
-  badly_placed_is (Some c) = or_assoc (moves.binds_again h k c && not (is_three h.version)) (moves.is_bad_binding h k c) (moves.is_bad_move h k c)
+  badly_placed_is c = search (rules, or_assoc)
 
   pub least_is : first_of (broken h k (Write a w)) ≡ first_broken version_tests
   unfolding broken tests lenient_tests write_tests older stricter writes_to_owned some_command
-  least_is =
-      ap (λ b. first_of (if b then AfterStop ∷ [] else broken_of (tests h k (Write a w)))) on
-      ∙ (λ i. first_of (broken_of (version_tests_with
-      (busy_is (command_given h k a w) (some_given h k a w (λ r p. moves.is_being_moved h k r || moves.awaits_binding h k r)) (some_crossed h k a w (λ r q. moves.awaits_binding h k r)) i)
-      (left_out_is (command_given h k a w) (some_crossed h k a w (λ r q. interrupts (shape_of h r) k.memory a w q)) i)
-      (badly_placed_is (command_given h k a w) i))))
-      ∙ first_broken-is version_tests
+  least_is = search (rules, busy_is, left_out_is, badly_placed_is, first_broken-is)
 
   -- the write is to what the controller owns
   pub owned : writes_to_owned h k a w ≡ true → IsLeast h k (Write a w) WriteToOwned
@@ -142,8 +90,7 @@ module _ (h : Header) (headed : IsHeader h) (k : Known) (on : k.stopped ≡ fals
   -- whatever the version, nobody but the controller may write the word
   the_controllers : is_the_controllers h k a ≡ true → writes_to_owned h k a w ≡ true
   unfolding writes_to_owned changes_owned
-  the_controllers owns =
-      or_right (stricter h k (Write a w) WriteToOwned) (changes_owned h k a w) (or_left (is_the_controllers h k a) (is_leased h k a && not (k.memory a == w)) owns)
+  the_controllers owns = search (rules, or_right, or_left)
 
   module _ (aligned : a % 4 ≡ 0) where
     -- an event segment has it
@@ -183,20 +130,7 @@ module _ (h : Header) (headed : IsHeader h) (k : Known) (on : k.stopped ≡ fals
           (crossings : crossings_given r.shape (k.ring r.id) a w ≡ crossings_of giving) (gives : command_given h k a w ≡ command) where
         all_are : version_tests ≡ of_ring h k a w r giving command
         unfolding write_tests some_command
-        all_are = rw (
-          free,
-          given_is (λ s p. is_other_than_declared (shape_of h s) (k.ring s) k.memory a w p),
-          given_is (λ s p. is_not_declared (k.ring s) p),
-          given_is (λ s p. is_not_whole (shape_of h s) (k.ring s) p),
-          given_is (λ s p. moves.is_being_moved h k s || moves.awaits_binding h k s),
-          crossed_is (λ s q. moves.awaits_binding h k s),
-          crossed_is (λ s q. leads_wrong (shape_of h s) k.memory a w q),
-          crossed_is (λ s q. interrupts (shape_of h s) k.memory a w q),
-          shape_there h headed r among,
-          positions,
-          crossings,
-          gives,
-        ) refl
+        all_are = search (rules, given_is, crossed_is, shape_there)
 
         -- the least rule that it breaks
         pub least_of_ring : GivesOnPosition giving command → ((c : Command) → command ≡ Some c → IsStill h k a w r) →

@@ -1,32 +1,5 @@
 -- What the check of a write answers
-use Rattle.std.proofs.Common.{◌≡◌, ℕ, ◌%◌, Bool, true, false, Option, None, Some, ap, sym, ◌∙◌, inl, inr}
-use Rattle.std.specs.Prelude.{if◌then◌else◌, slice_get}
-use Rattle.std.proofs.lemmas.Bool.{cases_Bool}
-use Rattle.std.proofs.Math.Path.{fun_ext}
-use Rattle.segments.specs.Places.{touches}
-use Rattle.segments.specs.RingView.{positions_given, crossings_given}
-use Rattle.traces.specs.declared.ring.Ring.{Ring}
-use Rattle.traces.specs.declared.header.Header.{Header}
-use Rattle.traces.specs.declared.row.Row.TheVariants.{Write}
-use Rattle.traces.specs.Header.{IsHeader, is_command_kind, is_driver_kind}
-use Rattle.commands.specs.declared.command.Command.{Command}
-use Rattle.ring_knowledge.specs.Known.{Known}
-use Rattle.ring_knowledge.specs.Writes.{command_given}
-use Rattle.ring_knowledge.specs.RingRecords.{positions_of, crossings_of}
-use Rattle.ring_knowledge.specs.declared.ring_record.RingGiving.{RingGiving}
-use Rattle.ownership_rules.specs.declared.refusal.Refusal.{Refusal}
-use Rattle.ownership_rules.specs.Refusal.{first_of, first_broken}
-use Rattle.ownership_rules.specs.Older.{writes_to_owned}
-use Rattle.ownership_rules.specs.Rules.{broken}
-use Rattle.safety.specs.Keeps.{DriverKeeps}
-use Rattle.trace_record.proofs.RingFinder.RingsApart.{IsAmong, among_at}
-use Rattle.trace_record.specs.declared.trace_record.TraceRecord.{TraceRecord}
-use Rattle.trace_record.specs.FollowsTrace.{FollowsTrace}
-use Rattle.trace_record.specs.RingCommands.{command_on}
-use Rattle.trace_record.proofs.GivenCommands.{given_by_ring, none_nowhere}
-use Rattle.driver_rows.specs.MemoryWrites.WriteTests.{GivesOnPosition, given_tests}
-use Rattle.driver_rows.specs.MemoryWrites.Allowed.{IsAllowed}
-use Rattle.trace_record.proofs.FirstBroken.{nothing_broken}
+use Rattle.driver_rows.proofs.Words.{rules, ◌≡◌, ℕ, ◌%◌, true, false, Option, None, Some, ap, sym, ◌∙◌, if◌then◌else◌, slice_get, fun_ext, touches, positions_given, crossings_given, Ring, Header, Write, IsHeader, is_command_kind, is_driver_kind, Command, Known, command_given, positions_of, crossings_of, RingGiving, Refusal, first_of, first_broken, writes_to_owned, broken, DriverKeeps, IsAmong, among_at, TraceRecord, FollowsTrace, command_on, given_by_ring, none_nowhere, GivesOnPosition, given_tests, IsAllowed, nothing_broken}
 use Rattle.driver_rows.proofs.MemoryWrites.OnRing.{inside, inside_is}
 use Rattle.driver_rows.proofs.MemoryWrites.CommandsOn.{awaits_none, stays_put}
 use Rattle.driver_rows.proofs.MemoryWrites.RingWrites.{IsStill, nothing_breaks, least_of_ring}
@@ -71,15 +44,14 @@ module _ (h : Header) (headed : IsHeader h) (a w : ℕ) (aligned : a % 4 ≡ 0) 
     gives = by_ring k told.positions ∙ sym told.said
 
     still : (c : Command) → command ≡ Some c → IsStill h k a w r
-    still c is = elim (cases_Bool (is_command_kind r.shape.kind)) [
-      | inl commands ↦ (stays_put h headed k keeps r among commands, awaits_none h headed k keeps r among commands)
-      | inr other ↦ none_some c (sym (told.said ∙ ap (λ (b : Bool). if b then command_on (k.ring r.id) (positions_of giving) else None) other) ∙ is)
-    ]
+    still c is = search (rules, stays_put, among, awaits_none, none_some)
 
-    pub judged : (o : Option Refusal) → o ≡ first_broken (given_tests h k r m a w giving command) → first_of (broken h k (Write a w)) ≡ o
-    judged o is =
-        least_of_ring h headed k on a w aligned r among driver has free giving command told.positions told.crossings gives told.quiet still
-        ∙ ap (λ words. first_broken (given_tests h k r words a w giving command)) (fun_ext f.words) ∙ sym is
+    pub judged : (o : Option Refusal) → o ≡ first_broken (given_tests h k r m a w giving command) → (first_of (broken h k (Write a w)) ≡ o) × (command_given h k a w ≡ command)
+    judged o is = (
+      least_of_ring h headed k on a w aligned r among driver has free giving command told.positions told.crossings gives told.quiet still
+          ∙ ap (λ words. first_broken (given_tests h k r words a w giving command)) (fun_ext f.words) ∙ sym is,
+      gives,
+    )
 
     pub allowed : None ≡ first_broken (given_tests h k r m a w giving command) → IsAllowed h k a w command
-    allowed well = record { clean = nothing_broken (broken h k (Write a w)) (judged None well); command = gives }
+    allowed well = record { clean = nothing_broken (broken h k (Write a w)) (judged None well).0; command = gives }

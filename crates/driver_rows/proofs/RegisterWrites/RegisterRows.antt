@@ -1,47 +1,5 @@
 -- A register write that was checked
-use Rattle.std.proofs.Common.{◌≡◌, ℕ, ◌-◌, [], ◌∷◌, Bool, true, false, Option, None, Some, arith, refl, ap, sym, ◌∙◌, subst}
-use Rattle.std.specs.Prelude.{not, is_some, ◌&&◌, ◌||◌, if◌then◌else◌}
-use Rattle.std.specs.List.{filter_map}
-use Rattle.std.proofs.lemmas.Bool.{cond_both, true≢false}
-use Rattle.segments.specs.RingView.{RingView}
-use Rattle.commands.specs.States.{is_off}
-use Rattle.contexts.specs.Contexts.{device_context_bytes, input_context_bytes}
-use Rattle.event_ring.specs.EventPlaceValue.{EventState}
-use Rattle.event_ring.specs.EventRing.{is_event_place, is_reached_within, erdp_address}
-use Rattle.traces.specs.declared.header.Header.{Header}
-use Rattle.traces.specs.declared.register.Register.{Register}
-use Rattle.traces.specs.declared.register.Register.TheVariants.{Usbcmd, Erdp}
-use Rattle.traces.specs.declared.row.Row.TheVariants.{Reg}
-use Rattle.traces.specs.Header.{event_ring, event_shape}
-use Rattle.traces.specs.Register.{run_bit, reset_bit}
-use Rattle.ring_knowledge.specs.declared.register_record.RegisterRecord.{RegisterRecord}
-use Rattle.ring_knowledge.specs.RegisterRecords.{FollowsRegisters}
-use Rattle.ring_knowledge.specs.RingRecords.{FollowsRing}
-use Rattle.ring_knowledge.specs.Known.{Known}
-use Rattle.ring_knowledge.specs.Learned.{learned}
-use Rattle.ring_knowledge.specs.Registers.{register_written, run_or_stop, valued}
-use Rattle.ring_knowledge.specs.Rings.{unfinished}
-use Rattle.trace_record.specs.DeviceSlots.Devices.{FollowsDevices}
-use Rattle.trace_record.specs.DeviceSlots.Unfinished.{FollowsUnfinished}
-use Rattle.trace_record.proofs.DeviceSlots.OtherRows.{after_register}
-use Rattle.trace_record.proofs.DeviceSlots.UnfinishedSame.{unfinished_register}
-use Rattle.trace_record.specs.RangeWords.Holding.{HoldsAreas, HoldsSoiled}
-use Rattle.ownership_rules.specs.declared.refusal.Refusal.TheVariants.{BadRegister, BadErdp, AfterStop}
-use Rattle.ownership_rules.specs.Refusal.{first_of, first_broken, broken_of}
-use Rattle.ownership_rules.specs.Older.{older, stricter}
-use Rattle.traces.specs.Versions.{is_three}
-use Rattle.safety.proofs.ErdpMoves.{no_place_stays}
-use Rattle.safety.proofs.RowRegister.{event_place}
-use Rattle.ownership_rules.specs.Rules.{broken, lenient_tests, tests}
-use Rattle.ownership_rules.specs.Registers.{register_tests, is_bad_register, is_bad_erdp, may_pass, names_no_place}
-use Rattle.ownership_rules.specs.OpenLeases.{slots}
-use Rattle.trace_record.specs.declared.trace_record.TraceRecord.{TraceRecord}
-use Rattle.trace_record.specs.FollowsTrace.{FollowsEvents, FollowsTrace, device_contexts, inputs_of}
-use Rattle.trace_record.specs.Premises.{IsSetUp}
-use Rattle.trace_record.specs.Steps.{IsLeast, IsRowStep}
-use Rattle.driver_rows.specs.RegisterWrites.EventReads.{IsMoved}
-use Rattle.trace_record.proofs.BoundRings.{binds_same, bound_same}
-use Rattle.trace_record.proofs.FirstBroken.{first_broken-is, nothing_broken}
+use Rattle.driver_rows.proofs.Words.{rules, ◌≡◌, ℕ, ◌-◌, [], ◌∷◌, Bool, true, false, Option, None, Some, refl, ap, sym, ◌∙◌, subst, not, is_some, ◌&&◌, ◌||◌, filter_map, RingView, is_off, device_context_bytes, input_context_bytes, EventState, is_event_place, is_reached_within, erdp_address, Header, Register, Erdp, Reg, event_ring, event_shape, RegisterRecord, FollowsRegisters, FollowsRing, Known, learned, register_written, run_or_stop, valued, unfinished, FollowsDevices, FollowsUnfinished, after_register, unfinished_register, HoldsAreas, HoldsSoiled, BadRegister, BadErdp, first_of, first_broken, older, stricter, is_three, no_place_stays, event_place, broken, lenient_tests, tests, register_tests, is_bad_register, is_bad_erdp, may_pass, names_no_place, slots, TraceRecord, FollowsEvents, FollowsTrace, device_contexts, inputs_of, IsSetUp, IsLeast, IsRowStep, IsMoved, binds_same, bound_same, first_broken-is, nothing_broken}
 
 -- all else stays as it was
 pub record IsElsewhereSame (k l : Known) : Type 0 where
@@ -54,25 +12,15 @@ pub record IsElsewhereSame (k l : Known) : Type 0 where
 
 pub elsewhere_same : (h : Header) (k : Known) (r : Register) (v : ℕ) → IsElsewhereSame k (register_written h k r v)
 unfolding register_written valued run_or_stop
-elsewhere_same h k Usbcmd v =
-    cond_both (not k.started) _ _ (λ l. IsElsewhereSame k l)
-    (λ off. cond_both (run_bit v && not (reset_bit v)) _ _ (λ l. IsElsewhereSame k l) (λ e. record { ring = refl; memory = refl; reads = refl; device = refl; endpoint_state = refl; soiled = refl }) (λ e. record { ring = refl; memory = refl; reads = refl; device = refl; endpoint_state = refl; soiled = refl }))
-    (λ on. cond_both (not (run_bit v) || reset_bit v) _ _ (λ l. IsElsewhereSame k l) (λ e. record { ring = refl; memory = refl; reads = refl; device = refl; endpoint_state = refl; soiled = refl }) (λ e. record { ring = refl; memory = refl; reads = refl; device = refl; endpoint_state = refl; soiled = refl }))
-elsewhere_same h k _ v = record { ring = refl; memory = refl; reads = refl; device = refl; endpoint_state = refl; soiled = refl }
+elsewhere_same h k r v = search rules
 
 pub dequeue_same : (h : Header) (k : Known) (r : Register) (v : ℕ) → (r ≡ Erdp → ⊥) → (register_written h k r v).dequeue ≡ k.dequeue
 unfolding register_written valued run_or_stop
-dequeue_same h k Usbcmd v other =
-    cond_both (not k.started) _ _ (λ (l : Known). l.dequeue ≡ k.dequeue)
-    (λ off. cond_both (run_bit v && not (reset_bit v)) _ _ (λ (l : Known). l.dequeue ≡ k.dequeue) (λ e. refl) (λ e. refl))
-    (λ on. cond_both (not (run_bit v) || reset_bit v) _ _ (λ (l : Known). l.dequeue ≡ k.dequeue) (λ e. refl) (λ e. refl))
-dequeue_same h k Erdp v other = absurd (other refl)
-dequeue_same h k _ v other = refl
+dequeue_same h k r v e = search rules
 
 not_passed : (h : Header) (k : Known) (r : Register) (v : ℕ) → (r ≡ Erdp → ⊥) → is_bad_erdp h k r v ≡ false
 unfolding is_bad_erdp
-not_passed h k Erdp v other = absurd (other refl)
-not_passed h k _ v other = refl
+not_passed h k r v e = search rules
 
 module _ (h : Header) (r : Register) (v : ℕ) where
   -- the two rules of the trace's version
@@ -84,8 +32,7 @@ module _ (h : Header) (r : Register) (v : ℕ) where
 
   rules_are : (k : Known) → k.stopped ≡ false → first_of (broken h k (Reg r v)) ≡ first_broken ((BadRegister, refused k) ∷ (BadErdp, passed k) ∷ [])
   unfolding broken tests lenient_tests register_tests
-  rules_are k on = ap (λ b. first_of (if b then AfterStop ∷ [] else broken_of ((BadRegister, refused k) ∷ (BadErdp, passed k) ∷ []))) on
-      ∙ first_broken-is ((BadRegister, refused k) ∷ (BadErdp, passed k) ∷ [])
+  rules_are k on = search (rules, first_broken-is)
 
   pub bad_register : (k : Known) → k.stopped ≡ false → refused k ≡ true → IsLeast h k (Reg r v) BadRegister
   bad_register k on bad = rules_are k on ∙ rw bad refl
@@ -131,18 +78,11 @@ module _ (h : Header) (r : Register) (v : ℕ) where
       }
 
       pub step_is : IsRowStep h k (Reg r v) (record t { registers = registers_; events = events_ }) m
-      step_is = record {
-        clean = clean_is;
-        followed = subst (λ (l : Known). FollowsTrace h l (record t { registers = registers_; events = events_ }) m) (sym learned_is) followed_is;
-      }
+      step_is = search (rules, clean_is, learned_is, followed_is)
 
 may_is : (h : Header) (k : Known) → IsSetUp h k → (b : Bool) → k.started ≡ b → may_pass k ≡ k.reads - k.dequeue
 unfolding may_pass
-may_is h k s true was = rw was refl
-may_is h k s false was = rw was (none k.reads k.dequeue (s.unread was))
-  where
-    none : (n d : ℕ) → n ≡ 0 → 0 ≡ n - d
-    none n d e = omega (arith, e)
+may_is h k e b f = search rules
 
 moved_place : (h : Header) (k : Known) (v : ℕ) (e : EventState) → IsMoved h k (Some e) v → FollowsEvents h (register_written h k Erdp v) (Some e)
 unfolding register_written valued
@@ -165,30 +105,11 @@ module _ (h : Header) (k : Known) (v : ℕ) where
 
   -- what is reached is an event place
   reached_place : reached ≡ true → no_place ≡ false
-  reached_place is =
-      rw (event_place (event_shape h) k.dequeue (k.reads - k.dequeue) (erdp_address v) is) (none_left (is_some (event_ring h)))
-    where
-      none_left : (b : Bool) → (b && false) ≡ false
-      none_left true = refl
-      none_left false = refl
+  reached_place is = search (rules, event_place)
 
   by_tests : (started some place within three : Bool) → (within ≡ true → (some && not place) ≡ false) →
       (((not started && some && not place) && not three) || (not (not started && some && not place) && not within)) ≡ not (within || (three && (not started && (some && not place))))
-  by_tests true some place true true one = refl
-  by_tests true some place true false one = refl
-  by_tests true some place false true one = refl
-  by_tests true some place false false one = refl
-  by_tests false true true true true one = refl
-  by_tests false true true true false one = refl
-  by_tests false true true false true one = refl
-  by_tests false true true false false one = refl
-  by_tests false true false true three one = absurd (true≢false (one refl))
-  by_tests false true false false true one = refl
-  by_tests false true false false false one = refl
-  by_tests false false place true true one = refl
-  by_tests false false place true false one = refl
-  by_tests false false place false true one = refl
-  by_tests false false place false false one = refl
+  by_tests started some place within three e = search rules
 
   pub passed_is : IsSetUp h k → passed h Erdp v k ≡ not (reached || (is_three h.version && (not k.started && no_place)))
   unfolding stricter older is_bad_erdp names_no_place
@@ -204,18 +125,11 @@ module _ (h : Header) (k : Known) (v : ℕ) where
 -- a value that names no event place moves nothing
 pub stays_follows : (h : Header) (k : Known) (r : Register) (v : ℕ) (o : Option EventState) → r ≡ Erdp → is_event_place (event_shape h) (erdp_address v) ≡ false → FollowsEvents h k o →
     FollowsEvents h (register_written h k r v) o
-stays_follows h k r v o is none f = moved_follows h k r v o is (by o f)
-  where
-    by : (o : Option EventState) → FollowsEvents h k o → IsMoved h k o v
-    by None f = f
-    by (Some e) f = record { here = f.here; shape = f.shape; reads = f.reads; dequeue = no_place_stays (event_shape h) k.dequeue (erdp_address v) none ∙ f.dequeue }
+stays_follows h k r v o is none f = search (rules, moved_follows, no_place_stays)
 
 pub others_follow : (h : Header) (k : Known) (r : Register) (v : ℕ) (o : Option EventState) → (r ≡ Erdp → ⊥) → FollowsEvents h k o → FollowsEvents h (register_written h k r v) o
-others_follow h k r v None other f = f
-others_follow h k r v (Some e) other f = record { here = f.here; shape = f.shape; reads = (elsewhere_same h k r v).reads ∙ f.reads; dequeue = dequeue_same h k r v other ∙ f.dequeue }
+others_follow h k r v o e f = search (rules, elsewhere_same, dequeue_same)
 
 pub fine_erdp : (h : Header) (k : Known) (r : Register) (v : ℕ) → (r ≡ Erdp → ⊥) → passed h r v k ≡ false
 unfolding stricter older
-fine_erdp h k Erdp v other = absurd (other refl)
-fine_erdp h k Usbcmd v other = not_passed h k Usbcmd v other
-fine_erdp h k r v other = not_passed h k r v other
+fine_erdp h k r v e = search (rules, not_passed)

@@ -1,27 +1,6 @@
 -- What a command binds, endpoint by endpoint
-use Rattle.std.proofs.Common.{◌≡◌, ℕ, zero, suc, ◌+◌, ◌-◌, ◌<◌, ◌≤◌, ◌==◌, ◌&&◌, ◌||◌, if◌then◌else◌, Bool, true, false, List, [], ◌∷◌, Option, Some, None, map, refl, ap, sym, ◌∙◌, arith, inl, inr}
-use Rattle.std.specs.Prelude.{not, nat_le, filter}
-use Rattle.std.specs.List.{cons_option, filter_map, list_any, range_with_len}
-use Rattle.std.specs.Option.{option_map}
-use Rattle.std.proofs.lemmas.Bool.{cases_lt}
-use Rattle.std.proofs.lemmas.Bool.Decides.{nat_tests}
-use Rattle.contexts.specs.Contexts.{has_flag, input_add_flag, added_endpoints}
-use Rattle.commands.specs.declared.command.Command.{Command}
-use Rattle.commands.specs.declared.command.Command.TheVariants.{AddressDevice, ConfigureEndpoint}
-use Rattle.commands.specs.States.{is_off}
-use Rattle.traces.specs.declared.header.Header.{Header}
-use Rattle.traces.specs.Header.{is_ring}
-use Rattle.ring_knowledge.specs.Known.{Known}
-use Rattle.ownership_rules.specs.Moves.{Binding, binding_in, binds, binds_again, binds_ring, has_repeats, is_among, is_bad_binding, is_bad_place, is_being_bound, is_kept, is_placed, is_taken, ring_bound, was_ring_bound}
-use Rattle.driver_rows.specs.declared.bindings.binding.RingBinding.{RingBinding}
-use Rattle.driver_rows.specs.declared.bindings.context.Bound.{Bound}
-use Rattle.driver_rows.specs.declared.bindings.context.Dequeue.{Dequeue}
-use Rattle.trace_record.specs.declared.ring_set.RingSet.{RingSet}
-use Rattle.driver_rows.specs.RingBindings.Contexts.{HasBound, dequeue_at, dequeue_in}
-use Rattle.driver_rows.specs.RingBindings.Bindings.{are_bad, binding_at, binding_of, bindings_from, is_bad, is_in_set, is_kept_ring, is_misplaced, is_to, was_bound}
-use Rattle.trace_record.specs.RingSets.{has}
-use Rattle.contexts.proofs.BitsOfWords.{unchanged}
-use Rattle.driver_rows.proofs.RingBindings.Lists.{any_same, any_or, any_map, map_twice, or_none, or_true, crossed, or_assoc}
+use Rattle.driver_rows.proofs.Words.{rules, ◌≡◌, ℕ, zero, suc, ◌+◌, ◌-◌, ◌<◌, ◌≤◌, ◌==◌, ◌&&◌, ◌||◌, if◌then◌else◌, Bool, true, false, List, [], ◌∷◌, Option, Some, None, map, refl, ap, sym, ◌∙◌, arith, inl, inr, not, filter, cons_option, filter_map, list_any, range_with_len, option_map, cases_lt, nat_tests, has_flag, input_add_flag, added_endpoints, Command, AddressDevice, ConfigureEndpoint, is_off, Header, is_ring, Known, Binding, binding_in, binds, binds_again, binds_ring, has_repeats, is_among, is_bad_binding, is_bad_place, is_being_bound, is_placed, is_taken, ring_bound, was_ring_bound, RingBinding, Bound, Dequeue, RingSet, HasBound, dequeue_at, dequeue_in, are_bad, binding_at, binding_of, bindings_from, is_bad, is_in_set, is_kept_ring, is_misplaced, is_to, was_bound, has, unchanged, any_same, any_map}
+use Rattle.driver_rows.proofs.RingBindings.Lists.{any_or, map_twice, or_none, or_true, crossed, or_assoc}
 
 pub range_is : (i : ℕ) → i < 32 → range_with_len i (32 - i) ≡ i ∷ range_with_len (i + 1) (32 - (i + 1))
 range_is i below = ap (λ n. range_with_len i n) (let e : 32 - i ≡ suc (32 - (i + 1)) = omega arith in e)
@@ -69,17 +48,12 @@ module _ (h : Header) (k : Known) where
     one : (i : ℕ) (b : Bool) (xs : List ℕ) →
         cons_option (option_map (binding_of h) (if b then Some (dequeue_in h.context_size k.memory c i) else None)) (map with_ring (map (binding_in h k c) xs))
         ≡ map with_ring (map (binding_in h k c) (if b then i ∷ xs else xs))
-    one i true xs = ap (λ x. x ∷ map with_ring (map (binding_in h k c) xs)) (same_binding c i)
-    one i false xs = refl
+    one i b xs = search (rules, same_binding)
 
     added : (n i : ℕ) → 2 ≤ i → filter_map (binding_at h k (ConfigureEndpoint s false c)) (range_with_len i n)
         ≡ map with_ring (map (binding_in h k c) (filter (input_add_flag k.memory c) (range_with_len i n)))
     added zero i low = refl
-    added (suc n) i low =
-        ap (λ b. cons_option (option_map (binding_of h) (if b && input_add_flag k.memory c i then Some (dequeue_in h.context_size k.memory c i) else None))
-        (filter_map (binding_at h k (ConfigureEndpoint s false c)) (range_with_len (i + 1) n))) (let there : nat_le 2 i ≡ true = grind (arith, nat_tests, low) in there)
-        ∙ ap (λ xs. cons_option (option_map (binding_of h) (if input_add_flag k.memory c i then Some (dequeue_in h.context_size k.memory c i) else None)) xs) (added n (i + 1) (omega arith))
-        ∙ one i (input_add_flag k.memory c i) (filter (input_add_flag k.memory c) (range_with_len (i + 1) n))
+    added (suc n) i low = search (rules, nat_tests, one, added n (i + 1) (omega arith))
 
   -- all that a command binds
   pub bindings_all : (c : Command) → bindings_from h k c 1 ≡ map with_ring (binds h k c)
@@ -96,9 +70,7 @@ module _ (h : Header) (k : Known) where
   -- other commands bind nothing
   pub binds_none : (c : Command) → ((s : ℕ) (bsr : Bool) (n : ℕ) → c ≡ AddressDevice s bsr n → ⊥) → ((s : ℕ) (dc : Bool) (n : ℕ) → c ≡ ConfigureEndpoint s dc n → ⊥) → binds h k c ≡ []
   unfolding binds
-  binds_none (AddressDevice s bsr n) first second = absurd (first s bsr n refl)
-  binds_none (ConfigureEndpoint s dc n) first second = absurd (second s dc n refl)
-  binds_none _ first second = refl
+  binds_none c e f = search rules
 
   pub binds_no_ring : (c : Command) (r : ℕ) → binds h k c ≡ [] → binds_ring h k r c ≡ false
   unfolding binds_ring
@@ -112,9 +84,7 @@ module _ (h : Header) (k : Known) where
   module _ (taken : RingSet) (all : (r : ℕ) → has taken r ≡ is_being_bound h k r) where
     place_is : (c : Command) (o : Option ℕ) (n : Bool) → (is_in_set taken o || (is_kept_ring h k c o || n)) ≡ (is_taken h k c o || n)
     unfolding is_taken
-    place_is c None n = refl
-    place_is c (Some r) n =
-        ap (λ b. b || (is_kept h k c r || n)) (all r) ∙ crossed (is_being_bound h k r) (is_kept h k c r) n ∙ sym (or_assoc (is_kept h k c r) (is_being_bound h k r) n)
+    place_is c o n = search (rules, crossed, or_assoc)
 
     bad_place_is : (c : Command) (b : Binding) → is_bad (is_misplaced h k c) taken (with_ring b) ≡ is_bad_place h k c b
     unfolding is_bad_place
@@ -122,10 +92,7 @@ module _ (h : Header) (k : Known) where
 
     pub bad_is : (c : Command) → are_bad (is_misplaced h k c) taken (bindings_from h k c 1) ≡ is_bad_binding h k c
     unfolding is_bad_binding
-    bad_is c =
-        ap (are_bad (is_misplaced h k c) taken) (bindings_all c)
-        ∙ (λ i. (any_map (is_bad (is_misplaced h k c) taken) with_ring (binds h k c) ∙ any_same _ _ (binds h k c) (bad_place_is c)) i
-        || has_repeats (map_twice (λ (b : RingBinding). b.ring) with_ring (binds h k c) i))
+    bad_is c = search (rules, bindings_all, any_map, any_same, bad_place_is, map_twice)
 
   -- a ring that a command binds again
   pub again_is : (c : Command) → list_any (was_bound k) (bindings_from h k c 1) ≡ binds_again h k c
@@ -137,13 +104,7 @@ module _ (h : Header) (k : Known) where
   again_none c none = ap (λ bs. list_any (λ b. was_ring_bound k (ring_bound h b)) bs) none
 
 of_some : (h : Header) (o : Option Dequeue) (b : RingBinding) → option_map (binding_of h) o ≡ Some b → b ≡ binding_of h b.dequeue
-of_some h None b e = none_some e
-  where
-    none_some : None ≡ Some b → b ≡ binding_of h b.dequeue
-    none_some e = cc
-of_some h (Some d) b e =
-    let same : binding_of h d ≡ b = cc in
-    sym same ∙ ap (λ (x : RingBinding). binding_of h x.dequeue) same
+of_some h o b e = search rules
 
 -- the ring of a binding is the one that has the block at its pointer
 pub of_dequeue : (h : Header) (k : Known) (c : Command) (i : ℕ) (b : RingBinding) → binding_at h k c i ≡ Some b → b ≡ binding_of h b.dequeue
@@ -156,28 +117,20 @@ pub noted : (old new : RingSet) (r : ℕ) (b : RingBinding) (rest : List RingBin
     (has new r || list_any (is_to r) rest) ≡ (has old r || list_any (is_to r) (b ∷ rest))
 noted old new r b rest is = ap (λ x. x || list_any (is_to r) rest) is ∙ or_assoc (is_to r b) (has old r) (list_any (is_to r) rest) ∙ crossed (is_to r b) (has old r) (list_any (is_to r) rest)
 
--- its ring is forgotten
-pub forgotten : (old new : RingSet) (r : ℕ) (b : RingBinding) (rest : List RingBinding) → has new r ≡ (not (is_to r b) && has old r) →
+-- its ring is forgets
+pub forgets : (old new : RingSet) (r : ℕ) (b : RingBinding) (rest : List RingBinding) → has new r ≡ (not (is_to r b) && has old r) →
     (has new r && not (list_any (is_to r) rest)) ≡ (has old r && not (list_any (is_to r) (b ∷ rest)))
-forgotten old new r b rest is = ap (λ x. x && not (list_any (is_to r) rest)) is ∙ by (is_to r b) (has old r)
-  where
-    by : (a b : Bool) → ((not a && b) && not (list_any (is_to r) rest)) ≡ (b && not (a || list_any (is_to r) rest))
-    by true true = refl
-    by true false = refl
-    by false true = refl
-    by false false = refl
+forgets old new r b rest is = search rules
 
 either_way : (m n : ℕ) → (m == n) ≡ (n == m)
 either_way m n = grind (arith, nat_tests)
 
 last : (e t n : Bool) → ((e || t) || n) ≡ ((t || n) || e)
-last true t n = sym (or_true (t || n))
-last false t n = sym (or_none (t || n))
+last e t n = search (rules, or_true, or_none)
 
 module _ (bad : RingBinding → Bool) (old new : RingSet) (r : ℕ) (inserted : (q : ℕ) → has new q ≡ (r == q || has old q)) where
   bad_then : (o : Option ℕ) (n : Bool) → (is_in_set new o || n) ≡ ((is_in_set old o || n) || is_ring r o)
-  bad_then None n = sym (or_none n)
-  bad_then (Some q) n = ap (λ x. x || n) (inserted q ∙ ap (λ x. x || has old q) (either_way r q)) ∙ last (q == r) (has old q) n
+  bad_then o n = search (rules, or_none, either_way, last)
 
   -- its ring is taken
   pub taken_next : (b : RingBinding) (rest : List RingBinding) → bad b ≡ false → b.ring ≡ Some r → has old r ≡ false →

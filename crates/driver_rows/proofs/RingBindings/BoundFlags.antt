@@ -1,27 +1,8 @@
 -- The flags of the endpoints that a command binds
-use Rattle.std.proofs.Common.{◌≡◌, ◌==◌, ◌≤◌, ◌+◌, ◌*◌, ◌/◌, ◌^◌, ◌∙◌, ℕ, Bool, true, false, None, Some, ap, arith, inl, inr, refl, sym, ne_eqb}
-use Rattle.std.specs.Prelude.{◌&&◌, if◌then◌else◌}
-use Rattle.std.proofs.lemmas.Bool.{cases_eq}
-use Rattle.std.proofs.lemmas.Nat.Bits.{bit_at-pow_other, bit_at-zero}
-use Rattle.contexts.specs.declared.size.ContextSize.{ContextSize}
-use Rattle.contexts.specs.declared.size.ContextSize.TheVariants.{Bytes32, Bytes64}
-use Rattle.contexts.specs.Contexts.{has_flag, input_context_bytes}
-use Rattle.commands.specs.declared.command.Command.{Command}
-use Rattle.commands.specs.declared.command.Command.TheVariants.{AddressDevice, ConfigureEndpoint}
-use Rattle.commands.specs.States.{is_off}
-use Rattle.traces.specs.declared.header.Header.{Header}
-use Rattle.ring_knowledge.specs.Known.{Known}
-use Rattle.trace_record.specs.Premises.{FitsMemory}
-use Rattle.contexts.proofs.BitsOfWords.{above_control, flag_is}
-use Rattle.driver_rows.specs.RingBindings.Contexts.{HasBound, dequeue_at, dequeue_in}
+use Rattle.driver_rows.proofs.Words.{rules, common_steps, ◌≡◌, ◌==◌, ◌≤◌, ◌+◌, ◌*◌, ◌/◌, ◌^◌, ◌∙◌, ℕ, Bool, true, false, None, Some, ap, arith, inl, inr, refl, sym, ne_eqb, ◌&&◌, if◌then◌else◌, cases_eq, bit_at-pow_other, bit_at-zero, ContextSize, has_flag, input_context_bytes, Command, AddressDevice, ConfigureEndpoint, is_off, Header, Known, FitsMemory, above_control, flag_is, HasBound, dequeue_at, dequeue_in, and_false}
 
 fits_there : (size : ContextSize) → 0 + input_context_bytes size ≤ 2 ^ 64
-fits_there Bytes32 = omega arith
-fits_there Bytes64 = omega arith
-
-and_false : (b : Bool) → (b && false) ≡ false
-and_false true = refl
-and_false false = refl
+fits_there size = search rules
 
 -- a word with no flag
 no_flag : (i : ℕ) → has_flag 0 i ≡ false
@@ -30,16 +11,10 @@ no_flag i = flag_is 0 i 0 (bit_at-zero i)
 module _ (h : Header) (k : Known) where
   -- a command that binds nothing
   pub of_nothing : (c : Command) → ((i : ℕ) → dequeue_at h k c i ≡ None) → HasBound h k c (record { flags = 0; context = 0 })
-  of_nothing c none = record {
-    said = λ i low. none i ∙ sym (ap (λ b. if b then Some (dequeue_in h.context_size k.memory 0 i) else None) (no_flag i));
-    aligned = refl;
-    inside = fits_there h.context_size;
-  }
+  of_nothing c none = search (rules, no_flag, fits_there)
 
   pub off_only : (s c : ℕ) (bsr : Bool) → is_off (k.endpoint_state s 1) ≡ false → (i : ℕ) → dequeue_at h k (AddressDevice s bsr c) i ≡ None
-  off_only s c bsr on i =
-      ap (λ b. if (i == 1) && b then Some (dequeue_in h.context_size k.memory c 1) else None) on
-      ∙ ap (λ b. if b then Some (dequeue_in h.context_size k.memory c 1) else None) (and_false (i == 1))
+  off_only s c bsr on i = search (rules, and_false)
 
   pub of_address : (s c : ℕ) (bsr : Bool) → is_off (k.endpoint_state s 1) ≡ true → FitsMemory h.context_size (AddressDevice s bsr c) →
       HasBound h k (AddressDevice s bsr c) (record { flags = 2; context = c })
@@ -72,12 +47,4 @@ module _ (h : Header) (k : Known) where
 
   pub of_others : (c : Command) → ((s : ℕ) (bsr : Bool) (n : ℕ) → c ≡ AddressDevice s bsr n → ⊥) → ((s : ℕ) (dc : Bool) (n : ℕ) → c ≡ ConfigureEndpoint s dc n → ⊥) →
       HasBound h k c (record { flags = 0; context = 0 })
-  of_others (AddressDevice s bsr n) first second = absurd (first s bsr n refl)
-  of_others (ConfigureEndpoint s dc n) first second = absurd (second s dc n refl)
-  of_others c first second = of_nothing c (none_of c first second)
-    where
-      none_of : (d : Command) → ((s : ℕ) (bsr : Bool) (n : ℕ) → d ≡ AddressDevice s bsr n → ⊥) → ((s : ℕ) (dc : Bool) (n : ℕ) → d ≡ ConfigureEndpoint s dc n → ⊥) →
-          (i : ℕ) → dequeue_at h k d i ≡ None
-      none_of (AddressDevice s bsr n) first second i = absurd (first s bsr n refl)
-      none_of (ConfigureEndpoint s dc n) first second i = absurd (second s dc n refl)
-      none_of _ first second i = refl
+  of_others c e f = grind (arith, common_steps, of_nothing)

@@ -1,32 +1,7 @@
 -- A ring that comes: the header is one still, and the record follows
-use Rattle.std.proofs.Common.{◌≡◌, ◌≢◌, ◌*◌, ◌==◌, ◌∷◌, ◌++◌, ◌∙◌, ◌&&◌, ℕ, true, false, [], None, Some, nat_lt, slice_get, refl, sym, ap, subst, inl, inr, lt-ltb, eq-eqb, length, length-append, ◌+◌}
-use Rattle.std.specs.List.{list_all}
-use Rattle.std.proofs.lemmas.Bool.{and_from, and_right, or_from}
-use Rattle.safety.proofs.Words.{false≢true, is_shape}
-use Rattle.segments.specs.Shape.{rings_overlap}
-use Rattle.segments.specs.RingView.{RingView}
-use Rattle.traces.specs.declared.header.Header.{Header}
-use Rattle.traces.specs.declared.ring.Ring.{Ring}
-use Rattle.traces.specs.Header.{IsHeader, clash, is_command_kind, is_event_kind, may_stand_together, ring_with, touches_ring}
-use Rattle.ring_knowledge.specs.declared.ring_record.RingRecord.{RingRecord}
-use Rattle.ring_knowledge.specs.Known.{Known}
-use Rattle.ring_knowledge.specs.RingRecords.{FollowsRing}
-use Rattle.trace_record.specs.RingFinder.RecordsOfRings.{FollowsRings}
-use Rattle.ownership_rules.proofs.Among.{IsIn}
-use Rattle.safety.specs.Keeps.{DriverKeeps}
-use Rattle.safety.proofs.Areas.{ring_untouched}
-use Rattle.safety.proofs.Headers.{header_parts}
-use Rattle.safety.proofs.UnfinishedLists.{fails_in}
-use Rattle.trace_record.specs.declared.trace_record.TraceRecord.{TraceRecord}
-use Rattle.trace_record.specs.FollowsTrace.{FollowsTrace}
-use Rattle.safety.specs.RingChanges.Changes.{IsComing, forgotten, is_bad_ring, with_ring}
+use Rattle.driver_rows.proofs.Words.{rules, ◌≡◌, ◌≢◌, ◌*◌, ◌==◌, ◌∷◌, ◌++◌, ◌∙◌, ◌&&◌, ℕ, true, false, [], None, Some, nat_lt, slice_get, refl, sym, ap, subst, inl, inr, lt-ltb, eq-eqb, length, length-append, ◌+◌, list_all, and_from, and_right, or_from, false≢true, is_shape, rings_overlap, RingView, Header, Ring, IsHeader, clash, is_command_kind, is_event_kind, may_stand_together, ring_with, touches_ring, RingRecord, Known, FollowsRing, FollowsRings, IsIn, DriverKeeps, ring_untouched, header_parts, fails_in, TraceRecord, FollowsTrace, IsComing, forgotten, is_bad_ring, with_ring, all_more, none_found, overlaps_none, together_more, bad_same, f_keeps, fresh, no_ring, segment_some, cleared, cleared_apart, HasOneMore, IsClear}
 use Rattle.safety.proofs.RingChanges.Forgotten as forgets
-use Rattle.safety.proofs.RingChanges.ListedRings.{all_more, none_found, overlaps_none, together_more}
 use Rattle.safety.proofs.RingChanges.NewRings as comes
-use Rattle.safety.proofs.RingChanges.RingRuns.{bad_same, f_keeps, fresh, no_ring}
-use Rattle.safety.proofs.RingChanges.Segments.{segment_some}
-use Rattle.safety.proofs.RingChanges.Squares.{cleared, cleared_apart}
-use Rattle.driver_rows.specs.RingRows.RingSteps.{HasOneMore, IsClear}
 use Rattle.driver_rows.proofs.RingRows.Lists.{both_push, in_at}
 use Rattle.driver_rows.proofs.RingRows.OtherRecords.{other_record}
 
@@ -48,9 +23,7 @@ module _ (h : Header) (is : IsHeader h) (r : Ring) (coming : IsComing r) where
 
   pub clear_header : IsClear h r → IsHeader (with_ring h r)
   unfolding with_ring
-  clear_header clear =
-      let parts = clear_together clear in
-      and_from (list_all (λ q. nat_lt q.id 256 && is_shape q.shape) (h.rings ++ r ∷ [])) (may_stand_together (h.rings ++ r ∷ [])) parts.0 parts.1
+  clear_header clear = search (rules, clear_together, and_from)
 
   module _ (k : Known) (d : DriverKeeps h k) (good : is_bad_ring h k r ≡ false) (t u : TraceRecord) (m : ℕ → ℕ) (f : FollowsTrace h k t m) (more : HasOneMore r t u) where
     absent : ring_with h r.id ≡ None

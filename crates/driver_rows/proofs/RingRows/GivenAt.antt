@@ -1,32 +1,5 @@
 -- The command that a write gives, by the ring that has the word
-use Rattle.std.proofs.Common.{◌≡◌, ◌∷◌, ◌∙◌, ℕ, zero, suc, Bool, true, false, if◌then◌else◌, List, [], Option, Some, None, get_or, length, refl, ap, sym, subst, inl, inr}
-use Rattle.std.specs.Prelude.{position, slice_get}
-use Rattle.std.proofs.lemmas.Bool.{cases_Bool}
-use Rattle.std.proofs.lemmas.Option.{slice_get_read}
-use Rattle.std.proofs.lemmas.List.Quantifiers.{position-Some}
-use Rattle.trb.specs.declared.ring_kind.RingKind.{RingKind}
-use Rattle.trb.specs.declared.ring_kind.RingKind.TheVariants.{Cmd, Evt, Xfer}
-use Rattle.segments.specs.Places.{touches}
-use Rattle.segments.specs.RingView.{positions_given}
-use Rattle.commands.specs.declared.command.Command.{Command}
-use Rattle.commands.specs.declared.command.Command.TheVariants.{SetTrDequeue}
-use Rattle.traces.specs.declared.header.Header.{Header}
-use Rattle.traces.specs.declared.ring.Ring.{Ring}
-use Rattle.traces.specs.declared.row.Row.{Row}
-use Rattle.traces.specs.declared.row.Row.TheVariants.{Write, Bell}
-use Rattle.traces.specs.Header.{IsHeader, is_command_kind, is_driver_kind}
-use Rattle.ring_knowledge.specs.Known.{Known}
-use Rattle.ring_knowledge.specs.Writes.{command_given}
-use Rattle.ring_knowledge.specs.RingRecords.{positions_of}
-use Rattle.ring_knowledge.specs.declared.ring_record.RingGiving.TheVariants.{Position}
-use Rattle.trace_record.proofs.RingFinder.FoundRings.{none_here}
-use Rattle.trace_record.proofs.RingFinder.RingsApart.{among_at}
-use Rattle.trace_record.specs.declared.row_place.RowPlace.{RowPlace}
-use Rattle.trace_record.specs.RowPlaces.{IsGivenBy, IsGivenOn, IsPlacedSo}
-use Rattle.safety.specs.RingChanges.Withdrawals.{ring_moved, ring_restored, some_flips}
-use Rattle.driver_rows.specs.RingRows.GivenCommands.{GivesCommandAt}
-use Rattle.trace_record.specs.RingCommands.{command_on}
-use Rattle.trace_record.proofs.GivenCommands.{command_is, none_nowhere}
+use Rattle.driver_rows.proofs.Words.{rules, ◌≡◌, ◌∷◌, ◌∙◌, ℕ, zero, suc, Bool, true, false, if◌then◌else◌, List, [], Option, Some, None, get_or, length, refl, ap, sym, subst, position, slice_get, slice_get_read, position-Some, RingKind, touches, positions_given, Command, SetTrDequeue, Header, Ring, Row, Write, Bell, IsHeader, is_command_kind, is_driver_kind, Known, command_given, positions_of, Position, none_here, among_at, RowPlace, IsGivenBy, IsGivenOn, IsPlacedSo, ring_moved, ring_restored, some_flips, GivesCommandAt, command_on, command_is, none_nowhere}
 use Rattle.driver_rows.proofs.MemoryWrites.OnRing.{inside_is}
 
 none-some : {X : Type 0} {Y : Type 1} (x : X) → None ≡ Some x → Y
@@ -45,9 +18,7 @@ touched_at p (x ∷ xs) n found =
     same_default (r ∷ rs) (suc n) d = same_default rs n d
 
 pub command_drives : (kind : RingKind) → is_command_kind kind ≡ true → is_driver_kind kind ≡ true
-command_drives Cmd e = refl
-command_drives Evt e = absurd (cc)
-command_drives Xfer e = absurd (cc)
+command_drives kind e = search rules
 
 module _ (h : Header) (headed : IsHeader h) (k : Known) (a w : ℕ) (place : RowPlace) (placed : IsPlacedSo h k a w place) where
   -- no ring has the word
@@ -70,9 +41,7 @@ module _ (h : Header) (headed : IsHeader h) (k : Known) (a w : ℕ) (place : Row
           given.positions (command_drives ring.shape.kind command)
 
       given_on : command_given h k a w ≡ command_on (k.ring ring.id) (positions_of place.giving)
-      given_on =
-          by_ring ∙ ap (λ (b : Bool). if b then command_on (k.ring ring.id) (positions_given ring.shape (k.ring ring.id) a w) else None) command
-          ∙ ap (command_on (k.ring ring.id)) positions_are
+      given_on = search (rules, by_ring, positions_are)
 
   -- ---- the write moves a ring
 
@@ -89,53 +58,25 @@ module _ (h : Header) (headed : IsHeader h) (k : Known) (a w : ℕ) (place : Row
       touched = touched_at (λ q. touches q.shape a 4) h.rings n (sym placed.ring ∙ at)
 
       commands : is_command_kind touched.0.shape.kind ≡ true
-      commands = elim (cases_Bool (is_command_kind touched.0.shape.kind)) [
-        | inl command ↦ command
-        | inr other ↦ absurd (not_none (none_on n touched.0 touched.1 touched.2 other))
-      ]
+      commands = search (rules, touched, not_none, none_on)
 
       pub nothing_moves : positions_of place.giving ≡ [] → ⊥
       nothing_moves none = not_none (given_on n touched.0 touched.1 touched.2 at commands ∙ ap (command_on (k.ring touched.0.id)) none)
 
       pub gives_at : (p : ℕ) → place.giving ≡ Some (Position p) → GivesCommandAt h k a w n p
-      gives_at p giving = record {
-        ring = touched.0;
-        at = touched.1;
-        command = commands;
-        gives = positions_are n touched.0 touched.1 touched.2 at commands ∙ ap positions_of giving;
-      }
+      gives_at p giving = search (rules, touched, commands, positions_are)
 
 -- ---- by the kinds of commands and rows
 
-pub moved_by_set : (k : Known) (o : Option Command) (s i p : ℕ) (cycle : Bool) → o ≡ Some (SetTrDequeue s i p cycle) → ring_moved k o ≡ k.ring_of s i
-unfolding ring_moved
-moved_by_set k o s i p cycle is = ap (ring_moved k) is
-
-pub moved_by_none : (k : Known) (o : Option Command) → o ≡ None → ring_moved k o ≡ None
-unfolding ring_moved
-moved_by_none k o is = ap (ring_moved k) is
-
 pub moved_by_others : (k : Known) (c : Command) → ((s i p : ℕ) (cycle : Bool) → c ≡ SetTrDequeue s i p cycle → ⊥) → ring_moved k (Some c) ≡ None
 unfolding ring_moved
-moved_by_others k (SetTrDequeue s i p cycle) other = absurd (other s i p cycle refl)
-moved_by_others k _ other = refl
+moved_by_others k c e = search rules
 
 module _ (h : Header) (k : Known) where
   pub restored_by_others : (row : Row) → ((a w : ℕ) → row ≡ Write a w → ⊥) → ((s t : ℕ) → row ≡ Bell s t → ⊥) → ring_restored h k row ≡ None
   unfolding ring_restored
-  restored_by_others (Write a w) no_write no_bell = absurd (no_write a w refl)
-  restored_by_others (Bell s t) no_write no_bell = absurd (no_bell s t refl)
-  restored_by_others _ no_write no_bell = refl
-
-  pub restored_by_bell : (row : Row) (s t : ℕ) → row ≡ Bell s t → ring_restored h k row ≡ k.ring_of s t
-  unfolding ring_restored
-  restored_by_bell row s t is = ap (ring_restored h k) is
-
-  pub restored_by_write : (row : Row) (a w : ℕ) → row ≡ Write a w → ring_restored h k row ≡ ring_moved k (command_given h k a w)
-  unfolding ring_restored
-  restored_by_write row a w is = ap (ring_restored h k) is
+  restored_by_others row e f = search rules
 
   pub flips_by_others : (row : Row) → ((a w : ℕ) → row ≡ Write a w → ⊥) → some_flips h k row ≡ false
   unfolding some_flips
-  flips_by_others (Write a w) no_write = absurd (no_write a w refl)
-  flips_by_others _ no_write = refl
+  flips_by_others row e = search rules

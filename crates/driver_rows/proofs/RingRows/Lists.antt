@@ -1,9 +1,5 @@
 -- Lists with one more at the end, or one taken out
-use Rattle.std.proofs.Common.{◌≡◌, ◌≢◌, ◌<◌, ◌∷◌, ◌++◌, ◌∙◌, ◌⊎◌, ℕ, zero, suc, Bool, true, false, List, [], Some, filter, get_or, length, set, slice_get, arith, refl, sym, ap, inl, inr}
-use Rattle.std.specs.List.{remove}
-use Rattle.std.proofs.lemmas.Bool.{cond-false, cond-true}
-use Rattle.std.proofs.lemmas.Option.{none-some, same_Some, slice_get_within}
-use Rattle.ownership_rules.proofs.Among.{IsIn}
+use Rattle.driver_rows.proofs.Words.{rules, ◌≡◌, ◌≢◌, ◌<◌, ◌∷◌, ◌++◌, ◌∙◌, ◌⊎◌, ℕ, zero, suc, Bool, true, false, List, [], Some, filter, get_or, length, set, slice_get, arith, refl, sym, ap, inl, inr, remove, cond-false, cond-true, none-some, same_Some, slice_get_within, IsIn}
 
 pub in_at : {X : Type 0} (xs : List X) (i : ℕ) (x : X) → slice_get xs i ≡ Some x → IsIn x xs
 in_at [] i x at = absurd (none-some x at)
@@ -19,17 +15,7 @@ at_push (z ∷ zs) y (suc i) x at = elim (at_push zs y i x at) [ inl old ↦ inl
 -- of two lists of one length each gets one more
 pub both_push : {X Y : Type 0} (xs : List X) (ys : List Y) (x : X) (y : Y) (i : ℕ) (p : X) (q : Y) → length ys ≡ length xs → slice_get (xs ++ x ∷ []) i ≡ Some p → slice_get (ys ++ y ∷ []) i ≡ Some q →
     ((slice_get xs i ≡ Some p) × (slice_get ys i ≡ Some q)) ⊎ ((x ≡ p) × (y ≡ q))
-both_push xs ys x y i p q long at there =
-    elim (at_push xs x i p at) [
-      | inl old ↦ elim (at_push ys y i q there) [
-        | inl before ↦ inl (old, before)
-        | inr last ↦ let low = slice_get_within xs i p old in let end = last.0 in absurd (omega (arith, low, end, long))
-      ]
-      | inr new ↦ elim (at_push ys y i q there) [
-        | inl before ↦ let low = slice_get_within ys i q before in let end = new.0 in absurd (omega (arith, low, end, long))
-        | inr last ↦ inr (new.1, last.1)
-      ]
-    ]
+both_push xs ys x y i p q long at there = search (rules, at_push, slice_get_within)
 
 -- where it stood before n was taken out
 abbrev pub place_before : ℕ → ℕ → ℕ
@@ -67,13 +53,14 @@ at_set [] n i y x e = absurd (none-some x e)
 at_set (z ∷ xs) zero zero y x e = inl (refl, same_Some y x e)
 at_set (z ∷ xs) zero (suc i) y x e = inr ((λ same. omega (arith, same)), e)
 at_set (z ∷ xs) (suc n) zero y x e = inr ((λ same. omega (arith, same)), e)
-at_set (z ∷ xs) (suc n) (suc i) y x e = elim (at_set xs n i y x e) [
-  | inl here ↦ inl (ap suc here.0, here.1)
-  | inr there ↦ inr ((λ same. there.0 (omega (arith, same))), there.1)
-]
+at_set (z ∷ xs) (suc n) (suc i) y x e = search (rules, none-some, same_Some, at_set xs n i y x e)
 
 -- what stands at a place is read there
 pub read_there : {X : Type 0} (xs : List X) (n : ℕ) (d x : X) → slice_get xs n ≡ Some x → get_or xs n d ≡ x
 read_there [] n d x e = absurd (none-some x e)
 read_there (y ∷ ys) zero d x e = same_Some y x e
 read_there (y ∷ ys) (suc n) d x e = read_there ys n d x e
+
+-- and it is the only one
+pub one_at : {X : Type 0} (xs : List X) (n : ℕ) (x y : X) → slice_get xs n ≡ Some x → slice_get xs n ≡ Some y → x ≡ y
+one_at xs n x y e f = cc

@@ -1,11 +1,5 @@
 -- A ring is found by its ID where one has it
-use Rattle.std.proofs.Common.{◌≡◌, ◌∷◌, ◌∙◌, ℕ, Bool, List, [], Option, Some, None, find, is_some, position, refl, sym, inl, inr}
-use Rattle.std.specs.List.{list_any}
-use Rattle.std.proofs.lemmas.Bool.{cases_Bool}
-use Rattle.std.proofs.lemmas.List.Folds.{list_any_at, list_any_none}
-use Rattle.std.proofs.lemmas.List.Quantifiers.{position-Some}
-use Rattle.segments.proofs.Search.{position-None}
-use Rattle.traces.specs.declared.ring.Ring.{Ring}
+use Rattle.driver_rows.proofs.Words.{◌≡◌, ◌∷◌, ◌∙◌, ℕ, Bool, List, [], Option, Some, None, find, is_some, position, refl, sym, inl, inr, list_any, cases_Bool, list_any_at, list_any_none, position-Some, position-None, Ring}
 
 found_any : (p : Ring → Bool) (rs : List Ring) → is_some (find p rs) ≡ list_any p rs
 found_any p [] = refl

@@ -1,22 +1,6 @@
 -- The ring that a row starts or moves, and the Cycle bits that a write flips, by the ring that has the word
-use Rattle.std.proofs.Common.{◌≡◌, ◌+◌, ◌%◌, ◌==◌, ◌&&◌, ◌∙◌, ℕ, Bool, true, false, not, nat_lt, ap, arith, sym, inl, inr, eqb-true}
-use Rattle.segments.specs.Ceiling.{ceiling}
-use Rattle.segments.specs.Givings.{flips_passed, unrestored}
-use Rattle.segments.specs.Places.{address_of, cycle_of, is_inside, touches}
-use Rattle.segments.specs.RingView.{RingView}
-use Rattle.segments.specs.Shape.{IsShape}
-use Rattle.segments.specs.ShapeValue.{Shape}
-use Rattle.segments.proofs.Elsewhere.{address_inside}
-use Rattle.traces.specs.declared.header.Header.{Header}
-use Rattle.traces.specs.declared.ring.Ring.{Ring}
-use Rattle.traces.specs.declared.row.Row.TheVariants.{Write}
-use Rattle.traces.specs.Header.{IsHeader, driver_rings, is_driver_kind, is_event_kind}
-use Rattle.ring_knowledge.specs.Known.{Known}
-use Rattle.trace_record.proofs.RingFinder.HeaderRings.{no_driver, one_driver, shape_allowed, together}
-use Rattle.trace_record.proofs.RingFinder.ListTests.{and_left, and_right, any_nowhere, false_unless}
-use Rattle.trace_record.proofs.RingFinder.RingsApart.{Apart, IsAmong, same_or_apart}
-use Rattle.trace_record.proofs.OneRingHas.{no_driver_event}
-use Rattle.safety.specs.RingChanges.Withdrawals.{some_flips}
+use Rattle.driver_rows.proofs.Words.{rules, false≢true, ◌≡◌, ◌+◌, ◌%◌, ◌==◌, ◌&&◌, ◌∙◌, ℕ, true, false, not, nat_lt, ap, arith, sym, eqb-true, ceiling, flips_passed, unrestored, address_of, cycle_of, is_inside, touches, RingView, IsShape, Shape, address_inside, Header, Ring, Write, IsHeader, driver_rings, is_driver_kind, is_event_kind, Known, no_driver, one_driver, shape_allowed, together, any_nowhere, false_unless, Apart, IsAmong, same_or_apart, no_driver_event, some_flips}
+use Rattle.trace_record.proofs.RingFinder.ListTests.{and_left, and_right}
 use Rattle.driver_rows.proofs.MemoryWrites.OnRing.{inside_is}
 
 -- a word outside a ring isn't of its blocks
@@ -25,14 +9,7 @@ unfolding flips_passed
 flips_outside shape is v a w outside =
     any_nowhere (λ p. nat_lt p (ceiling shape v) && a == address_of shape p + 12 && not (w % 2 == cycle_of shape p)) (λ p. false_unless _ (λ flips.
     let here : a ≡ address_of shape p + 12 = eqb-true a (address_of shape p + 12) (and_right (nat_lt p (ceiling shape v)) _ (and_left (nat_lt p (ceiling shape v) && a == address_of shape p + 12) _ flips)) in
-    no_word p here)) (unrestored shape v)
-  where
-    no_word : (p : ℕ) → a ≡ address_of shape p + 12 → ⊥
-    no_word p here = not_both (is_inside shape a) outside (ap (is_inside shape) here ∙ address_inside shape is p 12 (omega arith))
-      where
-        not_both : (b : Bool) → b ≡ false → b ≡ true → ⊥
-        not_both true is_false is_true = cc is_false
-        not_both false is_false is_true = cc is_true
+    false≢true (sym outside ∙ ap (is_inside shape) here ∙ address_inside shape is p 12 (omega arith)))) (unrestored shape v)
 
 module _ (h : Header) (headed : IsHeader h) (k : Known) (a w : ℕ) (aligned : a % 4 ≡ 0) where
   none_outside : (q : Ring) → IsAmong q h.rings → is_inside q.shape a ≡ false → flips_passed q.shape (k.ring q.id) a w ≡ false
@@ -52,11 +29,7 @@ module _ (h : Header) (headed : IsHeader h) (k : Known) (a w : ℕ) (aligned : a
     -- the event ring
     pub event_flips : is_event_kind r.shape.kind ≡ true → false ≡ some_flips h k (Write a w)
     unfolding some_flips driver_rings
-    event_flips event =
-        sym (no_driver (λ q. flips_passed q.shape (k.ring q.id) a w) h.rings (λ q there driver. elim (same_or_apart h.rings (together h headed) r q among there) [
-          | inl same ↦ absurd (no_driver_event q.shape.kind driver (ap (λ (y : Ring). is_event_kind y.shape.kind) same ∙ event))
-          | inr apart ↦ none_outside q there (outside q there apart)
-        ]))
+    event_flips event = search (rules, no_driver, same_or_apart, together, no_driver_event, none_outside, outside)
 
     -- a command or transfer ring
     pub ring_flips : is_driver_kind r.shape.kind ≡ true → flips_passed r.shape (k.ring r.id) a w ≡ some_flips h k (Write a w)

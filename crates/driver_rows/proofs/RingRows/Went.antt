@@ -1,33 +1,7 @@
 -- A ring that goes: the header is one still, and the record follows
-use Rattle.std.proofs.Common.{◌≡◌, ◌≢◌, ◌==◌, ◌<◌, ◌∙◌, ◌&&◌, ℕ, not, Bool, true, false, None, Some, nat_lt, filter, length, slice_get, refl, sym, ap, subst, inl, inr, arith, eq-eqb, eqb-true, ne_eqb, Option}
-use Rattle.std.specs.List.{list_any, list_all, range_with_len, remove}
-use Rattle.std.proofs.lemmas.Bool.{and_from, cases_eq, false_from_ne_true}
-use Rattle.std.proofs.lemmas.Option.{none-some, slice_get_within}
-use Rattle.std.proofs.lemmas.List.Edits.{length-remove}
-use Rattle.safety.proofs.Words.{any_of, false≢true, is_shape, not_from_false, some_of}
-use Rattle.trb.specs.declared.ring_kind.RingKind.{RingKind}
-use Rattle.trb.specs.declared.ring_kind.RingKind.TheVariants.{Cmd, Evt, Xfer}
-use Rattle.traces.specs.declared.header.Header.{Header}
-use Rattle.traces.specs.declared.ring.Ring.{Ring}
-use Rattle.traces.specs.Header.{IsHeader, is_ring, is_transfer_kind, may_stand_together, ring_with}
-use Rattle.ring_knowledge.specs.Known.{Known}
-use Rattle.ring_knowledge.specs.RingRecords.{FollowsRing}
-use Rattle.trace_record.specs.DeviceSlots.Holders.{HasEndpoint}
-use Rattle.trace_record.specs.RingFinder.RecordsOfRings.{FollowsRings}
-use Rattle.trace_record.proofs.RingFinder.RingsApart.{among_at, numbers_apart}
-use Rattle.trace_record.proofs.RingFinder.HeaderRings.{ring_found}
-use Rattle.ownership_rules.specs.Moves.{is_being_bound}
-use Rattle.safety.specs.EndpointsKeep.{is_transfer_ring}
-use Rattle.safety.specs.Keeps.{DriverKeeps}
-use Rattle.safety.proofs.Headers.{header_parts}
-use Rattle.safety.proofs.UnfinishedLists.{in_range}
-use Rattle.trace_record.specs.declared.trace_record.TraceRecord.{TraceRecord}
-use Rattle.trace_record.specs.FollowsTrace.{FollowsTrace}
-use Rattle.safety.specs.RingChanges.Changes.{forgotten, is_bad_free, is_had, without_ring}
+use Rattle.driver_rows.proofs.Words.{rules, ◌≡◌, ◌≢◌, ◌==◌, ◌<◌, ◌∙◌, ℕ, not, true, false, None, Some, filter, length, slice_get, refl, sym, ap, subst, arith, eq-eqb, eqb-true, ne_eqb, Option, list_any, range_with_len, remove, and_from, false_from_ne_true, slice_get_within, length-remove, any_of, false≢true, not_from_false, some_of, RingKind, Xfer, Header, Ring, IsHeader, is_ring, is_transfer_kind, ring_with, Known, FollowsRing, HasEndpoint, FollowsRings, among_at, numbers_apart, ring_found, is_transfer_ring, DriverKeeps, header_parts, in_range, TraceRecord, FollowsTrace, forgotten, is_bad_free, is_had, without_ring, all_kept, together_kept, cleared, cleared_apart, IsTransferAt}
 use Rattle.safety.proofs.RingChanges.GoneRings as goes
-use Rattle.safety.proofs.RingChanges.ListedRings.{all_kept, together_kept}
-use Rattle.safety.proofs.RingChanges.Squares.{cleared, cleared_apart}
-use Rattle.driver_rows.specs.RingRows.RingSteps.{IsTransferAt}
+use Rattle.driver_rows.proofs.RingBindings.KeptRings.{numbered}
 use Rattle.driver_rows.proofs.RingRows.Lists.{another_place, at_remove, kept_others, place_before}
 use Rattle.driver_rows.proofs.RingRows.OtherRecords.{other_record}
 
@@ -36,14 +10,9 @@ use Rattle.driver_rows.proofs.RingRows.OtherRecords.{other_record}
 pub one_has : (h : Header) (k : Known) → DriverKeeps h k → (id : ℕ) → HasEndpoint k id → is_had k id ≡ true
 unfolding is_had
 one_has h k d id e =
-    let low = d.numbered e.slot e.index id e.has in
-    let some_slot : 0 < e.slot = positive e.slot (λ zero. none-some id (sym (d.states.no_endpoint e.slot e.index (inl zero)) ∙ e.has)) in
-    let some_index : 0 < e.index = positive e.index (λ zero. none-some id (sym (d.states.no_endpoint e.slot e.index (inr zero)) ∙ e.has)) in
-    any_of (λ s. list_any (λ i. is_ring id (k.ring_of s i)) (range_with_len 1 31)) (range_with_len 1 255) e.slot (in_range 1 255 e.slot (omega arith) (omega (arith, low.0)))
-    (any_of (λ i. is_ring id (k.ring_of e.slot i)) (range_with_len 1 31) e.index (in_range 1 31 e.index (omega arith) (omega (arith, low.1))) (ap (is_ring id) e.has ∙ eq-eqb id id refl))
-  where
-    positive : (n : ℕ) → (n ≡ 0 → ⊥) → 0 < n
-    positive n some = elim (cases_eq n 0) [ inl zero ↦ absurd (some zero) | inr other ↦ omega (arith, other) ]
+    let low = numbered h k d e.slot e.index id e.has in
+    any_of (λ s. list_any (λ i. is_ring id (k.ring_of s i)) (range_with_len 1 31)) (range_with_len 1 255) e.slot (in_range 1 255 e.slot (omega (arith, low.0)) (omega (arith, low.1)))
+    (any_of (λ i. is_ring id (k.ring_of e.slot i)) (range_with_len 1 31) e.index (in_range 1 31 e.index (omega (arith, low.2)) (omega (arith, low.3))) (ap (is_ring id) e.has ∙ eq-eqb id id refl))
 
 pub none_has : (k : Known) (id : ℕ) → ((s i : ℕ) → k.ring_of s i ≢ Some id) → is_had k id ≡ false
 unfolding is_had
@@ -57,28 +26,10 @@ none_has k id none =
     by s i None at is = false≢true is
     by s i (Some q) at is = none s i (at ∙ ap (λ n. Some n) (eqb-true q id is))
 
--- ---- the rule, test by test
-
-module _ (h : Header) (k : Known) (id : ℕ) where
-  pub no_transfer : is_transfer_ring (ring_with h id) ≡ false → is_bad_free h k id ≡ true
-  unfolding is_bad_free
-  no_transfer none = rw none refl
-
-  module _ (there : is_transfer_ring (ring_with h id) ≡ true) where
-    pub had_free : is_had k id ≡ true → is_bad_free h k id ≡ true
-    unfolding is_bad_free
-    had_free had = rw (there, had) refl
-
-    pub bound_free : is_had k id ≡ false → (b : Bool) → is_being_bound h k id ≡ b → is_bad_free h k id ≡ b
-    unfolding is_bad_free
-    bound_free none b bound = rw (there, none) bound
-
 -- ---- the header, the rings, the record
 
 other_kind : (kind : RingKind) → (kind ≡ Xfer → ⊥) → is_transfer_kind kind ≡ false
-other_kind Cmd other = refl
-other_kind Evt other = refl
-other_kind Xfer other = absurd (other refl)
+other_kind kind e = search rules
 
 -- the ring with a number has an ID
 pub ring_at : (h : Header) → IsHeader h → (id n : ℕ) (r : Ring) → slice_get h.rings n ≡ Some r → r.id ≡ id → ring_with h id ≡ Some r
@@ -104,11 +55,7 @@ module _ (h : Header) (is : IsHeader h) (id n : ℕ) (there : IsTransferAt h id 
 
   pub rest_header : IsHeader (without_ring h id)
   unfolding without_ring
-  rest_header =
-      let was = header_parts h is in
-      let keep : Ring → Bool = λ q. not (q.id == id) in
-      and_from (list_all (λ q. nat_lt q.id 256 && is_shape q.shape) (filter keep h.rings)) (may_stand_together (filter keep h.rings))
-      (all_kept keep (λ q. nat_lt q.id 256 && is_shape q.shape) h.rings was.0) (together_kept keep h.rings was.1)
+  rest_header = search (rules, header_parts, and_from, all_kept, together_kept)
 
   pub rest_is : record h { rings = remove h.rings n } ≡ without_ring h id
   unfolding without_ring

@@ -1,50 +1,17 @@
 -- The record and the memory hold what is known behind a write
-use Rattle.std.proofs.Common.{◌≡◌, ℕ, List, Option, Some, None, ap, sym, ◌∙◌, subst}
-use Rattle.std.specs.Prelude.{◌&&◌, not, ◌==◌, if◌then◌else◌}
+use Rattle.driver_rows.proofs.Words.{rules, ◌≡◌, ℕ, List, Option, sym, subst, ◌&&◌, not, ◌==◌, Result, put, device_context_bytes, input_context_bytes, EventState, Header, Write, RingRecord, RegisterRecord, FollowsRing, FollowsRegisters, Known, unfinished, learned, with_device, with_word, written, FollowsRings, DeviceRecord, FollowsDevices, FollowsUnfinished, after_word, SoiledWords, HoldsAreas, HoldsSoiled, SameRegisters, write_leaves, taken, written_memory, written_ring, TraceRecord, FollowsTrace, FollowsEvents, HoldsBound, inputs_of, device_contexts}
 use Rattle.std.specs.Result.{OnOk}
-use Rattle.std.specs.Prelude.{Result, Ok, Err}
-use Rattle.guest_memory.specs.Memory.{put}
-use Rattle.contexts.specs.Contexts.{device_context_bytes, input_context_bytes}
-use Rattle.event_ring.specs.EventPlaceValue.{EventState}
-use Rattle.traces.specs.declared.header.Header.{Header}
-use Rattle.traces.specs.declared.row.Row.TheVariants.{Write}
-use Rattle.ring_knowledge.specs.declared.ring_record.RingRecord.{RingRecord}
-use Rattle.ring_knowledge.specs.declared.register_record.RegisterRecord.{RegisterRecord}
-use Rattle.ring_knowledge.specs.RingRecords.{FollowsRing}
-use Rattle.ring_knowledge.specs.RegisterRecords.{FollowsRegisters}
-use Rattle.ring_knowledge.specs.Known.{Known}
-use Rattle.ring_knowledge.specs.Rings.{unfinished}
-use Rattle.ring_knowledge.specs.Learned.{learned}
-use Rattle.ring_knowledge.specs.Writes.{with_device, with_word, written}
-use Rattle.trace_record.specs.RingFinder.RecordsOfRings.{FollowsRings}
-use Rattle.trace_record.specs.declared.device_record.kept.DeviceRecord.{DeviceRecord}
-use Rattle.trace_record.specs.DeviceSlots.Devices.{FollowsDevices}
-use Rattle.trace_record.specs.DeviceSlots.Unfinished.{FollowsUnfinished}
-use Rattle.trace_record.proofs.DeviceSlots.OtherRows.{after_word}
-use Rattle.trace_record.specs.declared.range_words.soiled.SoiledWords.{SoiledWords}
-use Rattle.trace_record.specs.RangeWords.Holding.{HoldsAreas, HoldsSoiled}
-use Rattle.safety.proofs.RowFrames.{SameRegisters, write_leaves}
-use Rattle.safety.proofs.WrittenKnown.{taken, written_memory, written_ring}
-use Rattle.trace_record.specs.declared.trace_record.TraceRecord.{TraceRecord}
-use Rattle.trace_record.specs.FollowsTrace.{FollowsTrace, FollowsEvents, HoldsBound, inputs_of, device_contexts}
 
 -- what three clauses of one call say together
 pub from_three : {T E P Q R S : Type 0} (r : Result T E) → OnOk r P → OnOk r Q → OnOk r R → (P → Q → R → S) → OnOk r S
-from_three (Ok x) p q r f = f p q r
-from_three (Err e) p q r f = tt
+from_three r e f g j = search rules
 
 module _ (h : Header) (k l : Known) (same : SameRegisters k l) where
-  registers_still : (r : RegisterRecord) → FollowsRegisters k r → FollowsRegisters l r
-  registers_still r f = record {
-    started = same.started ∙ f.started;
-    stopped = same.stopped ∙ f.stopped;
-    as_many = f.as_many;
-    values = λ q. ap (λ g. g q) same.register ∙ f.values q;
-  }
+  pub registers_still : (r : RegisterRecord) → FollowsRegisters k r → FollowsRegisters l r
+  registers_still r f = search rules
 
-  events_still : (o : Option EventState) → FollowsEvents h k o → FollowsEvents h l o
-  events_still None f = f
-  events_still (Some e) f = record { here = f.here; shape = f.shape; reads = same.reads ∙ f.reads; dequeue = same.dequeue ∙ f.dequeue }
+  pub events_still : (o : Option EventState) → FollowsEvents h k o → FollowsEvents h l o
+  events_still o e = search rules
 
 module _ (h : Header) (k : Known) (a w : ℕ) where
   abbrev l : Known
@@ -79,18 +46,4 @@ module _ (h : Header) (k : Known) (a w : ℕ) where
       HoldsAreas (input_context_bytes h.context_size) (inputs_of (unfinished h l)) after.inputs →
       HoldsAreas (device_context_bytes h.context_size) (device_contexts l) after.contexts →
       HoldsSoiled l.soiled after.soiled → FollowsTrace h l after now
-  followed t memory f after now words rings registers events devices commands bound inputs contexts soiled = record {
-    words = λ b. ap (λ g. g b) (written_memory h k a w) ∙ put_same b ∙ sym (words b);
-    rings = rings_still after.rings.items rings;
-    registers = subst (λ r. FollowsRegisters l r) (sym registers) (registers_still h k l (write_leaves h k a w).registers t.registers f.registers);
-    events = subst (λ e. FollowsEvents h l e) (sym events) (events_still h k l (write_leaves h k a w).registers t.events f.events);
-    devices = devices;
-    commands = commands;
-    bound = bound;
-    inputs = inputs;
-    contexts = contexts;
-    soiled = soiled;
-  }
-    where
-      put_same : (b : ℕ) → put k.memory a w b ≡ put memory a w b
-      put_same b = ap (λ x. if b == a then w else x) (f.words b)
+  followed t memory f after now words rings registers events devices commands bound inputs contexts soiled = search (rules, written_memory, rings_still, registers_still, write_leaves, events_still)

@@ -1,36 +1,6 @@
 -- What a write that breaks no rule gives: a command that nothing excludes, and a device context that lies where it may
-use Rattle.std.proofs.Common.{◌≡◌, ℕ, ◌+◌, ◌^◌, ◌≤◌, false, List, [], ◌∷◌, Option, Some, None, refl, ap, sym, ◌∙◌, arith, inl, inr, subst}
-use Rattle.std.specs.Prelude.{Contains, nat_lt, option_and_then}
-use Rattle.std.specs.List.{filter_map}
-use Rattle.std.proofs.lemmas.Bool.{cases_lt, lt-ltb, eq-eqb, false≢true}
-use Rattle.guest_memory.specs.Memory.{put}
-use Rattle.segments.specs.RingView.{positions_given}
-use Rattle.segments.proofs.Giving.{gives_is}
-use Rattle.segments.proofs.DueLists.{position_given_is}
-use Rattle.commands.specs.declared.command.Command.{Command}
-use Rattle.commands.specs.declared.command.Command.TheVariants.{AddressDevice}
-use Rattle.traces.specs.declared.header.Header.{Header}
-use Rattle.traces.specs.declared.row.Row.TheVariants.{Write}
-use Rattle.traces.specs.Header.{IsHeader, shape_of, command_id}
-use Rattle.ring_knowledge.specs.Known.{Known}
-use Rattle.ring_knowledge.specs.Rings.{unfinished}
-use Rattle.ring_knowledge.specs.Writes.{device_named, entry_of, no_device, taken_device, command_given}
+use Rattle.driver_rows.proofs.Words.{rules, ◌≡◌, ℕ, ◌+◌, ◌^◌, ◌≤◌, false, List, [], ◌∷◌, Option, Some, None, refl, ap, sym, ◌∙◌, arith, inl, inr, subst, Contains, nat_lt, option_and_then, filter_map, cases_lt, lt-ltb, eq-eqb, false≢true, put, positions_given, gives_is, position_given_is, Command, AddressDevice, Header, Write, IsHeader, shape_of, command_id, Known, unfinished, device_named, entry_of, no_device, taken_device, command_given, slots, lenient, DeviceKeeps, DriverKeeps, ring_shape, due_has_ring, area_parts, taking, after_write, taken, written_device, written_device_none, given_facts, rules_of, written_devices, Inserted, GivesOne, allowed_gives, written_with, written_without, device_contexts, IsInserted, IsWith, MayBeGiven, EntryFits, LiesOnWords, address_taken}
 use Rattle.ownership_rules.specs.Commands as commands
-use Rattle.ownership_rules.specs.OpenLeases.{slots}
-use Rattle.ownership_rules.specs.Rules.{lenient}
-use Rattle.safety.specs.Keeps.{DeviceKeeps, DriverKeeps}
-use Rattle.safety.proofs.Headers.{ring_shape}
-use Rattle.safety.proofs.CommandRing.{due_has_ring}
-use Rattle.safety.proofs.AreaFacts.{area_parts}
-use Rattle.safety.proofs.KeptClean.{taking}
-use Rattle.safety.proofs.WrittenKnown.{after_write, taken, written_device, written_device_none}
-use Rattle.safety.proofs.GivenRules.{given_facts}
-use Rattle.safety.proofs.WriteBeside.{rules_of}
-use Rattle.safety.proofs.DevicesWritten.{written_devices}
-use Rattle.trace_record.proofs.DeviceSlots.Inserted.{Inserted}
-use Rattle.trace_record.proofs.DeviceSlots.UnfinishedWritten.{GivesOne, allowed_gives, written_with, written_without}
-use Rattle.trace_record.specs.FollowsTrace.{device_contexts}
-use Rattle.driver_rows.specs.WriteEffects.Starting.{IsInserted, IsWith, MayBeGiven, EntryFits, LiesOnWords, address_taken}
 use Rattle.driver_rows.proofs.WriteEffects.GivenEndpoint.{given_endpoint}
 use Rattle.driver_rows.proofs.WriteEffects.SlotLists.{listed_with}
 
@@ -60,16 +30,12 @@ module _ (h : Header) (is : IsHeader h) (k : Known) (d : DriverKeeps h k) (a w :
 
   -- it comes to the unfinished commands
   pub new_command : (o : Option Command) → o ≡ command_given h k a w → IsWith o (unfinished h k) (unfinished h l)
-  new_command None at = written_without h k a w gives_one (sym at)
-  new_command (Some c) at = inserted c (unfinished h k) (unfinished h l) (written_with h k a w gives_one c (sym at))
+  new_command o e = search (rules, written_without, gives_one, inserted, written_with)
 
   -- nothing excludes it
   pub may_be_given : (o : Option Command) → o ≡ command_given h k a w → MayBeGiven o (unfinished h k)
   unfolding commands.is_busy
-  may_be_given None at = tt
-  may_be_given (Some c) at =
-      let facts = given_facts h k is d a w c clean (sym at) in
-      (given_endpoint h k a w c (sym at) facts.own.good, facts.busy)
+  may_be_given o e = search (rules, given_facts, given_endpoint)
 
   -- ---- the device context
 

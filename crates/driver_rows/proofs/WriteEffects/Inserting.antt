@@ -1,16 +1,10 @@
 -- What a new element of a list adds to what is held of the list
-use Rattle.std.proofs.Common.{◌≡◌, ℕ, List, ◌∷◌, ◌++◌, Option, Some, None, ap, sym, subst, ◌∙◌}
-use Rattle.std.specs.List.{filter_map, cons_option}
-use Rattle.std.proofs.lemmas.List.Elements.{filter_map-append}
-use Rattle.trace_record.specs.declared.range_words.areas.Areas.{Areas}
-use Rattle.trace_record.specs.RangeWords.Holding.{HoldsAreas}
-use Rattle.driver_rows.specs.WriteEffects.Starting.{IsInserted, IsWith}
+use Rattle.driver_rows.proofs.Words.{rules, ◌≡◌, ℕ, List, ◌∷◌, ◌++◌, Option, Some, None, ap, sym, ◌∙◌, filter_map, cons_option, filter_map-append, Areas, HoldsAreas, IsInserted, IsWith}
 
 -- an area is held where its address comes to the list
 pub area_added : (n start : ℕ) (old new : List ℕ) (before after : Areas) → IsInserted start old new →
     ((xs ys : List ℕ) → HoldsAreas n (xs ++ ys) before → HoldsAreas n (xs ++ start ∷ ys) after) → HoldsAreas n old before → HoldsAreas n new after
-area_added n start old new before after i adds holds =
-    subst (λ l. HoldsAreas n l after) (sym i.is) (adds i.front i.back (subst (λ l. HoldsAreas n l before) i.was holds))
+area_added n start old new before after i adds holds = search rules
 
 module _ {X Y : Type 0} (f : X → Option Y) (x : X) (old new : List X) (i : IsInserted x old new) where
   was_parts : filter_map f old ≡ filter_map f i.front ++ filter_map f i.back

@@ -1,10 +1,5 @@
 -- What a new device context of one slot adds to those of all slots
-use Rattle.std.proofs.Common.{◌≡◌, ◌≢◌, ℕ, zero, suc, ◌+◌, ◌<◌, ◌≤◌, List, [], ◌∷◌, Option, Some, None, refl, ap, sym, ◌∙◌, arith, inl, inr, subst}
-use Rattle.std.specs.Prelude.{◌==◌}
-use Rattle.std.specs.List.{filter_map, cons_option, range_with_len}
-use Rattle.std.proofs.lemmas.Bool.{cases_Bool, eqb-true, ne_eqb, false≢true, eq-eqb}
-use Rattle.guest_memory.specs.Memory.{put}
-use Rattle.driver_rows.specs.WriteEffects.Starting.{IsInserted}
+use Rattle.driver_rows.proofs.Words.{rules, ◌≡◌, ◌≢◌, ℕ, zero, suc, ◌+◌, ◌<◌, ◌≤◌, List, [], ◌∷◌, Option, Some, None, refl, ap, sym, ◌∙◌, arith, inl, inr, subst, ◌==◌, filter_map, cons_option, range_with_len, cases_Bool, eqb-true, ne_eqb, false≢true, eq-eqb, put, IsInserted}
 
 -- a list with one more element in front
 in_front : (x : ℕ) (o : Option ℕ) (old new : List ℕ) → IsInserted x old new → IsInserted x (cons_option o old) (cons_option o new)
@@ -24,9 +19,7 @@ module _ (f : ℕ → Option ℕ) (s d : ℕ) where
 
   listed_above : (from count : ℕ) → s < from → filter_map (put f s (Some d)) (range_with_len from count) ≡ filter_map f (range_with_len from count)
   listed_above from zero below = refl
-  listed_above from (suc n) below =
-      ap (λ o. cons_option o (filter_map (put f s (Some d)) (range_with_len (from + 1) n))) (put_other from (λ same. omega (arith, same)))
-      ∙ ap (λ l. cons_option (f from) l) (listed_above (from + 1) n (omega arith))
+  listed_above from (suc n) below = search (rules, put_other, listed_above (from + 1) n (omega arith))
 
   pub listed_with : (from count : ℕ) → f s ≡ None → from ≤ s → s < from + count →
       IsInserted d (filter_map f (range_with_len from count)) (filter_map (put f s (Some d)) (range_with_len from count))

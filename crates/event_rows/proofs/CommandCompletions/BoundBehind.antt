@@ -1,36 +1,5 @@
 -- The rings that unfinished commands bind behind a completion: those of before, but for those of the command that ended
-use Rattle.std.proofs.Common.{◌≡◌, ◌||◌, ◌∷◌, ◌∙◌, ℕ, Bool, true, false, List, [], Some, ap, refl, sym, inl, inr}
-use Rattle.std.specs.Prelude.{◌==◌, ◌&&◌, if◌then◌else◌, not}
-use Rattle.std.specs.List.{list_any}
-use Rattle.std.proofs.lemmas.Bool.{and_parts}
-use Rattle.trb.specs.declared.block.Block.{Block}
-use Rattle.trb.specs.Block.{code, slot}
-use Rattle.commands.specs.declared.command.Command.{Command}
-use Rattle.commands.specs.States.{can_succeed}
-use Rattle.traces.specs.declared.header.Header.{Header}
-use Rattle.traces.specs.declared.register.Register.TheVariants.{Config}
-use Rattle.traces.specs.Header.{IsHeader, command_id}
-use Rattle.traces.specs.Register.{register_or_zero}
-use Rattle.ring_knowledge.specs.Known.{Known}
-use Rattle.ring_knowledge.specs.Completions.{completed}
-use Rattle.ring_knowledge.specs.Rings.{command_at, next_command, unfinished}
-use Rattle.ownership_rules.proofs.Among.{IsIn}
-use Rattle.ownership_rules.specs.Events.{can_finish, is_impossible_completion, was_stop_seen}
-use Rattle.ownership_rules.specs.Moves.{binds_ring, is_being_bound}
-use Rattle.safety.specs.Keeps.{DriverKeeps, IsDriverRing, IsUnfinished}
-use Rattle.safety.proofs.CommandsBeside.{Beside, binds_ring_beside}
-use Rattle.safety.proofs.CommandsCompleted.{Changed, changed_by_code}
-use Rattle.safety.proofs.CommandsFinished.{beside_finished, unfinished_before}
-use Rattle.safety.proofs.KeptRings.{CompletionFacts, by_completion, next_unfinished}
-use Rattle.safety.proofs.SafeContext.{command_is_ring}
-use Rattle.safety.proofs.SameDriver.{completion_same}
-use Rattle.safety.proofs.UnfinishedBehind.{listed_unfinished}
-use Rattle.trace_record.specs.declared.ring_set.RingSet.{RingSet}
-use Rattle.trace_record.specs.RingSets.{has}
-use Rattle.trace_record.specs.FollowsTrace.{HoldsBound}
-use Rattle.trace_record.specs.Premises.{FitsMemory}
-use Rattle.trace_record.proofs.BoundRings.{any_in}
-use Rattle.driver_rows.proofs.ContextRules.FittingCommands.{aligned_at, good_fits}
+use Rattle.event_rows.proofs.Words.{rules, ◌≡◌, ◌||◌, ◌∷◌, ◌∙◌, ℕ, Bool, true, false, List, [], Some, ap, refl, sym, inl, inr, ◌==◌, ◌&&◌, if◌then◌else◌, not, list_any, and_parts, Block, code, slot, Command, can_succeed, Header, Config, IsHeader, command_id, register_or_zero, Known, completed, command_at, next_command, unfinished, IsIn, can_finish, is_impossible_completion, was_stop_seen, binds_ring, is_being_bound, DriverKeeps, IsDriverRing, IsUnfinished, Beside, binds_ring_beside, Changed, changed_by_code, beside_finished, unfinished_before, CompletionFacts, by_completion, next_unfinished, command_is_ring, completion_same, listed_unfinished, RingSet, has, HoldsBound, FitsMemory, any_in, aligned_at, good_fits}
 use Rattle.event_rows.proofs.CommandCompletions.Finished.{unfinished_is, was_started}
 
 none_in : {X : Type 0} (p : X → Bool) (xs : List X) → ((x : X) → IsIn x xs → p x ≡ false) → list_any p xs ≡ false
@@ -39,9 +8,7 @@ none_in p (x ∷ xs) none = λ i. none x (inl refl) i || none_in p xs (λ y at. 
 
 -- of those of the first command and of others, which don't share any
 without_first : (first rest : Bool) → (first ≡ true → rest ≡ false) → ((first || rest) && not first) ≡ rest
-without_first true rest apart = sym (apart refl)
-without_first false true apart = refl
-without_first false false apart = refl
+without_first first rest e = search rules
 
 module _ (h : Header) (is : IsHeader h) (k : Known) (d : DriverKeeps h k) (b : Block) (possible : is_impossible_completion h k b ≡ false) (e : Command) (here : command_at h k (next_command h k) ≡ Some e) where
   abbrev l : Known

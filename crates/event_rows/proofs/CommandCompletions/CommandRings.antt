@@ -1,7 +1,6 @@
 -- What the command ring tells of completions
-use Rattle.event_rows.proofs.CommandCompletions.Words.{◌≡◌, ◌∙◌, true, Some, refl, ap, is_some, Block, Ring, Header, IsHeader, command_ring, command_id, shape_of, Known, command_at, next_command, shape_there, IsSetUp, is_no_completion}
+use Rattle.event_rows.proofs.Words.{◌≡◌, ◌∙◌, true, Some, refl, ap, is_some, Block, Ring, Header, IsHeader, command_ring, command_id, shape_of, Known, command_at, next_command, shape_there, IsSetUp, is_no_completion, command_id_is, commands_among}
 use Rattle.ownership_rules.specs.Events as events
-use Rattle.trace_record.proofs.RingFinder.CommandRings.{command_id_is, commands_among}
 
 pub set_up_commands : (h : Header) (k : Known) → IsSetUp h k → k.started ≡ true → is_some (command_ring h) ≡ true
 set_up_commands h k set_up on = set_up.has_commands (set_up.pointed on)

@@ -1,5 +1,5 @@
 -- The end of the next command, where the driver has kept the rules
-use Rattle.event_rows.proofs.CommandCompletions.Words.{◌≡◌, ◌+◌, ◌<◌, ◌≤◌, ◌==◌, ◌∙◌, if◌then◌else◌, ◌∷◌, ◌^◌, ℕ, true, false, Some, None, ap, sym, subst, refl, inl, inr, arith, nat_lt, unwrap_or, eq-eqb, ne_eqb, cons_option, cases_Bool, cond-true, cond-false, false≢true, or_parts, nat_tests, put, Block, code, slot, after, RingView, Reaches, declared, floor_number, ceiling, given_count, input_context_bytes, Command, AddressDevice, ConfigureEndpoint, DisableSlot, StopEndpoint, named_context, changes, Header, IsHeader, command_id, shape_of, HasRoom, Known, command_at, next_command, on_ring, unfinished, completed, finished, stop_ended, unfinished_completed, is_soiled, is_bad_area, has_bad_context, can_finish, is_impossible_completion, IsDriverRing, CommandKeeps, DriverKeeps, Unstarted, MayChangeAll, area_parts, bad_command_context, rings_of, endpoints_of, finish_elsewhere, ring_shape, CompletionFacts, by_completion, command_holds, next_at_floor, next_unfinished, ceiling_given, still_places, AtFloor, command_is_ring, AreSlots, IsNextGiven, succeeded_if}
+use Rattle.event_rows.proofs.Words.{rules, ◌≡◌, ◌+◌, ◌<◌, ◌≤◌, ◌==◌, ◌∙◌, ◌∷◌, ◌^◌, ℕ, true, false, Some, None, ap, sym, refl, arith, nat_lt, eq-eqb, ne_eqb, cons_option, cond-true, cond-false, false≢true, or_parts, nat_tests, put, Block, code, slot, after, RingView, Reaches, floor_number, ceiling, input_context_bytes, Command, DisableSlot, StopEndpoint, named_context, changes, Header, IsHeader, command_id, shape_of, HasRoom, Known, command_at, next_command, on_ring, unfinished, completed, finished, stop_ended, unfinished_completed, is_soiled, is_bad_area, has_bad_context, can_finish, is_impossible_completion, IsDriverRing, CommandKeeps, DriverKeeps, Unstarted, MayChangeAll, area_parts, bad_command_context, rings_of, endpoints_of, finish_elsewhere, ring_shape, CompletionFacts, by_completion, command_holds, next_at_floor, next_unfinished, ceiling_given, still_places, AtFloor, command_is_ring, AreSlots, IsNextGiven, succeeded_if}
 use Rattle.event_rows.proofs.CommandCompletions.Ends.{none_finishes}
 use Rattle.event_rows.proofs.CommandCompletions.Rest.{devices_by, disable_one, finished_rest, others_none}
 
@@ -7,8 +7,7 @@ use Rattle.event_rows.proofs.CommandCompletions.Rest.{devices_by, disable_one, f
 
 pub stops_not : (h : Header) (k : Known) (c : Command) → ((s i : ℕ) → c ≡ StopEndpoint s i → ⊥) → k ≡ stop_ended h k c
 unfolding stop_ended
-stops_not h k (StopEndpoint s i) other = absurd (other s i refl)
-stops_not h k _ other = refl
+stops_not h k c e = search rules
 
 pub ended_is : (h : Header) (k : Known) (b : Block) (c : Command) → stop_ended h (succeeded_if h k b c) c ≡ finished h k b (Some c)
 unfolding finished
@@ -16,14 +15,7 @@ ended_is h k b c = refl
 
 pub stop_keeps_rings : (h : Header) (k : Known) (c : Command) → (stop_ended h k c).ring ≡ k.ring
 unfolding stop_ended
-stop_keeps_rings h k (StopEndpoint s i) = refl
-stop_keeps_rings h k _ = refl
-
-pub succeeds : (h : Header) (k l : Known) (b : Block) (c : Command) → code b ≡ 1 → l ≡ (if code b == 1 then l else k)
-succeeds h k l b c one = sym (cond-true (code b == 1) l k (eq-eqb (code b) 1 one))
-
-pub fails : (h : Header) (k l : Known) (b : Block) (c : Command) → (code b ≡ 1 → ⊥) → k ≡ (if code b == 1 then l else k)
-fails h k l b c other = sym (cond-false (code b == 1) l k (ne_eqb (code b) 1 other))
+stop_keeps_rings h k c = search rules
 
 -- ---- the device contexts
 
@@ -52,10 +44,7 @@ context_room h k n good =
     (area_parts h k n (input_context_bytes h.context_size) (or_parts (is_bad_area h k n (input_context_bytes h.context_size)) (is_soiled k n (input_context_bytes h.context_size)) good).0).ends
 
 room_of : (h : Header) (k : Known) (c : Command) → has_bad_context h k (named_context c) ≡ false → HasRoom h.context_size c
-room_of h k (AddressDevice s bsr a) good = context_room h k a good
-room_of h k (ConfigureEndpoint s false a) good = context_room h k a good
-room_of h k (ConfigureEndpoint s true a) good = tt
-room_of h k _ good = tt
+room_of h k c e = search (rules, context_room)
 
 pub slots_of : (h : Header) (k : Known) → DriverKeeps h k → AreSlots k
 slots_of h k d s a at = (d.devices s a at).slot
@@ -66,27 +55,18 @@ next_same h k l same = ap (λ (v : RingView). floor_number v) same
 
 given_still : (h : Header) (k l : Known) → l.ring (command_id h) ≡ k.ring (command_id h) → IsNextGiven h k → IsNextGiven h l
 unfolding next_command
-given_still h k l same n = record {
-  given = subst (λ (v : RingView). floor_number v < given_count (shape_of h (command_id h)) v) (sym same) n.given;
-  declared = subst (λ (v : RingView). floor_number v < declared v) (sym same) n.declared;
-}
+given_still h k l same n = search rules
 
 at_start : (h : Header) (k : Known) → Unstarted h k → next_command h k < ceiling (shape_of h (command_id h)) (k.ring (command_id h)) → ⊥
 unfolding next_command ceiling
-at_start h k u below =
-    let none : unwrap_or (k.ring (command_id h)).held (given_count (shape_of h (command_id h)) (k.ring (command_id h))) ≡ 0 =
-    ap (λ o. unwrap_or o (given_count (shape_of h (command_id h)) (k.ring (command_id h)))) (u.held (command_id h)) in
-    omega (arith, none, below)
+at_start h k u below = search rules
 
 module _ (h : Header) (headed : IsHeader h) (k : Known) (d : DriverKeeps h k) (b : Block) (possible : is_impossible_completion h k b ≡ false) where
   facts : CompletionFacts h k b
   facts = by_completion h k b possible
 
   pub was_started : k.started ≡ true
-  was_started = elim (cases_Bool k.started) [
-    | inl on ↦ on
-    | inr off ↦ absurd (at_start h k (d.unstarted off) facts.below)
-  ]
+  was_started = search (rules, at_start, facts)
 
   pub has_next : {X : Type 0} → command_at h k (next_command h k) ≡ None → X
   has_next none = absurd (false≢true (sym (ap (λ o. can_finish k b o) none ∙ none_finishes k b) ∙ facts.finishes))
@@ -124,9 +104,7 @@ module _ (h : Header) (headed : IsHeader h) (k : Known) (d : DriverKeeps h k) (b
 
     pub completed_is : on_ring h done (command_id h) (Reaches (after (shape_of h (command_id h)) (next_command h done))) ≡ completed h k b
     unfolding completed
-    completed_is =
-        ap (λ n. on_ring h done (command_id h) (Reaches (after (shape_of h (command_id h)) n))) (next_same h k done apart)
-        ∙ ap (λ o. on_ring h (finished h k b o) (command_id h) (Reaches (after (shape_of h (command_id h)) (next_command h k)))) (sym here)
+    completed_is = search (rules, next_same, apart)
 
     pub unfinished_is : unfinished h k ≡ c ∷ unfinished h (completed h k b)
     unfinished_is =

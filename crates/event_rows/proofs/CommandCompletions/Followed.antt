@@ -1,20 +1,13 @@
 -- What the record of a trace holds behind a completion
-use Rattle.event_rows.proofs.CommandCompletions.Words.{◌≡◌, ◌∙◌, ℕ, Option, Some, None, ap, sym, subst, RingChange, device_context_bytes, input_context_bytes, Header, EventState, RegisterRecord, Known, on_ring, unfinished, FollowsRegisters, FollowsRings, FollowsDevices, FollowsUnfinished, follows_beside, HoldsAreas, HoldsSoiled, TraceRecord, FollowsEvents, FollowsTrace, device_contexts, inputs_of}
-use Rattle.trace_record.specs.FollowsTrace.{HoldsBound}
+use Rattle.event_rows.proofs.Words.{rules, ◌≡◌, ◌∙◌, ℕ, Option, ap, sym, subst, RingChange, device_context_bytes, input_context_bytes, Header, EventState, RegisterRecord, Known, on_ring, unfinished, FollowsRegisters, FollowsRings, FollowsDevices, FollowsUnfinished, follows_beside, HoldsAreas, HoldsSoiled, TraceRecord, FollowsEvents, FollowsTrace, device_contexts, inputs_of, HoldsBound}
 use Rattle.event_rows.proofs.CommandCompletions.Rest.{IsRest}
 
 module _ (k l : Known) (f : ℕ → Option ℕ) (rest : IsRest k l f) where
   registers_still : (r : RegisterRecord) → FollowsRegisters k r → FollowsRegisters l r
-  registers_still r g = record {
-    started = rest.started ∙ g.started;
-    stopped = rest.stopped ∙ g.stopped;
-    as_many = g.as_many;
-    values = λ q. ap (λ m. m q) rest.register ∙ g.values q;
-  }
+  registers_still r g = search rules
 
   events_still : (h : Header) (o : Option EventState) → FollowsEvents h k o → FollowsEvents h l o
-  events_still h None g = g
-  events_still h (Some e) g = record { here = g.here; shape = g.shape; reads = rest.reads ∙ g.reads; dequeue = rest.dequeue ∙ g.dequeue }
+  events_still h o e = search rules
 
 module _ (h : Header) (k l : Known) (r : ℕ) (change : RingChange) (t new : TraceRecord) (memory : ℕ → ℕ) (follows : FollowsTrace h k t memory) where
   abbrev pub behind : Known
@@ -26,16 +19,7 @@ module _ (h : Header) (k l : Known) (r : ℕ) (change : RingChange) (t new : Tra
 
   on_rest : (f : ℕ → Option ℕ) → IsRest k l f → IsRest k behind f
   unfolding on_ring
-  on_rest f rest = record {
-    started = rest.started;
-    stopped = rest.stopped;
-    register = rest.register;
-    memory = rest.memory;
-    soiled = rest.soiled;
-    reads = rest.reads;
-    dequeue = rest.dequeue;
-    device = rest.device;
-  }
+  on_rest f rest = search rules
 
   on_contexts : HoldsAreas (device_context_bytes h.context_size) (device_contexts l) new.contexts → HoldsAreas (device_context_bytes h.context_size) (device_contexts behind) new.contexts
   unfolding on_ring

@@ -1,15 +1,12 @@
 -- The records of rings where the ring with an ID has changed, by its number
-use Rattle.event_rows.proofs.CommandCompletions.Words.{◌≡◌, ◌≤◌, ◌∙◌, ◌<◌, ◌==◌, ℕ, List, Bool, true, Option, None, Some, refl, ap, sym, subst, arith, get_or, slice_get, slice_set, position, eqb-true, slice_get_within, Spot, after, number, Shape, RingView, Holds, Reaches, changed, declared, floor_number, ceiling, given_count, target, Ring, Header, IsHeader, command_id, command_ring, is_driver_kind, shape_of, RingRecord, FollowsRing, Known, next_command, on_ring, moved, held_at_ceiling, ring_here, ring_elsewhere, FollowsRings, MayMoveTo, ReachesTarget, number_in, set_on, IsNextGiven}
-use Rattle.trace_record.proofs.RingFinder.CommandRings.{command_id_is, found_at, read_at}
+use Rattle.event_rows.proofs.Words.{rules, ◌≡◌, ◌≤◌, ◌<◌, ◌==◌, ℕ, List, Bool, true, Option, None, Some, refl, ap, sym, subst, arith, get_or, slice_get, slice_set, position, slice_get_within, Spot, after, number, Shape, RingView, Holds, Reaches, changed, declared, floor_number, ceiling, given_count, target, Ring, Header, IsHeader, command_id, command_ring, is_driver_kind, shape_of, RingRecord, FollowsRing, Known, next_command, on_ring, moved, held_at_ceiling, ring_here, ring_elsewhere, FollowsRings, MayMoveTo, ReachesTarget, number_in, set_on, IsNextGiven, command_id_is, found_at, read_at}
 use Rattle.event_rows.proofs.CommandCompletions.OneRing.{IsOnRing, on_moved, on_held, one_at, ring_shape, rings_elsewhere, rings_with}
 
 module _ (h : Header) (headed : IsHeader h) (k : Known) (rs : List RingRecord) (f : FollowsRings h k rs) where
   -- the ring with ID r stands at this number, and its record is a new one
   module _ (n r : ℕ) (e : position (λ ring. ring.id == r) h.rings ≡ Some n) (ring : Ring) (at : slice_get h.rings n ≡ Some ring) (old : RingRecord) (there : slice_get rs n ≡ Some old) (new : RingRecord) where
     named : ring.id ≡ r
-    named =
-        let found = found_at (λ q. q.id == r) h.rings n e in
-        eqb-true ring.id r (ap (λ (q : Ring). q.id == r) (one_at h.rings n ring found.0 at found.1) ∙ found.2)
+    named = search (rules, found_at, one_at)
 
     with_number : (l : Known) (view : Shape → RingView) → IsOnRing k l r (view (shape_of h r)) →
         (FollowsRing ring.shape (k.ring r) old → FollowsRing ring.shape (view ring.shape) new) → FollowsRings h l (slice_set rs n new)
@@ -72,10 +69,7 @@ module _ (h : Header) (headed : IsHeader h) (k : Known) (rs : List RingRecord) (
 
   on_command : IsOnRing k (on_ring h k (command_id h) (Reaches (after (shape_of h (command_id h)) (next_command h k)))) (command_id h) (behind (shape_of h (command_id h)))
   unfolding behind
-  on_command = record {
-    here = ring_here h k (command_id h) (Reaches (after (shape_of h (command_id h)) (next_command h k)));
-    apart = λ q other. ring_elsewhere h k (command_id h) q (Reaches (after (shape_of h (command_id h)) (next_command h k))) other;
-  }
+  on_command = search (rules, ring_here, ring_elsewhere)
 
   shape_is : shape_of h (command_id h) ≡ ring.shape
   shape_is = ring_shape h headed k (on_ring h k (command_id h) (Reaches (after (shape_of h (command_id h)) (next_command h k)))) (command_id h) (behind (shape_of h (command_id h))) on_command rs f n ring at id_is

@@ -1,5 +1,5 @@
 -- The records of rings where one ring has changed
-use Rattle.event_rows.proofs.CommandCompletions.Words.{◌≡◌, ◌≢◌, ◌∙◌, ◌∷◌, ◌==◌, ◌⊎◌, ℕ, zero, suc, List, [], Bool, true, Option, None, Some, refl, ap, sym, subst, inl, inr, arith, slice_get, slice_set, position, eq-eqb, false≢true, length-set, Spot, number, RingView, Reaches, Holds, changed, ceiling, target, Ring, Header, IsHeader, is_driver_kind, shape_of, RingRecord, FollowsRing, Known, on_ring, set_to, bound_to, moved, moved_to, held_at_ceiling, FollowsRings, Apart, among_at, numbers_apart, none_here, shape_there, together, ring_here, ring_elsewhere, set_on}
+use Rattle.event_rows.proofs.Words.{rules, ◌≡◌, ◌≢◌, ◌∙◌, ◌∷◌, ◌==◌, ◌⊎◌, ℕ, zero, suc, List, [], Bool, true, Option, None, Some, refl, ap, sym, subst, inl, inr, arith, slice_get, slice_set, position, eq-eqb, false≢true, length-set, Spot, number, RingView, Reaches, Holds, changed, ceiling, target, Ring, Header, IsHeader, is_driver_kind, shape_of, RingRecord, FollowsRing, Known, on_ring, set_to, bound_to, moved, moved_to, held_at_ceiling, FollowsRings, Apart, among_at, numbers_apart, none_here, shape_there, together, ring_here, ring_elsewhere, set_on}
 
 -- ---- what is known of rings
 
@@ -12,8 +12,7 @@ rings_same h k l rs f same = record {
 -- the pointer of a ring is set
 pub set_here : (h : Header) (k : Known) (r : ℕ) (t : Spot) → (set_to h k r t).ring r ≡ set_on (shape_of h r) (k.ring r) (Some t)
 unfolding set_to
-set_here h k r t =
-    ring_here h (on_ring h k r (Reaches t)) r (Holds (number t)) ∙ ap (λ v. changed (shape_of h r) v (Holds (number t))) (ring_here h k r (Reaches t))
+set_here h k r t = search (rules, ring_here)
 
 pub set_apart : (h : Header) (k : Known) (r q : ℕ) (t : Spot) → q ≢ r → (set_to h k r t).ring q ≡ k.ring q
 unfolding set_to
@@ -26,8 +25,7 @@ pub record IsOnRing (k l : Known) (r : ℕ) (v : RingView) : Type 0 where
 
 to_target : (h : Header) (k : Known) (r : ℕ) (o : Option Spot) → IsOnRing k (moved_to h k r o) r (set_on (shape_of h r) (k.ring r) o)
 unfolding moved_to
-to_target h k r None = record { here = refl; apart = λ q other. refl }
-to_target h k r (Some t) = record { here = set_here h k r t; apart = λ q other. set_apart h k r q t other }
+to_target h k r o = search (rules, set_here, set_apart)
 
 pub on_moved : (h : Header) (k : Known) (r p : ℕ) (cycle : Bool) →
     IsOnRing k (moved h k (Some r) p cycle) r (set_on (shape_of h r) (k.ring r) (target (shape_of h r) (k.ring r) p cycle))
@@ -36,41 +34,25 @@ on_moved h k r p cycle = to_target h k r (target (shape_of h r) (k.ring r) p cyc
 
 pub on_held : (h : Header) (k : Known) (r : ℕ) → IsOnRing k (held_at_ceiling h k (Some r)) r (changed (shape_of h r) (k.ring r) (Holds (ceiling (shape_of h r) (k.ring r))))
 unfolding held_at_ceiling
-on_held h k r = record {
-  here = ring_here h k r (Holds (ceiling (shape_of h r) (k.ring r)));
-  apart = λ q other. ring_elsewhere h k r q (Holds (ceiling (shape_of h r) (k.ring r))) other;
-}
+on_held h k r = search (rules, ring_here, ring_elsewhere)
 
 -- the ring that an endpoint gets is moved as any other
 pub bound_moves : (h : Header) (k : Known) (s i : ℕ) (o : Option ℕ) (p : ℕ) (cycle : Bool) → (bound_to h k s i o p cycle).ring ≡ (moved h k o p cycle).ring
 unfolding bound_to moved
-bound_moves h k s i None p cycle = refl
-bound_moves h k s i (Some r) p cycle = refl
+bound_moves h k s i o p cycle = search rules
 
 -- ---- the records
 
 -- in a list with a new element at n
 at_set : {X : Type 0} (xs : List X) (n i : ℕ) (y x : X) → slice_get (slice_set xs n y) i ≡ Some x → ((i ≡ n) × (y ≡ x)) ⊎ ((i ≢ n) × (slice_get xs i ≡ Some x))
-at_set [] n i y x e = absurd (none_some e)
-  where
-    none_some : None ≡ Some x → ⊥
-    none_some e = cc
-at_set (z ∷ xs) zero zero y x e = inl (refl, some_is e)
-  where
-    some_is : Some y ≡ Some x → y ≡ x
-    some_is e = cc
+at_set [] n i y x e = search (rules)
+at_set (z ∷ xs) zero zero y x e = search (rules)
 at_set (z ∷ xs) zero (suc i) y x e = inr ((λ same. omega (arith, same)), e)
 at_set (z ∷ xs) (suc n) zero y x e = inr ((λ same. omega (arith, same)), e)
-at_set (z ∷ xs) (suc n) (suc i) y x e = elim (at_set xs n i y x e) [
-  | inl here ↦ inl (ap suc here.0, here.1)
-  | inr there ↦ inr ((λ same. there.0 (omega (arith, same))), there.1)
-]
+at_set (z ∷ xs) (suc n) (suc i) y x e = search (rules, at_set xs n i y x e)
 
 pub one_at : (rs : List Ring) (i : ℕ) (q r : Ring) → slice_get rs i ≡ Some q → slice_get rs i ≡ Some r → q ≡ r
-one_at rs i q r e f = some_is (sym e ∙ f)
-  where
-    some_is : Some q ≡ Some r → q ≡ r
-    some_is e = cc
+one_at rs i q r e f = search rules
 
 module _ (h : Header) (headed : IsHeader h) (k l : Known) (id : ℕ) (v : RingView) (on : IsOnRing k l id v) (rs : List RingRecord) (f : FollowsRings h k rs) where
   -- no ring has the ID

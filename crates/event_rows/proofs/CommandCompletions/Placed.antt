@@ -1,24 +1,19 @@
 -- An endpoint that is placed, and those that an input context adds
-use Rattle.event_rows.proofs.CommandCompletions.Words.{◌≡◌, ◌∷◌, ℕ, List, [], Bool, true, false, refl, ap, sym, subst, if◌then◌else◌, Command, EndpointState, is_off, Change, Places, Header, ring_having, RingRecord, Known, bound_to, changed_by, changed_by_all, in_state, moved, pointed, FollowsRings, DeviceRecord, MayChangeAll, MayPoint, MayMoveTo, ring_placed, FollowsPlaces, HasDone}
+use Rattle.event_rows.proofs.Words.{rules, ◌≡◌, ◌∷◌, ℕ, List, [], Bool, refl, subst, if◌then◌else◌, Command, EndpointState, is_off, Change, Places, Header, ring_having, RingRecord, Known, bound_to, changed_by, changed_by_all, in_state, moved, pointed, FollowsRings, DeviceRecord, MayChangeAll, MayPoint, MayMoveTo, ring_placed, FollowsPlaces, HasDone}
 use Rattle.event_rows.proofs.CommandCompletions.OneRing.{bound_moves, rings_same}
 
 module _ (h : Header) (k : Known) (s i p : ℕ) (cycle : Bool) where
   -- by whether the endpoint is off
   pointed_by : (b : Bool) → (if b then bound_to h k s i (ring_having h p) p cycle else moved h k (k.ring_of s i) p cycle).ring
       ≡ (moved h k (if b then ring_having h p else k.ring_of s i) p cycle).ring
-  pointed_by true = bound_moves h k s i (ring_having h p) p cycle
-  pointed_by false = refl
+  pointed_by b = search (rules, bound_moves)
 
   pub pointed_ring : (pointed h k s i p cycle).ring ≡ (moved h k (ring_placed k s i (ring_having h p)) p cycle).ring
   unfolding pointed
   pointed_ring = pointed_by (is_off (k.endpoint_state s i))
 
   pub may_move : MayPoint h k s i p cycle → MayMoveTo h k (ring_placed k s i (ring_having h p)) p cycle
-  may_move may = by (is_off (k.endpoint_state s i)) refl
-    where
-      by : (b : Bool) → is_off (k.endpoint_state s i) ≡ b → MayMoveTo h k (if b then ring_having h p else k.ring_of s i) p cycle
-      by true off = λ r at t named. may.binds off r t at named
-      by false on = λ r at t named. may.moves on r t at named
+  may_move may = search rules
 
   pub placed_rings : (c : Command) (state : EndpointState) (rs : List RingRecord) → FollowsRings h (pointed h k s i p cycle) rs → FollowsRings h (changed_by h c k (Places s i p cycle state)) rs
   unfolding changed_by in_state
@@ -28,12 +23,7 @@ module _ (h : Header) (c : Command) (rs : List RingRecord) (d : DeviceRecord) wh
   -- the next change is done
   pub one_done : (k : Known) (all left : List Change) (change : Change) → all ≡ change ∷ left → FollowsPlaces h (changed_by h c k change) rs d → MayChangeAll h c k all → HasDone h c k all left rs d
   unfolding changed_by_all
-  one_done k all left change same f may = record {
-    known = changed_by h c k change;
-    follows = f;
-    may = (subst (λ xs. MayChangeAll h c k xs) same may).1;
-    same = ap (λ xs. changed_by_all h c k xs) (sym same);
-  }
+  one_done k all left change same f may = search rules
 
   pub all_done : (k : Known) (all : List Change) → HasDone h c k all [] rs d → FollowsPlaces h (changed_by_all h c k all) rs d
   unfolding changed_by_all

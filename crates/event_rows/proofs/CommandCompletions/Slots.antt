@@ -1,5 +1,5 @@
 -- The device contexts of slots, where one slot lets go of its own
-use Rattle.event_rows.proofs.CommandCompletions.Words.{◌≡◌, ◌+◌, ◌<◌, ◌≤◌, ◌∙◌, ◌∷◌, ◌≢◌, ◌==◌, ◌++◌, ℕ, zero, suc, List, [], Option, Some, None, ap, sym, refl, inl, inr, arith, eq-eqb, ne_eqb, filter_map, cons_option, range_with_len, fun_ext, cases_eq, cond-true, cond-false, put, slots}
+use Rattle.event_rows.proofs.Words.{rules, ◌≡◌, ◌+◌, ◌<◌, ◌≤◌, ◌∙◌, ◌∷◌, ◌≢◌, ◌==◌, ◌++◌, ℕ, zero, suc, List, [], Option, Some, None, ap, refl, inl, inr, arith, eq-eqb, ne_eqb, filter_map, cons_option, range_with_len, cases_eq, cond-true, cond-false, put, slots}
 
 module _ (f : ℕ → Option ℕ) (s : ℕ) where
   put_other : (t : ℕ) → t ≢ s → put f s None t ≡ f t
@@ -10,10 +10,7 @@ module _ (f : ℕ → Option ℕ) (s : ℕ) where
 
   -- it had none
   pub put_none : f s ≡ None → put f s None ≡ f
-  put_none none = fun_ext (λ t. elim (cases_eq t s) [
-    | inl same ↦ put_here t same ∙ sym none ∙ ap f (sym same)
-    | inr apart ↦ put_other t apart
-  ])
+  put_none none = search (rules, put_here, put_other)
 
   above : (a n : ℕ) → s < a → filter_map (put f s None) (range_with_len a n) ≡ filter_map f (range_with_len a n)
   above a zero high = refl
@@ -27,8 +24,7 @@ module _ (f : ℕ → Option ℕ) (s : ℕ) where
     pub new : filter_map (put f s None) xs ≡ before ++ after
 
   joined : (o : Option ℕ) (xs ys : List ℕ) → cons_option o (xs ++ ys) ≡ cons_option o xs ++ ys
-  joined None xs ys = refl
-  joined (Some x) xs ys = refl
+  joined o xs ys = search rules
 
   among_range : (d a n : ℕ) → f s ≡ Some d → a ≤ s → s < a + n → Among (range_with_len a n) d
   among_range d a zero has low high = absurd (omega (arith, low, high))

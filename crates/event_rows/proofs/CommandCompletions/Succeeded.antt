@@ -1,5 +1,5 @@
 -- What the success of each command does to the records of rings and devices
-use Rattle.event_rows.proofs.CommandCompletions.Words.{◌≡◌, ◌∷◌, ℕ, List, [], Bool, true, false, refl, ap, sym, fun_ext, ContextSize, added_endpoints, Command, NoOp, EnableSlot, DisableSlot, AddressDevice, ConfigureEndpoint, EvaluateContext, ResetEndpoint, StopEndpoint, SetTrDequeue, ResetDevice, Stopped, Change, SlotGoesOn, DeviceLeft, Disables, Places, Stops, Resets, changes, is_above_control, Header, RingRecord, Known, changed_by, changed_by_all, disabled, held_at_ceiling, in_state, succeeded, FollowsRings, DeviceRecord, FollowsDevices, FollowsPlaces, HasWords, addressed, configured}
+use Rattle.event_rows.proofs.Words.{rules, ◌≡◌, ◌∷◌, ℕ, List, [], Bool, true, false, refl, ap, sym, fun_ext, ContextSize, added_endpoints, Command, NoOp, EnableSlot, DisableSlot, AddressDevice, ConfigureEndpoint, EvaluateContext, ResetEndpoint, StopEndpoint, SetTrDequeue, ResetDevice, Stopped, Change, SlotGoesOn, DeviceLeft, Disables, Places, Stops, Resets, changes, is_above_control, Header, RingRecord, Known, changed_by, changed_by_all, disabled, held_at_ceiling, in_state, succeeded, FollowsRings, DeviceRecord, FollowsDevices, FollowsPlaces, HasWords, addressed, configured, subst, MayChangeAll}
 use Rattle.event_rows.proofs.CommandCompletions.OneRing.{rings_same}
 
 -- where rings stay as they are
@@ -48,6 +48,26 @@ module _ (h : Header) (c : Command) (k : Known) where
     pub no_success : changes h.context_size k.memory n c ≡ [] → k ≡ succeeded h k n c
     unfolding changed_by_all succeeded
     no_success same = ap (λ xs. changed_by_all h c k xs) (sym same)
+
+    -- what follows behind the changes follows behind the success
+    pub nothing_done : (rs : List RingRecord) (d : DeviceRecord) → FollowsPlaces h k rs d → changes h.context_size k.memory n c ≡ [] → FollowsPlaces h (succeeded h k n c) rs d
+    nothing_done rs d f same = subst (λ (l : Known). FollowsPlaces h l rs d) (no_success same) f
+
+    pub change_done : (change : Change) (rs : List RingRecord) (d : DeviceRecord) → changes h.context_size k.memory n c ≡ change ∷ [] → FollowsPlaces h (changed_by h c k change) rs d → FollowsPlaces h (succeeded h k n c) rs d
+    change_done change rs d same f = subst (λ (l : Known). FollowsPlaces h l rs d) (one_success change same) f
+
+    pub changes_done : (all : List Change) (rs : List RingRecord) (d : DeviceRecord) → changes h.context_size k.memory n c ≡ all → MayChangeAll h c k (changes h.context_size k.memory n c) →
+        (MayChangeAll h c k all → FollowsPlaces h (changed_by_all h c k all) rs d) → FollowsPlaces h (succeeded h k n c) rs d
+    changes_done all rs d same may f = subst (λ (l : Known). FollowsPlaces h l rs d) (success_is all same) (f (subst (λ xs. MayChangeAll h c k xs) same may))
+
+    -- where rings stay as they are
+    pub device_changed : (change : Change) (rs : List RingRecord) (d e : DeviceRecord) → FollowsPlaces h k rs d → changes h.context_size k.memory n c ≡ change ∷ [] → (changed_by h c k change).ring ≡ k.ring →
+        FollowsDevices (changed_by h c k change) e → FollowsPlaces h (succeeded h k n c) rs e
+    device_changed change rs d e f same rings g = change_done change rs e same (devices_only h k (changed_by h c k change) rs d e f rings g)
+
+    pub devices_changed : (all : List Change) (rs : List RingRecord) (d e : DeviceRecord) → FollowsPlaces h k rs d → changes h.context_size k.memory n c ≡ all → (changed_by_all h c k all).ring ≡ k.ring →
+        FollowsDevices (changed_by_all h c k all) e → FollowsPlaces h (succeeded h k n c) rs e
+    devices_changed all rs d e f same rings g = search (rules, success_is, devices_only)
 
 -- ---- the changes of each command
 

@@ -1,45 +1,5 @@
 -- What a Transfer Event that can have been posted adds to the record of a trace
-use Rattle.std.proofs.Common.{◌≡◌, ℕ, ◌+◌, ◌<◌, List, Bool, true, false, Option, Some, None, refl, ap, sym, ◌∙◌, arith, subst}
-use Rattle.std.specs.Prelude.{◌&&◌, ◌||◌, not, if◌then◌else◌}
-use Rattle.std.specs.Option.{option_map}
-use Rattle.std.proofs.lemmas.Option.{none-some, same_Some}
-use Rattle.commands.specs.States.{is_off}
-use Rattle.std.proofs.lemmas.Bool.{cond_both, and_parts, false≢true}
-use Rattle.trb.specs.declared.block.Block.{Block}
-use Rattle.trb.specs.Block.{code, endpoint, pointer, slot}
-use Rattle.trb.specs.CompletionCode.{is_halting, is_stopping, is_success, is_transfer_code, is_trb_error}
-use Rattle.guest_memory.specs.Memory.{put_pair}
-use Rattle.segments.specs.declared.spot.Spot.{Spot}
-use Rattle.segments.specs.ShapeValue.{Shape}
-use Rattle.segments.specs.Spots.{after, number}
-use Rattle.segments.specs.RingView.{RingView, Holds, Reaches, changed}
-use Rattle.segments.specs.Ceiling.{ceiling, is_data_below, is_stop_spot, named, stopped_number}
-use Rattle.segments.specs.RingKeeps.{RingKeeps}
-use Rattle.segments.proofs.Named.{below_is, ceiling_within, named_ahead}
-use Rattle.segments.proofs.Reaching.{given_count_declared}
-use Rattle.commands.specs.declared.state.EndpointState.{EndpointState}
-use Rattle.commands.specs.declared.state.EndpointState.TheVariants.{Halted, Error}
-use Rattle.traces.specs.declared.header.Header.{Header}
-use Rattle.traces.specs.Header.{IsHeader, command_id, shape_of}
-use Rattle.ring_knowledge.specs.declared.ring_record.RingRecord.{RingRecord}
-use Rattle.ring_knowledge.specs.RingRecords.{FollowsRing}
-use Rattle.ring_knowledge.specs.Known.{Known}
-use Rattle.ring_knowledge.specs.Rings.{RingSpot, event_at, on_ring, spot_on, unfinished}
-use Rattle.ring_knowledge.specs.Transfers.{passed, broken_off, stopped_at, transferred, transferred_at, transfer_read}
-use Rattle.trace_record.specs.DeviceSlots.Devices.{FollowsDevices}
-use Rattle.trace_record.proofs.DeviceSlots.UnfinishedSame.{ring_here, ring_elsewhere, same_blocks, unfinished_same}
-use Rattle.trace_record.proofs.DeviceSlots.UnfinishedEvents.{transfer_stays}
-use Rattle.trace_record.specs.RingFinder.RecordsOfRings.{FollowsRings}
-use Rattle.trace_record.proofs.RingFinder.RingsApart.{IsAmong, among_at}
-use Rattle.trace_record.proofs.RingFinder.HeaderRings.{shape_allowed, shape_there}
-use Rattle.ownership_rules.specs.Events.{can_report, can_report_at, is_impossible_transfer, is_in_profile, is_stopping_now, is_working}
-use Rattle.safety.specs.Keeps.{DriverKeeps}
-use Rattle.trace_record.specs.declared.trace_record.TraceRecord.{TraceRecord}
-use Rattle.trace_record.specs.FollowsTrace.{FollowsTrace}
-use Rattle.event_rows.specs.declared.transfers.spots.NamedSpot.{NamedSpot}
-use Rattle.event_rows.specs.TransferEvents.NamedSpots.{IsNamedAt}
-use Rattle.event_rows.specs.TransferEvents.Reported.{IsWithRecord, MayReport, reported}
-use Rattle.driver_rows.proofs.DoorbellRows.Followed.{AreOffAs, IsBeside, IsOnly, followed, put_on, rings_with}
+use Rattle.event_rows.proofs.Words.{rules, ◌≡◌, ℕ, ◌+◌, ◌<◌, List, Bool, true, false, Option, Some, refl, ap, sym, ◌∙◌, arith, subst, ◌&&◌, ◌||◌, if◌then◌else◌, none-some, same_Some, is_off, and_parts, Block, code, endpoint, pointer, slot, is_halting, is_success, is_transfer_code, is_trb_error, put_pair, Spot, Shape, after, number, RingView, Holds, Reaches, changed, ceiling, is_data_below, is_stop_spot, named, stopped_number, RingKeeps, below_is, ceiling_within, named_ahead, given_count_declared, EndpointState, Halted, Error, Header, IsHeader, command_id, shape_of, RingRecord, FollowsRing, Known, event_at, on_ring, spot_on, unfinished, passed, broken_off, stopped_at, transferred, transferred_at, transfer_read, FollowsDevices, ring_here, ring_elsewhere, same_blocks, unfinished_same, transfer_stays, FollowsRings, IsAmong, among_at, shape_allowed, shape_there, can_report, can_report_at, is_impossible_transfer, is_in_profile, is_stopping_now, is_working, DriverKeeps, TraceRecord, FollowsTrace, NamedSpot, IsNamedAt, IsWithRecord, MayReport, reported, AreOffAs, IsBeside, IsOnly, followed, put_on, rings_with}
 use Rattle.event_rows.proofs.TransferEvents.Reports.{not_command, reported_at, transfer_driver}
 
 -- ---- what changes
@@ -54,11 +14,7 @@ module _ (h : Header) (k : Known) (c s i r : ℕ) (t : Spot) where
   -- by what a code says
   by_code : (P : Known → Type 0) → P (passed h k r t) → P halts → P fails → P (stopped_at h k s i r t) → P k → P (transferred h k c s i r t)
   unfolding transferred
-  by_code P a b d e o =
-      cond_both (is_success c) (passed h k r t) (if is_halting c then halts else if is_trb_error c then fails else if is_stopping c then stopped_at h k s i r t else k) P (λ _. a)
-      (λ _. cond_both (is_halting c) halts (if is_trb_error c then fails else if is_stopping c then stopped_at h k s i r t else k) P (λ _. b)
-      (λ _. cond_both (is_trb_error c) fails (if is_stopping c then stopped_at h k s i r t else k) P (λ _. d)
-      (λ _. cond_both (is_stopping c) (stopped_at h k s i r t) k P (λ _. e) (λ _. o))))
+  by_code P a b d e o = search rules
 
   passed_beside : IsBeside k (passed h k r t)
   unfolding passed on_ring
@@ -97,9 +53,7 @@ module _ (h : Header) (k : Known) (c s i r : ℕ) (t : Spot) where
 
   stopped_only : IsOnly k (stopped_at h k s i r t) r
   unfolding stopped_at
-  stopped_only q other =
-      ring_elsewhere h (on_ring h k r (Holds (stopped_number (shape_of h r) (k.ring r) t))) r q (Reaches t) other
-      ∙ ring_elsewhere h k r q (Holds (stopped_number (shape_of h r) (k.ring r) t)) other
+  stopped_only q other = search (rules, ring_elsewhere)
 
   pub transferred_only : IsOnly k (transferred h k c s i r t) r
   transferred_only = by_code (λ l. IsOnly k l r) passed_only (broken_only Halted) (broken_only Error) stopped_only (λ q other. refl)
@@ -115,51 +69,24 @@ module _ (h : Header) (k : Known) (c s i r : ℕ) (t : Spot) where
 
   stopped_here : (stopped_at h k s i r t).ring r ≡ changed (shape_of h r) (changed (shape_of h r) (k.ring r) (Holds (stopped_number (shape_of h r) (k.ring r) t))) (Reaches t)
   unfolding stopped_at
-  stopped_here =
-      ring_here h (on_ring h k r (Holds (stopped_number (shape_of h r) (k.ring r) t))) r (Reaches t)
-      ∙ ap (λ v. changed (shape_of h r) v (Reaches t)) (ring_here h k r (Holds (stopped_number (shape_of h r) (k.ring r) t)))
+  stopped_here = search (rules, ring_here)
 
   pub transferred_here : is_transfer_code c ≡ true → (transferred h k c s i r t).ring r ≡ reported (shape_of h r) (k.ring r) c t
   unfolding transferred
-  transferred_here coded = by (is_success c) (is_halting c) (is_trb_error c) (is_stopping c) coded
-    where
-      by : (a x y z : Bool) → (a || x || y || z) ≡ true →
-          (if a then passed h k r t else if x then halts else if y then fails else if z then stopped_at h k s i r t else k).ring r
-          ≡ (if a then changed (shape_of h r) (k.ring r) (Reaches (after (shape_of h r) (number t)))
-          else if x || y then changed (shape_of h r) (changed (shape_of h r) (k.ring r) (Reaches (after (shape_of h r) (number t)))) (Holds (number t + 1))
-          else changed (shape_of h r) (changed (shape_of h r) (k.ring r) (Holds (stopped_number (shape_of h r) (k.ring r) t))) (Reaches t))
-      by true x y z e = passed_here
-      by false true y z e = broken_here Halted
-      by false false true z e = broken_here Error
-      by false false false true e = stopped_here
-      by false false false false e = absurd (false≢true e)
+  transferred_here coded = search (rules, passed_here, broken_here, stopped_here)
 
 -- ---- an event that can have been posted
 
 -- what the spot is that an event names
 named_of : (h : Header) (k : Known) (a : ℕ) (o : Option ℕ) (r : ℕ) (t : Spot) → spot_on h k a o ≡ Some (record { ring = r; spot = t }) → named (shape_of h r) (k.ring r) a ≡ Some t
 unfolding spot_on
-named_of h k a None r t e = absurd (none-some (record { ring = r; spot = t }) e)
-named_of h k a (Some q) r t e = by (named (shape_of h q) (k.ring q) a) refl e
-  where
-    by : (o : Option Spot) → named (shape_of h q) (k.ring q) a ≡ o → option_map (λ u. let x : RingSpot = record { ring = q; spot = u } in x) o ≡ Some (record { ring = r; spot = t }) →
-        named (shape_of h r) (k.ring r) a ≡ Some t
-    by None is e = absurd (none-some (record { ring = r; spot = t }) e)
-    by (Some u) is e =
-        let same : record { ring = q; spot = u } ≡ record { ring = r; spot = t } = same_Some (record { ring = q; spot = u }) (record { ring = r; spot = t }) e in
-        subst (λ (i : ℕ). named (shape_of h i) (k.ring i) a ≡ Some t) (ap (λ (x : RingSpot). x.ring) same) (is ∙ ap (λ (x : RingSpot). Some x.spot) same)
+named_of h k a o r t e = search (rules, none-some, same_Some)
 
 below_true : (a x y w z p d : Bool) → (if a then d else if x || y then d && w else w && z && p) ≡ true → (a || (x || y)) ≡ true → d ≡ true
-below_true true x y w z p d e f = e
-below_true false true y w z p d e f = (and_parts d w e).0
-below_true false false true w z p d e f = (and_parts d w e).0
-below_true false false false w z p d e f = absurd (false≢true f)
+below_true a x y w z p d e f = search (rules, and_parts)
 
 stop_true : (a x y w z p d : Bool) → (if a then d else if x || y then d && w else w && z && p) ≡ true → (a || (x || y)) ≡ false → p ≡ true
-stop_true true x y w z p d e f = absurd (false≢true (sym f))
-stop_true false true y w z p d e f = absurd (false≢true (sym f))
-stop_true false false true w z p d e f = absurd (false≢true (sym f))
-stop_true false false false w z p d e f = (and_parts (w && z) p e).1
+stop_true a x y w z p d e f = search (rules, and_parts)
 
 module _ (h : Header) (k : Known) (c s i r : ℕ) (t : Spot) (can : can_report h k c s i r t ≡ true) where
   is_below : (is_success c || (is_halting c || is_trb_error c)) ≡ true → is_data_below (ceiling (shape_of h r) (k.ring r)) t ≡ true
@@ -177,22 +104,11 @@ module _ (h : Header) (headed : IsHeader h) (k : Known) (keeps : DriverKeeps h k
 
   can_be : can_report_at h k b (event_at h k b) ≡ true
   unfolding is_impossible_transfer
-  can_be = by (is_in_profile b) (is_off (k.endpoint_state (slot b) (endpoint b))) (can_report_at h k b (event_at h k b)) in_ fine
-    where
-      by : (p o r : Bool) → p ≡ true → (p && (o || not r)) ≡ false → r ≡ true
-      by true true r e f = absurd (false≢true (sym f))
-      by true false true e f = refl
-      by true false false e f = absurd (false≢true (sym f))
-      by false o r e f = absurd (false≢true e)
+  can_be = search rules
 
   is_on : is_off (k.endpoint_state (slot b) (endpoint b)) ≡ false
   unfolding is_impossible_transfer
-  is_on = by (is_in_profile b) (is_off (k.endpoint_state (slot b) (endpoint b))) in_ fine
-    where
-      by : (p o : Bool) → p ≡ true → (p && (o || not (can_report_at h k b (event_at h k b)))) ≡ false → o ≡ false
-      by true true e f = absurd (false≢true (sym f))
-      by true false e f = refl
-      by false o e f = absurd (false≢true e)
+  is_on = search rules
 
   read_is : (r : ℕ) (t : Spot) → event_at h k b ≡ Some (record { ring = r; spot = t }) → transfer_read h k b ≡ transferred h k (code b) (slot b) (endpoint b) r t
   unfolding transfer_read transferred_at

@@ -1,64 +1,14 @@
 -- Where a controller can have posted a Transfer Event
-use Rattle.std.proofs.Common.{◌≡◌, ℕ, Bool, true, false, Option, Some, None, Result, Ok, Err, refl, ap, sym, ◌∙◌, subst, arith, inl, inr}
-use Rattle.std.specs.Prelude.{◌==◌, ◌&&◌, ◌||◌, ◌↔◌, not, slice_get, position, nat_lt, is_some, option_and_then, if◌then◌else◌}
-use Rattle.std.specs.Option.{option_map}
-use Rattle.std.specs.Result.{result_ok}
-use Rattle.std.proofs.lemmas.Bool.{cases_Bool, eqb-true, le-ltb, false≢true}
-use Rattle.std.proofs.lemmas.Option.{same_Some, none-some}
-use Rattle.trb.specs.declared.block.Block.{Block}
-use Rattle.trb.specs.declared.fault.Fault.{Fault}
-use Rattle.trb.specs.Block.{code, endpoint, pointer, slot}
-use Rattle.trb.specs.CompletionCode.{is_success, is_halting, is_trb_error}
-use Rattle.segments.specs.declared.spot.Spot.{Spot}
-use Rattle.segments.specs.Ceiling.{ceiling, is_data_below, is_stop_spot, named}
-use Rattle.segments.specs.RingView.{RingView, floor_number}
-use Rattle.segments.specs.Spots.{IsSpot}
-use Rattle.segments.proofs.Named.{ceiling_held}
-use Rattle.commands.specs.declared.command.Command.{Command}
-use Rattle.commands.specs.Command.{command_of, is_stop_of}
-use Rattle.commands.specs.States.{is_off}
-use Rattle.trb.specs.declared.ring_kind.RingKind.{RingKind}
-use Rattle.trb.specs.declared.ring_kind.RingKind.TheVariants.{Cmd, Evt, Xfer}
-use Rattle.traces.specs.declared.ring.Ring.{Ring}
-use Rattle.traces.specs.declared.header.Header.{Header}
-use Rattle.traces.specs.declared.register.Register.TheVariants.{Crcr}
-use Rattle.traces.specs.Header.{IsHeader, command_id, is_command_kind, is_driver_kind, is_transfer_kind, ring_with, shape_of}
-use Rattle.ring_knowledge.specs.Known.{Known}
-use Rattle.ring_knowledge.specs.declared.ring_record.RingRecord.{RingRecord}
-use Rattle.ring_knowledge.specs.RingRecords.{FollowsRing}
-use Rattle.trace_record.specs.declared.trace_record.TraceRecord.{TraceRecord}
-use Rattle.trace_record.specs.FollowsTrace.{FollowsTrace}
-use Rattle.ring_knowledge.specs.Rings.{RingSpot, command_at, event_at, next_command, spot_on}
-use Rattle.trace_record.proofs.RingFinder.RingsApart.{IsAmong, among_at}
-use Rattle.trace_record.proofs.RingFinder.HeaderRings.{find_some, no_command_here, ring_found, shape_there}
-use Rattle.ownership_rules.specs.Events.{can_report, can_report_at, is_impossible_transfer, is_in_profile, is_stopping_now, is_working, may_be_taken}
-use Rattle.safety.specs.Keeps.{DriverKeeps, IsDriverRing, IsTransferRing}
-use Rattle.driver_rows.specs.DoorbellRows.Numbers.{number_of}
-use Rattle.driver_rows.proofs.DoorbellRows.Followed.{found_at, none_found, command_found, command_id_is}
-
--- what a block says that was read
-pub read_is : (o : Option Command) (r : Result Command Fault) → ((c : Command) → (r ≡ Ok c) ↔ (o ≡ Some c)) → result_ok r ≡ o
-read_is o (Ok c) said = sym ((said c).0 refl)
-read_is None (Err e) said = refl
-read_is (Some c) (Err e) said = absurd (never c ((said c).1 refl))
-  where
-    never : (c : Command) → Err e ≡ Ok c → ⊥
-    never c same = cc
+use Rattle.event_rows.proofs.Words.{rules, ◌≡◌, ℕ, Bool, true, false, Option, Some, None, refl, ap, sym, ◌∙◌, subst, arith, inl, inr, ◌==◌, ◌&&◌, ◌||◌, not, slice_get, position, nat_lt, is_some, option_and_then, if◌then◌else◌, option_map, cases_Bool, eqb-true, le-ltb, false≢true, same_Some, none-some, Block, code, endpoint, pointer, slot, is_success, is_halting, is_trb_error, Spot, ceiling, is_data_below, is_stop_spot, named, RingView, floor_number, IsSpot, ceiling_held, command_of, is_stop_of, is_off, RingKind, Ring, Header, Crcr, IsHeader, command_id, is_command_kind, is_driver_kind, is_transfer_kind, ring_with, shape_of, Known, RingRecord, FollowsRing, TraceRecord, FollowsTrace, RingSpot, command_at, event_at, next_command, spot_on, IsAmong, among_at, find_some, no_command_here, ring_found, shape_there, can_report, can_report_at, is_impossible_transfer, is_in_profile, is_stopping_now, is_working, may_be_taken, DriverKeeps, IsDriverRing, IsTransferRing, number_of, found_at, none_found, command_found, command_id_is}
 
 pub driven : (kind : RingKind) → is_transfer_kind kind ≡ true → is_driver_kind kind ≡ true
-driven Cmd e = refl
-driven Evt e = absurd (cc)
-driven Xfer e = refl
+driven kind e = search rules
 
 pub commanded : (kind : RingKind) → is_command_kind kind ≡ true → is_driver_kind kind ≡ true
-commanded Cmd e = refl
-commanded Evt e = absurd (cc)
-commanded Xfer e = refl
+commanded kind e = search rules
 
 no_command : (kind : RingKind) → is_transfer_kind kind ≡ true → is_command_kind kind ≡ false
-no_command Cmd e = absurd (cc)
-no_command Evt e = absurd (cc)
-no_command Xfer e = refl
+no_command kind e = search rules
 
 module _ (h : Header) (headed : IsHeader h) (k : Known) (keeps : DriverKeeps h k) where
   -- ---- the ring of an endpoint
@@ -102,10 +52,7 @@ module _ (h : Header) (headed : IsHeader h) (k : Known) (keeps : DriverKeeps h k
     pub named_on : (ring : Ring) → IsAmong ring h.rings → k.ring_of (slot b) (endpoint b) ≡ Some ring.id → (o : Option Spot) → o ≡ named ring.shape (k.ring ring.id) (pointer b) →
         event_at h k b ≡ option_map (λ t. let x : RingSpot = record { ring = ring.id; spot = t } in x) o
     unfolding event_at spot_on
-    named_on ring among has o is =
-        ap (λ p. spot_on h k (pointer b) p) has
-        ∙ ap (λ s. option_map (λ t. let x : RingSpot = record { ring = ring.id; spot = t } in x) (named s (k.ring ring.id) (pointer b))) (shape_there h headed ring among)
-        ∙ ap (λ p. option_map (λ t. let x : RingSpot = record { ring = ring.id; spot = t } in x) p) (sym is)
+    named_on ring among has o is = search (rules, shape_there)
 
   pub transfer_driver : (ring : Ring) → IsAmong ring h.rings → is_transfer_kind ring.shape.kind ≡ true → IsDriverRing h ring.id
   transfer_driver ring among transfer = record { ring = ring; found = ring_found h headed ring among; kind = driven ring.shape.kind transfer }
@@ -176,52 +123,12 @@ module _ (h : Header) (headed : IsHeader h) (k : Known) (keeps : DriverKeeps h k
     below = is_data_below (ceiling (shape_of h r) (k.ring r)) t
 
     by_parts : (a x y w z p d : Bool) → (if a then d else if x || y then d && w else w && z && p) ≡ (if a then d else if not w then false else if x || y then d else if not z then false else p)
-    by_parts true x y w z p d = refl
-    by_parts false true y true z p true = refl
-    by_parts false true y true z p false = refl
-    by_parts false true y false z p true = refl
-    by_parts false true y false z p false = refl
-    by_parts false false true true z p true = refl
-    by_parts false false true true z p false = refl
-    by_parts false false true false z p true = refl
-    by_parts false false true false z p false = refl
-    by_parts false false false false z p d = refl
-    by_parts false false false true true p d = refl
-    by_parts false false false true false p d = refl
+    by_parts a x y w z p d = search rules
 
     pub report_is : can_report h k c s i r t ≡
         (if is_success c then below else if not (is_working k s i r) then false else if is_halting c || is_trb_error c then below else if not (is_stopping_now h k s i) then false else is_stop_spot (shape_of h r) (k.ring r) t)
     unfolding can_report
     report_is = by_parts (is_success c) (is_halting c) (is_trb_error c) (is_working k s i r) (is_stopping_now h k s i) (is_stop_spot (shape_of h r) (k.ring r) t) below
-
-    module _ (not_success : is_success c ≡ false) where
-      abbrev rest : Bool → Bool → Bool → Bool
-      rest w f z = if not w then false else if f then below else if not z then false else is_stop_spot (shape_of h r) (k.ring r) t
-
-      rest_is : can_report h k c s i r t ≡ rest (is_working k s i r) (is_halting c || is_trb_error c) (is_stopping_now h k s i)
-      rest_is = report_is ∙ ap (λ b. if b then below else rest (is_working k s i r) (is_halting c || is_trb_error c) (is_stopping_now h k s i)) not_success
-
-      pub while_idle : is_working k s i r ≡ false → can_report h k c s i r t ≡ false
-      while_idle idle = rest_is ∙ ap (λ b. rest b (is_halting c || is_trb_error c) (is_stopping_now h k s i)) idle
-
-      pub on_failure : is_working k s i r ≡ true → (is_halting c || is_trb_error c) ≡ true → can_report h k c s i r t ≡ below
-      on_failure works fails = rest_is ∙ ap (λ b. rest b (is_halting c || is_trb_error c) (is_stopping_now h k s i)) works ∙ ap (λ b. rest true b (is_stopping_now h k s i)) fails
-
-      pub without_stop : is_working k s i r ≡ true → (is_halting c || is_trb_error c) ≡ false → is_stopping_now h k s i ≡ false → can_report h k c s i r t ≡ false
-      without_stop works fine stays =
-          rest_is ∙ ap (λ b. rest b (is_halting c || is_trb_error c) (is_stopping_now h k s i)) works ∙ ap (λ b. rest true b (is_stopping_now h k s i)) fine ∙ ap (λ b. rest true false b) stays
-
-      pub on_stop : is_working k s i r ≡ true → (is_halting c || is_trb_error c) ≡ false → is_stopping_now h k s i ≡ true → can_report h k c s i r t ≡ is_stop_spot (shape_of h r) (k.ring r) t
-      on_stop works fine stops =
-          rest_is ∙ ap (λ b. rest b (is_halting c || is_trb_error c) (is_stopping_now h k s i)) works ∙ ap (λ b. rest true b (is_stopping_now h k s i)) fine ∙ ap (λ b. rest true false b) stops
-
-    pub on_success : is_success c ≡ true → can_report h k c s i r t ≡ below
-    on_success success =
-        report_is ∙ ap (λ b. if b then below else if not (is_working k s i r) then false else if is_halting c || is_trb_error c then below else if not (is_stopping_now h k s i) then false else is_stop_spot (shape_of h r) (k.ring r) t) success
-
-  pub none_reported : (b : Block) (o : Option RingSpot) → o ≡ None → can_report_at h k b o ≡ false
-  unfolding can_report_at
-  none_reported b o none = ap (λ p. can_report_at h k b p) none
 
   pub reported_at : (b : Block) (r : ℕ) (t : Spot) (o : Option RingSpot) → o ≡ Some (record { ring = r; spot = t }) → can_report_at h k b o ≡ can_report h k (code b) (slot b) (endpoint b) r t
   unfolding can_report_at
@@ -231,11 +138,3 @@ module _ (h : Header) (headed : IsHeader h) (k : Known) (keeps : DriverKeeps h k
     pub left_out : is_in_profile b ≡ false → is_impossible_transfer h k b ≡ false
     unfolding is_impossible_transfer
     left_out out = ap (λ p. p && (is_off (k.endpoint_state (slot b) (endpoint b)) || not (can_report_at h k b (event_at h k b)))) out
-
-    pub while_off : is_in_profile b ≡ true → is_off (k.endpoint_state (slot b) (endpoint b)) ≡ true → is_impossible_transfer h k b ≡ true
-    unfolding is_impossible_transfer
-    while_off in_ off = ap (λ p. p && (is_off (k.endpoint_state (slot b) (endpoint b)) || not (can_report_at h k b (event_at h k b)))) in_ ∙ ap (λ o. o || not (can_report_at h k b (event_at h k b))) off
-
-    pub by_report : is_in_profile b ≡ true → is_off (k.endpoint_state (slot b) (endpoint b)) ≡ false → is_impossible_transfer h k b ≡ not (can_report_at h k b (event_at h k b))
-    unfolding is_impossible_transfer
-    by_report in_ on = ap (λ p. p && (is_off (k.endpoint_state (slot b) (endpoint b)) || not (can_report_at h k b (event_at h k b)))) in_ ∙ ap (λ o. o || not (can_report_at h k b (event_at h k b))) on

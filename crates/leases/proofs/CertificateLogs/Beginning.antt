@@ -1,5 +1,7 @@
 -- The leases that stand before the first row begin, one by one
-use Rattle.leases.proofs.CertificateLogs.CitedWords.{◌≡◌, ◌+◌, ◌<◌, ◌≤◌, ◌∷◌, ◌++◌, ◌∙◌, ℕ, zero, suc, false, List, [], length, map, arith, sym, ap, refl, inl, inr, subst, get_or, take, take_all, get_or-map, length-map, take_more, Header, Lease, nothing, Leased, Block, Link, Range, Use, EventSegment, open_leases, as_lease, without_end, IsIn, IndexTables, index_at, Lent, begun_at, in_turn, lease_of, lents, with_begun, first_are_ranges, IsRange, FollowedList, agree, IsOnly, BlockPlace, LinkPlace, RingPlace, has_place, is_open_of, number_at, Begins, FollowsList}
+use Rattle.leases.proofs.BaseWords.{◌≡◌, ◌+◌, ◌<◌, ◌≤◌, ◌∷◌, ◌++◌, ◌∙◌, ℕ, zero, suc, false, List, [], length, map, arith, sym, ap, refl, inl, inr, subst, get_or, take, take_all, get_or-map, length-map, take_more, Header, Lease, nothing, Leased, Block, Link, Range, Use, EventSegment, open_leases, as_lease, without_end, IsIn, IndexTables, index_at, Lent, begun_at, in_turn, lease_of, lents, with_begun, FollowedList, agree, Begins, FollowsList, rules}
+use Rattle.leases.proofs.LeaseBooks.FirstBook.{first_are_ranges}
+use Rattle.leases.proofs.LeaseBooks.RangesAlone.{IsRange}
 use Rattle.leases.proofs.CertificateLogs.Following.{goes_on}
 use Rattle.leases.proofs.CertificateLogs.Standing.{range_none}
 use Rattle.leases.proofs.CertificateLogs.Tables.{range_numbered}
@@ -12,22 +14,12 @@ module _ (leases : List Lease) (h : Header) where
   pub nothing_begun : (list : FollowedList) (blocks links : IndexTables) → NoneIsPut blocks → NoneIsPut links → list.leases.now ≡ leases → list.begun ≡ 0 → list.unended ≡ 0 → list.differs ≡ false →
       FollowsList leases h [] list blocks links
   unfolding agree
-  nothing_begun list blocks links no_block no_link same begun unended differs = record {
-    same = same;
-    begun = begun;
-    differs = differs;
-    known = λ agreed. record { count = unended; places = none; crossed = tt };
-  }
-    where
-      none : (m : RingPlace) → IsOnly (is_open_of (has_place h m)) (number_at blocks links m) []
-      none (BlockPlace r i) = subst (λ (n : ℕ). IsOnly (is_open_of (has_place h (BlockPlace r i))) n []) (sym (no_block r i)) refl
-      none (LinkPlace r i) = subst (λ (n : ℕ). IsOnly (is_open_of (has_place h (LinkPlace r i))) n []) (sym (no_link r i)) refl
+  nothing_begun list blocks links no_block no_link same begun unended differs = search rules
 
   -- the lease of a range begins
   pub range_begins : (ts : List Lent) (old new : FollowedList) (blocks links : IndexTables) (row n a : ℕ) (e : Use) → FollowsList leases h ts old blocks links →
       Begins (as_lease row without_end (Range n a e)) old new → FollowsList leases h (with_begun row ts (Range n a e ∷ [])) new blocks links
-  range_begins ts old new blocks links row n a e follows begins =
-      goes_on leases h ts old blocks links follows (Range n a e) row new blocks links begins (range_numbered h blocks links n a new.begun e) (range_none h n a e ts) tt
+  range_begins ts old new blocks links row n a e follows begins = search (rules, goes_on, range_numbered, range_none)
 
   one_begins : (ts : List Lent) (old new : FollowedList) (blocks links : IndexTables) (row : ℕ) (l : Leased) → IsRange l → FollowsList leases h ts old blocks links →
       Begins (as_lease row without_end l) old new → FollowsList leases h (with_begun row ts (l ∷ [])) new blocks links

@@ -1,5 +1,5 @@
 -- One lease ends at a row, if it is open
-use Rattle.leases.proofs.CertificateLogs.CitedWords.{◌≡◌, ◌≢◌, ◌-◌, ◌<◌, ◌==◌, ◌&&◌, ◌∙◌, ℕ, suc, Bool, true, false, not, List, map, slice_get, arith, sym, ap, inl, inr, subst, eqb-true, eq-eqb, list_any, cases_Bool, and_parts, false≢true, Header, Lease, Leased, same_leased, as_lease, without_end, IndexTables, Lent, ended_where, share_a_place, FollowedList, agree, has_words_of, test_of, IsCrossed, IsOnly, IsOnlyAt, RingPlace, has_place, is_open_of, number_at, Ends, FollowsList}
+use Rattle.leases.proofs.BaseWords.{◌≡◌, ◌≢◌, ◌-◌, ◌<◌, ◌==◌, ◌&&◌, ◌∙◌, ℕ, suc, Bool, true, false, not, List, map, slice_get, arith, sym, ap, inl, inr, subst, eqb-true, eq-eqb, list_any, cases_Bool, and_parts, false≢true, Header, Lease, Leased, same_leased, as_lease, without_end, IndexTables, Lent, ended_where, share_a_place, FollowedList, agree, has_words_of, test_of, IsCrossed, IsOnly, IsOnlyAt, RingPlace, has_place, is_open_of, number_at, Ends, FollowsList}
 use Rattle.leases.proofs.CertificateLogs.Following.{ends_so, never, stays}
 use Rattle.leases.proofs.CertificateLogs.OpenPlaces.{at_less, none_less}
 use Rattle.leases.proofs.CertificateLogs.Standing.{apart_less}

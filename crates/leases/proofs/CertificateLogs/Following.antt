@@ -1,5 +1,6 @@
 -- The list is followed when a lease begins, and when one ends
-use Rattle.leases.proofs.CertificateLogs.CitedWords.{◌≡◌, ◌≢◌, ◌+◌, ◌==◌, ◌&&◌, ◌||◌, ◌∷◌, ◌++◌, ◌∙◌, ℕ, suc, Bool, true, false, not, List, [], filter, length, map, slice_get, arith, sym, ap, refl, inl, inr, subst, list_any, cases_Bool, and_parts, false≢true, length-map, Header, Lease, Leased, same_leased, as_lease, without_end, leased_is, IndexTables, AllUnended, Lent, begun_at, ended_where, is_unended, share_a_place, with_begun, all_ended, FollowedList, agree, begins_as, test_of, FindsPlaces, IsCrossed, IsOnly, IsOnlyAt, RingPlace, has_place, is_open_of, number_at, Begins, Ends, FollowsList, KnowsOpen}
+use Rattle.leases.proofs.BaseWords.{◌≡◌, ◌≢◌, ◌+◌, ◌&&◌, ◌||◌, ◌∷◌, ◌++◌, ◌∙◌, ℕ, suc, Bool, true, false, not, List, [], filter, length, map, slice_get, arith, sym, ap, refl, inl, inr, subst, list_any, cases_Bool, and_parts, false≢true, length-map, Header, Lease, Leased, same_leased, as_lease, without_end, leased_is, IndexTables, AllUnended, Lent, begun_at, ended_where, is_unended, share_a_place, with_begun, FollowedList, agree, begins_as, test_of, FindsPlaces, IsCrossed, IsOnly, IsOnlyAt, RingPlace, has_place, is_open_of, number_at, Begins, Ends, FollowsList, KnowsOpen, rules}
+use Rattle.leases.proofs.LeaseBooks.Unended.{all_ended}
 use Rattle.leases.proofs.CertificateLogs.Agreement.{agree_begun, agree_unended, begun_is_unended}
 use Rattle.leases.proofs.CertificateLogs.Ending.{agree_ended, never_ends, none_ends, none_there, one_fewer, open_alike}
 use Rattle.leases.proofs.CertificateLogs.OpenPlaces.{first_one, none_less, only_alike, only_more}
@@ -11,12 +12,7 @@ length_more (s ∷ ts) t = ap suc (length_more ts t)
 
 count_more : (ts : List Lent) (t : Lent) → is_unended t ≡ true → length (filter is_unended (ts ++ t ∷ [])) ≡ suc (length (filter is_unended ts))
 count_more [] t e = rw e refl
-count_more (s ∷ ts) t e = by (is_unended s) refl (count_more ts t e)
-  where
-    by : (b : Bool) → is_unended s ≡ b → length (filter is_unended (ts ++ t ∷ [])) ≡ suc (length (filter is_unended ts)) →
-        length (filter is_unended (s ∷ ts ++ t ∷ [])) ≡ suc (length (filter is_unended (s ∷ ts)))
-    by true u f = rw u (ap suc f)
-    by false u f = rw u f
+count_more (s ∷ ts) t e = search (rules, count_more ts t e)
 
 crossed_more : (h : Header) (n : ℕ) (ts : List Lent) (t : Lent) → IsCrossed h t.leased → AllUnended (λ i l. IsCrossed h l) n ts → AllUnended (λ i l. IsCrossed h l) n (ts ++ t ∷ [])
 crossed_more h n [] t crossed all = (λ u. crossed, tt)
@@ -86,64 +82,17 @@ module _ (leases : List Lease) (h : Header) (ts : List Lent) (old : FollowedList
   after = map (ended_where (same_leased l) row) ts
 
   disagrees : agree ts leases ≡ false → agree after leases ≡ false
-  disagrees e = elim (cases_Bool (agree after leases)) [
-    | inl agreed ↦ absurd (false≢true (sym e ∙ agree_unended (same_leased l) row ts leases agreed))
-    | inr other ↦ other
-  ]
+  disagrees e = search (rules, false≢true, agree_unended)
 
   -- where it isn't lent, nothing ends
   pub stays : (agree ts leases ≡ true → list_any (is_open_of (same_leased l)) ts ≡ false) → FollowsList leases h after old blocks links
-  stays none = elim (cases_Bool (agree ts leases)) [
-    | inl agreed ↦ subst (λ (us : List Lent). FollowsList leases h us old blocks links) (sym (none_ends (same_leased l) row ts (none agreed))) follows
-    | inr other ↦ record {
-      same = follows.same;
-      begun = follows.begun ∙ sym (length-map ts (ended_where (same_leased l) row));
-      differs = follows.differs ∙ ap not other ∙ sym (ap not (disagrees other));
-      known = λ agreed. absurd (false≢true (sym (disagrees other) ∙ agreed));
-    }
-  ]
+  stays none = search (rules, none_ends, length-map, disagrees, false≢true)
 
   pub never : row ≡ without_end → FollowsList leases h after old blocks links
-  never e = subst (λ (n : ℕ). FollowsList leases h (map (ended_where (same_leased l) n) ts) old blocks links) (sym e)
-      (subst (λ (us : List Lent). FollowsList leases h us old blocks links) (sym (never_ends (same_leased l) ts)) follows)
+  never e = search (rules, never_ends)
 
   module _ (index : ℕ) (early : row ≢ without_end) where
     -- it stands at this index, and has its number in the tables
     pub ends_so : Ends index row old new → IsNumbered h blocks links new_blocks new_links l 0 → (agree ts leases ≡ true → IsOnlyAt (is_open_of (same_leased l)) index ts) →
         (agree ts leases ≡ true → (m : RingPlace) → has_place h m l ≡ true → number_at blocks links m ≡ suc index) → FollowsList leases h after new new_blocks new_links
-    ends_so ends numbered only number = record {
-      same = ends.leases ∙ follows.same;
-      begun = ends.begun ∙ follows.begun ∙ sym (length-map ts (ended_where (same_leased l) row));
-      differs =
-          ends.differs
-          ∙ ap (λ b. b || not (test_of (λ m. m.to == row) (slice_get old.leases.now index))) follows.differs
-          ∙ ap (λ xs. not (agree ts leases) || not (test_of (λ m. m.to == row) (slice_get xs index))) follows.same
-          ∙ told;
-      known = λ agreed. knows (agree_unended (same_leased l) row ts leases agreed);
-    }
-      where
-        told : (not (agree ts leases) || not (test_of (λ m. m.to == row) (slice_get leases index))) ≡ not (agree after leases)
-        told = elim (cases_Bool (agree ts leases)) [
-          | inl agreed ↦ rw agreed (ap not (sym (agree_ended (same_leased l) row early index ts leases agreed (only agreed))))
-          | inr other ↦ rw other (ap not (sym (disagrees other)))
-        ]
-
-        places : agree ts leases ≡ true → FindsPlaces h ts blocks links → FindsPlaces h after new_blocks new_links
-        places agreed found m = elim (cases_Bool (has_place h m l)) [
-          | inl shares ↦
-              let at : IsOnlyAt (is_open_of (has_place h m)) index ts = subst (λ (n : ℕ). IsOnly (is_open_of (has_place h m)) n ts) (number agreed m shares) (found m) in
-              subst (λ (n : ℕ). IsOnly (is_open_of (has_place h m)) n after) (sym (numbered.there m shares)) (none_there (same_leased l) row early (has_place h m) index ts at (only agreed))
-          | inr apart ↦
-              subst (λ (n : ℕ). IsOnly (is_open_of (has_place h m)) n after) (sym (numbered.others m apart))
-              (only_alike (is_open_of (has_place h m)) (is_open_of (has_place h m)) (ended_where (same_leased l) row)
-              (open_alike (same_leased l) row early (has_place h m) (λ x same. ap (has_place h m) (sym (leased_is l x same)) ∙ apart)) (number_at blocks links m) ts (found m))
-        ]
-
-        knows : agree ts leases ≡ true → KnowsOpen h after new new_blocks new_links
-        knows agreed =
-            let known = follows.known agreed in
-            record {
-              count = let e = ends.unended in let f = known.count in let g = one_fewer (same_leased l) row early index ts (only agreed) in omega (arith, e, f, g);
-              places = places agreed known.places;
-              crossed = all_ended (λ i m. IsCrossed h m) (same_leased l) row 0 ts known.crossed;
-            }
+    ends_so ends numbered only number = search (rules, length-map, agree_unended, agree_ended, disagrees, none_there, only_alike, open_alike, leased_is, one_fewer, all_ended)

@@ -1,5 +1,6 @@
 -- The walk along a ring passes a position at which no Link is crossed
-use Rattle.leases.proofs.CertificateLogs.CitedWords.{◌≡◌, ◌+◌, ◌≤◌, ◌||◌, ◌∙◌, ℕ, Bool, false, not, List, map, sym, ap, refl, inl, inr, subst, cases_Bool, false≢true, length-map, is_crossing, Header, shape_of, Lease, Leased, Block, Link, Range, same_leased, IndexTables, IsFound, Lent, ended_where, is_passed, ended_alike, passed_block, FollowedList, agree, IsCrossed, FollowsList}
+use Rattle.leases.proofs.BaseWords.{◌≡◌, ◌+◌, ◌≤◌, ◌||◌, ◌∙◌, ℕ, Bool, false, not, List, map, sym, ap, refl, inl, inr, subst, cases_Bool, false≢true, length-map, is_crossing, Header, shape_of, Lease, Leased, Block, Link, Range, same_leased, IndexTables, IsFound, Lent, ended_where, is_passed, FollowedList, agree, IsCrossed, FollowsList}
+use Rattle.leases.proofs.LeaseBooks.Passing.{ended_alike, passed_block}
 use Rattle.leases.proofs.CertificateLogs.Agreement.{agree_unended}
 use Rattle.leases.proofs.CertificateLogs.Tables.{number_of}
 

@@ -1,5 +1,7 @@
 -- Where what is lent stands among what was and is lent
-use Rattle.leases.proofs.CertificateLogs.CitedWords.{◌≡◌, ◌+◌, ◌<◌, ◌%◌, ◌==◌, ◌&&◌, ◌∷◌, ◌∙◌, ℕ, zero, suc, Bool, true, false, List, [], arith, sym, ap, refl, inl, inr, subst, eq-eqb, list_any, cases_Bool, and_parts, false≢true, or_from, place_count, link_of, Header, shape_of, Leased, Block, Link, Range, Use, same_leased, leased_is, AllUnended, Lent, is_place_free, is_unended, share_a_place, StandsAt, is_lent, either_holds, not_later, not_true, IsOnlyAt, BlockPlace, LinkPlace, RingPlace, has_place, is_open_of}
+use Rattle.leases.proofs.BaseWords.{◌≡◌, ◌+◌, ◌<◌, ◌%◌, ◌==◌, ◌&&◌, ◌∷◌, ◌∙◌, ℕ, zero, suc, Bool, true, false, List, [], arith, sym, ap, refl, inl, inr, subst, eq-eqb, list_any, cases_Bool, and_parts, false≢true, or_from, place_count, link_of, Header, shape_of, Leased, Block, Link, Range, Use, same_leased, leased_is, AllUnended, Lent, is_place_free, is_unended, share_a_place, StandsAt, is_lent, IsOnlyAt, BlockPlace, LinkPlace, RingPlace, has_place, is_open_of}
+use Rattle.leases.proofs.LeaseBooks.EndingRange.{either_holds, not_later}
+use Rattle.leases.proofs.LeaseBooks.Places.{not_true}
 
 module _ (l : Leased) where
   abbrev is_this : Lent → Bool

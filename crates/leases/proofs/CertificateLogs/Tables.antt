@@ -1,5 +1,6 @@
 -- A number is put for the place of a lease
-use Rattle.leases.proofs.CertificateLogs.CitedWords.{◌≡◌, ◌%◌, ◌==◌, ◌&&◌, ◌∙◌, ℕ, Bool, true, false, sym, ap, refl, eqb-true, eq-eqb, and_parts, false≢true, place_count, link_of, Header, shape_of, Leased, Block, Link, Range, Use, IndexTables, index_at, share_a_place, IsPut, elsewhere, FindsPlaces, IsOnly, is_open_of, is_unended, Lent, List, BlockPlace, LinkPlace, RingPlace, has_place, number_at}
+use Rattle.leases.proofs.BaseWords.{◌≡◌, ◌%◌, ◌==◌, ◌&&◌, ◌∙◌, ℕ, true, false, sym, ap, refl, eqb-true, eq-eqb, and_parts, false≢true, place_count, link_of, Header, shape_of, Leased, Block, Link, Range, Use, IndexTables, index_at, share_a_place, FindsPlaces, IsOnly, is_open_of, is_unended, Lent, List, BlockPlace, LinkPlace, RingPlace, has_place, number_at, rules}
+use Rattle.leases.proofs.LeaseBooks.Places.{IsPut, elsewhere}
 use Rattle.leases.proofs.CertificateLogs.OpenPlaces.{only_same}
 use Rattle.leases.proofs.CertificateLogs.Standing.{range_none}
 
@@ -18,13 +19,7 @@ own : (a b : ℕ) → (a == a && b == b) ≡ true
 own a b = rw (eq-eqb a a refl, eq-eqb b b refl) refl
 
 turned : (r s u v : ℕ) → (r == s && u == v) ≡ false → (s == r && v == u) ≡ false
-turned r s u v e = by (s == r && v == u) refl
-  where
-    by : (b : Bool) → (s == r && v == u) ≡ b → b ≡ false
-    by false f = refl
-    by true f =
-        let parts = and_parts (s == r) (v == u) f in
-        absurd (false≢true (sym e ∙ same_test r s u v s v (sym (eqb-true s r parts.0)) (sym (eqb-true v u parts.1)) ∙ own s v))
+turned r s u v e = search (rules, and_parts, false≢true, same_test, eqb-true, own)
 
 module _ (h : Header) where
   abbrev place : ℕ → ℕ → ℕ
@@ -41,56 +36,26 @@ module _ (h : Header) where
 
   -- what has the place of a lease shares a place with it
   pub share_alike : (m : RingPlace) (l : Leased) → has_place h m l ≡ true → (x : Leased) → has_place h m x ≡ share_a_place h l x
-  share_alike (BlockPlace r i) (Block s q) e (Block a b) = let parts = and_parts (r == s) (i == place s q) e in same_test r s i (place s q) a (place a b) (eqb-true r s parts.0) (eqb-true _ _ parts.1)
   share_alike (BlockPlace r i) (Block s q) e (Link a b) = refl
-  share_alike (BlockPlace r i) (Block s q) e (Range n a u) = refl
-  share_alike (LinkPlace r i) (Link s q) e (Link a b) = let parts = and_parts (r == s) (i == segment s q) e in same_test r s i (segment s q) a (segment a b) (eqb-true r s parts.0) (eqb-true _ _ parts.1)
-  share_alike (LinkPlace r i) (Link s q) e (Block a b) = refl
-  share_alike (LinkPlace r i) (Link s q) e (Range n a u) = refl
-  share_alike (BlockPlace r i) (Link s q) e x = absurd (false≢true e)
-  share_alike (BlockPlace r i) (Range n a u) e x = absurd (false≢true e)
-  share_alike (LinkPlace r i) (Block s q) e x = absurd (false≢true e)
-  share_alike (LinkPlace r i) (Range n a u) e x = absurd (false≢true e)
+  share_alike _ _ e _ = search (rules, and_parts, same_test, eqb-true, false≢true)
 
   of_place : (ts : List Lent) (m : RingPlace) (l : Leased) → has_place h m l ≡ true → (n : ℕ) → IsOnly (is_open_of (has_place h m)) n ts → IsOnly (is_open_of (share_a_place h l)) n ts
   of_place ts m l has n only = only_same (is_open_of (has_place h m)) (is_open_of (share_a_place h l)) (λ t. ap (λ b. is_unended t && b) (sym (share_alike m l has t.leased))) n ts only
 
   -- and the number is that of the place
   pub number_alike : (blocks links : IndexTables) (m : RingPlace) (l : Leased) → has_place h m l ≡ true → number_at blocks links m ≡ number_of blocks links l
-  number_alike blocks links (BlockPlace r i) (Block s q) e = let parts = and_parts (r == s) (i == place s q) e in same_index blocks r s i (place s q) (eqb-true r s parts.0) (eqb-true _ _ parts.1)
-  number_alike blocks links (LinkPlace r i) (Link s q) e = let parts = and_parts (r == s) (i == segment s q) e in same_index links r s i (segment s q) (eqb-true r s parts.0) (eqb-true _ _ parts.1)
   number_alike blocks links (BlockPlace r i) (Link s q) e = absurd (false≢true e)
-  number_alike blocks links (BlockPlace r i) (Range n a u) e = absurd (false≢true e)
-  number_alike blocks links (LinkPlace r i) (Block s q) e = absurd (false≢true e)
-  number_alike blocks links (LinkPlace r i) (Range n a u) e = absurd (false≢true e)
+  number_alike blocks links _ _ e = search (rules, and_parts, same_index, eqb-true, false≢true)
 
   pub block_numbered : (blocks links new : IndexTables) (r p n : ℕ) → IsPut blocks new r (place r p) n → IsNumbered h blocks links new links (Block r p) n
-  block_numbered blocks links new r p n put = record {
-    there = λ m e. number_alike new links m (Block r p) e ∙ put.same;
-    others = apart;
-  }
-    where
-      apart : (m : RingPlace) → has_place h m (Block r p) ≡ false → number_at new links m ≡ number_at blocks links m
-      apart (BlockPlace s i) e = elsewhere blocks new r (place r p) n s i put (turned s r i (place r p) e)
-      apart (LinkPlace s i) e = refl
+  block_numbered blocks links new r p n put = search (rules, number_alike, elsewhere, turned)
 
   pub link_numbered : (blocks links new : IndexTables) (r p n : ℕ) → IsPut links new r (segment r p) n → IsNumbered h blocks links blocks new (Link r p) n
-  link_numbered blocks links new r p n put = record {
-    there = λ m e. number_alike blocks new m (Link r p) e ∙ put.same;
-    others = apart;
-  }
-    where
-      apart : (m : RingPlace) → has_place h m (Link r p) ≡ false → number_at blocks new m ≡ number_at blocks links m
-      apart (BlockPlace s i) e = refl
-      apart (LinkPlace s i) e = elsewhere links new r (segment r p) n s i put (turned s r i (segment r p) e)
+  link_numbered blocks links new r p n put = search (rules, number_alike, elsewhere, turned)
 
   -- a range has no place
   pub range_numbered : (blocks links : IndexTables) (k a n : ℕ) (u : Use) → IsNumbered h blocks links blocks links (Range k a u) n
-  range_numbered blocks links k a n u = record { there = shares; others = λ m e. refl }
-    where
-      shares : (m : RingPlace) → has_place h m (Range k a u) ≡ true → number_at blocks links m ≡ n
-      shares (BlockPlace r i) e = absurd (false≢true e)
-      shares (LinkPlace r i) e = absurd (false≢true e)
+  range_numbered blocks links k a n u = search (rules, false≢true)
 
   -- what is open at the place of a lease has its number
   pub places_of : (ts : List Lent) (blocks links : IndexTables) → FindsPlaces h ts blocks links → (l : Leased) → IsOnly (is_open_of (share_a_place h l)) (number_of blocks links l) ts

@@ -1,15 +1,7 @@
 -- A lease of the list has the words of what ends
-use Rattle.std.specs.Prelude.{◌≡◌, ℕ, ◌<◌, ◌==◌, ◌&&◌, ◌||◌, Bool, true}
-use Rattle.leases.proofs.CertificateLogs.CitedWords.{sym, ◌∙◌, ap, refl, is_open_as, IsPositive, block_alike, link_alike, range_alike, agrees, begins_as, has_words_of, IsCrossed, is_open_of}
-use Rattle.std.proofs.lemmas.Bool.{and_parts, eqb-true}
-use Rattle.segments.proofs.Crossings.{crossing_positive}
-use Rattle.traces.specs.declared.header.Header.{Header}
-use Rattle.traces.specs.Header.{shape_of}
-use Rattle.ring_knowledge.specs.declared.lease.Lease.{Lease}
-use Rattle.ownership_rules.specs.OpenLeases.{Leased, Block, Link, Range, Use, same_leased}
-use Rattle.ownership_rules.specs.Leases.{as_lease, without_end}
-use Rattle.ownership_rules.proofs.Among.{leased_is}
-use Rattle.leases.specs.LeaseBooks.Lents.{Lent, is_unended, lease_of}
+use Rattle.leases.proofs.BaseWords.{◌≡◌, ℕ, ◌<◌, ◌==◌, ◌&&◌, ◌||◌, Bool, true, sym, ◌∙◌, ap, refl, is_open_as, agrees, begins_as, has_words_of, IsCrossed, is_open_of, and_parts, eqb-true, crossing_positive, Header, shape_of, Lease, Leased, Block, Link, Range, Use, same_leased, as_lease, without_end, leased_is, Lent, is_unended, lease_of}
+use Rattle.leases.proofs.LeaseBooks.Ending.{IsPositive, block_alike, link_alike}
+use Rattle.leases.proofs.LeaseBooks.EndingRange.{range_alike}
 use Rattle.leases.proofs.CertificateLogs.Whole.{end_is}
 
 module _ (t : Lent) (m : Lease) (same : agrees t m ≡ true) (unended : is_unended t ≡ true) (x : Lease) where

@@ -1,5 +1,5 @@
 -- The completion of a command that leases no range: the lease of its block ends, and that of the Link that is passed
-use Rattle.leases.proofs.LeaseBooks.Words.{◌≡◌, ◌≢◌, ◌+◌, ◌∷◌, ◌∙◌, ℕ, Bool, true, false, List, [], filter, zero, suc, arith, sym, ap, refl, cond, flat_map, range_with_len, Spot, Shape, is_crossing, place_count, after, number, due_positions, floor_number, Header, Ring, command_id, driver_rings, shape_of, Known, context_ranges, range_of_command, IsIn}
+use Rattle.leases.proofs.BaseWords.{◌≡◌, ◌≢◌, ◌+◌, ◌∷◌, ◌∙◌, ℕ, Bool, true, false, List, [], filter, zero, suc, arith, sym, ap, refl, cond, flat_map, range_with_len, Spot, Shape, is_crossing, place_count, after, number, due_positions, floor_number, Header, Ring, command_id, driver_rings, shape_of, Known, context_ranges, range_of_command, IsIn}
 use Rattle.ring_knowledge.specs.Rings as rings
 use Rattle.leases.proofs.LeaseBooks.SameLeases.{command_same, flat_alike}
 use Rattle.leases.proofs.LeaseBooks.PassedLeases.{IsWithinLap}

@@ -1,5 +1,5 @@
 -- The completion of a command leaves the device context of a slot that it disables, and no other
-use Rattle.leases.proofs.LeaseBooks.Words.{◌≡◌, ◌==◌, if◌then◌else◌, ◌∷◌, ◌∙◌, ℕ, Bool, true, false, List, [], map, Option, Some, None, ap, refl, cond_both, added_endpoints, is_dropped, Trb, code, slot, Spot, target, Command, NoOp, EnableSlot, DisableSlot, AddressDevice, ConfigureEndpoint, EvaluateContext, ResetEndpoint, StopEndpoint, SetTrDequeue, ResetDevice, is_off, Change, SlotGoesOn, DeviceLeft, Disables, Places, Stops, Resets, changes, placed_by_context, Header, ring_having, shape_of, Known, command_at, next_command, on_ring, bound_to, changed_by, changed_by_all, completed, disabled, finished, held_at_ceiling, in_state, moved, moved_to, pointed, set_to, stop_ended, succeeded, devices_without, slot_disabled, slot_left}
+use Rattle.leases.proofs.BaseWords.{◌≡◌, ◌==◌, ◌∷◌, ◌∙◌, ℕ, Bool, false, List, [], map, Option, Some, None, ap, refl, added_endpoints, is_dropped, Trb, code, slot, target, Command, AddressDevice, ConfigureEndpoint, ResetEndpoint, StopEndpoint, SetTrDequeue, is_off, Change, SlotGoesOn, DeviceLeft, Disables, Places, Stops, Resets, changes, placed_by_context, Header, ring_having, shape_of, Known, command_at, next_command, on_ring, bound_to, changed_by, changed_by_all, completed, disabled, finished, held_at_ceiling, in_state, moved, moved_to, pointed, set_to, stop_ended, succeeded, devices_without, slot_disabled, slot_left, rules}
 
 -- the change lets no device context go
 abbrev Holds : Change → Type 0
@@ -14,11 +14,7 @@ module _ (h : Header) where
   moved_device : (k : Known) (o : Option ℕ) (p : ℕ) (cycle : Bool) → (moved h k o p cycle).device ≡ k.device
   unfolding moved moved_to set_to on_ring
   moved_device k None p cycle = refl
-  moved_device k (Some r) p cycle = to (target (shape_of h r) (k.ring r) p cycle)
-    where
-      to : (t : Option Spot) → (moved_to h k r t).device ≡ k.device
-      to None = refl
-      to (Some t) = refl
+  moved_device k (Some r) p cycle = search (rules, target, shape_of, moved_to)
 
   bound_device : (k : Known) (s i : ℕ) (o : Option ℕ) (p : ℕ) (cycle : Bool) → (bound_to h k s i o p cycle).device ≡ k.device
   unfolding bound_to
@@ -27,9 +23,7 @@ module _ (h : Header) where
 
   pointed_device : (k : Known) (s i p : ℕ) (cycle : Bool) → (pointed h k s i p cycle).device ≡ k.device
   unfolding pointed
-  pointed_device k s i p cycle =
-      cond_both (is_off (k.endpoint_state s i)) (bound_to h k s i (ring_having h p) p cycle) (moved h k (k.ring_of s i) p cycle) (λ (l : Known). l.device ≡ k.device)
-      (λ off. bound_device k s i (ring_having h p) p cycle) (λ on. moved_device k (k.ring_of s i) p cycle)
+  pointed_device k s i p cycle = search (rules, is_off, bound_to, ring_having, moved, bound_device, moved_device)
 
   held_device : (k : Known) (o : Option ℕ) → (held_at_ceiling h k o).device ≡ k.device
   unfolding held_at_ceiling on_ring
@@ -39,11 +33,7 @@ module _ (h : Header) where
   change_device : (c : Command) (k : Known) (change : Change) → Holds change → (changed_by h c k change).device ≡ k.device
   unfolding changed_by disabled in_state
   change_device c k (SlotGoesOn s) holds = refl
-  change_device c k (DeviceLeft s) holds = absurd holds
-  change_device c k (Disables s which) holds = refl
-  change_device c k (Places s i p cycle state) holds = pointed_device k s i p cycle
-  change_device c k (Stops s i) holds = held_device (in_state h k s i _) (k.ring_of s i)
-  change_device c k (Resets s i) holds = refl
+  change_device c k _ holds = search (rules, pointed_device, held_device, in_state)
 
   changes_device : (c : Command) (k : Known) (all : List Change) → AllHold all → (changed_by_all h c k all).device ≡ k.device
   unfolding changed_by_all
@@ -56,19 +46,14 @@ module _ (h : Header) where
 
   succeeded_device : (k : Known) (n : ℕ) (c : Command) (t : ℕ) → (succeeded h k n c).device t ≡ devices_without k.device (slot_disabled c) t
   unfolding succeeded changes changed_by_all changed_by disabled
-  succeeded_device k n NoOp t = refl
-  succeeded_device k n EnableSlot t = refl
-  succeeded_device k n (DisableSlot s) t = refl
   succeeded_device k n (AddressDevice s bsr c) t = ap (λ f. f t) (changes_device (AddressDevice s bsr c) k (SlotGoesOn s ∷ placed_by_context h.context_size k.memory s c 1 ∷ []) (tt, (tt, tt)))
   succeeded_device k n (ConfigureEndpoint s false c) t =
       ap (λ f. f t) (changes_device (ConfigureEndpoint s false c) k (SlotGoesOn s ∷ Disables s (is_dropped k.memory c) ∷ map (placed_by_context h.context_size k.memory s c) (added_endpoints k.memory c))
       (tt, (tt, placed_hold k s c (added_endpoints k.memory c))))
-  succeeded_device k n (ConfigureEndpoint s true c) t = refl
-  succeeded_device k n (EvaluateContext s c) t = refl
   succeeded_device k n (ResetEndpoint s i) t = ap (λ f. f t) (changes_device (ResetEndpoint s i) k (Resets s i ∷ []) (tt, tt))
   succeeded_device k n (StopEndpoint s i) t = ap (λ f. f t) (changes_device (StopEndpoint s i) k (Stops s i ∷ []) (tt, tt))
   succeeded_device k n (SetTrDequeue s i p cycle) t = ap (λ f. f t) (changes_device (SetTrDequeue s i p cycle) k (Places s i p cycle _ ∷ []) (tt, tt))
-  succeeded_device k n (ResetDevice s) t = refl
+  succeeded_device k n _ t = refl
 
   stop_device : (k : Known) (c : Command) → (stop_ended h k c).device ≡ k.device
   unfolding stop_ended
@@ -78,11 +63,7 @@ module _ (h : Header) where
   finished_device : (k : Known) (b : Trb) (o : Option Command) (t : ℕ) → (finished h k b o).device t ≡ devices_without k.device (slot_left (code b == 1) o) t
   unfolding finished
   finished_device k b None t = refl
-  finished_device k b (Some c) t = ap (λ f. f t) (stop_device (if code b == 1 then succeeded h k (slot b) c else k) c) ∙ by (code b == 1)
-    where
-      by : (x : Bool) → (if x then succeeded h k (slot b) c else k).device t ≡ devices_without k.device (slot_left x (Some c)) t
-      by true = succeeded_device k (slot b) c t
-      by false = refl
+  finished_device k b (Some c) t = search (rules, stop_device, code, succeeded, slot, succeeded_device)
 
   pub completed_device : (k : Known) (b : Trb) (t : ℕ) → (completed h k b).device t ≡ devices_without k.device (slot_left (code b == 1) (command_at h k (next_command h k))) t
   unfolding completed on_ring

@@ -1,5 +1,5 @@
 -- To end one lease of the list is to end what it leases
-use Rattle.leases.proofs.LeaseBooks.Words.{◌≡◌, ◌+◌, ◌-◌, ◌<◌, ◌==◌, ◌&&◌, ◌∷◌, ◌∙◌, ℕ, Bool, true, false, List, [], map, slice_get, slice_set, Some, None, zero, suc, arith, sym, ap, refl, inl, inr, cond, subst, cases_Bool, and_parts, nat_tests, Lease, Leased, Block, Link, Range, same_leased, as_lease, without_end, leased_is, Lent, lease_of, is_unended, ended_where, AllUnended, is_open_as, ended_at}
+use Rattle.leases.proofs.BaseWords.{◌≡◌, ◌+◌, ◌-◌, ◌<◌, ◌==◌, ◌&&◌, ◌∷◌, ◌∙◌, ℕ, Bool, true, false, List, [], map, slice_get, slice_set, Some, None, zero, suc, arith, sym, ap, refl, inl, inr, cond, subst, cases_Bool, and_parts, nat_tests, Lease, Leased, Block, Link, Range, same_leased, as_lease, without_end, leased_is, Lent, lease_of, is_unended, ended_where, AllUnended, is_open_as, ended_at}
 
 -- where the list has such an element at the index, or none
 pub at_some : (l : Lease) (n i : ℕ) (xs : List Lease) (m : Lease) → slice_get xs i ≡ Some m → ended_at l n i xs ≡ cond (is_open_as l m) (slice_set xs i (record m { to = n })) xs

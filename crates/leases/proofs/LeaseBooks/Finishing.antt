@@ -1,10 +1,9 @@
 -- What is lent after the end of a command: what its completion passes and lets go of ends, and nothing begins
-use Rattle.leases.proofs.LeaseBooks.Words.{◌≡◌, ℕ, List, map, Option, Header, Ring, Row, driver_rings, Known, learned, IsIn, ended_where, let_go, Lent, grown}
+use Rattle.leases.proofs.BaseWords.{◌≡◌, ℕ, List, map, Option, Header, Ring, Row, driver_rings, Known, learned, IsIn, ended_where, let_go, Lent, grown, AreOpen}
 use Rattle.leases.proofs.LeaseBooks.LettingGo.{Finishes, ranges_narrow}
 use Rattle.leases.proofs.LeaseBooks.Narrowing.{floors, is_left, narrows}
 use Rattle.leases.proofs.LeaseBooks.PassedLeases.{Moves}
 use Rattle.leases.proofs.LeaseBooks.Rows.{only_ended}
-use Rattle.leases.specs.LeaseBooks.InStep.{AreOpen}
 
 module _ (h : Header) (k : Known) (ts : List Lent) (still : AreOpen h k ts) (row : Row) (n : ℕ) where
   abbrev k' : Known

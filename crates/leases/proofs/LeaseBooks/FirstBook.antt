@@ -1,5 +1,5 @@
 -- Before the first row the event segments are under lease, and nothing else
-use Rattle.leases.proofs.LeaseBooks.Words.{◌≡◌, ◌*◌, ◌&&◌, ◌∷◌, ◌++◌, ◌∙◌, ℕ, Bool, true, false, List, [], filter, map, subst, sym, ap, refl, append-nil, flat_map, is_crossing, due_crossings, due_positions, leased_crossings, leased_positions, is_handed_over, new_ring, Segment, Header, Ring, Erstba, command_id, driver_rings, event_shape, shape_of, nothing, Leased, Block, Link, Range, EventSegment, context_ranges, device_ranges, entry_ranges, open_leases, open_on, open_ranges, range_of_command, range_of_device, range_of_entry, segment_ranges, slots, table_range, as_lease, in_order, without_end, IsIn, IndexTables, begun_at, in_turn, lease_of, lents, with_begun, AllUnended, IsFound, segment_lease}
+use Rattle.leases.proofs.BaseWords.{◌≡◌, ◌*◌, ◌&&◌, ◌∷◌, ◌++◌, ◌∙◌, ℕ, Bool, true, false, List, [], filter, map, subst, sym, ap, refl, append-nil, is_crossing, due_crossings, due_positions, leased_crossings, leased_positions, is_handed_over, new_ring, Segment, Header, Ring, Erstba, command_id, driver_rings, event_shape, shape_of, nothing, Leased, Block, Link, Range, EventSegment, context_ranges, device_ranges, entry_ranges, open_leases, open_on, open_ranges, range_of_command, range_of_device, range_of_entry, segment_ranges, slots, table_range, as_lease, in_order, without_end, IsIn, IndexTables, begun_at, in_turn, lease_of, lents, with_begun, AllUnended, IsFound, segment_lease, rules}
 use Rattle.ring_knowledge.specs.Rings as rings
 use Rattle.leases.proofs.LeaseBooks.Growing.{map_map, sorted}
 use Rattle.leases.proofs.LeaseBooks.Rows.{all_new, from_turn}
@@ -19,16 +19,11 @@ none_passes p (x ∷ xs) none = rw (none x) (none_passes p xs none)
 module _ (h : Header) where
   none_on : (r : Ring) → open_on h nothing r ≡ []
   unfolding open_on nothing leased_positions leased_crossings
-  none_on r =
-      rw (
-        none_passes (λ p. is_handed_over new_ring p) (due_positions r.shape new_ring) (λ p. refl),
-        none_passes (λ q. is_crossing r.shape q && false) (due_crossings r.shape new_ring) (λ q. and_false (is_crossing r.shape q)),
-      ) refl
+  none_on r = search (rules, none_passes, is_handed_over, new_ring, due_positions, is_crossing, due_crossings, and_false)
 
   no_contexts : context_ranges h nothing ≡ []
   unfolding context_ranges rings.unfinished_positions nothing
-  no_contexts =
-      ap (flat_map (λ p. range_of_command h p (rings.command_at h nothing p))) (none_passes (λ p. false) (due_positions (shape_of h (command_id h)) new_ring) (λ p. refl))
+  no_contexts = search (rules, range_of_command, nothing, none_passes, due_positions, shape_of, command_id, new_ring)
 
   no_entries : entry_ranges nothing ≡ []
   unfolding entry_ranges nothing range_of_entry
@@ -61,9 +56,7 @@ module _ (h : Header) where
 
   segments_are : (l : Leased) → IsIn l (segment_ranges h) → IsRange l
   unfolding segment_ranges
-  segments_are l at =
-      let found = from_map (λ (s : Segment). Range (16 * s.count) s.base EventSegment) (event_shape h).segments l at in
-      subst IsRange (sym found.2) tt
+  segments_are l at = search (rules, from_map)
 
   -- what stands before the first row are ranges
   pub first_are_ranges : (l : Leased) → IsIn l (in_turn (open_leases h nothing)) → IsRange l

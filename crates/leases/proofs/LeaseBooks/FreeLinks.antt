@@ -1,10 +1,9 @@
 -- No lease that is open shares its Link with a due crossing that isn't given
-use Rattle.leases.proofs.LeaseBooks.Words.{◌≡◌, ◌+◌, ◌<◌, ◌≤◌, ◌==◌, ◌&&◌, ◌∙◌, ℕ, true, false, not, nat_lt, List, max, Some, arith, sym, ap, refl, inl, inr, subst, eqb-true, flat_map, cases_Bool, false≢true, and_parts, nat_tests, Shape, IsShape, is_crossing, place_count, link_of, RingView, floor_number, crossed_link, crossing_positive, Header, Ring, driver_rings, shape_of, Known, link_of-crossed, same_due_crossing, Leased, Block, Link, Range, is_among, open_leases, open_on, open_ranges, IsIn, among_is, is_place_free, share_a_place, Lent}
+use Rattle.leases.proofs.BaseWords.{◌≡◌, ◌+◌, ◌<◌, ◌≤◌, ◌==◌, ◌&&◌, ◌∙◌, ℕ, true, false, not, nat_lt, List, max, Some, arith, sym, ap, refl, inl, inr, subst, eqb-true, flat_map, cases_Bool, false≢true, and_parts, nat_tests, Shape, IsShape, is_crossing, place_count, link_of, RingView, floor_number, crossed_link, crossing_positive, Header, Ring, driver_rings, shape_of, Known, link_of-crossed, same_due_crossing, Leased, Block, Link, Range, is_among, open_leases, open_on, open_ranges, IsIn, among_is, is_place_free, share_a_place, Lent, AreOpen}
 use Rattle.leases.proofs.LeaseBooks.FreePlaces.{none_shares}
 use Rattle.leases.proofs.LeaseBooks.Members.{InOn, block, link, from_flat_map, in_either, in_on}
 use Rattle.leases.proofs.LeaseBooks.RangesAlone.{IsRange, open_are_ranges}
 use Rattle.leases.proofs.LeaseBooks.Writing.{AreShaped}
-use Rattle.leases.specs.LeaseBooks.InStep.{AreOpen}
 
 -- a lap ahead of the least crossing that may be due none is given
 abbrev pub NoneAhead : Shape → RingView → Type 0

@@ -1,9 +1,8 @@
 -- No lease that is open shares its place with a position that isn't handed over
-use Rattle.leases.proofs.LeaseBooks.Words.{◌≡◌, ◌+◌, ◌%◌, ◌<◌, ◌≤◌, ◌==◌, ◌&&◌, ◌∷◌, ◌∙◌, ℕ, Bool, true, false, not, List, [], sym, ap, refl, inl, inr, subst, eqb-true, flat_map, list_any, cases_Bool, false≢true, and_parts, Shape, place_count, floor_number, is_handed_over, Header, Ring, driver_rings, shape_of, Known, same_due, Leased, Block, Link, Range, is_among, open_leases, open_on, open_ranges, IsIn, among_is, Lent, is_place_free, is_unended, share_a_place, AllUnended}
+use Rattle.leases.proofs.BaseWords.{◌≡◌, ◌+◌, ◌%◌, ◌<◌, ◌≤◌, ◌==◌, ◌&&◌, ◌∷◌, ◌∙◌, ℕ, Bool, true, false, not, List, [], sym, ap, refl, inl, inr, subst, eqb-true, flat_map, list_any, cases_Bool, false≢true, and_parts, Shape, place_count, floor_number, is_handed_over, Header, Ring, driver_rings, shape_of, Known, same_due, Leased, Block, Link, Range, is_among, open_leases, open_on, open_ranges, IsIn, among_is, Lent, is_place_free, is_unended, share_a_place, AllUnended, AreOpen}
 use Rattle.leases.proofs.LeaseBooks.Members.{InOn, block, link, from_flat_map, in_either, in_on}
 use Rattle.leases.proofs.LeaseBooks.RangesAlone.{IsRange, open_are_ranges}
 use Rattle.leases.proofs.LeaseBooks.Writing.{AreShaped}
-use Rattle.leases.specs.LeaseBooks.InStep.{AreOpen}
 
 pub none_shares : (P : Leased → Type 0) (S : Leased → Bool) (i : ℕ) (ts : List Lent) → ((l : Leased) → P l → S l ≡ false) → AllUnended (λ j l. P l) i ts →
     list_any (λ t. is_unended t && S t.leased) ts ≡ false

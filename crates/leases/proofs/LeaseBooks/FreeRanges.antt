@@ -1,10 +1,9 @@
 -- Where a slot has no device, no range is lent for its entry in the DCBAA, nor for its device context; where a due position isn't given, none
 -- for the input context of its command
-use Rattle.leases.proofs.LeaseBooks.Words.{◌≡◌, ◌+◌, ◌*◌, ◌<◌, ◌≤◌, ◌==◌, ◌∷◌, ◌++◌, ◌∙◌, ℕ, true, false, not, List, [], Option, Some, None, sym, ap, refl, inl, inr, subst, eqb-true, flat_map, range_with_len, cases_Bool, false≢true, Command, named_context, Segment, place_count, RingView, due_positions, floor_number, Header, Ring, Erstba, command_id, driver_rings, event_shape, shape_of, Known, same_due, Leased, Block, Link, Range, EventSegment, SegmentTable, InputContext, SlotEntry, DeviceContext, is_among, open_leases, open_on, open_ranges, segment_ranges, table_range, context_ranges, range_of_command, range_of_context, entry_ranges, range_of_entry, device_ranges, range_of_device, slots, IsIn, among_is, from_filter, command_place, is_use_free, shares_use, Lent}
+use Rattle.leases.proofs.BaseWords.{◌≡◌, ◌+◌, ◌*◌, ◌<◌, ◌≤◌, ◌==◌, ◌∷◌, ◌++◌, ℕ, true, false, not, List, [], Option, Some, None, sym, ap, refl, inl, inr, subst, eqb-true, flat_map, range_with_len, false≢true, Command, named_context, Segment, place_count, RingView, due_positions, floor_number, Header, Ring, Erstba, command_id, driver_rings, event_shape, shape_of, Known, same_due, Leased, Block, Link, Range, EventSegment, SegmentTable, InputContext, SlotEntry, DeviceContext, is_among, open_leases, open_on, open_ranges, segment_ranges, table_range, context_ranges, range_of_command, range_of_context, entry_ranges, range_of_entry, device_ranges, range_of_device, slots, IsIn, among_is, from_filter, command_place, is_use_free, shares_use, Lent, AreOpen, rules}
 use Rattle.ring_knowledge.specs.Rings as rings
 use Rattle.leases.proofs.LeaseBooks.FreePlaces.{none_shares}
 use Rattle.leases.proofs.LeaseBooks.Members.{InOn, block, link, from_flat_map, from_map, from_range, in_either, in_on}
-use Rattle.leases.specs.LeaseBooks.InStep.{AreOpen}
 
 module _ (h : Header) (k : Known) (P : Leased → Type 0) where
   -- what holds of each kind of lease that is open
@@ -75,10 +74,7 @@ module _ (h : Header) (k : Known) (P : Leased → Type 0) where
 
 -- a slot with a device is another than one without
 other_slot : (k : Known) (s t d : ℕ) → k.device s ≡ None → k.device t ≡ Some d → (s == t) ≡ false
-other_slot k s t d none some = elim (cases_Bool (s == t)) [
-  | inl same ↦ let e : s ≡ t = eqb-true s t same in let clash : None ≡ Some d = sym none ∙ ap k.device e ∙ some in cc
-  | inr differ ↦ differ
-]
+other_slot k s t d none some = search (rules, eqb-true)
 
 module _ (h : Header) (k : Known) (ts : List Lent) (still : AreOpen h k ts) (s : ℕ) (none : k.device s ≡ None) where
   pub entry_free : is_use_free h ts (SlotEntry s) ≡ true
@@ -123,12 +119,7 @@ module _ (h : Header) (k : Known) (ts : List Lent) (still : AreOpen h k ts) (p :
     other_place q at =
         let passed = from_filter commands.given (range_with_len (floor_number commands) count) q at in
         let range = from_range (floor_number commands) count q passed.0 in
-        elim (cases_Bool (command_place h p == command_place h q)) [
-          | inl same ↦
-              let one : p ≡ q = same_due (floor_number commands) count p q some low high range.0 range.1 (eqb-true (command_place h p) (command_place h q) same) in
-              absurd (false≢true (sym absent ∙ ap commands.given one ∙ passed.1))
-          | inr differ ↦ differ
-        ]
+        search (rules, same_due, eqb-true, false≢true)
 
     pub context_free : is_use_free h ts (InputContext p) ≡ true
     unfolding is_use_free

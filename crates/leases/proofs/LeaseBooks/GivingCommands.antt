@@ -1,15 +1,13 @@
 -- What is lent after any write: what it gives begins, with the input context of the command that it gives, and the entry and the device
 -- context of a slot that takes one; nothing ends
-use Rattle.leases.proofs.LeaseBooks.Words.{◌≡◌, ◌≢◌, ◌+◌, ◌<◌, ◌≤◌, ◌==◌, ◌&&◌, ◌||◌, if◌then◌else◌, ◌∷◌, ◌++◌, ◌∙◌, ℕ, Bool, true, false, not, List, [], filter, map, Option, Some, None, option_and_then, slice_get, zero, suc, arith, sym, ap, refl, inl, inr, subst, eqb-true, eq-eqb, append-nil, flat_map, range_with_len, cases_Bool, false≢true, or_left, filter-append, place_count, RingView, due_positions, floor_number, gives, leased_crossings, leased_positions, positions_given, command_of, device_context_bytes, Header, Ring, Write, Erstba, command_id, driver_rings, shape_of, Known, learned, command_given, entry_of, taken_device, with_device, with_word, written, Leased, Block, Link, Range, Use, InputContext, SlotEntry, DeviceContext, context_ranges, device_ranges, entry_ranges, is_among, open_leases, open_on, open_ranges, range_of_command, range_of_device, range_of_entry, segment_ranges, slots, table_range, begun, IsIn, among_is, from_filter, in_among, in_filter, in_turn, with_begun, Lent, grown}
+use Rattle.leases.proofs.BaseWords.{◌≡◌, ◌≢◌, ◌+◌, ◌<◌, ◌≤◌, ◌==◌, ◌&&◌, ◌||◌, if◌then◌else◌, ◌∷◌, ◌++◌, ◌∙◌, ℕ, Bool, true, false, not, List, [], filter, map, Option, Some, None, option_and_then, zero, suc, arith, sym, ap, refl, inl, inr, subst, eqb-true, eq-eqb, append-nil, flat_map, range_with_len, cases_Bool, false≢true, or_left, filter-append, place_count, RingView, due_positions, floor_number, gives, leased_crossings, leased_positions, positions_given, command_of, device_context_bytes, Header, Ring, Write, Erstba, command_id, driver_rings, shape_of, Known, learned, command_given, entry_of, taken_device, with_device, with_word, written, Leased, Block, Link, Range, Use, InputContext, SlotEntry, DeviceContext, context_ranges, device_ranges, entry_ranges, is_among, open_leases, open_on, open_ranges, range_of_command, range_of_device, range_of_entry, segment_ranges, slots, table_range, begun, IsIn, among_is, from_filter, in_among, in_filter, in_turn, with_begun, Lent, grown, FreeWasGiven, AreOpen, rules}
 use Rattle.ring_knowledge.specs.Rings as rings
 use Rattle.leases.proofs.LeaseBooks.FreeRanges.{of_open}
 use Rattle.leases.proofs.LeaseBooks.LettingGo.{HasUse, use_of_command}
 use Rattle.leases.proofs.LeaseBooks.Members.{from_flat_map, from_range, in_either, in_flat_map, in_left, in_right}
 use Rattle.leases.proofs.LeaseBooks.Rows.{none_new, only_begun}
 use Rattle.leases.proofs.LeaseBooks.SameLeases.{flat_alike}
-use Rattle.leases.specs.LeaseBooks.InStep.{FreeWasGiven}
 use Rattle.leases.proofs.LeaseBooks.Writing.{AreShaped, filter_flat_map, kept_on_rings, lease_given, new_on_rings}
-use Rattle.leases.specs.LeaseBooks.InStep.{AreOpen}
 
 -- ---- lists
 
@@ -17,15 +15,7 @@ use Rattle.leases.specs.LeaseBooks.InStep.{AreOpen}
 new_ones : {X : Type 0} (f g : ℕ → List X) (old t : ℕ → Bool) (xs : List ℕ) → ((p : ℕ) → IsIn p xs → old p ≡ true → g p ≡ []) → ((p : ℕ) → IsIn p xs → old p ≡ false → t p ≡ true → g p ≡ f p) →
     flat_map g (filter (λ p. old p || t p) xs) ≡ flat_map f (filter (λ p. not (old p) && t p) xs)
 new_ones f g old t [] none same = refl
-new_ones f g old t (x ∷ xs) none same =
-    let rest = new_ones f g old t xs (λ p at. none p (inr at)) (λ p at. same p (inr at)) in
-    elim (cases_Bool (old x)) [
-      | inl was ↦ rw was (rw (none x (inl refl) was) rest)
-      | inr new ↦ elim (cases_Bool (t x)) [
-        | inl passes ↦ rw (new, passes) (rw (same x (inl refl) new passes) (ap (λ ys. f x ++ ys) rest))
-        | inr fails ↦ rw (new, fails) rest
-      ]
-    ]
+new_ones f g old t (x ∷ xs) none same = search (rules, new_ones f g old t xs (λ p at. none p (inr at)) (λ p at. same p (inr at)))
 
 none_at : {X : Type 0} (f : ℕ → List X) (xs : List ℕ) → ((p : ℕ) → IsIn p xs → f p ≡ []) → flat_map f xs ≡ []
 none_at f [] none = refl
@@ -50,10 +40,7 @@ all_pass p [] each = refl
 all_pass p (x ∷ xs) each = rw (each x (inl refl)) (ap (λ ys. x ∷ ys) (all_pass p xs (λ y at. each y (inr at))))
 
 unequal : (t s : ℕ) → t ≢ s → (t == s) ≡ false
-unequal t s other = elim (cases_Bool (t == s)) [
-  | inl same ↦ absurd (other (eqb-true t s same))
-  | inr differ ↦ differ
-]
+unequal t s other = search (rules, eqb-true)
 
 -- ---- what begins
 
@@ -90,19 +77,11 @@ module _ (h : Header) (shaped : AreShaped h) (k : Known) (freed : FreeWasGiven h
 
   ring_after : after.ring ≡ (with_word h k a w).ring
   unfolding with_device
-  ring_after = by taken
-    where
-      by : (o : Option (ℕ × ℕ)) → (with_device h (with_word h k a w) o).ring ≡ (with_word h k a w).ring
-      by None = refl
-      by (Some e) = refl
+  ring_after = search (rules, with_device, with_word)
 
   register_after : after.register ≡ k.register
   unfolding with_device with_word
-  register_after = by taken
-    where
-      by : (o : Option (ℕ × ℕ)) → (with_device h (with_word h k a w) o).register ≡ k.register
-      by None = refl
-      by (Some e) = refl
+  register_after = search (rules, with_device, with_word)
 
   -- ---- what was open
 
@@ -152,10 +131,7 @@ module _ (h : Header) (shaped : AreShaped h) (k : Known) (freed : FreeWasGiven h
   old_fail ls there = none_new (open_leases h k) ls (λ l at. in_among (open_leases h k) l (there l at))
 
   new_pass : (ls : List Leased) → ((l : Leased) → IsIn l ls → IsOpen l → ⊥) → filter IsNew ls ≡ ls
-  new_pass ls absent = all_pass IsNew ls (λ l at. elim (cases_Bool (is_among (open_leases h k) l)) [
-    | inl among ↦ absurd (absent l at (among_is (open_leases h k) l among))
-    | inr new ↦ ap not new
-  ])
+  new_pass ls absent = search (rules, all_pass, open_leases, among_is)
 
   -- ---- the rings
 
@@ -179,9 +155,7 @@ module _ (h : Header) (shaped : AreShaped h) (k : Known) (freed : FreeWasGiven h
 
   contexts_after : context_ranges h after ≡ flat_map context_at (filter (λ p. commands.given p || is_given p) due)
   unfolding context_ranges rings.unfinished_positions rings.command_at due_positions with_word
-  contexts_after =
-      ap (λ v. flat_map (λ p. range_of_command h p (option_and_then command_of (slice_get v.queue p))) (filter v.given (range_with_len (floor_number v) (place_count (shape_of h (command_id h))))))
-      (ap (λ f. f (command_id h)) ring_after)
+  contexts_after = search (rules, range_of_command, command_of, shape_of, command_id, ring_after)
 
   contexts_before : context_ranges h k ≡ flat_map context_at (filter commands.given due)
   unfolding context_ranges rings.unfinished_positions due_positions
@@ -353,25 +327,7 @@ module _ (h : Header) (shaped : AreShaped h) (k : Known) (freed : FreeWasGiven h
 
   pub new_leases : filter IsNew (open_leases h after) ≡ map lease_given (rings.given_by h k a w) ++ (contexts_given h k a w ++ entry_taken k taken ++ device_taken h taken)
   unfolding open_leases open_ranges
-  new_leases =
-      let t' : List Leased = table_range h (after.register Erstba) in
-      let c' : List Leased = context_ranges h after in
-      let e' : List Leased = entry_ranges after in
-      let d' : List Leased = device_ranges h after in
-      let table : filter IsNew t' ≡ [] = ap (filter IsNew) table_after ∙ old_fail part_t (λ l at. in_first l (in_right l part_s part_t at)) in
-      let segments : filter IsNew part_s ≡ [] = old_fail part_s (λ l at. in_first l (in_left l part_s part_t at)) in
-      filter-append IsNew (flat_map (open_on h after) (driver_rings h)) (part_s ++ t' ++ c' ++ e' ++ d')
-      ∙ ap (λ xs. xs ++ filter IsNew (part_s ++ t' ++ c' ++ e' ++ d')) new_rings
-      ∙ ap (λ xs. map lease_given (rings.given_by h k a w) ++ xs)
-      (filter-append IsNew (part_s ++ t' ++ c' ++ e') d'
-      ∙ ap (λ xs. xs ++ filter IsNew d') (filter-append IsNew (part_s ++ t' ++ c') e')
-      ∙ ap (λ xs. xs ++ filter IsNew e' ++ filter IsNew d') (filter-append IsNew (part_s ++ t') c')
-      ∙ ap (λ xs. xs ++ filter IsNew c' ++ filter IsNew e' ++ filter IsNew d') (filter-append IsNew part_s t')
-      ∙ ap (λ xs. xs ++ filter IsNew t' ++ filter IsNew c' ++ filter IsNew e' ++ filter IsNew d') segments
-      ∙ ap (λ xs. [] ++ xs ++ filter IsNew c' ++ filter IsNew e' ++ filter IsNew d') table
-      ∙ ap (λ xs. xs ++ filter IsNew e' ++ filter IsNew d') new_contexts
-      ∙ ap (λ xs. contexts_given h k a w ++ xs ++ filter IsNew d') new_entries
-      ∙ ap (λ xs. contexts_given h k a w ++ entry_taken k taken ++ xs) new_devices)
+  new_leases = search (rules, table_range, context_ranges, entry_ranges, device_ranges, table_after, old_fail, in_first, in_right, in_left, filter-append, open_on, driver_rings, new_rings, lease_given, new_contexts, new_entries, new_devices)
 
   both_stay : (l : Leased) (xs ys us vs : List Leased) → (IsIn l xs → IsIn l us) → (IsIn l ys → IsIn l vs) → IsIn l (xs ++ ys) → IsIn l (us ++ vs)
   both_stay l xs ys us vs x y at = elim (in_either l xs ys at) [ inl here ↦ in_left l us vs (x here) | inr there ↦ in_right l us vs (y there) ]
@@ -402,8 +358,4 @@ pub lent_commands : (h : Header) → AreShaped h → (k : Known) (ts : List Lent
     grown h k (Write a w) n ts ≡ with_begun n ts
     (in_turn (map lease_given (rings.given_by h k a w) ++ (contexts_given h k a w ++ entry_taken k taken ++ device_taken h taken)))
 unfolding begun learned written
-lent_commands h shaped k ts still freed a w n taken is may =
-    let after_is : learned h k (Write a w) ≡ with_device h (with_word h k a w) taken = ap (with_device h (with_word h k a w)) is in
-    only_begun h k ts still (Write a w) n (in_turn (map lease_given (rings.given_by h k a w) ++ (contexts_given h k a w ++ entry_taken k taken ++ device_taken h taken)))
-    (λ l is_open. ap (λ x. is_among (open_leases h x) l) after_is ∙ all_kept h shaped k freed a w taken may l is_open)
-    (ap in_turn (ap (λ x. filter (λ l. not (is_among (open_leases h k) l)) (open_leases h x)) after_is ∙ new_leases h shaped k freed a w taken may))
+lent_commands h shaped k ts still freed a w n taken is may = search (rules, learned, with_device, with_word, only_begun, lease_given, open_leases, all_kept, new_leases)

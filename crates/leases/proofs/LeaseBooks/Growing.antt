@@ -1,18 +1,11 @@
 -- The leases of a trace are what was and is lent after its rows
-use Rattle.leases.proofs.LeaseBooks.Words.{◌≡◌, ◌+◌, ◌<◌, ◌≤◌, ◌==◌, ◌∷◌, ◌++◌, ◌∙◌, ℕ, Bool, true, false, not, List, [], length, map, reverse, arith, sym, ap, refl, inl, inr, cond, eqb-true, append-nil, reverse_aux, cases_Bool, nat_tests, Header, Row, Lease, Known, nothing, learned, known, Leased, Block, Link, Range, is_among, open_leases, as_lease, begun, comes_before, end_from, in_order, leases, leases_from, with_ends, with_lease, without_end, Lent, lease_of, is_unended, begun_at, precedes, with_leased, in_turn, ended_where, with_begun, grown, lents, passed_on}
+use Rattle.leases.proofs.BaseWords.{◌≡◌, ◌+◌, ◌<◌, ◌≤◌, ◌==◌, ◌∷◌, ◌++◌, ◌∙◌, ℕ, true, not, List, [], length, map, reverse, arith, sym, ap, refl, cond, eqb-true, append-nil, reverse_aux, nat_tests, Header, Row, Lease, Known, nothing, learned, known, Leased, Block, Link, is_among, open_leases, as_lease, begun, comes_before, end_from, in_order, leases, leases_from, with_ends, with_lease, without_end, Lent, lease_of, is_unended, begun_at, precedes, with_leased, in_turn, ended_where, with_begun, grown, lents, passed_on, rules}
 
 -- when a lease begins and ends doesn't matter for its place
 placed_alike : (a b : Leased) (f e g d : ℕ) → comes_before (as_lease f e a) (as_lease g d b) ≡ precedes a b
 unfolding precedes comes_before as_lease
-placed_alike (Block r p) (Block s q) f e g d = refl
 placed_alike (Block r p) (Link s q) f e g d = refl
-placed_alike (Block r p) (Range n a u) f e g d = refl
-placed_alike (Link r p) (Block s q) f e g d = refl
-placed_alike (Link r p) (Link s q) f e g d = refl
-placed_alike (Link r p) (Range n a u) f e g d = refl
-placed_alike (Range n a u) (Block s q) f e g d = refl
-placed_alike (Range n a u) (Link s q) f e g d = refl
-placed_alike (Range n a u) (Range m b v) f e g d = refl
+placed_alike _ _ f e g d = search rules
 
 module _ (from : ℕ) (end : Leased → ℕ) where
   abbrev lease : Leased → Lease
@@ -21,12 +14,7 @@ module _ (from : ℕ) (end : Leased → ℕ) where
   inserted : (l : Leased) (ls : List Leased) → with_lease (lease l) (map lease ls) ≡ map lease (with_leased l ls)
   unfolding with_lease with_leased
   inserted l [] = refl
-  inserted l (m ∷ rest) = rw (placed_alike l m from (end l) from (end m)) (by (precedes l m) (inserted l rest))
-    where
-      by : (b : Bool) → with_lease (lease l) (map lease rest) ≡ map lease (with_leased l rest) →
-          cond b (lease l ∷ lease m ∷ map lease rest) (lease m ∷ with_lease (lease l) (map lease rest)) ≡ map lease (cond b (l ∷ m ∷ rest) (m ∷ with_leased l rest))
-      by true e = refl
-      by false e = ap (λ xs. lease m ∷ xs) e
+  inserted l (m ∷ rest) = search (rules, placed_alike, inserted l rest)
 
   -- to sort leases is to sort what is leased
   pub sorted : (ls : List Leased) → in_order (map lease ls) ≡ map lease (in_turn ls)
@@ -74,28 +62,12 @@ module _ (h : Header) where
   ended_finally : (k : Known) (n : ℕ) (row : Row) (rows : List Row) (t : Lent) → n < without_end →
       finally k n (row ∷ rows) t ≡ finally (learned h k row) (n + 1) rows (ended (learned h k row) n t)
   unfolding finally ended_where end_from is_unended lease_of
-  ended_finally k n row rows t early =
-      elim (cases_Bool (is_unended t)) [
-        | inl unended ↦ elim (cases_Bool (is_among (open_leases h (learned h k row)) t.leased)) [
-          | inl is_open ↦ rw (unended, is_open) (rw unended refl)
-          | inr over ↦ rw (unended, over) (rw late refl)
-        ]
-        | inr before ↦ rw before (rw before refl)
-      ]
-    where
-      late : is_unended (record t { to = n }) ≡ false
-      late = grind (arith, nat_tests, early)
+  ended_finally k n row rows t early = search (rules, open_leases, learned, nat_tests)
 
   grown_finally : (k : Known) (n : ℕ) (row : Row) (rows : List Row) (ts : List Lent) → n < without_end →
       map (finally k n (row ∷ rows)) ts ++ with_ends h (learned h k row) n (n + 1) rows (begun h k row) ≡ map (finally (learned h k row) (n + 1) rows) (grown h k row n ts)
   unfolding grown passed_on with_begun begun
-  grown_finally k n row rows ts early =
-      let k' : Known = learned h k row in
-      ap (λ xs. xs ++ with_ends h k' n (n + 1) rows (begun h k row))
-      (map_same (finally k n (row ∷ rows)) (λ t. finally k' (n + 1) rows (ended k' n t)) ts (λ t. ended_finally k n row rows t early)
-      ∙ sym (map_map (finally k' (n + 1) rows) (ended k' n) ts))
-      ∙ ap (λ ys. map (finally k' (n + 1) rows) (map (ended k' n) ts) ++ ys) (all_begun_finally k' n (n + 1) rows (begun h k row))
-      ∙ sym (map_append (finally k' (n + 1) rows) (map (ended k' n) ts) (map (begun_at n) (in_turn (begun h k row))))
+  grown_finally k n row rows ts early = search (rules, learned, map_same, ended_finally, map_map, all_begun_finally, map_append)
 
   from_here : (k : Known) (n : ℕ) (row : Row) (rows : List Row) →
       leases_from h k n (row ∷ rows) ≡ with_ends h (learned h k row) n (n + 1) rows (begun h k row) ++ leases_from h (learned h k row) (n + 1) rows
@@ -109,43 +81,15 @@ module _ (h : Header) where
   -- with no rows to follow nothing more ends
   nothing_more : (k : Known) (n : ℕ) (ts : List Lent) → map (finally k n []) ts ≡ map lease_of ts
   unfolding finally end_from lease_of is_unended
-  nothing_more k n ts = map_same (finally k n []) lease_of ts one
-    where
-      one : (t : Lent) → finally k n [] t ≡ lease_of t
-      one t = elim (cases_Bool (is_unended t)) [
-        | inl unended ↦ rw unended (ap (λ to. as_lease t.from to t.leased) (sym (eqb-true t.to without_end unended)))
-        | inr before ↦ rw before refl
-      ]
+  nothing_more k n ts = search (rules, map_same, eqb-true)
 
   -- the leases of rows that have come, and of rows that follow
   leases_before : (first : ℕ) (past rest : List Row) → first + length past ≤ without_end →
       leases h first (reverse_aux past rest) ≡ map (finally (known h past) (first + length past) rest) (lents h first past) ++ leases_from h (known h past) (first + length past) rest
   unfolding leases known lents with_begun
-  leases_before first [] rest room =
-      let at : first + 0 ≡ first = omega arith in
-      rw at (ap (λ xs. xs ++ leases_from h nothing first rest) (all_begun_finally nothing 0 first rest (open_leases h nothing)))
-  leases_before first (row ∷ past) rest room =
-      let k : Known = known h past in
-      let k' : Known = learned h k row in
-      let n : ℕ = first + length past in
-      let next : n + 1 ≡ first + length (row ∷ past) = omega arith in
-      let L = lents h first past in
-      let B : List Lease = with_ends h k' n (n + 1) rest (begun h k row) in
-      leases_before first past (row ∷ rest) (omega arith)
-      ∙ tail_is L
-      ∙ regroup (map (finally k n (row ∷ rest)) L) B (leases_from h k' (n + 1) rest)
-      ∙ ap (λ xs. xs ++ leases_from h k' (n + 1) rest) (grown_finally k n row rest L (omega arith))
-      ∙ ap (λ m. map (finally k' m rest) (grown h k row n L) ++ leases_from h k' m rest) next
-    where
-      tail_is : (L : List Lent) → map (finally (known h past) (first + length past) (row ∷ rest)) L ++ leases_from h (known h past) (first + length past) (row ∷ rest)
-          ≡ map (finally (known h past) (first + length past) (row ∷ rest)) L
-          ++ (with_ends h (learned h (known h past) row) (first + length past) (first + length past + 1) rest (begun h (known h past) row) ++ leases_from h (learned h (known h past) row) (first + length past + 1) rest)
-      tail_is L = ap (λ xs. map (finally (known h past) (first + length past) (row ∷ rest)) L ++ xs) (from_here (known h past) (first + length past) row rest)
+  leases_before first [] rest room = search (rules, nothing, all_begun_finally, open_leases)
+  leases_before first (row ∷ past) rest room = search (rules, known, learned, length, lents, with_ends, begun, regroup, map, leases_from, grown_finally, grown, from_here, leases_before first past (row ∷ rest) (omega arith))
 
   -- the leases that are lent after the rows are those of the trace
   pub leases_are : (first : ℕ) (past : List Row) → first + length past ≤ without_end → leases h first (reverse past) ≡ map lease_of (lents h first past)
-  leases_are first past room =
-      leases_before first past [] room
-      ∙ ap (λ xs. map (finally (known h past) (first + length past) []) (lents h first past) ++ xs) (no_rows (known h past) (first + length past))
-      ∙ append-nil (map (finally (known h past) (first + length past) []) (lents h first past))
-      ∙ nothing_more (known h past) (first + length past) (lents h first past)
+  leases_are first past room = search (rules, leases_before, known, no_rows, append-nil, nothing_more)

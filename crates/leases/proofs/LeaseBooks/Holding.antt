@@ -1,5 +1,5 @@
 -- The book still holds what was and is lent, when a lease ends
-use Rattle.leases.proofs.LeaseBooks.Words.{◌≡◌, ◌%◌, ◌<◌, ◌∙◌, ℕ, List, map, arith, sym, ap, place_count, link_of, crossing_positive, Header, shape_of, Lease, Leased, Block, Link, Range, same_leased, as_lease, without_end, LeaseBook, Lent, lease_of, ended_where, index_at, IsFound, HoldsLents, ended_at, is_open_as}
+use Rattle.leases.proofs.BaseWords.{◌≡◌, ◌%◌, ◌<◌, ◌∙◌, ℕ, List, map, arith, sym, ap, place_count, link_of, crossing_positive, Header, shape_of, Lease, Leased, Block, Link, Range, same_leased, as_lease, without_end, LeaseBook, Lent, lease_of, ended_where, index_at, IsFound, HoldsLents, ended_at, is_open_as}
 use Rattle.leases.proofs.LeaseBooks.Ending.{IsPositive, block_alike, link_alike, one_ends}
 
 module _ (h : Header) (ts : List Lent) (b : LeaseBook) (known : HoldsLents h ts b) (r p n m : ℕ) (x : Lease) (ys : List Lease) where

@@ -1,5 +1,5 @@
 -- A command comes to its end: the range of its input context is let go, and with a slot that is disabled those of its entry and device context
-use Rattle.leases.proofs.LeaseBooks.Words.{◌≡◌, ◌≢◌, ◌+◌, ◌<◌, ◌≤◌, ◌==◌, ◌&&◌, if◌then◌else◌, ◌∷◌, ◌++◌, ◌*◌, ◌∙◌, ◌⊎◌, ℕ, Bool, true, false, not, nat_lt, List, [], filter, Option, Some, None, arith, sym, ap, refl, inl, inr, subst, eqb-true, eq-eqb, ltb-true, range_with_len, cases_Bool, false≢true, and_parts, and_from, nat_tests, Segment, place_count, RingView, due_positions, floor_number, Command, named_context, device_context_bytes, Header, Erstba, command_id, event_shape, shape_of, Known, entry_of, Leased, Block, Link, Range, Use, EventSegment, SegmentTable, InputContext, SlotEntry, DeviceContext, context_ranges, device_ranges, entry_ranges, is_among, open_ranges, range_of_command, range_of_context, range_of_device, range_of_entry, segment_ranges, slots, table_range, IsIn, among_is, both_ways, from_filter, in_among, in_filter, devices_without, let_go, slot_ranges}
+use Rattle.leases.proofs.BaseWords.{◌≡◌, ◌≢◌, ◌+◌, ◌<◌, ◌≤◌, ◌==◌, ◌&&◌, ◌∷◌, ◌++◌, ◌*◌, ◌∙◌, ◌⊎◌, ℕ, Bool, true, false, not, nat_lt, List, [], filter, Option, Some, None, arith, sym, ap, refl, inl, inr, subst, eqb-true, eq-eqb, ltb-true, range_with_len, cases_Bool, false≢true, and_parts, and_from, nat_tests, Segment, place_count, RingView, due_positions, floor_number, Command, named_context, device_context_bytes, Header, Erstba, command_id, event_shape, shape_of, Known, entry_of, Leased, Block, Link, Range, Use, EventSegment, SegmentTable, InputContext, SlotEntry, DeviceContext, context_ranges, device_ranges, entry_ranges, is_among, open_ranges, range_of_command, range_of_context, range_of_device, range_of_entry, segment_ranges, slots, table_range, IsIn, among_is, both_ways, from_filter, in_among, in_filter, devices_without, let_go, slot_ranges, rules}
 use Rattle.ring_knowledge.specs.Rings as rings
 use Rattle.leases.proofs.LeaseBooks.Members.{from_flat_map, from_map, from_range, in_either, in_flat_map, in_left, in_range, in_right}
 use Rattle.leases.proofs.LeaseBooks.PassedLeases.{IsWithinLap, not_false}
@@ -14,9 +14,8 @@ HasUse u (Link r q) = ⊥
 HasUse u (Range n a e) = e ≡ u
 
 one_use : (l : Leased) (u v : Use) → HasUse u l → HasUse v l → u ≡ v
-one_use (Block r p) u v x y = absurd x
-one_use (Link r q) u v x y = absurd x
 one_use (Range n a e) u v x y = sym x ∙ y
+one_use _ u v x y = absurd x
 
 only : (m l : Leased) (u : Use) → HasUse u m → IsIn l (m ∷ []) → HasUse u l
 only m l u has at = elim at [ inl here ↦ subst (HasUse u) (sym here) has | inr nowhere ↦ absurd nowhere ]
@@ -93,9 +92,8 @@ module _ (h : Header) where
       ]
 
   is_range : (u : Use) (l : Leased) → HasUse u l → IsRange l
-  is_range u (Block r p) has = absurd has
-  is_range u (Link r q) has = absurd has
   is_range u (Range n a e) has = tt
+  is_range u _ has = absurd has
 
   -- ranges alone are let go
   pub gone_are_ranges : (k : Known) (left : Option ℕ) (l : Leased) → is_among (let_go h k left) l ≡ true → IsRange l
@@ -126,29 +124,10 @@ module _ (h : Header) (k k' : Known) (left : Option ℕ) where
 
   module _ (f : Finishes) where
     device_kept : (t d : ℕ) → k'.device t ≡ Some d → (k.device t ≡ Some d) × ((s : ℕ) → left ≡ Some s → t ≢ s)
-    device_kept t d at = by left refl
-      where
-        by : (o : Option ℕ) → left ≡ o → (k.device t ≡ Some d) × ((s : ℕ) → left ≡ Some s → t ≢ s)
-        by None e = (sym (f.device t ∙ ap (λ x. devices_without k.device x t) e) ∙ at, λ s is same. let clash : None ≡ Some s = sym e ∙ is in cc)
-        by (Some x) e =
-            let without : k'.device t ≡ (if t == x then None else k.device t) = f.device t ∙ ap (λ y. devices_without k.device y t) e in
-            elim (cases_Bool (t == x)) [
-              | inl same ↦ let clash : None ≡ Some d = sym (without ∙ ap (λ y. if y then None else k.device t) same) ∙ at in cc
-              | inr differ ↦ (
-                sym (without ∙ ap (λ y. if y then None else k.device t) differ) ∙ at,
-                λ s is same. let one : x ≡ s = cc in false≢true (sym differ ∙ eq-eqb t x (same ∙ sym one)),
-              )
-            ]
+    device_kept t d at = search (rules, false≢true, eq-eqb)
 
     device_stays : (t d : ℕ) → k.device t ≡ Some d → (k'.device t ≡ Some d) ⊎ (left ≡ Some t)
-    device_stays t d at = by left refl
-      where
-        by : (o : Option ℕ) → left ≡ o → (k'.device t ≡ Some d) ⊎ (left ≡ Some t)
-        by None e = inl (f.device t ∙ ap (λ x. devices_without k.device x t) e ∙ at)
-        by (Some x) e = elim (cases_Bool (t == x)) [
-          | inl same ↦ inr (e ∙ ap (λ (y : ℕ). Some y) (sym (eqb-true t x same)))
-          | inr differ ↦ inl (f.device t ∙ ap (λ y. devices_without k.device y t) e ∙ ap (λ y. if y then None else k.device t) differ ∙ at)
-        ]
+    device_stays t d at = search (rules, eqb-true)
 
     entry_same : (s : ℕ) → entry_of k' s ≡ entry_of k s
     unfolding entry_of
@@ -308,7 +287,4 @@ module _ (h : Header) (k k' : Known) (left : Option ℕ) where
         (λ here. context_stays l here stays)) (λ here. entry_stays l here stays)) (λ here. device_stays_in l here stays) at
 
     pub ranges_narrow : (l : Leased) → is_among (open_ranges h k') l ≡ (is_among (open_ranges h k) l && not (is_among (let_go h k left) l))
-    ranges_narrow l =
-        both_ways _ _
-        (λ e. let was = range_was l (among_is (open_ranges h k') l e) in and_from _ _ (in_among (open_ranges h k) l was.0) (ap not was.1))
-        (λ e. let parts = and_parts _ _ e in in_among (open_ranges h k') l (range_stays l (not_false _ parts.1) (among_is (open_ranges h k) l parts.0)))
+    ranges_narrow l = search (rules, both_ways, range_was, among_is, open_ranges, and_from, in_among, and_parts, range_stays, not_false)

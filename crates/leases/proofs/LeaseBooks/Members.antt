@@ -1,5 +1,5 @@
 -- What stands in a list that is made of others, and which leases are open on a ring
-use Rattle.leases.proofs.LeaseBooks.Words.{◌≡◌, ◌+◌, ◌<◌, ◌≤◌, ◌==◌, ◌&&◌, ◌∷◌, ◌++◌, ◌∙◌, ◌⊎◌, ℕ, true, List, [], map, zero, suc, arith, sym, ap, refl, inl, inr, subst, eqb-true, eq-eqb, flat_map, range_with_len, cases_Bool, false≢true, is_crossing, place_count, RingView, is_handed_over, due_crossings, due_positions, floor_number, leased_crossings, leased_positions, Header, Ring, Known, Leased, Block, Link, open_on, IsIn, from_filter, in_filter}
+use Rattle.leases.proofs.BaseWords.{◌≡◌, ◌+◌, ◌<◌, ◌≤◌, ◌==◌, ◌&&◌, ◌∷◌, ◌++◌, ◌∙◌, ◌⊎◌, ℕ, true, List, [], map, zero, suc, arith, sym, ap, refl, inl, inr, subst, eqb-true, eq-eqb, flat_map, range_with_len, cases_Bool, false≢true, is_crossing, place_count, RingView, is_handed_over, due_crossings, due_positions, floor_number, leased_crossings, leased_positions, Header, Ring, Known, Leased, Block, Link, open_on, IsIn, from_filter, in_filter}
 
 pub in_left : {X : Type 0} (x : X) (xs ys : List X) → IsIn x xs → IsIn x (xs ++ ys)
 in_left x [] ys at = absurd at

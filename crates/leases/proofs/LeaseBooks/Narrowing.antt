@@ -1,5 +1,5 @@
 -- Floors of rings move on, and some ranges are let go: the leases of the blocks and Links that are passed end, and of these ranges
-use Rattle.leases.proofs.LeaseBooks.Words.{◌≡◌, ◌≤◌, ◌==◌, ◌&&◌, ◌||◌, ◌++◌, ◌∙◌, ℕ, Bool, true, false, not, nat_le, nat_lt, List, [], arith, sym, ap, refl, inl, inr, eqb-true, flat_map, cases_Bool, and_parts, and_from, nat_tests, is_crossing, floor_number, Header, Ring, driver_rings, Known, Leased, Block, Link, Range, is_among, open_leases, open_on, open_ranges, IsIn, among_is, both_ways, in_among, is_passed}
+use Rattle.leases.proofs.BaseWords.{◌≡◌, ◌≤◌, ◌==◌, ◌&&◌, ◌||◌, ◌++◌, ℕ, Bool, true, false, not, nat_le, nat_lt, List, [], arith, ap, refl, inl, inr, eqb-true, flat_map, and_parts, and_from, nat_tests, is_crossing, floor_number, Header, Ring, driver_rings, Known, Leased, Block, Link, Range, is_among, open_leases, open_on, open_ranges, IsIn, among_is, both_ways, in_among, is_passed, rules}
 use Rattle.leases.proofs.LeaseBooks.Members.{InOn, block, link, from_flat_map, in_either, in_flat_map, in_left, in_on, in_right, on_in}
 use Rattle.leases.proofs.LeaseBooks.PassedLeases.{Moves, block_was, link_was, not_false}
 use Rattle.leases.proofs.LeaseBooks.SameLeases.{lent_same}
@@ -32,27 +32,16 @@ module _ (h : Header) (k k' : Known) (gone : List Leased) where
     over = is_left (floors k) (floors k') gone
 
     was_on : (q : Ring) → IsIn q (driver_rings h) → (l : Leased) → InOn q (k'.ring q.id) l → InOn q (k.ring q.id) l × (over l ≡ false)
-    was_on q among _ (block p low high given) =
-        let was = block_was q (k.ring q.id) (k'.ring q.id) (floors k' q.id) (n.each q among) p low given in
-        (block p was.0 was.1 was.2, not_yet (floors k q.id) p (floors k' q.id) was.3)
-    was_on q among _ (link c low high crossed) =
-        let was = link_was q (k.ring q.id) (k'.ring q.id) (floors k' q.id) (n.each q among) c low crossed in
-        (link c was.0 was.1 was.2, not_yet (floors k q.id) c (floors k' q.id) was.3)
+    was_on q among _ (block p low high given) = search (rules, block_was, block, not_yet)
+    was_on q among _ (link c low high crossed) = search (rules, link_was, link, not_yet)
 
     stays_on : (q : Ring) → IsIn q (driver_rings h) → (l : Leased) → InOn q (k.ring q.id) l → over l ≡ false → InOn q (k'.ring q.id) l
-    stays_on q among _ (block p low high given) stays =
-        let m = n.each q among in
-        let rises : floor_number (k.ring q.id) ≤ floor_number (k'.ring q.id) = m.rises in
-        block p (late (floors k q.id) p (floors k' q.id) low stays) (omega (arith, high, rises)) (lent_same (k.ring q.id) (k'.ring q.id) m.given m.free p ∙ given)
-    stays_on q among _ (link c low high crossed) stays =
-        let m = n.each q among in
-        let rises : floor_number (k.ring q.id) ≤ floor_number (k'.ring q.id) = m.rises in
-        link c (late (floors k q.id) c (floors k' q.id) low stays) (omega (arith, high, rises)) (ap (λ f. is_crossing q.shape c && f c) m.crossed ∙ crossed)
+    stays_on q among _ (block p low high given) stays = search (rules, block, late, lent_same)
+    stays_on q among _ (link c low high crossed) stays = search (rules, link, late, is_crossing)
 
     gone_is : (l : Leased) → IsRange l → over l ≡ is_among gone l
-    gone_is (Block s p) is = absurd is
-    gone_is (Link s c) is = absurd is
     gone_is (Range m a e) is = refl
+    gone_is _ is = absurd is
 
     pub narrows : (l : Leased) → is_among (open_leases h k') l ≡ (is_among (open_leases h k) l && not (over l))
     unfolding open_leases
@@ -67,11 +56,7 @@ module _ (h : Header) (k k' : Known) (gone : List Leased) where
               and_from _ _
               (in_among _ l (in_left l (flat_map (open_on h k) (driver_rings h)) (open_ranges h k)
               (in_flat_map (open_on h k) (driver_rings h) found.0 l found.1 (on_in h k found.0 l was.0)))) (ap not was.1)
-          | inr range ↦
-              let parts = and_parts _ _ (sym (n.ranges l) ∙ in_among (open_ranges h k') l range) in
-              and_from _ _
-              (in_among _ l (in_right l (flat_map (open_on h k) (driver_rings h)) (open_ranges h k) (among_is (open_ranges h k) l parts.0)))
-              (ap not (gone_is l (open_are_ranges h k' l range)) ∙ parts.1)
+          | inr range ↦ search (rules, and_parts, in_among, open_ranges, and_from, in_right, open_on, driver_rings, among_is, gone_is, open_are_ranges)
         ]
 
         back : (is_among (flat_map (open_on h k) (driver_rings h) ++ open_ranges h k) l && not (is_left (floors k) (floors k') gone l)) ≡ true →
@@ -82,13 +67,8 @@ module _ (h : Header) (k k' : Known) (gone : List Leased) where
             (elim (in_either l (flat_map (open_on h k) (driver_rings h)) (open_ranges h k) (among_is _ l parts.0)) [
               | inl on_ring ↦
                   let found = from_flat_map (open_on h k) (driver_rings h) l on_ring in
-                  in_left l (flat_map (open_on h k') (driver_rings h)) (open_ranges h k')
-                  (in_flat_map (open_on h k') (driver_rings h) found.0 l found.1
-                  (on_in h k' found.0 l (stays_on found.0 found.1 l (in_on h k found.0 l found.2) (not_false _ parts.1))))
-              | inr range ↦
-                  in_right l (flat_map (open_on h k') (driver_rings h)) (open_ranges h k')
-                  (among_is (open_ranges h k') l
-                  (n.ranges l ∙ and_from _ _ (in_among (open_ranges h k) l range) (ap not (sym (gone_is l (open_are_ranges h k l range))) ∙ parts.1)))
+                  search (rules, in_left, open_on, driver_rings, open_ranges, in_flat_map, on_in, stays_on, in_on, not_false)
+              | inr range ↦ search (rules, in_right, open_on, driver_rings, open_ranges, among_is, and_from, in_among, gone_is, open_are_ranges)
             ])
 
 -- where only one ring moves on, what is left is what is passed on it
@@ -100,18 +80,13 @@ turned a b = grind (arith, nat_tests)
 
 alone : (x y : Bool) → (y ≡ true → ⊥) → x ≡ (x || y)
 alone true y none = refl
-alone false true none = absurd (none refl)
-alone false false none = refl
+alone _ _ none = search rules
 
 module _ (from to : ℕ → ℕ) (r : ℕ) (others : (q : ℕ) → (q == r) ≡ false → to q ≡ from q) where
   passed_there : (s p : ℕ) → (nat_le (from s) p && nat_lt p (to s)) ≡ (r == s && nat_le (from r) p && nat_lt p (to r))
-  passed_there s p = elim (cases_Bool (s == r)) [
-    | inl same ↦ rw (turned r s, same) (ap (λ x. nat_le (from x) p && nat_lt p (to x)) (eqb-true s r same))
-    | inr differ ↦ rw (turned r s, differ) (none_between (to s) (from s) p (others s differ))
-  ]
+  passed_there s p = search (rules, turned, eqb-true, none_between)
 
   pub one_ring_left : (l : Leased) → is_left from to [] l ≡ is_passed r (from r) (to r) l
   unfolding is_among
   one_ring_left (Range n a e) = refl
-  one_ring_left (Block s p) = passed_there s p
-  one_ring_left (Link s p) = passed_there s p
+  one_ring_left _ = search (rules, passed_there)

@@ -1,5 +1,5 @@
 -- Tables in which no index is put
-use Rattle.leases.proofs.LeaseBooks.Words.{◌≡◌, ◌∷◌, ◌++◌, ℕ, List, [], slice_get, zero, suc, refl, Indexes, index_in, index_of}
+use Rattle.leases.proofs.BaseWords.{◌≡◌, ◌∷◌, ◌++◌, ℕ, List, [], slice_get, zero, suc, refl, Indexes, index_in, index_of}
 
 abbrev pub NoIndexes : List Indexes → Type 0
 NoIndexes ts = (r m : ℕ) → index_of (slice_get ts r) m ≡ 0

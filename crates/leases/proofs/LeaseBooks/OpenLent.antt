@@ -1,19 +1,11 @@
 -- What is open is lent and not over
-use Rattle.leases.proofs.LeaseBooks.Words.{◌≡◌, ◌+◌, ◌<◌, ◌≤◌, ◌==◌, ◌&&◌, ◌||◌, ◌∷◌, ◌++◌, ◌∙◌, ℕ, Bool, true, false, not, List, [], length, map, arith, sym, ap, refl, inl, inr, cond, eq-eqb, list_any, cases_Bool, and_parts, and_from, false≢true, Header, Row, Known, nothing, learned, known, Leased, is_among, open_leases, same_leased, without_end, IsIn, among_is, in_filter, leased_is, leased_itself, Lent, begun_at, ended_where, grown, in_turn, is_unended, lents, newly_open, passed_on, precedes, with_begun, with_leased, is_lent}
-use Rattle.leases.specs.LeaseBooks.InStep.{IsInStep}
+use Rattle.leases.proofs.BaseWords.{◌≡◌, ◌+◌, ◌<◌, ◌≤◌, ◌==◌, ◌&&◌, ◌||◌, ◌∷◌, ◌++◌, ◌∙◌, ℕ, Bool, true, false, not, List, [], length, map, arith, sym, ap, refl, inl, inr, eq-eqb, list_any, cases_Bool, and_parts, and_from, false≢true, Header, Row, Known, nothing, learned, known, Leased, is_among, open_leases, same_leased, without_end, IsIn, among_is, in_filter, leased_is, leased_itself, Lent, begun_at, ended_where, grown, in_turn, is_unended, lents, newly_open, passed_on, with_begun, with_leased, is_lent, IsInStep, rules}
 use Rattle.leases.proofs.LeaseBooks.Rows.{first_open, passed_open}
 
 to_with : (l : Leased) (ls : List Leased) (m : Leased) → IsIn m (l ∷ ls) → IsIn m (with_leased l ls)
 unfolding with_leased
 to_with l [] m at = at
-to_with l (x ∷ rest) m at = by (precedes l x) at (to_with l rest m)
-  where
-    by : (b : Bool) → IsIn m (l ∷ x ∷ rest) → (IsIn m (l ∷ rest) → IsIn m (with_leased l rest)) → IsIn m (cond b (l ∷ x ∷ rest) (x ∷ with_leased l rest))
-    by true here f = here
-    by false here f = elim here [
-      | inl first ↦ inr (f (inl first))
-      | inr later ↦ elim later [ inl this ↦ inl this | inr after ↦ inr (f (inr after)) ]
-    ]
+to_with l (x ∷ rest) m at = search (rules, to_with l rest m)
 
 to_turn : (ls : List Leased) (m : Leased) → IsIn m ls → IsIn m (in_turn ls)
 unfolding in_turn
@@ -31,13 +23,7 @@ or_second false y e = e
 lent_left : (ts us : List Lent) (l : Leased) → is_lent ts l ≡ true → is_lent (ts ++ us) l ≡ true
 unfolding is_lent
 lent_left [] us l e = absurd (false≢true e)
-lent_left (t ∷ ts) us l e = by (is_unended t && same_leased l t.leased) e (lent_left ts us l)
-  where
-    by : (b : Bool) → (b || list_any (λ t. is_unended t && same_leased l t.leased) ts) ≡ true →
-        (list_any (λ t. is_unended t && same_leased l t.leased) ts ≡ true → list_any (λ t. is_unended t && same_leased l t.leased) (ts ++ us) ≡ true) →
-        (b || list_any (λ t. is_unended t && same_leased l t.leased) (ts ++ us)) ≡ true
-    by true f g = refl
-    by false f g = g f
+lent_left (t ∷ ts) us l e = search (rules, lent_left ts us l)
 
 lent_right : (ts us : List Lent) (l : Leased) → is_lent us l ≡ true → is_lent (ts ++ us) l ≡ true
 unfolding is_lent
@@ -57,10 +43,7 @@ pub still_lent : (over : Leased → Bool) (n : ℕ) (ts : List Lent) (l : Leased
 unfolding is_lent ended_where
 still_lent over n [] l stays e = absurd (false≢true e)
 still_lent over n (t ∷ ts) l stays e = elim (cases_Bool (is_unended t && same_leased l t.leased)) [
-  | inl this ↦
-      let parts = and_parts (is_unended t) (same_leased l t.leased) this in
-      let none : (is_unended t && over t.leased) ≡ false = ap (λ b. b && over t.leased) parts.0 ∙ ap over (sym (leased_is l t.leased parts.1)) ∙ stays in
-      rw none (or_first (is_unended t && same_leased l t.leased) (list_any (λ t. is_unended t && same_leased l t.leased) (map (ended_where over n) ts)) this)
+  | inl this ↦ search (rules, and_parts, leased_is, or_first)
   | inr other ↦
       let rest : list_any (λ t. is_unended t && same_leased l t.leased) ts ≡ true = sym (ap (λ b. b || list_any (λ t. is_unended t && same_leased l t.leased) ts) other) ∙ e in
       or_second _ _ (still_lent over n ts l stays rest)
@@ -81,18 +64,12 @@ passed_lent before after n ts l is_open was_lent =
 
 -- what is open behind a row and lent behind it is in step again, also where the header has other rings then
 pub in_step_behind : (h g : Header) (k l : Known) (n : ℕ) (ts : List Lent) → n < without_end → IsInStep h k ts → IsInStep g l (passed_on (open_leases h k) (open_leases g l) n ts)
-in_step_behind h g k l n ts early step = record {
-  opened = passed_open (open_leases h k) (open_leases g l) n ts early;
-  lent = λ m is_open. passed_lent (open_leases h k) (open_leases g l) n ts m is_open (step.lent m);
-}
+in_step_behind h g k l n ts early step = search (rules, passed_open, open_leases, passed_lent)
 
 module _ (h : Header) where
   pub in_step_first : IsInStep h nothing (with_begun 0 [] (in_turn (open_leases h nothing)))
   unfolding with_begun
-  in_step_first = record {
-    opened = first_open (open_leases h nothing) 0;
-    lent = λ l is_open. lent_begun 0 (in_turn (open_leases h nothing)) l (to_turn (open_leases h nothing) l (among_is (open_leases h nothing) l is_open));
-  }
+  in_step_first = search (rules, first_open, open_leases, nothing, lent_begun, to_turn, among_is)
 
   -- what is lent behind the rows of a trace is in step
   pub in_step : (first : ℕ) (past : List Row) → first + length past ≤ without_end → IsInStep h (known h past) (lents h first past)

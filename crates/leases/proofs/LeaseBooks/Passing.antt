@@ -1,5 +1,5 @@
 -- One number after another is passed
-use Rattle.leases.proofs.LeaseBooks.Words.{◌≡◌, ◌+◌, ◌≤◌, ◌==◌, ◌&&◌, ◌||◌, ◌∷◌, ◌∙◌, ℕ, Bool, true, false, nat_le, nat_lt, List, [], map, arith, sym, ap, refl, inl, inr, cond, eqb-true, cases_Bool, false≢true, and_parts, nat_tests, is_crossing, Header, shape_of, Leased, Block, Link, Range, same_leased, IndexTables, Lent, is_unended, ended_where, is_passed, AllUnended, IsFound}
+use Rattle.leases.proofs.BaseWords.{◌≡◌, ◌+◌, ◌≤◌, ◌==◌, ◌&&◌, ◌||◌, ◌∷◌, ◌∙◌, ℕ, Bool, true, false, nat_le, nat_lt, List, [], map, arith, sym, ap, refl, inl, inr, cond, eqb-true, cases_Bool, false≢true, and_parts, nat_tests, is_crossing, Header, shape_of, Leased, Block, Link, Range, same_leased, IndexTables, Lent, is_unended, ended_where, is_passed, AllUnended, IsFound}
 
 -- to end by one test, and then by another, is to end by both
 ended_twice : (p q : Leased → Bool) (n : ℕ) (t : Lent) → ended_where p n (ended_where q n t) ≡ ended_where (λ l. q l || p l) n t

@@ -1,5 +1,5 @@
 -- The tables find a lease that begins, and still all others
-use Rattle.leases.proofs.LeaseBooks.Words.{◌≡◌, ◌≢◌, ◌+◌, ◌%◌, ◌==◌, ◌&&◌, ◌||◌, ◌∷◌, ◌++◌, ◌∙◌, ℕ, Bool, true, false, not, List, [], length, map, arith, sym, ap, refl, inl, inr, subst, eqb-true, eq-eqb, list_any, cases_Bool, false≢true, place_count, is_crossing, link_of, Header, shape_of, length-map, Lease, Leased, Block, Link, Range, Use, as_lease, without_end, IndexTables, index_at, Lent, is_unended, begun_at, lease_of, is_place_free, share_a_place, with_begun, AllUnended, IsFound, HoldsLents, LeaseBook}
+use Rattle.leases.proofs.BaseWords.{◌≡◌, ◌≢◌, ◌+◌, ◌%◌, ◌==◌, ◌&&◌, ◌||◌, ◌∷◌, ◌++◌, ◌∙◌, ℕ, Bool, true, false, not, List, [], length, map, arith, ap, refl, subst, eqb-true, eq-eqb, list_any, false≢true, place_count, is_crossing, link_of, Header, shape_of, length-map, Lease, Leased, Block, Link, Range, Use, as_lease, without_end, IndexTables, index_at, Lent, is_unended, begun_at, lease_of, is_place_free, share_a_place, with_begun, AllUnended, IsFound, HoldsLents, LeaseBook, rules}
 use Rattle.leases.proofs.LeaseBooks.Growing.{map_append}
 use Rattle.leases.proofs.LeaseBooks.Unended.{all_begun}
 
@@ -15,16 +15,7 @@ not_true false h = refl
 
 -- at another place of the ring, or on another ring
 pub elsewhere : (old new : IndexTables) (r n i s m : ℕ) → IsPut old new r n i → (r == s && n == m) ≡ false → index_at new s m ≡ index_at old s m
-elsewhere old new r n i s m put apart =
-    elim (cases_Bool (r == s)) [
-      | inl same ↦
-          let there : (n == m) ≡ false = rw same at apart in
-          let ids : r ≡ s = eqb-true r s same in
-          let other : m ≢ n = λ e. false≢true (sym there ∙ eq-eqb n m (sym e)) in
-          let kept : index_at new r m ≡ index_at old r m = put.ring m other in
-          rw ids at kept
-      | inr other ↦ put.others s m (λ e. false≢true (sym other ∙ eq-eqb r s (sym e)))
-    ]
+elsewhere old new r n i s m put apart = search (rules, eqb-true, false≢true, eq-eqb)
 
 module _ (h : Header) (old new other : IndexTables) (r p n : ℕ) (ts : List Lent) where
   pub block_found : AllUnended (IsFound h old other) 0 ts → IsPut old new r (p % place_count (shape_of h r)) (length ts) →
@@ -59,8 +50,7 @@ module _ (h : Header) (old new other : IndexTables) (r p n : ℕ) (ts : List Len
 pub list_begun : (ts : List Lent) (row : ℕ) (l : Leased) (xs ys : List Lease) {x : Lease} → xs ≡ map lease_of ts → x ≡ as_lease row without_end l → ys ≡ xs ++ x ∷ [] →
     ys ≡ map lease_of (with_begun row ts (l ∷ []))
 unfolding with_begun begun_at lease_of
-list_begun ts row l xs ys e f g =
-    g ∙ ap (λ x. xs ++ x ∷ []) f ∙ ap (λ zs. zs ++ as_lease row without_end l ∷ []) e ∙ sym (map_append lease_of ts (begun_at row l ∷ []))
+list_begun ts row l xs ys e f g = search (rules, map_append)
 
 pub length_held : (h : Header) (ts : List Lent) (b : LeaseBook) → HoldsLents h ts b → length b.leases.items ≡ length ts
 length_held h ts b known = ap length known.list ∙ length-map ts lease_of

@@ -1,5 +1,5 @@
 -- The indexes find each range that is under lease, when one begins and when some end
-use Rattle.leases.proofs.LeaseBooks.Words.{◌≡◌, ◌≢◌, ◌==◌, ◌&&◌, ◌||◌, ◌∷◌, ◌∙◌, ℕ, Bool, true, false, List, [], length, map, OnOk, Result, Ok, Err, arith, sym, refl, subst, eq-eqb, list_any, false≢true, Header, Leased, Block, Link, Range, Use, EventSegment, SegmentTable, InputContext, SlotEntry, DeviceContext, Indexes, RangeIndexes, index_in, Lent, is_unended, ended_where, with_begun, FindsRanges, IsRangeFound, IsUseFound, StandsAt, command_place, is_use_free, share_a_use, shares_use}
+use Rattle.leases.proofs.BaseWords.{◌≡◌, ◌≢◌, ◌==◌, ◌&&◌, ◌||◌, ◌∷◌, ◌∙◌, ℕ, Bool, true, false, List, [], length, map, OnOk, Result, Ok, Err, arith, sym, refl, subst, eq-eqb, list_any, false≢true, Header, Leased, Block, Link, Range, Use, EventSegment, SegmentTable, InputContext, SlotEntry, DeviceContext, Indexes, RangeIndexes, index_in, Lent, is_unended, ended_where, with_begun, FindsRanges, IsRangeFound, IsUseFound, StandsAt, command_place, is_use_free, share_a_use, shares_use}
 use Rattle.leases.proofs.LeaseBooks.Places.{not_true}
 use Rattle.leases.proofs.LeaseBooks.Unended.{all_anew, all_begun, all_ended}
 

@@ -1,5 +1,5 @@
 -- The leases that lie on no command or transfer ring are ranges
-use Rattle.leases.proofs.LeaseBooks.Words.{◌∷◌, ◌++◌, ℕ, List, [], map, Option, Some, None, sym, subst, refl, inl, inr, flat_map, Command, named_context, Header, Erstba, event_shape, Known, Leased, Block, Link, Range, open_ranges, segment_ranges, table_range, context_ranges, range_of_command, range_of_context, entry_ranges, range_of_entry, device_ranges, range_of_device, slots, IsIn}
+use Rattle.leases.proofs.BaseWords.{◌∷◌, ◌++◌, ℕ, List, [], map, Option, Some, None, sym, subst, refl, inl, inr, flat_map, Command, named_context, Header, Erstba, event_shape, Known, Leased, Block, Link, Range, open_ranges, segment_ranges, table_range, context_ranges, range_of_command, range_of_context, entry_ranges, range_of_entry, device_ranges, range_of_device, slots, IsIn}
 use Rattle.ring_knowledge.specs.Rings as rings
 use Rattle.ownership_rules.specs.OpenLeases
 

@@ -1,20 +1,12 @@
 -- What is lent after one more row, by which leases are open after it
-use Rattle.leases.proofs.LeaseBooks.Words.{◌≡◌, ◌+◌, ◌<◌, ◌≤◌, ◌==◌, ◌&&◌, ◌∷◌, ◌++◌, ◌∙◌, ℕ, Bool, true, false, not, List, [], length, map, filter, arith, sym, ap, refl, inl, inr, cond, append-nil, false≢true, and_parts, nat_tests, Header, Row, Known, nothing, learned, known, Leased, is_among, open_leases, begun, without_end, IsIn, from_filter, in_among, Lent, is_unended, begun_at, precedes, with_leased, in_turn, ended_where, with_begun, grown, lents, newly_open, passed_on, AllUnended}
+use Rattle.leases.proofs.BaseWords.{◌≡◌, ◌+◌, ◌<◌, ◌&&◌, ◌∷◌, ◌++◌, ◌∙◌, ℕ, Bool, true, false, not, List, [], map, filter, sym, ap, refl, inl, inr, cond, append-nil, false≢true, and_parts, nat_tests, Header, Row, Known, learned, Leased, is_among, open_leases, begun, without_end, IsIn, from_filter, in_among, Lent, is_unended, begun_at, with_leased, in_turn, ended_where, with_begun, grown, newly_open, passed_on, AllUnended, AreOpen, rules}
 use Rattle.leases.proofs.LeaseBooks.Passing.{ended_alike, none_over}
-use Rattle.leases.specs.LeaseBooks.InStep.{AreOpen}
 
 -- what stands in order stood there before
 from_with : (l : Leased) (ls : List Leased) (m : Leased) → IsIn m (with_leased l ls) → IsIn m (l ∷ ls)
 unfolding with_leased
 from_with l [] m at = at
-from_with l (x ∷ rest) m at = by (precedes l x) at (from_with l rest m)
-  where
-    by : (b : Bool) → IsIn m (cond b (l ∷ x ∷ rest) (x ∷ with_leased l rest)) → (IsIn m (with_leased l rest) → IsIn m (l ∷ rest)) → IsIn m (l ∷ x ∷ rest)
-    by true here f = here
-    by false here f = elim here [
-      | inl first ↦ inr (inl first)
-      | inr later ↦ elim (f later) [ inl this ↦ inl this | inr after ↦ inr (inr after) ]
-    ]
+from_with l (x ∷ rest) m at = search (rules, from_with l rest m)
 
 pub from_turn : (ls : List Leased) (m : Leased) → IsIn m (in_turn ls) → IsIn m ls
 unfolding in_turn
@@ -38,15 +30,7 @@ module _ (P : Leased → Type 0) where
 all_left : (over : Leased → Bool) (n i : ℕ) (ts : List Lent) → n < without_end → AllUnended (λ j l. over l ≡ false) i (map (ended_where over n) ts)
 unfolding ended_where is_unended
 all_left over n i [] early = tt
-all_left over n i (t ∷ ts) early = (one (is_unended t) (over t.leased) refl refl, all_left over n (i + 1) ts early)
-  where
-    late : (n == without_end) ≡ false
-    late = grind (arith, nat_tests, early)
-
-    one : (a b : Bool) → is_unended t ≡ a → over t.leased ≡ b → is_unended (cond (a && b) (record t { to = n }) t) ≡ true → over (cond (a && b) (record t { to = n }) t).leased ≡ false
-    one true true e f u = absurd (false≢true (sym late ∙ u))
-    one true false e f u = f
-    one false b e f u = absurd (false≢true (sym e ∙ u))
+all_left over n i (t ∷ ts) early = search (rules, is_unended, without_end, nat_tests, cond, false≢true, all_left over n (i + 1) ts early)
 
 -- what was there before isn't new
 pub none_new : (xs ys : List Leased) → ((l : Leased) → IsIn l ys → is_among xs l ≡ true) → filter (λ l. not (is_among xs l)) ys ≡ []
@@ -86,14 +70,7 @@ module _ (before after : List Leased) (n : ℕ) (ts : List Lent) where
     pub passed_by : (over : Leased → Bool) (new : List Leased) → ((l : Leased) → IsOpen before l → is_among after l ≡ not (over l)) → in_turn (newly_open before after) ≡ new →
         passed_on before after n ts ≡ with_begun n (map (ended_where over n) ts) new
     unfolding passed_on
-    passed_by over new left e =
-        ap (λ us. with_begun n us (in_turn (newly_open before after)))
-        (ended_alike (λ j l. IsOpen before l) (λ l. not (is_among after l)) over n 0 ts (λ j l is_open. ap not (left l is_open) ∙ twice (over l)) opened)
-        ∙ ap (with_begun n (map (ended_where over n) ts)) e
-      where
-        twice : (b : Bool) → not (not b) ≡ b
-        twice true = refl
-        twice false = refl
+    passed_by over new left e = search (rules, ended_alike)
 
     -- nothing begins
     pub only_passed : (over : Leased → Bool) → ((l : Leased) → is_among after l ≡ (is_among before l && not (over l))) → passed_on before after n ts ≡ map (ended_where over n) ts
@@ -117,12 +94,6 @@ module _ (h : Header) where
   -- what is open when this is known
   abbrev open_at : Known → List Leased
   open_at k = open_leases h k
-
-  -- what is lent and not over is open
-  pub unended_open : (first : ℕ) (past : List Row) → first + length past ≤ without_end → AllUnended (λ i l. IsOpen (open_at (known h past)) l) 0 (lents h first past)
-  unfolding lents known grown
-  unended_open first [] room = first_open (open_at nothing) 0
-  unended_open first (row ∷ past) room = passed_open (open_at (known h past)) (open_at (learned h (known h past) row)) (first + length past) (lents h first past) (omega arith)
 
   module _ (k : Known) (ts : List Lent) (still : AreOpen h k ts) (row : Row) (n : ℕ) where
     abbrev was : List Leased

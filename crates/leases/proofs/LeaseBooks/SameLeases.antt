@@ -1,5 +1,5 @@
 -- Rows that neither begin nor end a lease: doorbells, declarations, most registers
-use Rattle.leases.proofs.LeaseBooks.Words.{◌≡◌, ◌≢◌, ◌<◌, ◌==◌, ◌&&◌, ◌||◌, ◌∷◌, ◌++◌, ◌∙◌, ◌⊎◌, ℕ, Bool, true, false, not, List, [], length, Option, Some, None, slice_get, option_and_then, zero, suc, arith, sym, ap, refl, inl, inr, cond, eqb-true, flat_map, cases_Bool, RingView, is_handed_over, RingChange, Declares, Opens, Holds, changed, due_crossings, due_positions, leased_crossings, leased_positions, Trb, command_of, Header, Ring, Register, Usbcmd, Usbsts, Dnctrl, Crcr, Dcbaap, Config, Iman, Imod, Erstsz, Erstba, Erdp, Sub, Reg, Bell, command_id, driver_rings, shape_of, reset_bit, run_bit, with_register, Known, learned, entry_of, context_ranges, device_ranges, entry_ranges, open_leases, open_on, open_ranges, range_of_command, range_of_entry, slots, IsIn}
+use Rattle.leases.proofs.BaseWords.{◌≡◌, ◌≢◌, ◌<◌, ◌==◌, ◌∷◌, ◌++◌, ◌∙◌, ◌⊎◌, ℕ, Bool, true, false, List, [], length, Option, Some, None, slice_get, option_and_then, zero, suc, arith, sym, ap, refl, inl, inr, cond, eqb-true, flat_map, cases_Bool, RingView, is_handed_over, RingChange, Declares, Opens, Holds, changed, due_crossings, due_positions, leased_crossings, leased_positions, Trb, command_of, Header, Ring, Register, Usbcmd, Crcr, Dcbaap, Erstba, Sub, Reg, Bell, command_id, driver_rings, shape_of, reset_bit, run_bit, with_register, Known, learned, entry_of, context_ranges, device_ranges, entry_ranges, open_leases, open_on, open_ranges, range_of_command, range_of_entry, slots, IsIn, rules}
 use Rattle.ring_knowledge.specs.Rings as rings
 use Rattle.ring_knowledge.specs.Registers as registers
 
@@ -40,16 +40,11 @@ module _ (h : Header) where
 
   contexts_same : (k k' : Known) → RestsSame k k' → context_ranges h k' ≡ context_ranges h k
   unfolding context_ranges
-  contexts_same k k' same =
-      ap (flat_map (λ p. range_of_command h p (rings.command_at h k' p))) (unfinished_same k k' same)
-      ∙ flat_alike (λ p. range_of_command h p (rings.command_at h k' p)) (λ p. range_of_command h p (rings.command_at h k p)) (rings.unfinished_positions h k)
-      (λ p at. ap (range_of_command h p) (same.commands p at))
+  contexts_same k k' same = search (rules, range_of_command, unfinished_same, flat_alike)
 
   pub open_same : (k k' : Known) → RestsSame k k' → open_leases h k' ≡ open_leases h k
   unfolding open_leases open_ranges device_ranges
-  open_same k k' same =
-      ap (λ ls. ls ++ open_ranges h k') (flat_alike (open_on h k') (open_on h k) (driver_rings h) (λ r at. on_same k k' same r))
-      ∙ rw (same.table, contexts_same k k' same, same.entries, same.devices) refl
+  open_same k k' same = search (rules, open_ranges, flat_alike, open_on, driver_rings, on_same, contexts_same)
 
   -- a change of a ring that leaves what is given, and the floor
   pub data IsIdle : RingChange → Type 0 where
@@ -72,35 +67,18 @@ module _ (h : Header) where
   -- the entries of the DCBAA stay where DCBAAP stays, or where no device context is under lease
   pub entries_kept : (k k' : Known) → k'.device ≡ k.device → (k'.register Dcbaap ≡ k.register Dcbaap) ⊎ ((s : ℕ) → k.device s ≡ None) → entry_ranges k' ≡ entry_ranges k
   unfolding entry_ranges entry_of range_of_entry
-  entries_kept k k' devices (inl array) = flat_alike (λ s. range_of_entry k' s (k'.device s)) (λ s. range_of_entry k s (k.device s)) slots (λ s at. by s (k'.device s) (k.device s) (ap (λ d. d s) devices))
-    where
-      by : (s : ℕ) (d e : Option ℕ) → d ≡ e → range_of_entry k' s d ≡ range_of_entry k s e
-      by s None None e = refl
-      by s (Some x) (Some y) e = rw array refl
-      by s None (Some y) e = cc
-      by s (Some x) None e = cc
-  entries_kept k k' devices (inr none) =
-      flat_none (λ s. range_of_entry k' s (k'.device s)) slots (λ s. rw (ap (λ d. d s) devices ∙ none s) refl)
-      ∙ sym (flat_none (λ s. range_of_entry k s (k.device s)) slots (λ s. rw (none s) refl))
+  entries_kept k k' devices (inl array) = search (rules, flat_alike, range_of_entry, slots)
+  entries_kept k k' devices (inr none) = search (rules, flat_none, range_of_entry, slots)
 
   -- the queue of every ring stays
   queues_same : (k : Known) (r : ℕ) (change : RingChange) → (changed (shape_of h r) (k.ring r) change).queue ≡ (k.ring r).queue → (q : ℕ) → ((rings.on_ring h k r change).ring q).queue ≡ (k.ring q).queue
   unfolding rings.on_ring
-  queues_same k r change stays q = elim (cases_Bool (q == r)) [
-    | inl same ↦ rw same (rw (eqb-true q r same) stays)
-    | inr other ↦ rw other refl
-  ]
+  queues_same k r change stays q = search (rules, eqb-true)
 
   -- only rings and the states of endpoints change
   idle_rests : (k k' : Known) (r : ℕ) (change : RingChange) → IsIdle change → k'.ring ≡ (rings.on_ring h k r change).ring → k'.register ≡ k.register → k'.device ≡ k.device →
       ((p : ℕ) → IsIn p (rings.unfinished_positions h k) → rings.command_at h k' p ≡ rings.command_at h k p) → RestsSame k k'
-  idle_rests k k' r change idle rings_are registers devices commands = record {
-    each = λ q. rw rings_are (idle_same k r change idle q);
-    commands = commands;
-    table = ap (λ f. f Erstba) registers;
-    devices = devices;
-    entries = entries_kept k k' devices (inl (ap (λ f. f Dcbaap) registers));
-  }
+  idle_rests k k' r change idle rings_are registers devices commands = search (rules, idle_same, entries_kept)
 
   pub command_same : (k k' : Known) → (k'.ring (command_id h)).queue ≡ (k.ring (command_id h)).queue → (p : ℕ) → rings.command_at h k' p ≡ rings.command_at h k p
   unfolding rings.command_at
@@ -153,72 +131,21 @@ module _ (h : Header) where
 
   started_or_stopped : (k : Known) (v : ℕ) → WritesRegister k (registers.run_or_stop (registers.valued k Usbcmd v) v) Usbcmd v
   unfolding registers.run_or_stop registers.valued
-  started_or_stopped k v = by k.started (run_bit v) (reset_bit v)
-    where
-      by : (s r t : Bool) →
-          WritesRegister k (cond (not s) (cond (r && not t) (record (registers.valued k Usbcmd v) { started = true }) (registers.valued k Usbcmd v))
-          (cond (not r || t) (record (registers.valued k Usbcmd v) { stopped = true }) (registers.valued k Usbcmd v))) Usbcmd v
-      by true true true = record { ring = refl; device = refl; register = refl }
-      by true true false = record { ring = refl; device = refl; register = refl }
-      by true false true = record { ring = refl; device = refl; register = refl }
-      by true false false = record { ring = refl; device = refl; register = refl }
-      by false true true = record { ring = refl; device = refl; register = refl }
-      by false true false = record { ring = refl; device = refl; register = refl }
-      by false false true = record { ring = refl; device = refl; register = refl }
-      by false false false = record { ring = refl; device = refl; register = refl }
+  started_or_stopped k v = search (rules, run_bit, reset_bit)
 
   pub writes_register : (k : Known) (r : Register) (v : ℕ) → WritesRegister k (learned h k (Reg r v)) r v
   unfolding learned registers.register_written registers.valued
   writes_register k Usbcmd v = started_or_stopped k v
-  writes_register k Usbsts v = record { ring = refl; device = refl; register = refl }
-  writes_register k Dnctrl v = record { ring = refl; device = refl; register = refl }
-  writes_register k Crcr v = record { ring = refl; device = refl; register = refl }
-  writes_register k Dcbaap v = record { ring = refl; device = refl; register = refl }
-  writes_register k Config v = record { ring = refl; device = refl; register = refl }
-  writes_register k Iman v = record { ring = refl; device = refl; register = refl }
-  writes_register k Imod v = record { ring = refl; device = refl; register = refl }
-  writes_register k Erstsz v = record { ring = refl; device = refl; register = refl }
-  writes_register k Erstba v = record { ring = refl; device = refl; register = refl }
-  writes_register k Erdp v = record { ring = refl; device = refl; register = refl }
+  writes_register k _ v = search (rules, started_or_stopped)
 
   table_kept : (values : Register → Option ℕ) (r : Register) (v : ℕ) → r ≢ Erstba → with_register values r v Erstba ≡ values Erstba
-  table_kept values Usbcmd v other = refl
-  table_kept values Usbsts v other = refl
-  table_kept values Dnctrl v other = refl
   table_kept values Crcr v other = refl
-  table_kept values Dcbaap v other = refl
-  table_kept values Config v other = refl
-  table_kept values Iman v other = refl
-  table_kept values Imod v other = refl
-  table_kept values Erstsz v other = refl
-  table_kept values Erstba v other = absurd (other refl)
-  table_kept values Erdp v other = refl
+  table_kept values _ v other = search rules
 
   array_kept : (values : Register → Option ℕ) (r : Register) (v : ℕ) → r ≢ Dcbaap → with_register values r v Dcbaap ≡ values Dcbaap
-  array_kept values Usbcmd v other = refl
-  array_kept values Usbsts v other = refl
-  array_kept values Dnctrl v other = refl
   array_kept values Crcr v other = refl
-  array_kept values Dcbaap v other = absurd (other refl)
-  array_kept values Config v other = refl
-  array_kept values Iman v other = refl
-  array_kept values Imod v other = refl
-  array_kept values Erstsz v other = refl
-  array_kept values Erstba v other = refl
-  array_kept values Erdp v other = refl
+  array_kept values _ v other = search rules
 
   -- a register but ERSTBA, and DCBAAP where no device context is under lease
   pub reg_same : (k : Known) (r : Register) (v : ℕ) → r ≢ Erstba → (r ≢ Dcbaap) ⊎ ((s : ℕ) → k.device s ≡ None) → open_leases h (learned h k (Reg r v)) ≡ open_leases h k
-  reg_same k r v other array =
-      let k' : Known = learned h k (Reg r v) in
-      let writes = writes_register k r v in
-      open_same k k' (record {
-        each = λ q. rw writes.ring (record { given = refl; free = refl; crossed = refl; floor = refl });
-        commands = λ p at. command_same k k' (ap (λ f. (f (command_id h)).queue) writes.ring) p;
-        table = ap (λ f. f Erstba) writes.register ∙ table_kept k.register r v other;
-        devices = writes.device;
-        entries = entries_kept k k' writes.device (elim array [
-          | inl stays ↦ inl (ap (λ f. f Dcbaap) writes.register ∙ array_kept k.register r v stays)
-          | inr none ↦ inr none
-        ]);
-      })
+  reg_same k r v other array = search (rules, learned, writes_register, open_same, command_same, command_id, table_kept, entries_kept, array_kept)

@@ -1,9 +1,8 @@
 -- The write of ERSTBA begins the lease of the segment table, and no other
-use Rattle.leases.proofs.LeaseBooks.Words.{◌≡◌, ◌∷◌, ◌++◌, ◌∙◌, ℕ, Bool, true, not, List, [], filter, Option, Some, None, sym, ap, subst, refl, inl, inr, flat_map, cases_Bool, filter-append, Command, named_context, table_bytes, Header, Ring, Reg, Erstba, driver_rings, event_shape, base_address, Known, learned, register_written, valued, entry_of, Leased, Block, Link, Range, EventSegment, SegmentTable, InputContext, SlotEntry, DeviceContext, context_ranges, device_ranges, entry_ranges, is_among, open_leases, open_on, open_ranges, range_of_command, range_of_context, range_of_device, range_of_entry, segment_ranges, slots, table_range, begun, IsIn, among_is, in_among, in_turn, with_begun, with_leased, Lent, grown}
+use Rattle.leases.proofs.BaseWords.{◌≡◌, ◌∷◌, ◌++◌, ◌∙◌, ℕ, Bool, true, not, List, [], filter, Option, Some, None, sym, ap, subst, refl, inl, inr, flat_map, cases_Bool, filter-append, Command, named_context, table_bytes, Header, Ring, Reg, Erstba, driver_rings, event_shape, base_address, Known, learned, register_written, valued, entry_of, Leased, Block, Link, Range, EventSegment, SegmentTable, InputContext, SlotEntry, DeviceContext, context_ranges, device_ranges, entry_ranges, is_among, open_leases, open_on, open_ranges, range_of_command, range_of_context, range_of_device, range_of_entry, segment_ranges, slots, table_range, begun, IsIn, among_is, in_among, in_turn, with_begun, with_leased, Lent, grown, AreOpen, rules}
 use Rattle.ring_knowledge.specs.Rings as rings
 use Rattle.leases.proofs.LeaseBooks.Members.{InOn, block, link, from_flat_map, from_map, in_either, in_left, in_on, in_right}
 use Rattle.leases.proofs.LeaseBooks.Rows.{none_new, only_begun}
-use Rattle.leases.specs.LeaseBooks.InStep.{AreOpen}
 
 abbrev pub IsNoTable : Leased → Type 0
 IsNoTable (Block r p) = Unit {0}
@@ -29,11 +28,7 @@ module _ (h : Header) (k : Known) where
   command : (p : ℕ) (c : Option Command) (l : Leased) → IsIn l (range_of_command h p c) → IsNoTable l
   unfolding range_of_command range_of_context
   command p None l at = absurd at
-  command p (Some c) l at = by (named_context c) at
-    where
-      by : (o : Option ℕ) → IsIn l (range_of_context h p o) → IsNoTable l
-      by None at = absurd at
-      by (Some a) at = only_one _ l tt at
+  command p (Some c) l at = search (rules, named_context, range_of_context, only_one)
 
   entry : (s : ℕ) (d : Option ℕ) (l : Leased) → IsIn l (range_of_entry k s d) → IsNoTable l
   unfolding range_of_entry
@@ -77,10 +72,7 @@ module _ (h : Header) (k : Known) where
             | inr last ↦ device_part l last
             | inl first ↦ elim (in_either l (s ++ [] ++ c) e first) [
               | inr last ↦ entry_part l last
-              | inl first ↦ elim (in_either l (s ++ []) c first) [
-                | inr last ↦ context_part l last
-                | inl first ↦ elim (in_either l s [] first) [ inl this ↦ segment l this | inr nowhere ↦ absurd nowhere ]
-              ]
+              | inl first ↦ search (rules, in_either, context_part, segment)
             ]
           ]
         ]
@@ -161,6 +153,4 @@ module _ (h : Header) (k : Known) where
 pub lent_table : (h : Header) (k : Known) (ts : List Lent) → AreOpen h k ts → (v n : ℕ) → k.register Erstba ≡ None →
     grown h k (Reg Erstba v) n ts ≡ with_begun n ts (Range (table_bytes (event_shape h)) (base_address v) SegmentTable ∷ [])
 unfolding begun in_turn with_leased
-lent_table h k ts still v n unwritten =
-    only_begun h k ts still (Reg Erstba v) n (Range (table_bytes (event_shape h)) (base_address v) SegmentTable ∷ []) (all_stay h k unwritten v)
-    (ap in_turn (begun_is h k unwritten v))
+lent_table h k ts still v n unwritten = search (rules, only_begun, all_stay, begun_is)

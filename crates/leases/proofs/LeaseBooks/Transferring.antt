@@ -1,11 +1,10 @@
 -- What is lent after a Transfer Event: the leases end of what it tells to be passed on the ring of its endpoint
-use Rattle.leases.proofs.LeaseBooks.Words.{◌≡◌, ◌≢◌, ◌+◌, ◌≤◌, ◌==◌, ◌&&◌, ◌++◌, ◌∙◌, ℕ, Bool, true, false, not, List, [], map, Some, filter, option_and_then, slice_get, arith, sym, ap, refl, inl, inr, subst, eqb-true, eq-eqb, flat_map, cases_Bool, Trb, TransferEvent, code, endpoint, kind, slot, is_halting, is_stopping, is_success, is_trb_error, Spot, Shape, number, RingView, due_positions, floor_number, number-after, command_of, Header, Ring, Read, Dcbaap, Erstba, command_id, driver_rings, shape_of, EndpointState, Error, Halted, Known, event_read, learned, RingSpot, event_at, broken_off, passed, stopped_at, transfer_read, transferred, transferred_at, Leased, context_ranges, device_ranges, entry_ranges, open_leases, open_ranges, range_of_command, range_of_device, segment_ranges, slots, table_range, is_among, IsIn, come_to, ended_where, is_passed, Lent, grown}
+use Rattle.leases.proofs.BaseWords.{◌≡◌, ◌≢◌, ◌+◌, ◌≤◌, ◌==◌, ◌&&◌, ◌∙◌, ℕ, Bool, true, false, not, List, [], map, Some, sym, ap, refl, inl, inr, subst, eqb-true, eq-eqb, cases_Bool, Trb, TransferEvent, code, endpoint, kind, slot, is_halting, is_stopping, is_success, is_trb_error, Spot, number, RingView, due_positions, floor_number, number-after, command_of, Header, Ring, Read, command_id, driver_rings, shape_of, EndpointState, Error, Halted, Known, event_read, learned, RingSpot, event_at, broken_off, passed, stopped_at, transfer_read, transferred, transferred_at, context_ranges, device_ranges, entry_ranges, open_leases, open_ranges, range_of_command, range_of_device, segment_ranges, slots, table_range, is_among, IsIn, come_to, ended_where, is_passed, Lent, grown, AreOpen, rules}
 use Rattle.ring_knowledge.specs.Rings as rings
 use Rattle.leases.proofs.LeaseBooks.Narrowing.{Narrows, floors, narrows, one_ring_left}
 use Rattle.leases.proofs.LeaseBooks.PassedLeases.{IsWithinLap, Moves}
 use Rattle.leases.proofs.LeaseBooks.Rows.{only_ended}
 use Rattle.leases.proofs.LeaseBooks.SameLeases.{entries_kept}
-use Rattle.leases.specs.LeaseBooks.InStep.{AreOpen}
 
 module _ (h : Header) (k : Known) where
   -- one ring goes on to a number; of the others, of registers and device contexts nothing changes
@@ -23,39 +22,15 @@ module _ (h : Header) (k : Known) where
 
   passed_goes : (r : ℕ) (t : Spot) → GoesOn (passed h k r t) r (number t + 1)
   unfolding passed rings.on_ring
-  passed_goes r t = record {
-    others = λ q differ. rw differ refl;
-    given = rw (itself r) refl;
-    free = rw (itself r) refl;
-    crossed = rw (itself r) refl;
-    floor = rw (itself r) (number-after (shape_of h r) (number t));
-    register = refl;
-    device = refl;
-  }
+  passed_goes r t = search (rules, itself, number-after, shape_of, number)
 
   broken_goes : (s i r : ℕ) (t : Spot) (state : EndpointState) → GoesOn (broken_off h k s i r t state) r (number t + 1)
   unfolding broken_off passed rings.on_ring
-  broken_goes s i r t state = record {
-    others = λ q differ. rw differ refl;
-    given = rw (itself r) refl;
-    free = rw (itself r) refl;
-    crossed = rw (itself r) refl;
-    floor = rw (itself r) (number-after (shape_of h r) (number t));
-    register = refl;
-    device = refl;
-  }
+  broken_goes s i r t state = search (rules, itself, number-after, shape_of, number)
 
   stopped_goes : (s i r : ℕ) (t : Spot) → GoesOn (stopped_at h k s i r t) r (number t)
   unfolding stopped_at rings.on_ring
-  stopped_goes s i r t = record {
-    others = λ q differ. rw differ refl;
-    given = rw (itself r) refl;
-    free = rw (itself r) refl;
-    crossed = rw (itself r) refl;
-    floor = rw (itself r) refl;
-    register = refl;
-    device = refl;
-  }
+  stopped_goes s i r t = search (rules, itself)
 
   same_goes : (r : ℕ) → GoesOn k r (floor_number (k.ring r))
   same_goes r = record { others = λ q differ. refl; given = refl; free = refl; crossed = refl; floor = refl; register = refl; device = refl }
@@ -91,13 +66,7 @@ module _ (h : Header) (k : Known) where
   -- the ranges rest on the command ring, on registers and on device contexts
   pub ranges_rest : (k' : Known) → k'.ring (command_id h) ≡ k.ring (command_id h) → k'.register ≡ k.register → k'.device ≡ k.device → open_ranges h k' ≡ open_ranges h k
   unfolding open_ranges device_ranges context_ranges rings.unfinished_positions rings.command_at
-  ranges_rest k' commands registers devices =
-      let shape : Shape = shape_of h (command_id h) in
-      let of_view : RingView → List Leased = λ v. flat_map (λ p. range_of_command h p (option_and_then command_of (slice_get v.queue p))) (filter v.given (due_positions shape v)) in
-      ap (λ v. segment_ranges h ++ table_range h v ++ context_ranges h k' ++ entry_ranges k' ++ device_ranges h k') (ap (λ g. g Erstba) registers)
-      ∙ ap (λ v. segment_ranges h ++ table_range h (k.register Erstba) ++ of_view v ++ entry_ranges k' ++ device_ranges h k') commands
-      ∙ ap (λ xs. segment_ranges h ++ table_range h (k.register Erstba) ++ context_ranges h k ++ xs ++ device_ranges h k') (entries_kept h k k' devices (inl (ap (λ g. g Dcbaap) registers)))
-      ∙ ap (λ d. segment_ranges h ++ table_range h (k.register Erstba) ++ context_ranges h k ++ entry_ranges k ++ flat_map (λ s. range_of_device h s (d s)) slots) devices
+  ranges_rest k' commands registers devices = search (rules, shape_of, command_id, range_of_command, command_of, due_positions, segment_ranges, table_range, context_ranges, entry_ranges, device_ranges, entries_kept, range_of_device, slots)
 
 -- the law
 module _ (h : Header) (k : Known) (ts : List Lent) (still : AreOpen h k ts) (b : Trb) (n : ℕ) where
@@ -137,22 +106,12 @@ module _ (h : Header) (k : Known) (ts : List Lent) (still : AreOpen h k ts) (b :
     there : (q : Ring) → IsIn q (driver_rings h) → (q.id == at.ring) ≡ false → Moves q.shape (k.ring q.id) (k'.ring q.id) (floors k' q.id)
     there q among differ =
         let same : k'.ring q.id ≡ k.ring q.id = goes.others q.id differ in
-        record {
-          given = ap (λ (v : RingView). v.given) same;
-          free = ap (λ (v : RingView). v.free) same;
-          crossed = ap (λ (v : RingView). v.crossed) same;
-          floor = refl;
-          rises = let floor : floor_number (k'.ring q.id) ≡ floor_number (k.ring q.id) = ap (λ (v : RingView). floor_number v) same in omega (arith, floor);
-          within = lap q among;
-        }
+        search rules
 
     narrow : Narrows h k k' []
     unfolding is_among
     narrow = record {
-      each = λ q among. elim (cases_Bool (q.id == at.ring)) [
-        | inl same ↦ here q among (eqb-true q.id at.ring same)
-        | inr differ ↦ there q among differ
-      ];
+      each = λ q among. search (rules, here, eqb-true, there);
       ranges = λ l. ap (λ ls. is_among ls l) (ranges_rest h k k' commands_stay goes.register goes.device) ∙ sym (and_true (is_among (open_ranges h k) l));
     }
       where

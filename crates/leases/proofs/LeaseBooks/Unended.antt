@@ -1,5 +1,5 @@
 -- Where the leases that aren't over stand in the list, when one begins and when some end
-use Rattle.leases.proofs.LeaseBooks.Words.{◌≡◌, ◌+◌, ◌&&◌, ◌||◌, ◌∷◌, ℕ, Bool, true, false, List, [], length, map, arith, sym, refl, cond, subst, list_any, false≢true, Leased, Lent, is_unended, begun_at, ended_where, with_begun, AllUnended}
+use Rattle.leases.proofs.BaseWords.{◌≡◌, ◌+◌, ◌&&◌, ◌||◌, ◌∷◌, ℕ, Bool, true, false, List, [], length, map, arith, sym, refl, cond, subst, list_any, false≢true, Leased, Lent, is_unended, begun_at, ended_where, with_begun, AllUnended}
 
 pub both_false : (x y : Bool) → (x || y) ≡ false → (x ≡ false) × (y ≡ false)
 both_false true y h = absurd (false≢true (sym h))

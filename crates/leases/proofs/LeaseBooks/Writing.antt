@@ -1,12 +1,11 @@
 -- The leases that a write begins: those of what it gives
-use Rattle.leases.proofs.LeaseBooks.Words.{◌≡◌, ◌+◌, ◌<◌, ◌≤◌, ◌&&◌, ◌||◌, ◌∷◌, ◌++◌, ◌∙◌, ℕ, Bool, true, false, not, List, [], filter, map, zero, suc, arith, sym, ap, refl, inl, inr, cond, subst, append-nil, flat_map, range_with_len, cases_Bool, and_parts, and_from, or_left, false≢true, filter-append, Shape, is_crossing, place_count, RingView, Writes, changed, crossings_given, due_crossings, due_positions, floor_number, gives, gives_crossing, is_crossing_due, leased_crossings, leased_positions, is_handed_over, positions_given, Header, Ring, driver_rings, shape_of, Known, Given, Position, Crossing, with_word, Leased, Block, Link, is_among, open_leases, open_on, open_ranges, IsIn, among_is, both_ways, in_among}
+use Rattle.leases.proofs.BaseWords.{◌≡◌, ◌+◌, ◌<◌, ◌≤◌, ◌&&◌, ◌||◌, ◌∷◌, ◌++◌, ◌∙◌, ℕ, Bool, true, not, List, [], filter, map, zero, suc, arith, sym, ap, refl, inl, inr, cond, subst, append-nil, flat_map, range_with_len, and_parts, and_from, or_left, false≢true, filter-append, Shape, is_crossing, place_count, RingView, Writes, changed, crossings_given, due_crossings, due_positions, floor_number, gives, gives_crossing, is_crossing_due, leased_crossings, leased_positions, is_handed_over, positions_given, Header, Ring, driver_rings, shape_of, Known, Given, Position, Crossing, with_word, Leased, Block, Link, is_among, open_leases, open_on, open_ranges, IsIn, among_is, both_ways, in_among, FreeWasGiven, rules}
 use Rattle.ring_knowledge.specs.Rings as rings
 use Rattle.leases.proofs.LeaseBooks.Growing.{map_append, map_map}
 use Rattle.leases.proofs.LeaseBooks.Rows.{none_new}
 use Rattle.leases.proofs.LeaseBooks.SameLeases.{flat_alike}
 use Rattle.leases.proofs.LeaseBooks.Members.{InOn, block, link, from_flat_map, in_either, in_flat_map, in_left, in_on, in_right, on_in}
 use Rattle.leases.proofs.LeaseBooks.RangesAlone.{open_are_ranges}
-use Rattle.leases.specs.LeaseBooks.InStep.{FreeWasGiven}
 
 -- the lease of what is given
 abbrev pub lease_given : Given → Leased
@@ -15,11 +14,7 @@ lease_given (Crossing r q) = Link r q
 
 filter_map_is : {X Y : Type 0} (p : Y → Bool) (f : X → Y) (xs : List X) → filter p (map f xs) ≡ map f (filter (λ x. p (f x)) xs)
 filter_map_is p f [] = refl
-filter_map_is {X} {Y} p f (x ∷ xs) = by (p (f x)) (filter_map_is p f xs)
-  where
-    by : (b : Bool) → filter p (map f xs) ≡ map f (filter (λ x. p (f x)) xs) → cond b (f x ∷ filter p (map f xs)) (filter p (map f xs)) ≡ map f (cond b (x ∷ filter (λ x. p (f x)) xs) (filter (λ x. p (f x)) xs))
-    by true e = ap (λ ys. f x ∷ ys) e
-    by false e = e
+filter_map_is {X} {Y} p f (x ∷ xs) = search (rules, filter_map_is p f xs)
 
 pub filter_flat_map : {X Y : Type 0} (p : Y → Bool) (f : X → List Y) (xs : List X) → filter p (flat_map f xs) ≡ flat_map (λ x. filter p (f x)) xs
 filter_flat_map p f [] = refl
@@ -32,33 +27,15 @@ map_flat_map f g (x ∷ xs) = map_append f (g x) (flat_map g xs) ∙ ap (λ ys. 
 -- of a range of numbers, those that pass two tests one after the other
 filter_range : (p q t : ℕ → Bool) (from n : ℕ) → ((x : ℕ) → from ≤ x → x < from + n → (q x && p x) ≡ t x) → filter p (filter q (range_with_len from n)) ≡ filter t (range_with_len from n)
 filter_range p q t from zero same = refl
-filter_range p q t from (suc n) same =
-    let rest = filter_range p q t (from + 1) n (λ x l u. same x (omega arith) (omega arith)) in
-    let first : (q from && p from) ≡ t from = same from (omega arith) (omega arith) in
-    elim (cases_Bool (q from)) [
-      | inl kept ↦
-          let alike : p from ≡ t from = sym (ap (λ b. b && p from) kept) ∙ first in
-          rw kept
-          (ap (λ ys. cond (p from) (from ∷ ys) ys) rest ∙ ap (λ b. cond b (from ∷ filter t (range_with_len (from + 1) n)) (filter t (range_with_len (from + 1) n))) alike)
-      | inr not_so ↦
-          let none : t from ≡ false = sym first ∙ ap (λ b. b && p from) not_so in
-          rw (not_so, none) rest
-    ]
+filter_range p q t from (suc n) same = search (rules, cond, filter, range_with_len, filter_range p q t (from + 1) n (λ x l u. same x (omega arith) (omega arith)))
 
 newly_given : (g s f : Bool) → (f ≡ true → g ≡ true) → (((g || s) && not f) && not (g && not f)) ≡ (not g && s)
 newly_given true s true only = refl
-newly_given true s false only = refl
-newly_given false s true only = absurd (false≢true (only refl))
-newly_given false true false only = refl
-newly_given false false false only = refl
+newly_given _ _ _ only = search (rules, false≢true)
 
 newly_crossed : (c g s : Bool) → (s ≡ true → c ≡ true) → ((c && (g || s)) && not (c && g)) ≡ (not g && s)
 newly_crossed true true s only = refl
-newly_crossed true false true only = refl
-newly_crossed true false false only = refl
-newly_crossed false true s only = refl
-newly_crossed false false true only = only refl
-newly_crossed false false false only = refl
+newly_crossed _ _ _ only = search rules
 
 -- only a crossing is given as one
 gives_crossings : (shape : Shape) (v : RingView) (q a w : ℕ) → gives_crossing shape v.floor q a w ≡ true → is_crossing shape q ≡ true
@@ -96,9 +73,7 @@ module _ (h : Header) (shaped : AreShaped h) (k : Known) (freed : FreeWasGiven h
         ]
 
         back : is_handed_over (k.ring q.id) p ≡ true → is_among (flat_map (open_on h k) (driver_rings h) ++ open_ranges h k) (Block q.id p) ≡ true
-        back e =
-            in_among _ (Block q.id p) (in_left (Block q.id p) (flat_map (open_on h k) (driver_rings h)) (open_ranges h k)
-            (in_flat_map (open_on h k) (driver_rings h) q (Block q.id p) among (on_in h k q (Block q.id p) (block p low high e))))
+        back e = search (rules, in_among, in_left, open_on, driver_rings, open_ranges, in_flat_map, on_in, block)
 
     -- and a due crossing
     link_was : (c : ℕ) → floor_number (k.ring q.id) ≤ c → c < floor_number (k.ring q.id) + (place_count q.shape + 1) →
@@ -112,8 +87,7 @@ module _ (h : Header) (shaped : AreShaped h) (k : Known) (freed : FreeWasGiven h
             let ids : s.id ≡ q.id = cc in
             let same : m ≡ c = cc in
             let shapes : s.shape ≡ q.shape = sym (shaped s at) ∙ ap (shape_of h) ids ∙ shaped q among in
-            subst (λ (x : Shape). (is_crossing x c && (k.ring q.id).crossed c) ≡ true) shapes
-            (subst (λ (i : ℕ). (is_crossing s.shape c && (k.ring i).crossed c) ≡ true) ids (subst (λ (i : ℕ). (is_crossing s.shape i && (k.ring s.id).crossed i) ≡ true) same crossed))
+            search (rules, is_crossing)
 
         there : is_among (flat_map (open_on h k) (driver_rings h) ++ open_ranges h k) (Link q.id c) ≡ true → (is_crossing q.shape c && (k.ring q.id).crossed c) ≡ true
         there e = elim (in_either (Link q.id c) (flat_map (open_on h k) (driver_rings h)) (open_ranges h k) (among_is _ (Link q.id c) e)) [
@@ -124,26 +98,15 @@ module _ (h : Header) (shaped : AreShaped h) (k : Known) (freed : FreeWasGiven h
         ]
 
         back : (is_crossing q.shape c && (k.ring q.id).crossed c) ≡ true → is_among (flat_map (open_on h k) (driver_rings h) ++ open_ranges h k) (Link q.id c) ≡ true
-        back e =
-            in_among _ (Link q.id c) (in_left (Link q.id c) (flat_map (open_on h k) (driver_rings h)) (open_ranges h k)
-            (in_flat_map (open_on h k) (driver_rings h) q (Link q.id c) among (on_in h k q (Link q.id c) (link c low high e))))
+        back e = search (rules, in_among, in_left, open_on, driver_rings, open_ranges, in_flat_map, on_in, link)
 
     new_blocks : filter (λ p. IsNew (Block q.id p)) (leased_positions q.shape (changed q.shape (k.ring q.id) (Writes a w))) ≡ positions_given q.shape (k.ring q.id) a w
     unfolding leased_positions due_positions positions_given
-    new_blocks =
-        filter_range (λ p. IsNew (Block q.id p)) (is_handed_over (changed q.shape (k.ring q.id) (Writes a w))) (λ p. not ((k.ring q.id).given p) && gives q.shape (k.ring q.id).floor p a w)
-        (floor_number (k.ring q.id)) (place_count q.shape) (λ p low high.
-        ap (λ b. (((k.ring q.id).given p || gives q.shape (k.ring q.id).floor p a w) && not ((k.ring q.id).free p)) && not b) (block_was p low high)
-        ∙ newly_given ((k.ring q.id).given p) (gives q.shape (k.ring q.id).floor p a w) ((k.ring q.id).free p) (freed q among p))
+    new_blocks = search (rules, filter_range, is_handed_over, changed, gives, block_was, newly_given)
 
     new_links : filter (λ c. IsNew (Link q.id c)) (leased_crossings q.shape (changed q.shape (k.ring q.id) (Writes a w))) ≡ crossings_given q.shape (k.ring q.id) a w
     unfolding leased_crossings due_crossings crossings_given
-    new_links =
-        filter_range (λ c. IsNew (Link q.id c)) (λ c. is_crossing q.shape c && (changed q.shape (k.ring q.id) (Writes a w)).crossed c)
-        (λ c. not ((k.ring q.id).crossed c) && gives_crossing q.shape (k.ring q.id).floor c a w)
-        (floor_number (k.ring q.id)) (place_count q.shape + 1) (λ c low high.
-        ap (λ b. (is_crossing q.shape c && ((k.ring q.id).crossed c || gives_crossing q.shape (k.ring q.id).floor c a w)) && not b) (link_was c low high)
-        ∙ newly_crossed (is_crossing q.shape c) ((k.ring q.id).crossed c) (gives_crossing q.shape (k.ring q.id).floor c a w) (gives_crossings q.shape (k.ring q.id) c a w))
+    new_links = search (rules, filter_range, is_crossing, changed, gives_crossing, link_was, newly_crossed, gives_crossings)
 
     new_on : filter IsNew (open_on h after q) ≡ map lease_given (rings.given_of h k a w q.id)
     unfolding open_on rings.given_of
@@ -163,22 +126,13 @@ module _ (h : Header) (shaped : AreShaped h) (k : Known) (freed : FreeWasGiven h
 
     -- what was open on the ring still is
     kept_on : (l : Leased) → InOn q (k.ring q.id) l → InOn q (after.ring q.id) l
-    kept_on _ (block p low high lent) =
-        let parts = and_parts ((k.ring q.id).given p) (not ((k.ring q.id).free p)) lent in
-        subst (λ (v : RingView). InOn q v (Block q.id p)) (sym view_after)
-        (block p low high (and_from _ (not ((k.ring q.id).free p)) (or_left ((k.ring q.id).given p) (gives q.shape (k.ring q.id).floor p a w) parts.0) parts.1))
-    kept_on _ (link c low high crossed) =
-        let parts = and_parts (is_crossing q.shape c) ((k.ring q.id).crossed c) crossed in
-        subst (λ (v : RingView). InOn q v (Link q.id c)) (sym view_after)
-        (link c low high (and_from (is_crossing q.shape c) _ parts.0 (or_left ((k.ring q.id).crossed c) (gives_crossing q.shape (k.ring q.id).floor c a w) parts.1)))
+    kept_on _ (block p low high lent) = search (rules, and_parts, view_after, block, and_from, or_left, gives)
+    kept_on _ (link c low high crossed) = search (rules, and_parts, is_crossing, view_after, link, and_from, or_left, gives_crossing)
 
   -- on all rings
   pub new_on_rings : filter IsNew (flat_map (open_on h after) (driver_rings h)) ≡ map lease_given (rings.given_by h k a w)
   unfolding rings.given_by
-  new_on_rings =
-      filter_flat_map IsNew (open_on h after) (driver_rings h)
-      ∙ flat_alike (λ q. filter IsNew (open_on h after q)) (λ q. map lease_given (rings.given_of h k a w q.id)) (driver_rings h) new_on
-      ∙ sym (map_flat_map lease_given (λ q. rings.given_of h k a w q.id) (driver_rings h))
+  new_on_rings = search (rules, filter_flat_map, open_on, driver_rings, flat_alike, new_on, map_flat_map)
 
   pub kept_on_rings : (l : Leased) → IsIn l (flat_map (open_on h k) (driver_rings h)) → IsIn l (flat_map (open_on h after) (driver_rings h))
   kept_on_rings l on =
@@ -193,11 +147,7 @@ module _ (h : Header) (shaped : AreShaped h) (k : Known) (freed : FreeWasGiven h
 
     pub new_leases : filter IsNew (open_leases h after) ≡ map lease_given (rings.given_by h k a w)
     unfolding open_leases
-    new_leases =
-        filter-append IsNew (flat_map (open_on h after) (driver_rings h)) (open_ranges h after)
-        ∙ ap (λ ys. filter IsNew (flat_map (open_on h after) (driver_rings h)) ++ ys) no_new_range
-        ∙ append-nil _
-        ∙ new_on_rings
+    new_leases = search (rules, filter-append, open_on, driver_rings, open_ranges, no_new_range, append-nil, new_on_rings)
 
     pub all_kept : (l : Leased) → is_among (open_leases h k) l ≡ true → is_among (open_leases h after) l ≡ true
     unfolding open_leases

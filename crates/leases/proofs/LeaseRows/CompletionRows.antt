@@ -1,11 +1,15 @@
 -- What is lent after the completion of a command
-use Rattle.std.proofs.Common.{◌≡◌, ◌≢◌, ◌+◌, ◌++◌, ◌∙◌, ◌&&◌, ◌||◌, ◌==◌, ℕ, List, Bool, true, false, None, Some, Option, refl, ap, sym, arith, inl, inr, subst, filter, map, nat_le, nat_lt, eqb-true, eq-eqb}
-use Rattle.leases.proofs.LeaseRows.Words.{position, cases_Bool, false≢true, nat_tests, CommandCompletion, code, kind, is_command_completion, Command, Shape, place_count, RingView, due_positions, floor_number, due_is, number-after, Ring, Header, Read, Erstba, IsHeader, command_id, driver_rings, is_command_kind, shape_of, Known, completed, event_read, learned, Leased, Block, Link, Range, Use, context_ranges, device_ranges, entry_ranges, is_among, open_leases, open_on, open_ranges, range_of_command, range_of_device, range_of_entry, segment_ranges, slots, table_range, flat_map, range_with_len, IsIn, in_among, in_filter, DriverKeeps, EventFacts, event_facts, floors_grow, CompletionFacts, completion_facts, next_at_floor, command_is_ring, SameDriver, event_same, Lent, ended_where, is_passed, let_go, slot_left, slot_ranges, is_lent, RangeIndexes, completed_device, finish_lent, Finishes, gone_are_ranges, in_either, in_flat_map, in_left, in_range, in_right, floors, is_left, IsWithinLap, Moves, all_twice, none_over, over_alike, command_found, no_command_ring, shape_there, any_append, false_unless, or_false, IsAmong, same_number, TraceRecord, EndpointRings, HoldsAll, AreLent, FloorsMove, MovesOn, IsMovedTo, IsOtherRing, is_behind, is_moved_past, moved_when, IsNextRow, grown}
-use Rattle.std.specs.Prelude.{is_some}
-use Rattle.traces.specs.Header.{command_ring}
+use Rattle.leases.proofs.BaseWords.{◌≡◌, ◌≢◌, ◌+◌, ◌++◌, ◌∙◌, ◌&&◌, ◌||◌, ◌==◌, ℕ, List, Bool, true, false, None, Some, Option, refl, ap, sym, arith, subst, filter, map, nat_le, nat_lt, eqb-true, eq-eqb, position, false≢true, nat_tests, CommandCompletion, code, kind, is_command_completion, Command, Shape, place_count, RingView, due_positions, floor_number, due_is, number-after, Ring, Header, Read, Erstba, IsHeader, command_id, driver_rings, is_command_kind, shape_of, Known, completed, event_read, learned, Leased, Block, Link, Range, Use, context_ranges, device_ranges, entry_ranges, is_among, open_leases, open_on, open_ranges, range_of_command, range_of_device, range_of_entry, segment_ranges, slots, table_range, flat_map, range_with_len, IsIn, in_among, in_filter, DriverKeeps, EventFacts, event_facts, floors_grow, CompletionFacts, completion_facts, next_at_floor, command_is_ring, SameDriver, event_same, Lent, ended_where, is_passed, let_go, slot_left, slot_ranges, is_lent, RangeIndexes, command_found, no_command_ring, shape_there, any_append, false_unless, or_false, IsAmong, same_number, TraceRecord, EndpointRings, HoldsAll, AreLent, FloorsMove, MovesOn, IsMovedTo, IsOtherRing, is_behind, is_moved_past, moved_when, IsNextRow, grown, is_some, command_ring, command_id_is, rules}
+use Rattle.leases.proofs.LeaseBooks.DevicesAfter.{completed_device}
+use Rattle.leases.proofs.LeaseBooks.Finishing.{finish_lent}
+use Rattle.leases.proofs.LeaseBooks.LettingGo.{Finishes, gone_are_ranges}
+use Rattle.leases.proofs.LeaseBooks.Members.{in_either, in_flat_map, in_left, in_range, in_right}
+use Rattle.leases.proofs.LeaseBooks.Narrowing.{floors, is_left}
+use Rattle.leases.proofs.LeaseBooks.PassedLeases.{IsWithinLap, Moves}
+use Rattle.leases.proofs.LeaseBooks.Passing.{all_twice, none_over, over_alike}
 use Rattle.trb.specs.declared.block.Block as blocks
 use Rattle.ring_knowledge.specs.Rings as rings
-use Rattle.trace_record.proofs.RingFinder.CommandRings.{command_id_is, no_ring}
+use Rattle.trace_record.proofs.RingFinder.CommandRings.{no_ring}
 use Rattle.leases.proofs.LeaseRows.TransferRows.{lap_now}
 
 -- ---- numbers that are passed on two rings
@@ -24,24 +28,8 @@ Arrives c to (Some e) = (e.0 ≢ c) × (to e.0 ≡ e.1)
 module _ (from to : ℕ → ℕ) (c : ℕ) (one : to c ≡ from c + 1) where
   passes : (m : Option (ℕ × ℕ)) → Arrives c to m → ((q : ℕ) → q ≢ c → IsOtherRing q m → to q ≡ from q) → (q p : ℕ) →
       (nat_le (from q) p && nat_lt p (to q)) ≡ (moved_number from m q p || (c == q && nat_le (from c) p && nat_lt p (from c + 1)))
-  passes None there others q p = elim (cases_Bool (c == q)) [
-    | inl same ↦ rw same (subst (λ (x : ℕ). (nat_le (from x) p && nat_lt p (to x)) ≡ (nat_le (from c) p && nat_lt p (from c + 1))) (eqb-true c q same) (ap (λ (n : ℕ). nat_le (from c) p && nat_lt p n) one))
-    | inr differ ↦ rw differ (none_between (to q) (from q) p (others q (λ e. false≢true (sym differ ∙ eq-eqb c q (sym e))) tt))
-  ]
-  passes (Some e) there others q p = elim (cases_Bool (c == q)) [
-    | inl same ↦
-        let is : c ≡ q = eqb-true c q same in
-        let other : (e.0 == q) ≡ false = false_unless (e.0 == q) (λ f. there.0 (eqb-true e.0 q f ∙ sym is)) in
-        rw (same, other) (subst (λ (x : ℕ). (nat_le (from x) p && nat_lt p (to x)) ≡ (nat_le (from c) p && nat_lt p (from c + 1))) is (ap (λ (n : ℕ). nat_le (from c) p && nat_lt p n) one))
-    | inr differ ↦ elim (cases_Bool (e.0 == q)) [
-      | inl moved ↦
-          rw (differ, moved)
-          (subst (λ (x : ℕ). (nat_le (from x) p && nat_lt p (to x)) ≡ ((nat_le (from e.0) p && nat_lt p e.1) || false)) (eqb-true e.0 q moved)
-          (ap (λ (n : ℕ). nat_le (from e.0) p && nat_lt p n) there.1 ∙ sym (or_false _)))
-      | inr none ↦
-          rw (differ, none) (none_between (to q) (from q) p (others q (λ f. false≢true (sym differ ∙ eq-eqb c q (sym f))) (λ f. false≢true (sym none ∙ eq-eqb e.0 q (sym f)))))
-    ]
-  ]
+  passes None there others q p = search (rules, eqb-true, none_between, false≢true, eq-eqb)
+  passes (Some e) there others q p = search (rules, eqb-true, false_unless, or_false, none_between, false≢true, eq-eqb)
 
 module _ (h : Header) (headed : IsHeader h) (k : Known) (ts : List Lent) (b : blocks.Block) (number_ : ℕ) (t : TraceRecord) (m : ℕ → ℕ) (next : IsNextRow h k ts (Read b) t m) (completes : kind b ≡ CommandCompletion) where
   abbrev k' : Known
@@ -57,15 +45,10 @@ module _ (h : Header) (headed : IsHeader h) (k : Known) (ts : List Lent) (b : bl
   not_without : command_ring h ≡ None → ⊥
   not_without none =
       let ring = command_is_ring h k keeps facts.started in
-      let clash : None ≡ Some ring.ring = sym (no_ring h headed none) ∙ ring.found in
-      cc
+      search (rules, no_ring)
 
   pub has_commands : is_some (command_ring h) ≡ true
-  has_commands = by (command_ring h) refl
-    where
-      by : (o : Option Ring) → command_ring h ≡ o → is_some o ≡ true
-      by None none = absurd (not_without none)
-      by (Some ring) there = refl
+  has_commands = search (rules, command_ring, not_without)
 
   pub some_commands : position (λ (r : Ring). is_command_kind r.shape.kind) h.rings ≡ None → ⊥
   some_commands none = not_without (no_command_ring h none)
@@ -102,8 +85,7 @@ module _ (h : Header) (headed : IsHeader h) (k : Known) (ts : List Lent) (b : bl
   next_is = refl
 
   floor_after : floor_number (k'.ring (command_id h)) ≡ floor_number (k.ring (command_id h)) + 1
-  floor_after =
-      ap (λ (f : ℕ → RingView). floor_number (f (command_id h))) (after_is.0 ∙ ap (λ (x : Known). x.ring) read_is) ∙ completed_floor ∙ ap (λ (x : ℕ). x + 1) next_is
+  floor_after = search (rules, command_id, after_is, read_is, completed_floor, next_is)
 
   module _ (moves : FloorsMove h k b) (q : Ring) (among : IsAmong q h.rings) (command : is_command_kind q.shape.kind ≡ true) (drives : IsIn q (driver_rings h)) where
     pub id : command_id h ≡ q.id
@@ -166,12 +148,7 @@ module _ (h : Header) (headed : IsHeader h) (k : Known) (ts : List Lent) (b : bl
 
     left_is : (l : Leased) → (is_behind h k n success o l || passed_one l) ≡ is_left (floors k) (floors k') (let_go h k (slot_left success o)) l
     left_is (Range a c u) = or_false _ ∙ ap (λ x. (is_among (range_of_command h n o) (Range a c u) || is_among (slot_ranges h k (slot_left success o)) (Range a c u)) || x) (past_range moved a c u) ∙ or_false _ ∙ gone_is (Range a c u)
-    left_is (Block r p) =
-        ap (λ x. (x || is_moved_past k moved (Block r p)) || passed_one (Block r p)) (gone_is (Block r p) ∙ false_unless _ (gone_are_ranges h k (slot_left success o) (Block r p)))
-        ∙ ap (λ x. x || passed_one (Block r p)) (past_block moved r p) ∙ sym (numbers r p)
-    left_is (Link r p) =
-        ap (λ x. (x || is_moved_past k moved (Link r p)) || passed_one (Link r p)) (gone_is (Link r p) ∙ false_unless _ (gone_are_ranges h k (slot_left success o) (Link r p)))
-        ∙ ap (λ x. x || passed_one (Link r p)) (past_link moved r p) ∙ sym (numbers r p)
+    left_is _ = search (rules, or_false, range_of_command, past_range, gone_is, false_unless, gone_are_ranges, past_block, numbers, past_link)
 
     completed_lent : grown h k (Read b) number_ ts ≡ map (ended_where (λ l. is_behind h k n success o l || passed_one l) number_) ts
     completed_lent =
@@ -233,10 +210,7 @@ module _ (h : Header) (headed : IsHeader h) (k : Known) (ts : List Lent) (b : bl
 
   pub slot_lent : (left : Option ℕ) → AreLent ts (slot_ranges h k left)
   slot_lent None l at = absurd at
-  slot_lent (Some s) l at = elim (in_either l (range_of_entry k s (k.device s)) (range_of_device h s (k.device s)) at) [
-    | inl entry ↦ entry_lent s (k.device s) l refl entry
-    | inr device ↦ device_lent s (k.device s) l refl device
-  ]
+  slot_lent (Some s) l at = search (rules, in_either, range_of_entry, range_of_device, entry_lent, device_lent)
 
   -- so the command's may end
   pub command_behind : FloorsMove h k b → (p : ℕ) (s : Bool) (c : Option Command) → p ≡ n → s ≡ success → c ≡ o →

@@ -1,6 +1,9 @@
 -- The leases of ranges that a completion lets go end, one after another
-use Rattle.std.proofs.Common.{◌≡◌, ◌∷◌, ◌++◌, ◌∙◌, ◌&&◌, ◌||◌, ◌==◌, ℕ, List, [], Bool, true, false, None, Some, Option, refl, ap, sym, subst, inl, inr, map}
-use Rattle.leases.proofs.LeaseRows.Words.{device_context_bytes, Command, DisableSlot, SetTrDequeue, position, RingKind, Cmd, Evt, Xfer, Spot, target, floor_number, Ring, IsHeader, is_driver_kind, is_transfer_kind, ring_with, shape_of, slot_apart, none_here, not_found, ring_found, IsAmong, EndpointRings, Header, Known, entry_of, Leased, Range, DeviceContext, SlotEntry, is_among, range_of_command, range_of_device, range_of_entry, same_leased, IsIn, both_ways, leased_is, leased_itself, RangeIndexes, Lent, ended_where, is_passed, slot_disabled, slot_left, slot_ranges, FindsRanges, is_lent, still_lent, all_twice, none_over, over_alike, some_end, and_false, or_false, HoldsAll, AreLent, MovesOn, is_behind, is_moved_past, moved_by, moved_on, moved_ring, moved_when, slot_let_go}
+use Rattle.leases.proofs.BaseWords.{◌≡◌, ◌∷◌, ◌++◌, ◌∙◌, ◌||◌, ◌==◌, ℕ, List, [], Bool, true, false, None, Some, Option, refl, ap, sym, subst, inl, map, device_context_bytes, Command, DisableSlot, SetTrDequeue, position, RingKind, Xfer, Spot, target, floor_number, Ring, IsHeader, is_driver_kind, is_transfer_kind, ring_with, shape_of, none_here, not_found, ring_found, IsAmong, EndpointRings, Header, Known, entry_of, Leased, Range, DeviceContext, SlotEntry, is_among, range_of_command, range_of_device, range_of_entry, same_leased, IsIn, both_ways, leased_is, leased_itself, RangeIndexes, Lent, ended_where, is_passed, slot_disabled, slot_left, slot_ranges, FindsRanges, is_lent, and_false, or_false, HoldsAll, AreLent, MovesOn, is_behind, is_moved_past, moved_by, moved_on, moved_ring, moved_when, slot_let_go, rules}
+use Rattle.leases.proofs.LeaseBooks.LettingGo.{slot_apart}
+use Rattle.leases.proofs.LeaseBooks.OpenLent.{still_lent}
+use Rattle.leases.proofs.LeaseBooks.Passing.{all_twice, none_over, over_alike}
+use Rattle.leases.proofs.LeaseBooks.RangePlaces.{some_end}
 
 turned : (l m : Leased) → same_leased l m ≡ same_leased m l
 turned l m =
@@ -44,9 +47,7 @@ lent_of ts ls l rest is lent = lent l (subst (λ ms. IsIn l ms) (sym is) (inl re
 -- the entry's lease ends, and the device context is still lent
 pub device_lent : (n : ℕ) (ts : List Lent) (ls : List Leased) (a e s m d z : ℕ) → ls ≡ Range a e (SlotEntry s) ∷ Range m d (DeviceContext z) ∷ [] → AreLent ts ls →
     is_lent (map (ended_where (same_leased (Range a e (SlotEntry s))) n) ts) (Range m d (DeviceContext z)) ≡ true
-device_lent n ts ls a e s m d z is lent =
-    still_lent (same_leased (Range a e (SlotEntry s))) n ts (Range m d (DeviceContext z)) (and_false (a == m && e == d))
-    (lent (Range m d (DeviceContext z)) (subst (λ ms. IsIn (Range m d (DeviceContext z)) ms) (sym is) (inr (inl refl))))
+device_lent n ts ls a e s m d z is lent = search (rules, still_lent, and_false)
 
 -- ---- the slot that a command disables
 
@@ -64,10 +65,7 @@ leaves_empty h k c s is none = ap (slot_let_go h k) is ∙ ap (λ o. range_of_en
 pub leaves_two : (h : Header) (k : Known) (c : Command) (s d entry bytes : ℕ) → c ≡ DisableSlot s → k.device s ≡ Some d → entry ≡ entry_of k s → bytes ≡ device_context_bytes h.context_size →
     slot_let_go h k c ≡ Range 8 entry (SlotEntry s) ∷ Range bytes d (DeviceContext s) ∷ []
 unfolding range_of_entry range_of_device
-leaves_two h k c s d entry bytes is some at same =
-    ap (slot_let_go h k) is ∙ ap (λ o. range_of_entry k s o ++ range_of_device h s o) some
-    ∙ ap (λ a. Range 8 a (SlotEntry s) ∷ Range (device_context_bytes h.context_size) d (DeviceContext s) ∷ []) (sym at)
-    ∙ ap (λ n. Range 8 entry (SlotEntry s) ∷ Range n d (DeviceContext s) ∷ []) (sym same)
+leaves_two h k c s d entry bytes is some at same = search (rules, range_of_entry, range_of_device, device_context_bytes)
 
 -- ---- the ring that a command moves
 
@@ -88,30 +86,21 @@ module _ {B : Type 0} {Holds : Header → List Lent → B → Type 0} (h : Heade
 
   pub some_past : (o : Option (ℕ × ℕ)) (r from to m : ℕ) → o ≡ Some (r, m) → from ≡ floor_number (k.ring r) → to ≡ m → HoldsAll Holds h (map (ended_where (is_passed r from to) n) ts) book x →
       HoldsAll Holds h (map (ended_where (is_moved_past k o) n) ts) book x
-  some_past o r from to m some same reached all =
-      subst (λ us. HoldsAll Holds h us book x)
-      (ap (λ (y : ℕ). map (ended_where (is_passed r y to) n) ts) same ∙ ap (λ (y : ℕ). map (ended_where (is_passed r (floor_number (k.ring r)) y) n) ts) reached
-      ∙ sym (ap (λ z. map (ended_where (is_moved_past k z) n) ts) some)) all
+  some_past o r from to m some same reached all = search rules
 
 -- the ring of an endpoint is one of the driver's
 pub transfer_drives : (kind : RingKind) → is_transfer_kind kind ≡ true → is_driver_kind kind ≡ true
 transfer_drives Xfer e = refl
-transfer_drives Cmd e = absurd (cc)
-transfer_drives Evt e = absurd (cc)
+transfer_drives _ e = absurd (cc)
 
 pub endpoint_named : (h : Header) (k : Known) → EndpointRings h k → (s i r : ℕ) → k.ring_of s i ≡ Some r → position (λ (q : Ring). q.id == r) h.rings ≡ None → ⊥
 endpoint_named h k rings s i r at none =
     let ring = rings s i r at in
     let nowhere : ring_with h r ≡ None = not_found (λ q. q.id == r) h.rings (none_here h (λ q. q.id == r) h.rings none refl) in
-    let clash : None ≡ Some ring.0 = sym nowhere ∙ ring.1 in
-    cc
+    search rules
 
 pub endpoint_driven : (h : Header) → IsHeader h → (k : Known) → EndpointRings h k → (s i r : ℕ) (q : Ring) → k.ring_of s i ≡ Some r → IsAmong q h.rings → q.id ≡ r → is_driver_kind q.shape.kind ≡ true
-endpoint_driven h headed k rings s i r q at among id =
-    let ring = rings s i r at in
-    let same : Some ring.0 ≡ Some q = sym ring.1 ∙ ap (ring_with h) (sym id) ∙ ring_found h headed q among in
-    let one : ring.0 ≡ q = cc in
-    transfer_drives q.shape.kind (ap (λ (y : Ring). is_transfer_kind y.shape.kind) (sym one) ∙ ring.2)
+endpoint_driven h headed k rings s i r q at among id = search (rules, ring_with, ring_found, transfer_drives, is_transfer_kind)
 
 -- ---- all that a command leaves behind
 
@@ -119,27 +108,20 @@ module _ {B : Type 0} {Holds : Header → List Lent → B → Type 0} where
   pub failed_behind : (h : Header) (k : Known) (n p : ℕ) (c : Command) (success : Bool) (ts : List Lent) (book : B) (x : RangeIndexes) → success ≡ false →
       HoldsAll Holds h (map (ended_where (is_among (range_of_command h p (Some c))) n) ts) book x → HoldsAll Holds h (map (ended_where (is_behind h k p success (Some c)) n) ts) book x
   failed_behind h k n p c true ts book x failed all = absurd (cc)
-  failed_behind h k n p c false ts book x failed all =
-      subst (λ us. HoldsAll Holds h us book x)
-      (over_alike (is_among (range_of_command h p (Some c))) (is_behind h k p false (Some c)) n ts
-      (λ l. sym (or_false _ ∙ ap (λ b. is_among (range_of_command h p (Some c)) l || b) (none_of l) ∙ or_false _))) all
+  failed_behind h k n p c false ts book x failed all = search (rules, over_alike, range_of_command, or_false, none_of)
 
 module _ {B : Type 0} {Holds : Header → List Lent → B → Type 0} where
   pub succeeded_behind : (h : Header) (k : Known) (n p : ℕ) (c : Command) (success : Bool) (ts : List Lent) (book : B) (x : RangeIndexes) → success ≡ true →
       HoldsAll Holds h (map (ended_where (is_moved_past k (moved_by h k c)) n) (map (ended_where (is_among (slot_let_go h k c)) n) (map (ended_where (is_among (range_of_command h p (Some c))) n) ts))) book x →
       HoldsAll Holds h (map (ended_where (is_behind h k p success (Some c)) n) ts) book x
   succeeded_behind h k n p c false ts book x succeeded all = absurd (cc)
-  succeeded_behind h k n p c true ts book x succeeded all =
-      subst (λ us. HoldsAll Holds h us book x)
-      (ap (map (ended_where (is_moved_past k (moved_by h k c)) n)) (all_twice (is_among (slot_let_go h k c)) (is_among (range_of_command h p (Some c))) n ts)
-      ∙ all_twice (is_moved_past k (moved_by h k c)) (λ l. is_among (range_of_command h p (Some c)) l || is_among (slot_let_go h k c) l) n ts) all
+  succeeded_behind h k n p c true ts book x succeeded all = search (rules, all_twice, range_of_command)
 
 -- when the input context's lease has ended those of the slot are still lent
 pub slot_still : (h : Header) (k : Known) (n p : ℕ) (c : Command) (success : Bool) (ts : List Lent) → success ≡ true → AreLent ts (slot_ranges h k (slot_left success (Some c))) →
     AreLent (map (ended_where (is_among (range_of_command h p (Some c))) n) ts) (slot_let_go h k c)
 slot_still h k n p c false ts succeeded lent l at = absurd (cc)
-slot_still h k n p c true ts succeeded lent l at =
-    still_lent (is_among (range_of_command h p (Some c))) n ts l (slot_apart h k (slot_disabled c) p (Some c) l at) (lent l at)
+slot_still h k n p c true ts succeeded lent l at = search (rules, still_lent, range_of_command, slot_apart)
 
 pub moves_when : (h : Header) (k : Known) (c : Command) (success : Bool) → success ≡ true → MovesOn k (moved_when h k success (Some c)) → MovesOn k (moved_by h k c)
 moves_when h k c true is on = on

@@ -1,9 +1,7 @@
 -- The completion of a command moves the ring of a Set TR Dequeue on, and no other but the command ring
-use Rattle.std.proofs.Common.{◌≡◌, ◌≢◌, ◌≤◌, ◌==◌, if◌then◌else◌, ◌∷◌, ◌∙◌, ℕ, Bool, true, false, List, [], map, Option, None, Some, refl, sym, ap, subst, eqb-true}
-use Rattle.leases.proofs.LeaseRows.Words.{cond-false, CommandCompletion, kind, code, slot, is_command_completion, Spot, number, after, RingView, Reaches, Holds, floor_number, target, target_ahead, added_endpoints, is_dropped, context_pointer, context_cycle, Command, NoOp, EnableSlot, DisableSlot, AddressDevice, ConfigureEndpoint, EvaluateContext, ResetEndpoint, StopEndpoint, SetTrDequeue, ResetDevice, Stopped, is_off, Change, SlotGoesOn, DeviceLeft, Disables, Places, Stops, Resets, changes, is_above_control, placed_by_context, Header, Read, IsHeader, shape_of, command_id, ring_having, Known, on_ring, command_at, next_command, set_to, bound_to, moved_to, moved, pointed, in_state, changed_by, changed_by_all, succeeded, stop_ended, finished, completed, event_read, learned, has_repeats, binds, binding_in, ring_bound, lenient, DriverKeeps, MayChangeAll, StillHolds, transfer_not_command, may_move, ring_elsewhere, may_change, still_of, address_ready, all_ready, dropped, map_map, view_after, FloorsMove, MovesOn, IsMovedTo, IsOtherRing, moved_on, moved_ring, moved_by, moved_when}
+use Rattle.leases.proofs.BaseWords.{◌≡◌, ◌≢◌, ◌≤◌, ◌==◌, if◌then◌else◌, ◌∷◌, ◌∙◌, ℕ, Bool, true, false, List, [], map, Option, None, Some, refl, sym, ap, subst, eqb-true, cond-false, CommandCompletion, kind, code, slot, is_command_completion, Spot, number, after, RingView, Reaches, floor_number, target, target_ahead, added_endpoints, is_dropped, context_pointer, context_cycle, Command, NoOp, EnableSlot, DisableSlot, AddressDevice, ConfigureEndpoint, EvaluateContext, ResetEndpoint, StopEndpoint, SetTrDequeue, ResetDevice, Stopped, is_off, Change, SlotGoesOn, DeviceLeft, Disables, Places, Stops, Resets, changes, is_above_control, placed_by_context, Header, Read, IsHeader, shape_of, command_id, ring_having, Known, on_ring, command_at, next_command, set_to, bound_to, moved_to, moved, pointed, in_state, changed_by, changed_by_all, succeeded, stop_ended, finished, completed, event_read, learned, has_repeats, binds, binding_in, ring_bound, lenient, DriverKeeps, MayChangeAll, StillHolds, transfer_not_command, may_move, ring_elsewhere, may_change, still_of, address_ready, all_ready, dropped, map_map, view_after, FloorsMove, MovesOn, IsMovedTo, IsOtherRing, moved_on, moved_ring, moved_by, moved_when, rings_of, rules}
 use Rattle.trb.specs.declared.block.Block.{Block}
 use Rattle.safety.proofs.DriverRows.{ring_here}
-use Rattle.safety.proofs.DriverRings.{rings_of}
 use Rattle.leases.proofs.LeaseRows.FloorsStay.{ChangesStay, FloorsStay, StaysHere, stay_none, changes_stay, each_stays, address_stays, hold_stays, ready_stays}
 
 -- the ring is moved to the number
@@ -37,9 +35,7 @@ module _ (h : Header) where
 
   set_there : (k : Known) (r : ℕ) (t : Spot) → floor_number ((set_to h k r t).ring r) ≡ number t
   unfolding set_to
-  set_there k r t =
-      let l : Known = on_ring h k r (Reaches t) in
-      ap (λ (v : RingView). floor_number v) (ring_here h l r (Holds (number t))) ∙ ap (λ (v : RingView). floor_number v) (ring_here h k r (Reaches t))
+  set_there k r t = search (rules, on_ring, ring_here, number)
 
   set_others : (k : Known) (r : ℕ) (t : Spot) (q : ℕ) → q ≢ r → floor_number ((set_to h k r t).ring q) ≡ floor_number (k.ring q)
   unfolding set_to
@@ -86,13 +82,7 @@ module _ (h : Header) where
         ((r : ℕ) (t : Spot) → is_off (k.endpoint_state s i) ≡ false → k.ring_of s i ≡ Some r → target (shape_of h r) (k.ring r) p cycle ≡ Some t → number t ≡ floor_number (k.ring r)) →
         ((r : ℕ) (t : Spot) → is_off (k.endpoint_state s i) ≡ true → ring_having h p ≡ Some r → target (shape_of h r) (k.ring r) p cycle ≡ Some t → number t ≡ floor_number (k.ring r)) →
         StaysHere h l s i p cycle
-    stays_behind l s i p cycle states ring_of rings here new = record {
-      binds = λ off r t at named.
-          new r t (sym (ap (λ f. is_off (f s i)) states) ∙ off) at (sym (ap (λ f. target (shape_of h r) (f r) p cycle) rings) ∙ named) ∙ sym (ap (λ f. floor_number (f r)) rings);
-      moves = λ on r t has named.
-          here r t (sym (ap (λ f. is_off (f s i)) states) ∙ on) (sym (ap (λ f. f s i) ring_of) ∙ has) (sym (ap (λ f. target (shape_of h r) (f r) p cycle) rings) ∙ named)
-          ∙ sym (ap (λ f. floor_number (f r)) rings);
-    }
+    stays_behind l s i p cycle states ring_of rings here new = search (rules, is_off, target, shape_of)
 
     no_repeats : (s a : ℕ) → StillHolds h k (ConfigureEndpoint s false a) → has_repeats (map (λ i. ring_having h (context_pointer h.context_size k.memory a i)) (added_endpoints k.memory a)) ≡ false
     unfolding binds binding_in ring_bound
@@ -122,8 +112,7 @@ module _ (h : Header) where
     succeeds n NoOp still may = stays NoOp [] tt
     succeeds n EnableSlot still may = stays EnableSlot (SlotGoesOn n ∷ []) (tt, tt)
     succeeds n (DisableSlot s) still may = stays (DisableSlot s) (SlotGoesOn s ∷ DeviceLeft s ∷ Disables s (λ i. true) ∷ []) (tt, (tt, (tt, tt)))
-    succeeds n (AddressDevice s bsr a) still may =
-        stays (AddressDevice s bsr a) (SlotGoesOn s ∷ placed_by_context h.context_size k.memory s a 1 ∷ []) (address_list s a bsr still)
+    succeeds n (AddressDevice s bsr a) still may = search (rules, stays, placed_by_context, address_list)
     succeeds n (ConfigureEndpoint s false a) still may =
         let c : Command = ConfigureEndpoint s false a in
         let added : List Change = map (placed_by_context h.context_size k.memory s a) (added_endpoints k.memory a) in
@@ -146,9 +135,7 @@ module _ (h : Header) where
     by_success : (success : Bool) (n : ℕ) (c : Command) → (success ≡ true → StillHolds h k c × MayChangeAll h c k (changes h.context_size k.memory n c)) →
         Goes h k (stop_ended h (if success then succeeded h k n c else k) c) (moved_when h k success (Some c))
     unfolding succeeded
-    by_success true n c ends =
-        let l : Known = changed_by_all h c k (changes h.context_size k.memory n c) in
-        goes_as k l (stop_ended h l c) (moved_by h k c) (stop_stays l c) (succeeds n c (ends refl).0 (ends refl).1)
+    by_success true n c ends = search (rules, changed_by_all, changes, goes_as, stop_ended, stop_stays, succeeds)
     by_success false n c ends = none_goes k (stop_ended h k c) (stop_stays k c)
 
     finish_goes : (b : Block) (o : Option Command) → ((c : Command) → o ≡ Some c → code b ≡ 1 → StillHolds h k c × MayChangeAll h c k (changes h.context_size k.memory (slot b) c)) →
@@ -177,17 +164,12 @@ module _ (h : Header) where
       rings_after = ap (λ x. (event_read h k x b).ring) completes
 
       after_same : (q : ℕ) → q ≢ command_id h → floor_number ((learned h k (Read b)).ring q) ≡ floor_number ((finished h k b o).ring q)
-      after_same q other =
-          ap (λ (f : ℕ → RingView). floor_number (f q)) rings_after ∙ beside (finished h k b o) (after (shape_of h (command_id h)) (next_command h k)) q other
+      after_same q other = search (rules, rings_after, beside, finished, after, shape_of, command_id, next_command)
 
       moves : FloorsMove h k b
       moves =
           let goes = finish_goes b o ends in
-          record {
-            on = goes.on;
-            there = moved_there (finished h k b o) (learned h k (Read b)) after_same (moved_when h k (code b == 1) o) goes.not_command goes.there;
-            others = λ q other not_moved. after_same q other ∙ goes.others q not_moved;
-          }
+          search (rules, moved_there, finished, learned, after_same, code)
 
 -- as the premise of a completion has it
 pub floors_move : (h : Header) → IsHeader h → (k : Known) → DriverKeeps h k → (b : Block) → lenient h k (Read b) ≡ [] → kind b ≡ CommandCompletion → FloorsMove h k b

@@ -1,10 +1,7 @@
 -- The changes that leave the number of each ring's floor as it is
-use Rattle.std.proofs.Common.{◌≡◌, ◌∷◌, ◌∙◌, ℕ, Bool, true, false, List, [], map, All, Option, None, Some, arith, refl, sym, ap, subst, get_or}
-use Rattle.leases.proofs.LeaseRows.Words.{list_any, cond_both, or_parts, false≢true, same_Some, All-head, All-tail, Spot, number, Reaches, Holds, floor_number, ceiling, target, floor_given, given_count_declared, context_pointer, context_cycle, Command, AddressDevice, Stopped, is_off, Change, SlotGoesOn, DeviceLeft, Disables, Places, Stops, Resets, placed_by_context, Header, IsHeader, shape_of, is_ring, ring_having, Known, on_ring, set_to, bound_to, moved_to, moved, pointed, disabled, in_state, held_at_ceiling, changed_by, changed_by_all, has_repeats, DriverKeeps, StillHolds, ring_shape, transfer_driver, Ready, ReadyAt, ring_at, ready_next, view_after, each_fails, any_of_map}
-use Rattle.segments.proofs.Named.{ceiling_within}
-use Rattle.safety.proofs.RingIds.{having_transfer, transfer_driver as transfer_is_driver}
+use Rattle.leases.proofs.BaseWords.{◌≡◌, ◌∷◌, ◌∙◌, ℕ, Bool, true, false, List, [], map, All, Option, None, Some, arith, refl, sym, ap, get_or, list_any, or_parts, false≢true, same_Some, All-head, All-tail, Spot, number, Reaches, Holds, floor_number, ceiling, target, floor_given, given_count_declared, context_pointer, context_cycle, Command, AddressDevice, is_off, Change, SlotGoesOn, DeviceLeft, Disables, Places, Stops, Resets, placed_by_context, Header, IsHeader, shape_of, is_ring, ring_having, Known, on_ring, set_to, bound_to, moved_to, moved, pointed, disabled, in_state, held_at_ceiling, changed_by, changed_by_all, has_repeats, DriverKeeps, StillHolds, ring_shape, transfer_driver, Ready, ReadyAt, ring_at, ready_next, view_after, each_fails, any_of_map, ceiling_within, having_transfer, target_here, target_placed, rules}
+use Rattle.safety.proofs.RingIds.{transfer_driver as transfer_is_driver}
 use Rattle.safety.proofs.RingsOfHeader.{shape_allowed}
-use Rattle.safety.proofs.StandingTargets.{target_here, target_placed}
 use Rattle.ownership_rules.specs.Moves.{is_among}
 
 -- ---- what leaves the floors' numbers
@@ -45,8 +42,7 @@ module _ (h : Header) where
 
   set_stays : (k : Known) (r : ℕ) (t : Spot) → number t ≡ floor_number (k.ring r) → FloorsStay k (set_to h k r t)
   unfolding set_to
-  set_stays k r t here =
-      let l : Known = on_ring h k r (Reaches t) in stay_twice k l (on_ring h l r (Holds (number t))) (reach_stays k r t here) (hold_stays l r (number t))
+  set_stays k r t here = search (rules, on_ring, stay_twice, number, reach_stays, hold_stays)
 
   target_stays : (k : Known) (r : ℕ) (o : Option Spot) → ((t : Spot) → o ≡ Some t → number t ≡ floor_number (k.ring r)) → FloorsStay k (moved_to h k r o)
   unfolding moved_to
@@ -67,9 +63,7 @@ module _ (h : Header) where
 
   pointed_stays : (k : Known) (s i p : ℕ) (cycle : Bool) → StaysHere k s i p cycle → FloorsStay k (pointed h k s i p cycle)
   unfolding pointed
-  pointed_stays k s i p cycle stays =
-      cond_both (is_off (k.endpoint_state s i)) (bound_to h k s i (ring_having h p) p cycle) (moved h k (k.ring_of s i) p cycle) (FloorsStay k)
-      (λ off. bound_stays k s i (ring_having h p) p cycle (stays.binds off)) (λ on. moved_stays k (k.ring_of s i) p cycle (stays.moves on))
+  pointed_stays k s i p cycle stays = search (rules, is_off, bound_to, ring_having, moved, bound_stays, moved_stays)
 
   held_stays : (k : Known) (o : Option ℕ) → FloorsStay k (held_at_ceiling h k o)
   unfolding held_at_ceiling
@@ -79,11 +73,7 @@ module _ (h : Header) where
   change_stays : (c : Command) (k : Known) (change : Change) → ChangeStays k change → FloorsStay k (changed_by h c k change)
   unfolding changed_by disabled in_state
   change_stays c k (SlotGoesOn s) stays = λ r. refl
-  change_stays c k (DeviceLeft s) stays = λ r. refl
-  change_stays c k (Disables s which) stays = λ r. refl
-  change_stays c k (Places s i p cycle state) stays = pointed_stays k s i p cycle stays
-  change_stays c k (Stops s i) stays = held_stays (in_state h k s i Stopped) (k.ring_of s i)
-  change_stays c k (Resets s i) stays = λ r. refl
+  change_stays c k _ stays = search (rules, pointed_stays, held_stays, in_state)
 
   pub changes_stay : (c : Command) (k : Known) (all : List Change) → ChangesStay c k all → FloorsStay k (changed_by_all h c k all)
   unfolding changed_by_all
@@ -100,8 +90,7 @@ module _ (h : Header) where
       let low = floor_given (shape_of h b.ring) allowed memory (l.ring b.ring) b.keeps in
       let high = given_count_declared (shape_of h b.ring) allowed memory (l.ring b.ring) b.keeps in
       let within = ceiling_within (shape_of h b.ring) allowed memory (l.ring b.ring) b.keeps in
-      subst (λ n. target (shape_of h n) (l.ring n) p cycle ≡ Some t → number t ≡ floor_number (l.ring n)) (same_Some b.ring r (sym b.named ∙ at))
-      (target_placed (shape_of h b.ring) (l.ring b.ring) p cycle t within.0 (omega (arith, low, high)) b.placed) named
+      search (rules, target, shape_of, number, same_Some, target_placed)
 
   -- ---- Configure Endpoint: each endpoint that is added is off
 
@@ -115,8 +104,7 @@ module _ (h : Header) where
       let r : ℕ = here.ring in
       let parts = or_parts (is_among (map (ring_at h is memory a) rest) (ring_at h is memory a i)) (has_repeats (map (ring_at h is memory a) rest)) apart in
       let none : list_any (is_ring r) (map (ring_at h is memory a) rest) ≡ false = sym (ap (is_among (map (ring_at h is memory a) rest)) here.named) ∙ parts.0 in
-      let others : All (λ j. is_ring r (ring_at h is memory a j) ≡ false) rest =
-      each_fails (λ j. is_ring r (ring_at h is memory a j)) rest (sym (any_of_map (is_ring r) (ring_at h is memory a) rest) ∙ none) in
+      let others : All (λ j. is_ring r (ring_at h is memory a j) ≡ false) rest = search (rules, each_fails, is_ring, ring_at, any_of_map) in
       let change : Change = placed_by_context h.context_size memory s a i in (
         record {
           binds = λ off q t at named. ready_stays is l memory s i (context_pointer h.context_size memory a i) (context_cycle h.context_size memory a i) here q t at named;

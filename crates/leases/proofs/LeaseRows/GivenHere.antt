@@ -1,20 +1,11 @@
 -- What a write gives, by the ring that has the word
-use Rattle.std.proofs.Common.{◌≡◌, ◌%◌, ◌++◌, ◌∙◌, ℕ, [], true, false, Option, Some, None, refl, ap, sym, inl, inr, map, append-nil}
-use Rattle.leases.proofs.LeaseRows.Words.{false≢true, RingKind, Cmd, Evt, Xfer, is_inside, touches, positions_given, crossings_given, due_positions, touches-word, Ring, Header, IsHeader, command_id, command_ring, driver_rings, is_command_kind, is_driver_kind, is_event_kind, shape_of, shape_or, Known, given_of, given_by, false_unless, IsAmong, Apart, same_or_apart, all_from_one, nothing_from, shape_allowed, shape_there, together, command_found}
-use Rattle.ring_knowledge.specs.Rings.{Position, Crossing}
-use Rattle.trace_record.proofs.RingFinder.CommandRings.{command_id_is, commands_among, driven, no_ring}
-use Rattle.leases.proofs.LeaseRows.WordsApart.{gives_no_position, gives_no_crossing}
-
-no_driver_event : (kind : RingKind) → is_driver_kind kind ≡ true → is_event_kind kind ≡ true → ⊥
-no_driver_event Cmd d e = absurd (cc)
-no_driver_event Evt d e = absurd (cc)
-no_driver_event Xfer d e = absurd (cc)
+use Rattle.leases.proofs.BaseWords.{◌≡◌, ◌%◌, ◌++◌, ◌∙◌, ℕ, [], true, false, Option, Some, None, refl, ap, sym, inl, inr, map, append-nil, false≢true, Xfer, is_inside, touches, positions_given, crossings_given, due_positions, Ring, Header, IsHeader, command_id, command_ring, driver_rings, is_command_kind, is_driver_kind, is_event_kind, shape_of, shape_or, Known, given_of, given_by, false_unless, IsAmong, Apart, same_or_apart, all_from_one, nothing_from, shape_allowed, shape_there, together, command_found, Position, Crossing, command_id_is, commands_among, driven}
+use Rattle.trace_record.proofs.RingFinder.CommandRings.{no_ring}
+use Rattle.trace_record.proofs.WordsInside.{gives_no_position, gives_no_crossing}
+use Rattle.trace_record.proofs.OneRingHas.{inside_is, no_driver_event}
 
 module _ (h : Header) (headed : IsHeader h) where
   module _ (k : Known) (a : ℕ) (aligned : a % 4 ≡ 0) (w : ℕ) where
-    inside_is : (q : Ring) → IsAmong q h.rings → touches q.shape a 4 ≡ is_inside q.shape a
-    inside_is q among = touches-word q.shape (shape_allowed h headed q among) a aligned
-
     given_here : (q : Ring) → IsAmong q h.rings → given_of h k a w q.id ≡ map (Position q.id) (positions_given q.shape (k.ring q.id) a w) ++ map (Crossing q.id) (crossings_given q.shape (k.ring q.id) a w)
     unfolding given_of
     given_here q among =
@@ -48,19 +39,19 @@ module _ (h : Header) (headed : IsHeader h) where
       commanded_nowhere = no_commands (λ c there. let found = commands_among h c there in outside c found.0 (driven c.shape.kind found.1))
 
     pub not_touched : ((q : Ring) → IsAmong q h.rings → touches q.shape a 4 ≡ false) → (q : Ring) → IsAmong q h.rings → is_driver_kind q.shape.kind ≡ true → is_inside q.shape a ≡ false
-    not_touched none q among driver = sym (inside_is q among) ∙ none q among
+    not_touched none q among driver = sym (inside_is h headed k a aligned q among) ∙ none q among
 
     -- the event ring has it
     pub in_events : (e : Ring) → IsAmong e h.rings → is_event_kind e.shape.kind ≡ true → touches e.shape a 4 ≡ true → (q : Ring) → IsAmong q h.rings → is_driver_kind q.shape.kind ≡ true → is_inside q.shape a ≡ false
     in_events e among event has q there driver = elim (same_or_apart h.rings (together h headed) e q among there) [
       | inl same ↦ absurd (no_driver_event q.shape.kind driver (ap (λ (y : Ring). is_event_kind y.shape.kind) same ∙ event))
-      | inr apart ↦ false_unless (is_inside q.shape a) (λ inside. apart.memory a (sym (inside_is e among) ∙ has) inside)
+      | inr apart ↦ false_unless (is_inside q.shape a) (λ inside. apart.memory a (sym (inside_is h headed k a aligned e among) ∙ has) inside)
     ]
 
     -- a command or transfer ring has it
     module _ (r : Ring) (among : IsAmong r h.rings) (driver : is_driver_kind r.shape.kind ≡ true) (has : touches r.shape a 4 ≡ true) where
       others : (q : Ring) → IsAmong q h.rings → Apart r q → is_inside q.shape a ≡ false
-      others q there apart = false_unless (is_inside q.shape a) (λ e. apart.memory a (sym (inside_is r among) ∙ has) e)
+      others q there apart = false_unless (is_inside q.shape a) (λ e. apart.memory a (sym (inside_is h headed k a aligned r among) ∙ has) e)
 
       pub given_by_one : given_by h k a w ≡ map (Position r.id) (positions_given r.shape (k.ring r.id) a w) ++ map (Crossing r.id) (crossings_given r.shape (k.ring r.id) a w)
       unfolding given_by driver_rings

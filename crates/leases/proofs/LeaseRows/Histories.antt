@@ -1,6 +1,6 @@
 -- A row behind a clean history of a trace's rows is the next row of what is known and lent behind them
-use Rattle.std.proofs.Common.{◌∷◌, ℕ, List, arith, subst}
-use Rattle.leases.proofs.LeaseRows.Words.{Row, Header, IsHeader, known, lents, grown, clean_tests, driver_keeps, in_step, Lent, RangeIndexes, TraceRecord, FollowsBook, HoldsAll, IsCleanRow, IsNextRow}
+use Rattle.leases.proofs.BaseWords.{◌∷◌, ℕ, List, arith, subst, Row, Header, IsHeader, known, lents, grown, clean_tests, driver_keeps, Lent, RangeIndexes, TraceRecord, FollowsBook, HoldsAll, IsCleanRow, IsNextRow}
+use Rattle.leases.proofs.LeaseBooks.OpenLent.{in_step}
 use Rattle.leases.proofs.LeaseRows.EntriesFit.{entries_fit}
 
 module _ (h : Header) (headed : IsHeader h) (first : ℕ) (past : List Row) (row : Row) (number : ℕ) (t : TraceRecord) (m : ℕ → ℕ) (clean : IsCleanRow h first past row number t m) where

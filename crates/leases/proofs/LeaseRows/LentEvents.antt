@@ -1,6 +1,5 @@
 -- What the leases of a completion rest on, behind a clean history
-use Rattle.std.proofs.Common.{◌≡◌, ℕ, List}
-use Rattle.leases.proofs.LeaseRows.Words.{kind, CommandCompletion, Read, Header, IsHeader, TraceRecord, EntriesFit, FloorsMove, Known, Lent, IsNextRow}
+use Rattle.leases.proofs.BaseWords.{◌≡◌, ℕ, List, kind, CommandCompletion, Read, Header, IsHeader, TraceRecord, EntriesFit, FloorsMove, Known, Lent, IsNextRow}
 use Rattle.trb.specs.declared.block.Block.{Block}
 use Rattle.leases.proofs.LeaseRows.FloorsMove.{floors_move}
 

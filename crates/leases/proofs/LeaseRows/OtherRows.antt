@@ -1,6 +1,11 @@
 -- What is lent after a clean declaration, doorbell or register write
-use Rattle.std.proofs.Common.{◌≡◌, ◌+◌, ◌<◌, ◌∷◌, ◌≢◌, ◌⊎◌, ◌||◌, ℕ, List, [], Bool, true, false, None, Some, Option, Result, Ok, Err, refl, ap, sym, inl, inr, subst, length, OnOk, is_some, nat_le, nat_lt, le-leb, lt-ltb}
-use Rattle.leases.proofs.LeaseRows.Words.{and_from, Trb, table_bytes, place_count, due_positions, floor_number, Ring, Header, Row, Sub, Write, Reg, Bell, Read, Register, Usbcmd, Usbsts, Dnctrl, Crcr, Dcbaap, Config, Iman, Imod, Erstsz, Erstba, Erdp, IsHeader, command_id, driver_rings, event_shape, is_driver_kind, shape_of, base_address, Known, learned, is_bad_register, is_written, Range, SegmentTable, is_among, open_leases, IsIn, from_filter, in_filter, DriverKeeps, register_facts, due_has_ring, Lent, with_begun, FindsRanges, RangeIndexes, from_range, others_begin, nothing_new, bell_same, reg_same, sub_same, lent_table, AreShaped, shape_there, IsAmong, TraceRecord, HoldsAll, IsOtherRow, IsNextRow, AreOpen, grown}
+use Rattle.leases.proofs.BaseWords.{◌≡◌, ◌+◌, ◌<◌, ◌∷◌, ◌≢◌, ◌⊎◌, ℕ, List, [], true, false, None, Result, Ok, Err, refl, ap, sym, inl, inr, subst, length, OnOk, nat_le, nat_lt, le-leb, lt-ltb, and_from, Trb, table_bytes, place_count, due_positions, floor_number, Ring, Header, Row, Sub, Write, Reg, Bell, Read, Register, Dcbaap, Erstba, IsHeader, command_id, driver_rings, event_shape, is_driver_kind, shape_of, base_address, Known, learned, is_bad_register, is_written, Range, SegmentTable, is_among, open_leases, IsIn, from_filter, in_filter, DriverKeeps, register_facts, due_has_ring, Lent, with_begun, FindsRanges, RangeIndexes, shape_there, IsAmong, TraceRecord, HoldsAll, IsOtherRow, IsNextRow, AreOpen, grown, rules}
+use Rattle.leases.proofs.LeaseBooks.Members.{from_range}
+use Rattle.leases.proofs.LeaseBooks.RangePlaces.{others_begin}
+use Rattle.leases.proofs.LeaseBooks.Rows.{nothing_new}
+use Rattle.leases.proofs.LeaseBooks.SameLeases.{bell_same, reg_same, sub_same}
+use Rattle.leases.proofs.LeaseBooks.TableAlone.{lent_table}
+use Rattle.leases.proofs.LeaseBooks.Writing.{AreShaped}
 use Rattle.ring_knowledge.specs.Rings as rings
 
 -- from what an answer promises to what follows
@@ -33,12 +38,7 @@ are_shaped h headed = λ q at. shape_there h headed q (from_drivers h q at).0
 
 unwritten_before : (h : Header) (k : Known) (v : ℕ) → is_bad_register h k Erstba v ≡ false → k.register Erstba ≡ None
 unfolding is_bad_register is_written
-unwritten_before h k v fine = by k.started (k.register Erstba) _ _ _ fine
-  where
-    by : (s : Bool) (o : Option ℕ) (a b c : Bool) → (s || is_some o || a || b || c) ≡ false → o ≡ None
-    by true o a b c e = absurd (cc)
-    by false None a b c e = refl
-    by false (Some x) a b c e = absurd (cc)
+unwritten_before h k v fine = search rules
 
 -- DCBAAP isn't written once a slot may have a device context
 no_device : (h : Header) (k : Known) (v : ℕ) → DriverKeeps h k → is_bad_register h k Dcbaap v ≡ false → (s : ℕ) → k.device s ≡ None
@@ -47,16 +47,7 @@ no_device h k v d fine s = d.states.no_device s ((d.unstarted fine).slots s)
 
 array_rests : (h : Header) (k : Known) (r : Register) (v : ℕ) → DriverKeeps h k → is_bad_register h k r v ≡ false → (r ≢ Dcbaap) ⊎ ((s : ℕ) → k.device s ≡ None)
 array_rests h k Dcbaap v d fine = inr (no_device h k v d fine)
-array_rests h k Usbcmd v d fine = inl (λ e. cc)
-array_rests h k Usbsts v d fine = inl (λ e. cc)
-array_rests h k Dnctrl v d fine = inl (λ e. cc)
-array_rests h k Crcr v d fine = inl (λ e. cc)
-array_rests h k Config v d fine = inl (λ e. cc)
-array_rests h k Iman v d fine = inl (λ e. cc)
-array_rests h k Imod v d fine = inl (λ e. cc)
-array_rests h k Erstsz v d fine = inl (λ e. cc)
-array_rests h k Erstba v d fine = inl (λ e. cc)
-array_rests h k Erdp v d fine = inl (λ e. cc)
+array_rests h k _ v d fine = inl (λ e. cc)
 
 -- a command that was given is declared
 declared_given : (h : Header) → IsHeader h → (k : Known) → DriverKeeps h k → (p : ℕ) → IsIn p (rings.unfinished_positions h k) → p < length (k.ring (command_id h)).queue
@@ -98,22 +89,13 @@ module _ (h : Header) (headed : IsHeader h) (k : Known) (ts : List Lent) where
 
     pub table_begins : {B : Type 0} (Holds : Header → List Lent → B → Type 0) (r : Register) (v bytes : ℕ) (book : B) (x : RangeIndexes) → r ≡ Erstba → bytes ≡ table_bytes (event_shape h) → IsNextRow h k ts (Reg r v) t m →
         Holds h (with_begun number ts (Range bytes (base_address v) SegmentTable ∷ [])) book → FindsRanges h ts x → HoldsAll Holds h (grown h k (Reg r v) number ts) book x
-    table_begins Holds r v bytes book x is same next held found =
-        let table : IsNextRow h k ts (Reg Erstba v) t m = subst (λ (q : Register). IsNextRow h k ts (Reg q v) t m) is next in
-        let there : Holds h (with_begun number ts (Range (table_bytes (event_shape h)) (base_address v) SegmentTable ∷ [])) book =
-        subst (λ (n : ℕ). Holds h (with_begun number ts (Range n (base_address v) SegmentTable ∷ [])) book) same held in
-        let after : HoldsAll Holds h (with_begun number ts (Range (table_bytes (event_shape h)) (base_address v) SegmentTable ∷ [])) book x =
-        record { held = there; found = others_begin h x number (Range (table_bytes (event_shape h)) (base_address v) SegmentTable) ts (λ g y i. tt) found } in
-        subst (λ (q : Register). HoldsAll Holds h (grown h k (Reg q v) number ts) book x) (sym is) (subst (λ (ts : List Lent). HoldsAll Holds h ts book x) (sym (table_lent v table)) after)
+    table_begins Holds r v bytes book x is same next held found = search (rules, others_begin, table_lent)
 
     -- rows but those of registers
     pub other_held : {B : Type 0} {Holds : Header → List Lent → B → Type 0} (book : B) (x : RangeIndexes) (row : Row) → IsOtherRow row → ((r : Register) (v : ℕ) → row ≡ Reg r v → ⊥) → IsNextRow h k ts row t m →
         HoldsAll Holds h ts book x → HoldsAll Holds h (grown h k row number ts) book x
-    other_held book x (Sub r blocks) other none next held = held_still book x (Sub r blocks) number (lent_sub r blocks next) held
     other_held book x (Write a w) other none next held = absurd other
-    other_held book x (Reg r v) other none next held = absurd (none r v refl)
-    other_held book x (Bell s i) other none next held = held_still book x (Bell s i) number (lent_bell s i next) held
-    other_held book x (Read b) other none next held = absurd other
+    other_held book x _ other none next held = search (rules, held_still, lent_sub, lent_bell)
 
 -- a row that is neither a write nor an event
 pub other_row : (row : Row) → ((a w : ℕ) → row ≡ Write a w → ⊥) → ((b : Trb) → row ≡ Read b → ⊥) → IsOtherRow row

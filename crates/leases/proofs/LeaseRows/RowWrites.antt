@@ -1,11 +1,15 @@
 -- What is lent after a clean write: what it gives comes under lease, at a free place, and the ranges that its command takes
-use Rattle.std.proofs.Common.{◌≡◌, ◌+◌, ◌<◌, ◌≤◌, ◌%◌, ◌^◌, ◌∷◌, ◌++◌, ◌∙◌, ◌==◌, ◌&&◌, ◌||◌, ℕ, List, [], Bool, true, false, None, Some, Option, refl, ap, sym, arith, inl, inr, subst, nat_le, nat_lt, length, not, map, max, option_and_then, slice_get, eqb-true, ltb-true, leb-true, get_or}
-use Rattle.leases.proofs.LeaseRows.Words.{cases_Bool, flat_map, and_parts, or_cases, nat_tests, slice_get_read, put, ContextSize, Bytes32, Bytes64, device_context_bytes, input_context_bytes, Command, named_context, is_crossing, is_inside, place_count, touches, crossings_given, due_crossings, due_positions, floor_number, gives, gives_crossing, is_crossing_due, positions_given, link_of, Ring, Header, Write, IsHeader, command_id, is_command_kind, is_driver_kind, is_event_kind, shape_of, RingGiving, Position, Crossing, RingRecord, FollowsRing, crossings_of, least_crossing, positions_of, Known, command_given, entry_of, taken_device, noted_past, Leased, Block, Link, Range, InputContext, SlotEntry, DeviceContext, range_of_command, range_of_context, as_lease, comes_before, IsIn, from_filter, DriverKeeps, area_parts, written_devices, taking, rules_of, written_device, Lent, in_turn, is_place_free, precedes, with_begun, with_leased, is_use_free, NoneAhead, link_free, block_free, context_free, device_free, entry_free, MayTake, device_taken, entry_taken, lent_commands, from_range, lease_given, command_found, ring_here, shape_allowed, shape_there, and_false, IsAmong, among_at, same_number, TraceRecord, RowPlace, FollowsTrace, IsGivenBy, IsPlacedSo, EntryFits, SlotIsFree, command_taken, slot_taken, IsNextRow, grown}
-use Rattle.std.proofs.lemmas.Option.{slice_get_cases, slice_get_within}
+use Rattle.leases.proofs.BaseWords.{◌≡◌, ◌+◌, ◌<◌, ◌≤◌, ◌%◌, ◌^◌, ◌∷◌, ◌++◌, ◌∙◌, ◌&&◌, ℕ, List, [], Bool, true, false, None, Some, Option, refl, ap, sym, arith, inl, inr, subst, nat_lt, length, not, map, max, option_and_then, slice_get, eqb-true, ltb-true, leb-true, get_or, cases_Bool, flat_map, and_parts, or_cases, nat_tests, slice_get_read, put, ContextSize, Bytes32, Bytes64, device_context_bytes, input_context_bytes, Command, named_context, is_crossing, is_inside, place_count, touches, crossings_given, due_crossings, due_positions, floor_number, gives, gives_crossing, is_crossing_due, positions_given, link_of, Ring, Header, Write, IsHeader, command_id, is_command_kind, is_driver_kind, is_event_kind, shape_of, RingGiving, RingRecord, FollowsRing, crossings_of, positions_of, Known, command_given, entry_of, taken_device, noted_past, Leased, Block, Link, Range, InputContext, SlotEntry, DeviceContext, range_of_command, range_of_context, as_lease, comes_before, IsIn, from_filter, DriverKeeps, area_parts, written_devices, taking, rules_of, written_device, Lent, in_turn, is_place_free, precedes, with_begun, with_leased, is_use_free, command_found, ring_here, shape_allowed, shape_there, and_false, IsAmong, among_at, same_number, TraceRecord, RowPlace, FollowsTrace, IsGivenBy, IsPlacedSo, EntryFits, SlotIsFree, command_taken, slot_taken, IsNextRow, grown, slice_get_cases, slice_get_within, command_id_is, rules}
+use Rattle.ring_knowledge.specs.declared.ring_record.RingGiving.TheVariants.{Position, Crossing}
+use Rattle.leases.proofs.LeaseBooks.FreeLinks.{NoneAhead, link_free}
+use Rattle.leases.proofs.LeaseBooks.FreePlaces.{block_free}
+use Rattle.leases.proofs.LeaseBooks.FreeRanges.{context_free, device_free, entry_free}
+use Rattle.leases.proofs.LeaseBooks.GivingCommands.{MayTake, device_taken, entry_taken, lent_commands}
+use Rattle.leases.proofs.LeaseBooks.Members.{from_range}
+use Rattle.leases.proofs.LeaseBooks.Writing.{lease_given}
 use Rattle.ring_knowledge.specs.Rings as rings
 use Rattle.leases.proofs.LeaseRows.OtherRows.{among_drivers, are_shaped}
 use Rattle.leases.proofs.LeaseRows.TransferRows.{driver_there}
-use Rattle.trace_record.proofs.RingFinder.CommandRings.{command_id_is}
 use Rattle.leases.proofs.LeaseRows.GivenHere.{commanded_elsewhere, commanded_here, commanded_nowhere, given_by_one, given_nowhere}
 use Rattle.leases.proofs.LeaseRows.TakenRanges.{begun_none, still_free}
 
@@ -15,11 +19,7 @@ absent_if false e = refl
 
 -- a lap ahead of the least crossing none is given
 pub none_ahead : (q : Ring) (k : Known) (r : RingRecord) → FollowsRing q.shape (k.ring q.id) r → NoneAhead q.shape (k.ring q.id)
-none_ahead q k r f m far =
-    let v = k.ring q.id in
-    let here : Bool = is_crossing q.shape m in
-    let past = noted_past (least_crossing v) (place_count q.shape) r.crossed.items (link_of q.shape m) m far in
-    ap (λ b. here && b) (f.marks.crossed m ∙ ap (λ b. here && b) past ∙ and_false here) ∙ and_false here
+none_ahead q k r f m far = search (rules, is_crossing, noted_past, link_of, and_false)
 
 -- ---- the order of leases that begin at one row: a block, and then ranges by their bytes
 
@@ -47,10 +47,8 @@ one_in_turn r p = refl
 command_in_turn : (h : Header) (k : Known) (r p : ℕ) (c : Option ℕ) (o : Option (ℕ × ℕ)) →
     in_turn (Block r p ∷ ((range_of_context h p c ++ []) ++ entry_taken k o ++ device_taken h o)) ≡ Block r p ∷ (slot_taken h k o ++ range_of_context h p c)
 unfolding range_of_context
-command_in_turn h k r p (Some a) (Some e) = four_in_turn h.context_size r p a (entry_of k e.0) e.1 e.0
-command_in_turn h k r p None (Some e) = three_in_turn h.context_size r p (entry_of k e.0) e.1 e.0
-command_in_turn h k r p (Some a) None = two_in_turn r p (input_context_bytes h.context_size) a
 command_in_turn h k r p None None = one_in_turn r p
+command_in_turn h k r p _ _ = search (rules, four_in_turn, entry_of, three_in_turn, two_in_turn, input_context_bytes, one_in_turn)
 
 put_there : (f : ℕ → Option ℕ) (s : ℕ) (o : Option ℕ) → put f s o s ≡ o
 put_there f s o = rw (same_number s) refl
@@ -108,19 +106,11 @@ module _ (h : Header) (headed : IsHeader h) (k : Known) (ts : List Lent) (a w nu
     module _ (q : Ring) (among : IsAmong q h.rings) (driver : is_driver_kind q.shape.kind ≡ true) (has : touches q.shape a 4 ≡ true) (giving : Option RingGiving)
         (positions : positions_given q.shape (k.ring q.id) a w ≡ positions_of giving) (crossings : crossings_given q.shape (k.ring q.id) a w ≡ crossings_of giving) where
       given_is : (g : Option RingGiving) → giving ≡ g → rings.given_by h k a w ≡ map (rings.Position q.id) (positions_of g) ++ map (rings.Crossing q.id) (crossings_of g)
-      given_is g is =
-          given_by_one h headed k a aligned w q among driver has
-          ∙ ap (λ ps. map (rings.Position q.id) ps ++ map (rings.Crossing q.id) (crossings_given q.shape (k.ring q.id) a w)) positions
-          ∙ ap (λ qs. map (rings.Position q.id) (positions_of giving) ++ map (rings.Crossing q.id) qs) crossings
-          ∙ ap (λ x. map (rings.Position q.id) (positions_of x) ++ map (rings.Crossing q.id) (crossings_of x)) is
+      given_is g is = search (rules, given_by_one, crossings_given, positions_of, crossings_of)
 
       -- of the command ring nothing is given where that is another, or where no position is given
       commanded_none : positions_of giving ≡ [] → positions_given (shape_of h (command_id h)) (k.ring (command_id h)) a w ≡ []
-      commanded_none none = by (is_command_kind q.shape.kind) refl
-        where
-          by : (b : Bool) → is_command_kind q.shape.kind ≡ b → positions_given (shape_of h (command_id h)) (k.ring (command_id h)) a w ≡ []
-          by true is = commanded_here h headed k a aligned w q among driver has is ∙ positions ∙ none
-          by false is = commanded_elsewhere h headed k a aligned w q among driver has is
+      commanded_none none = search (rules, is_command_kind, positions_given, shape_of, command_id, commanded_here, commanded_elsewhere)
 
       pub lent_none : giving ≡ None → grown h k (Write a w) number ts ≡ ts
       lent_none is = nothing_begun (given_is None is) (commanded_none (ap positions_of is))
@@ -168,10 +158,7 @@ module _ (h : Header) (headed : IsHeader h) (k : Known) (ts : List Lent) (a w nu
 
           slot_free : (o : Option (ℕ × ℕ)) → MayTake k o → SlotIsFree h (with_begun number ts (Block q.id p ∷ [])) o
           slot_free None may = tt
-          slot_free (Some e) may = (
-            still_free h number ts (SlotEntry e.0) (Block q.id p) refl (entry_free h k ts next.step.opened e.0 may.0),
-            still_free h number ts (DeviceContext e.0) (Block q.id p) refl (device_free h k ts next.step.opened e.0 may.0),
-          )
+          slot_free (Some e) may = search (rules, still_free, entry_free, device_free)
 
           pub command_slot_free : (c : Command) → rings.command_at h k p ≡ Some c → SlotIsFree h (with_begun number ts (Block q.id p ∷ [])) (taken_device k c)
           command_slot_free c at = slot_free (taken_device k c) (may_take (taken_device k c) (taken_is c at))
@@ -182,10 +169,7 @@ module _ (h : Header) (headed : IsHeader h) (k : Known) (ts : List Lent) (a w nu
         none_elsewhere other = ap (λ ps. option_and_then (rings.command_at h k) (slice_get ps 0)) (commanded_elsewhere h headed k a aligned w q among driver has other)
 
         pub given_kind : (c : Command) → command_given h k a w ≡ Some c → is_command_kind q.shape.kind ≡ true
-        given_kind c some = elim (cases_Bool (is_command_kind q.shape.kind)) [
-          | inl command ↦ command
-          | inr other ↦ let clash : None ≡ Some c = sym (none_elsewhere other) ∙ some in absurd (cc)
-        ]
+        given_kind c some = search (rules, is_command_kind, none_elsewhere)
 
         pub given_there_is : is_command_kind q.shape.kind ≡ true → (o : Option Command) → command_given h k a w ≡ o → rings.command_at h k p ≡ o
         given_there_is command o said = sym (command_is command (rings.command_at h k p) refl) ∙ said
@@ -203,22 +187,13 @@ module _ (h : Header) (headed : IsHeader h) (k : Known) (ts : List Lent) (a w nu
             let v = k.ring q.id in
             let at : IsIn p (positions_given q.shape v a w) = subst (λ ps. IsIn p ps) (sym (positions ∙ ap positions_of is)) (inl refl) in
             let found = from_filter (λ m. not (v.given m) && gives q.shape v.floor m a w) (due_positions q.shape v) p at in
-            let within = from_range (floor_number v) (place_count q.shape) p found.0 in
-            (within.0, within.1, absent_if (v.given p) (and_parts (not (v.given p)) _ found.1).0)
+            search (rules, from_range, absent_if, and_parts)
 
         pub place_free : is_place_free h ts (Block q.id p) ≡ true
-        place_free =
-            block_free h (are_shaped h headed) k ts next.step.opened q (among_drivers h q among driver) p (omega (arith, due_now.0, due_now.1)) due_now.0 due_now.1 due_now.2
+        place_free = search (rules, block_free, are_shaped, among_drivers, due_now)
 
         pub command_context_free : is_command_kind q.shape.kind ≡ true → is_use_free h (with_begun number ts (Block q.id p ∷ [])) (InputContext p) ≡ true
-        command_context_free command =
-            let id = is_there command in
-            let shape = shape_is command in
-            let count : place_count (shape_of h (command_id h)) ≡ place_count q.shape = ap (λ s. place_count s) shape in
-            let floor : floor_number (k.ring (command_id h)) ≡ floor_number (k.ring q.id) = ap (λ (i : ℕ). floor_number (k.ring i)) id in
-            still_free h number ts (InputContext p) (Block q.id p) refl
-            (context_free h k ts next.step.opened p (omega (arith, due_now.0, due_now.1, count)) (omega (arith, due_now.0, floor)) (omega (arith, due_now.1, floor, count))
-            (ap (λ (i : ℕ). (k.ring i).given p) id ∙ due_now.2))
+        command_context_free command = search (rules, is_there, shape_is, shape_of, command_id, still_free, context_free, due_now)
 
       module _ (r : RingRecord) (f : FollowsRing q.shape (k.ring q.id) r) (c : ℕ) (is : giving ≡ Some (Crossing c)) where
         given_there : (not ((k.ring q.id).crossed c) ≡ true) × (gives_crossing q.shape (k.ring q.id).floor c a w ≡ true)
@@ -233,18 +208,7 @@ module _ (h : Header) (headed : IsHeader h) (k : Known) (ts : List Lent) (a w nu
         due = (and_parts _ _ (and_parts (is_crossing_due q.shape (k.ring q.id).floor c && _) _ given_there.1).0).0
 
         parts : (is_crossing q.shape c ≡ true) × (floor_number (k.ring q.id) ≤ c) × (c < max (floor_number (k.ring q.id)) 1 + place_count q.shape)
-        parts =
-            let n : ℕ = floor_number (k.ring q.id) in
-            let count : ℕ = place_count q.shape in
-            let outer = and_parts (is_crossing q.shape c && nat_le n c) (nat_lt c (n + count) || (c == count && n == 0)) due in
-            let inner = and_parts (is_crossing q.shape c) (nat_le n c) outer.0 in (
-              inner.0,
-              leb-true n c inner.1,
-              elim (or_cases (nat_lt c (n + count)) (c == count && n == 0) outer.1) [
-                | inl below ↦ let low : c < n + count = ltb-true c (n + count) below in omega (arith, low)
-                | inr last ↦ let same : c ≡ count = eqb-true c count (and_parts (c == count) (n == 0) last).0 in omega (arith, same)
-              ],
-            )
+        parts = search (rules, and_parts, is_crossing, due, leb-true, or_cases, ltb-true, eqb-true)
 
         pub crosses : is_crossing q.shape c ≡ true
         crosses = parts.0

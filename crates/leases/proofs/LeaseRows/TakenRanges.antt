@@ -1,6 +1,6 @@
 -- The ranges that a command takes, one after another
-use Rattle.std.proofs.Common.{◌≡◌, ◌+◌, ◌/◌, ◌%◌, ◌^◌, ◌∷◌, ◌++◌, ◌∙◌, ◌↔◌, ◌*◌, ◌&&◌, ◌||◌, ℕ, List, [], Bool, true, false, None, Some, Option, Ok, Err, Result, refl, ap, sym, subst, append_assoc, arith, not, is_some, append-nil}
-use Rattle.leases.proofs.LeaseRows.Words.{result_ok, list_any, Fault, device_context_bytes, input_context_bytes, slot_entry, long_at, Dcbaap, register_or_zero, Command, AddressDevice, named_context, Header, Known, device_named, entry_of, no_device, taken_device, Leased, Range, Use, InputContext, SlotEntry, DeviceContext, range_of_command, range_of_context, without_end, RangeIndexes, Lent, begun_at, is_unended, with_begun, is_use_free, shares_use, map_append, and_false, any_append, or_false, HoldsAll, slot_taken}
+use Rattle.leases.proofs.BaseWords.{◌≡◌, ◌%◌, ◌∷◌, ◌++◌, ◌∙◌, ◌↔◌, ℕ, List, [], Bool, true, false, None, Some, Option, Ok, Err, Result, refl, ap, sym, subst, append_assoc, not, is_some, append-nil, result_ok, Fault, device_context_bytes, input_context_bytes, long_at, register_or_zero, Command, AddressDevice, named_context, Header, Known, device_named, entry_of, no_device, taken_device, Leased, Range, Use, InputContext, SlotEntry, DeviceContext, range_of_command, range_of_context, RangeIndexes, Lent, begun_at, with_begun, is_use_free, shares_use, and_false, any_append, or_false, HoldsAll, slot_taken, rules}
+use Rattle.leases.proofs.LeaseBooks.Growing.{map_append}
 
 -- what a block says that was read
 pub read_is : (o : Option Command) (r : Result Command Fault) → ((c : Command) → (r ≡ Ok c) ↔ (o ≡ Some c)) → result_ok r ≡ o
@@ -27,12 +27,7 @@ none_of false e = refl
 -- what begins shares no index with the range of another use
 pub still_free : (h : Header) (n : ℕ) (ts : List Lent) (e : Use) (l : Leased) → shares_use h e l ≡ false → is_use_free h ts e ≡ true → is_use_free h (with_begun n ts (l ∷ [])) e ≡ true
 unfolding is_use_free with_begun begun_at
-still_free h n ts e l apart free =
-    let test : Lent → Bool = λ t. is_unended t && shares_use h e t.leased in
-    let fresh : Lent = record { leased = l; from = n; to = without_end } in
-    ap not (any_append test ts (fresh ∷ [])
-    ∙ ap (λ b. b || (test fresh || false)) (none_of (list_any test ts) free)
-    ∙ or_false (test fresh) ∙ ap (λ b. is_unended fresh && b) apart ∙ and_false (is_unended fresh))
+still_free h n ts e l apart free = search (rules, any_append, none_of, or_false, and_false)
 
 module _ {B : Type 0} {Holds : Header → List Lent → B → Type 0} (h : Header) (n : ℕ) (book : B) (x : RangeIndexes) where
   pub all_more : (ts : List Lent) (xs ys : List Leased) → HoldsAll Holds h (with_begun n (with_begun n ts xs) ys) book x → HoldsAll Holds h (with_begun n ts (xs ++ ys)) book x
@@ -81,10 +76,7 @@ takes_one k c s bsr n is none = ap (taken_device k) is ∙ has_none (k.device s)
 
 pub slot_is : (h : Header) (k : Known) (o : Option (ℕ × ℕ)) (s entry d bytes : ℕ) → o ≡ Some (s, d) → entry ≡ entry_of k s → bytes ≡ device_context_bytes h.context_size →
     slot_taken h k o ≡ (Range 8 entry (SlotEntry s) ∷ []) ++ (Range bytes d (DeviceContext s) ∷ [])
-slot_is h k o s entry d bytes some at same =
-    ap (slot_taken h k) some
-    ∙ ap (λ a. Range 8 a (SlotEntry s) ∷ Range (device_context_bytes h.context_size) d (DeviceContext s) ∷ []) (sym at)
-    ∙ ap (λ n. Range 8 entry (SlotEntry s) ∷ Range n d (DeviceContext s) ∷ []) (sym same)
+slot_is h k o s entry d bytes some at same = search (rules, device_context_bytes)
 
 pub none_taken : {B : Type 0} {Holds : Header → List Lent → B → Type 0} (h : Header) (n : ℕ) (book : B) (x : RangeIndexes) (k : Known) (ts : List Lent) (o : Option (ℕ × ℕ)) → o ≡ None → HoldsAll Holds h ts book x → HoldsAll Holds h (with_begun n ts (slot_taken h k o)) book x
 none_taken h n book x k ts o none all = none_more h n book x ts (slot_taken h k o) (ap (slot_taken h k) none) all
@@ -92,18 +84,12 @@ none_taken h n book x k ts o none all = none_more h n book x ts (slot_taken h k 
 -- an entry lies on words
 pub entry_aligned : (k : Known) (s : ℕ) → entry_of k s % 4 ≡ 0
 unfolding entry_of
-entry_aligned k s = by (register_or_zero k.register Dcbaap)
-  where
-    by : (array : ℕ) → (array / 64 * 64 + 8 * s) % 4 ≡ 0
-    by array = omega arith
+entry_aligned k s = search (rules, register_or_zero)
 
 -- the device context that an entry names
 pub named_at : (k : Known) (s : ℕ) (memory : ℕ → ℕ) (entry : ℕ) → ((a : ℕ) → k.memory a ≡ memory a) → entry ≡ entry_of k s → long_at memory entry ≡ device_named k s
 unfolding device_named entry_of
-named_at k s memory entry words at =
-    ap (long_at memory) at
-    ∙ ap (λ (x : ℕ). x + 2 ^ 32 * memory (slot_entry (register_or_zero k.register Dcbaap) s + 4)) (sym (words (slot_entry (register_or_zero k.register Dcbaap) s)))
-    ∙ ap (λ (x : ℕ). k.memory (slot_entry (register_or_zero k.register Dcbaap) s) + 2 ^ 32 * x) (sym (words (slot_entry (register_or_zero k.register Dcbaap) s + 4)))
+named_at k s memory entry words at = search (rules, register_or_zero)
 
 -- the ranges of a slot share no index with an input context
 pub still_free_slot : (h : Header) (k : Known) (n : ℕ) (ts : List Lent) (p : ℕ) (o : Option (ℕ × ℕ)) → is_use_free h ts (InputContext p) ≡ true → is_use_free h (with_begun n ts (slot_taken h k o)) (InputContext p) ≡ true

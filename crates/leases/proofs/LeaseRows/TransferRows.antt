@@ -1,20 +1,15 @@
 -- What is lent after an event but a completion: a Transfer Event ends the leases of what its ring passes
-use Rattle.std.proofs.Common.{◌≡◌, ◌≢◌, ◌+◌, ◌≤◌, ◌∙◌, ◌&&◌, ◌||◌, ◌==◌, if◌then◌else◌, ℕ, List, true, false, None, Some, Option, refl, ap, sym, arith, inl, inr, subst, map}
-use Rattle.leases.proofs.LeaseRows.Words.{position, option_map, cond_both, and_parts, BlockKind, TransferEvent, CommandCompletion, code, endpoint, kind, pointer, slot, is_transfer_event, is_halting, is_stopping, is_success, is_trb_error, Spot, Shape, is_crossing, number, named, RingKeeps, floor_number, named_ahead, Ring, Header, Read, IsHeader, driver_rings, is_driver_kind, ring_with, shape_of, Known, event_read, learned, RingSpot, event_at, spot_on, transfer_read, transferred_at, is_among, open_leases, IsIn, DriverKeeps, IsDriverRing, IsTransferRing, transfer_driver, transfer_not_command, come_to, Lent, ended_where, is_passed, RangeIndexes, IsWithinLap, nothing_new, command_same, entries_kept, open_same, transfer_lent, none_here, not_found, ring_found, shape_there, false_unless, IsAmong, TraceRecord, HoldsAll, IsNextRow, grown}
+use Rattle.leases.proofs.BaseWords.{◌≡◌, ◌≢◌, ◌+◌, ◌≤◌, ◌∙◌, ◌&&◌, ◌==◌, ℕ, List, true, false, None, Some, Option, refl, ap, sym, arith, inl, inr, subst, map, position, option_map, and_parts, BlockKind, TransferEvent, CommandCompletion, code, endpoint, kind, pointer, slot, is_transfer_event, is_stopping, is_success, Spot, Shape, is_crossing, number, named, RingKeeps, floor_number, named_ahead, Ring, Header, Read, IsHeader, driver_rings, is_driver_kind, ring_with, shape_of, Known, event_read, learned, RingSpot, event_at, spot_on, transfer_read, transferred_at, is_among, open_leases, IsIn, DriverKeeps, IsDriverRing, IsTransferRing, transfer_driver, transfer_not_command, come_to, Lent, ended_where, is_passed, RangeIndexes, none_here, not_found, ring_found, shape_there, false_unless, IsAmong, TraceRecord, HoldsAll, IsNextRow, grown, rules}
+use Rattle.leases.proofs.LeaseBooks.PassedLeases.{IsWithinLap}
+use Rattle.leases.proofs.LeaseBooks.Rows.{nothing_new}
+use Rattle.leases.proofs.LeaseBooks.SameLeases.{command_same, entries_kept, open_same}
+use Rattle.leases.proofs.LeaseBooks.Transferring.{transfer_lent}
 use Rattle.trb.specs.declared.block.Block as blocks
 use Rattle.leases.proofs.LeaseRows.OtherRows.{from_drivers}
 
 -- one event more was read
 counted_same : (h : Header) (k : Known) → open_leases h (record k { reads = k.reads + 1 }) ≡ open_leases h k
-counted_same h k =
-    let k' : Known = record k { reads = k.reads + 1 } in
-    open_same h k k' (record {
-      each = λ r. record { given = refl; free = refl; crossed = refl; floor = refl };
-      commands = λ p at. command_same h k k' refl p;
-      table = refl;
-      devices = refl;
-      entries = entries_kept h k k' refl (inl refl);
-    })
+counted_same h k = search (rules, open_same, command_same, entries_kept)
 
 -- the ring of the driver with its ID
 pub driver_there : (h : Header) → IsHeader h → (q : Ring) → IsIn q (driver_rings h) → IsDriverRing h q.id
@@ -36,9 +31,7 @@ lap_now h headed k d q at =
 -- to come on is to come not back
 pub comes_on : (c : ℕ) (t : Spot) (floor : ℕ) → floor ≤ number t → floor ≤ come_to c t floor
 unfolding come_to
-comes_on c t floor ahead =
-    cond_both (is_success c || is_halting c || is_trb_error c) (number t + 1) (if is_stopping c then number t else floor) (λ n. floor ≤ n) (λ e. omega (arith, ahead))
-    (λ e. cond_both (is_stopping c) (number t) floor (λ n. floor ≤ n) (λ f. ahead) (λ f. omega arith))
+comes_on c t floor ahead = search (rules, is_success, number, is_stopping)
 
 is_transfer : (n : BlockKind) → is_transfer_event n ≡ true → n ≡ TransferEvent
 is_transfer TransferEvent e = refl
@@ -61,8 +54,7 @@ pub ring_of_header : (h : Header) (k : Known) → DriverKeeps h k → (s i r : �
 ring_of_header h k d s i r at none =
     let transfer = d.states.transfer s i r at in
     let nowhere : ring_with h r ≡ None = not_found (λ q. q.id == r) h.rings (none_here h (λ q. q.id == r) h.rings none refl) in
-    let clash : None ≡ Some transfer.ring = sym nowhere ∙ transfer.found in
-    cc
+    search rules
 
 module _ (h : Header) (headed : IsHeader h) (k : Known) (ts : List Lent) (b : blocks.Block) (number_ : ℕ) (t : TraceRecord) (m : ℕ → ℕ) (next : IsNextRow h k ts (Read b) t m) where
   pub keeps : DriverKeeps h k
@@ -76,8 +68,7 @@ module _ (h : Header) (headed : IsHeader h) (k : Known) (ts : List Lent) (b : bl
   others : (n : BlockKind) → is_transfer_event n ≡ false → n ≢ CommandCompletion → event_read h k n b ≡ k
   unfolding event_read
   others TransferEvent e f = absurd (cc)
-  others CommandCompletion e f = absurd (f refl)
-  others _ e f = refl
+  others _ e f = search rules
 
   pub other_lent : is_transfer_event (kind b) ≡ false → kind b ≢ CommandCompletion → grown h k (Read b) number_ ts ≡ ts
   other_lent e f = quiet (others (kind b) e f)
@@ -101,10 +92,7 @@ module _ (h : Header) (headed : IsHeader h) (k : Known) (ts : List Lent) (b : bl
     ring_keeps = subst (λ (s : Shape). RingKeeps s k.memory (k.ring q.id)) (shape_there h headed q among) (keeps.rings q.id (transfer_driver h q.id transfer))
 
     pub driver_kind : is_driver_kind q.shape.kind ≡ true
-    driver_kind =
-        let found = transfer_driver h q.id transfer in
-        let same : Some found.ring ≡ Some q = sym found.found ∙ ring_found h headed q among in
-        ap (λ (x : Ring). is_driver_kind x.shape.kind) (sym (let e : found.ring ≡ q = cc in e)) ∙ found.kind
+    driver_kind = search (rules, transfer_driver, transfer, ring_found, is_driver_kind, kind)
 
     named_here : (o : Option Spot) → named q.shape (k.ring q.id) (pointer b) ≡ o → named (shape_of h q.id) (k.ring q.id) (pointer b) ≡ o
     named_here o is = ap (λ s. named s (k.ring q.id) (pointer b)) (shape_there h headed q among) ∙ is
@@ -128,8 +116,4 @@ module _ (h : Header) (headed : IsHeader h) (k : Known) (ts : List Lent) (b : bl
       module _ {B : Type 0} {Holds : Header → List Lent → B → Type 0} where
         pub transfer_ends : (book : B) (x : RangeIndexes) (from to : ℕ) → from ≡ floor_number (k.ring q.id) → to ≡ come_to (code b) spot (floor_number (k.ring q.id)) →
             HoldsAll Holds h (map (ended_where (is_passed q.id from to) number_) ts) book x → HoldsAll Holds h (grown h k (Read b) number_ ts) book x
-        transfer_ends book x from to same reached all =
-            subst (λ (us : List Lent). HoldsAll Holds h us book x)
-            (ap (λ (n : ℕ). map (ended_where (is_passed q.id n to) number_) ts) same
-            ∙ ap (λ (n : ℕ). map (ended_where (is_passed q.id (floor_number (k.ring q.id)) n) number_) ts) reached
-            ∙ sym passed_lent) all
+        transfer_ends book x from to same reached all = search (rules, passed_lent)

@@ -1,24 +1,6 @@
 -- Worked examples of leases of rings that come and go, and of descriptors that are withdrawn
-use Rattle.std.specs.Prelude.{◌≡◌, ℕ, List, [], ◌∷◌, nat_lt, refl}
-use Rattle.guest_memory.specs.Memory.{put}
+use Rattle.leases.proofs.BaseWords.{◌≡◌, ℕ, List, [], ◌∷◌, nat_lt, refl, put, Xfer, Bytes32, Restores, Withdraws, new_ring, Three, Header, Write, TraceRow, Comes, Goes, Plain, Known, nothing, on_ring, as_lease, comes_before, without_end, rules_on_literals, Block, Link, open_leases, Lent, begun_at, ended_where, in_turn, is_unended, passed_on, precedes, with_begun, with_leased, forgotten, with_ring, without_ring, restored_on, ring_moved, ring_restored, open_now, ring_lents}
 use Rattle.trb.specs.declared.block.Block.{Block as Trb}
-use Rattle.trb.specs.declared.ring_kind.RingKind.TheVariants.{Xfer}
-use Rattle.contexts.specs.declared.size.ContextSize.TheVariants.{Bytes32}
-use Rattle.segments.specs.RingView.{Restores, Withdraws, new_ring}
-use Rattle.traces.specs.declared.version.Version.TheVariants.{Three}
-use Rattle.traces.specs.declared.header.Header.{Header}
-use Rattle.traces.specs.declared.row.Row.TheVariants.{Write}
-use Rattle.traces.specs.declared.trace_row.TraceRow.{TraceRow}
-use Rattle.traces.specs.declared.trace_row.TraceRow.TheVariants.{Comes, Goes, Plain}
-use Rattle.ring_knowledge.specs.Known.{Known, nothing}
-use Rattle.ring_knowledge.specs.Rings.{on_ring}
-use Rattle.ownership_rules.specs.Leases.{as_lease, comes_before, without_end}
-use Rattle.ownership_rules.specs.OnLiterals.{rules_on_literals}
-use Rattle.ownership_rules.specs.OpenLeases.{Block, Link, open_leases}
-use Rattle.leases.specs.LeaseBooks.Lents.{Lent, begun_at, ended_where, in_turn, is_unended, passed_on, precedes, with_begun, with_leased}
-use Rattle.safety.specs.RingChanges.Changes.{forgotten, with_ring, without_ring}
-use Rattle.safety.specs.RingChanges.Withdrawals.{restored_on, ring_moved, ring_restored}
-use Rattle.leases.specs.RingLeases.RingLents.{open_now, ring_lents}
 
 abbrev no_rings : Header
 no_rings = record { version = Three; context_size = Bytes32; rings = [] }

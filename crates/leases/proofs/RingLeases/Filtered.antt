@@ -1,7 +1,5 @@
 -- Lists of what passes a test
-use Rattle.std.proofs.Common.{◌≡◌, ◌&&◌, ◌∷◌, Bool, List, [], filter, map, refl, ap, inl, inr}
-use Rattle.std.proofs.lemmas.Bool.{cases_Bool}
-use Rattle.ownership_rules.proofs.Among.{IsIn}
+use Rattle.leases.proofs.BaseWords.{◌≡◌, ◌&&◌, ◌∷◌, Bool, List, [], filter, map, refl, ap, inl, inr, cases_Bool, IsIn}
 
 pub filter_alike : {X : Type 0} (p q : X → Bool) (xs : List X) → ((x : X) → IsIn x xs → p x ≡ q x) → filter p xs ≡ filter q xs
 filter_alike p q [] same = refl

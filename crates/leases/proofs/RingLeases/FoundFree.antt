@@ -1,20 +1,7 @@
 -- The indexes of ranges find the same where leases of blocks end and begin
-use Rattle.std.proofs.Common.{◌≡◌, ◌+◌, ◌<◌, ◌≤◌, ◌∷◌, ◌∙◌, ℕ, true, List, [], Some, map, nat_lt, arith, refl, sym, subst, inl, inr}
-use Rattle.std.proofs.lemmas.Bool.{cases_Bool}
-use Rattle.std.proofs.lemmas.Bool.Decides.{nat_tests}
-use Rattle.safety.proofs.Words.{Header, IsHeader, Ring, Known, Write, command_id, is_transfer_kind, learned, on_ring, open_leases, ring_with}
-use Rattle.segments.specs.Descriptors.{length_from}
-use Rattle.segments.specs.RingView.{Restores, Withdraws}
-use Rattle.ownership_rules.specs.Leases.{without_end}
-use Rattle.ownership_rules.specs.OpenLeases.{Block}
-use Rattle.leases.specs.LeaseBooks.InStep.{AreOpen}
-use Rattle.leases.specs.LeaseBooks.Lents.{Lent, passed_on, with_begun}
-use Rattle.leases.specs.LeaseBooks.Ranges.{FindsRanges}
-use Rattle.leases.specs.declared.book.ranges.RangeIndexes.{RangeIndexes}
+use Rattle.leases.proofs.BaseWords.{◌≡◌, ◌+◌, ◌<◌, ◌≤◌, ◌∷◌, ◌∙◌, ℕ, true, List, [], Some, map, nat_lt, arith, refl, sym, subst, inl, inr, cases_Bool, nat_tests, Header, IsHeader, Ring, Known, Write, command_id, is_transfer_kind, learned, on_ring, open_leases, ring_with, length_from, Restores, Withdraws, without_end, Block, AreOpen, Lent, passed_on, with_begun, FindsRanges, RangeIndexes, restored, MovesRing}
 use Rattle.leases.proofs.LeaseBooks.RangePlaces.{others_begin, some_end}
-use Rattle.safety.specs.RingChanges.Withdrawals.{restored}
 use Rattle.leases.proofs.RingLeases.LentFree.{Restoring, is_between, none_begun, restored_lent, withdrawn_lent}
-use Rattle.leases.specs.RingLeases.Moving.{MovesRing}
 use Rattle.leases.proofs.RingLeases.MovingRings.{alone, at_end, first_restored, freed_given, freed_later, last_restored, opened_own, other, own_first, own_step, same_left}
 use Rattle.leases.proofs.RingLeases.TwoSteps.{begun_both}
 

@@ -1,14 +1,7 @@
 -- What is lent behind the rows by which descriptors are withdrawn and rings restored, of a history
-use Rattle.std.proofs.Common.{◌≡◌, ◌+◌, ◌∷◌, ◌∙◌, ℕ, List, None, Some, length, refl, ap}
-use Rattle.safety.proofs.Words.{Header, Known, Row, Bell, learned, on_ring, open_leases}
-use Rattle.segments.specs.RingView.{Restores, Withdraws}
-use Rattle.traces.specs.declared.trace_row.TraceRow.{TraceRow}
+use Rattle.leases.proofs.BaseWords.{◌≡◌, ◌+◌, ◌∷◌, ◌∙◌, ℕ, List, None, Some, length, refl, ap, Header, Known, Row, Bell, learned, on_ring, open_leases, Restores, Withdraws, TraceRow, Lent, grown, passed_on, header_now, known_now, restored, restored_on, ring_restored, ring_lents}
 use Rattle.traces.specs.declared.trace_row.TraceRow.TheVariants as rows
-use Rattle.leases.specs.LeaseBooks.Lents.{Lent, grown, passed_on}
 use Rattle.leases.proofs.LeaseBooks.SameLeases.{bell_same}
-use Rattle.safety.specs.RingChanges.Histories.{header_now, known_now}
-use Rattle.safety.specs.RingChanges.Withdrawals.{restored, restored_on, ring_restored}
-use Rattle.leases.specs.RingLeases.RingLents.{ring_lents}
 
 module _ (h : Header) (first : ℕ) (past : List TraceRow) where
   abbrev g : Header

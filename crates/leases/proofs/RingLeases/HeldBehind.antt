@@ -1,27 +1,11 @@
 -- A log of leases goes on with the rings that are there behind a ring that goes, and behind one that comes: what isn't over is of other rings
-use Rattle.std.proofs.Common.{◌≡◌, ◌≢◌, ◌%◌, ◌==◌, ◌∙◌, ℕ, false, not, List, refl, sym, ap, subst, inl, inr}
-use Rattle.std.proofs.lemmas.Bool.{and_parts, eqb-false, not-true}
-use Rattle.safety.proofs.Words.{Header, IsHeader, Ring, Known, DriverKeeps, IsIn, driver_rings, flat_map, from_filter, open_leases, open_on, open_ranges, place_count, command_id, shape_of, is_driver_kind}
-use Rattle.ownership_rules.proofs.Among.{among_is}
-use Rattle.ownership_rules.specs.OpenLeases.{Leased, Block, Link, Range, is_among}
-use Rattle.leases.specs.LeaseBooks.IndexTables.{index_in}
-use Rattle.leases.specs.LeaseBooks.InStep.{AreOpen}
-use Rattle.leases.specs.LeaseBooks.OtherShapes.{AreShapedAlike, IsShapedAlike}
-use Rattle.leases.specs.LeaseBooks.Ranges.{FindsRanges, IsRangeFound, IsUseFound}
-use Rattle.leases.specs.declared.book.ranges.RangeIndexes.{RangeIndexes}
-use Rattle.ownership_rules.specs.OpenLeases.{DeviceContext, EventSegment, InputContext, SegmentTable, SlotEntry, Use}
-use Rattle.segments.specs.ShapeValue.{Shape}
-use Rattle.leases.specs.LeaseBooks.Lents.{Lent}
+use Rattle.leases.proofs.BaseWords.{◌≡◌, ◌≢◌, ◌%◌, ◌==◌, ◌∙◌, ℕ, false, not, List, refl, sym, ap, subst, inl, inr, and_parts, eqb-false, not-true, Header, IsHeader, Ring, Known, DriverKeeps, IsIn, driver_rings, flat_map, from_filter, open_leases, open_on, open_ranges, place_count, command_id, shape_of, is_driver_kind, among_is, Leased, Block, Link, Range, is_among, index_in, AreOpen, AreShapedAlike, IsShapedAlike, FindsRanges, IsRangeFound, IsUseFound, RangeIndexes, DeviceContext, EventSegment, InputContext, SegmentTable, SlotEntry, Use, Shape, Lent, IsComing, forgotten, is_bad_free, is_bad_ring, with_ring, without_ring, none_found, bad_same, f_keeps, fresh, no_ring, is_of_ring, rules}
 use Rattle.leases.proofs.LeaseBooks.Members.{InOn, block, link, from_flat_map, in_either, in_on}
 use Rattle.leases.proofs.LeaseBooks.RangesAlone.{IsRange, open_are_ranges}
 use Rattle.leases.proofs.LeaseBooks.Rows.{IsOpen}
 use Rattle.leases.proofs.LeaseBooks.Unended.{all_anew}
-use Rattle.safety.specs.RingChanges.Changes.{IsComing, forgotten, is_bad_free, is_bad_ring, with_ring, without_ring}
-use Rattle.safety.proofs.RingChanges.ListedRings.{none_found}
-use Rattle.safety.proofs.RingChanges.RingRuns.{bad_same, f_keeps, fresh, no_ring}
 use Rattle.safety.proofs.RingChanges.GoneRings as gone
 use Rattle.safety.proofs.RingChanges.NewRings as new
-use Rattle.leases.specs.RingLeases.RingLents.{is_of_ring}
 use Rattle.leases.proofs.RingLeases.OpenBehind.{among_filtered, goes_open}
 
 module _ (h : Header) (is : IsHeader h) (k : Known) (d : DriverKeeps h k) (id : ℕ) (good : is_bad_free h k id ≡ false) where
@@ -41,8 +25,7 @@ module _ (h : Header) (is : IsHeader h) (k : Known) (d : DriverKeeps h k) (id : 
 
   -- with the ring left out the log goes on, where what isn't over is open behind it
   pub goes_alike : (ts : List Lent) → AreOpen (without_ring h id) (forgotten k id) ts → AreShapedAlike h (without_ring h id) ts
-  goes_alike ts opened =
-      all_anew (λ i l. IsOpen (open_leases (without_ring h id) (forgotten k id)) l) (λ i l. IsShapedAlike h (without_ring h id) l) 0 ts (λ i l is_open. open_alike l is_open) opened
+  goes_alike ts opened = search (rules, all_anew, open_leases, open_alike)
 
   -- the command ring has the same shape
   pub goes_commands : shape_of (without_ring h id) (command_id (without_ring h id)) ≡ shape_of h (command_id h)

@@ -1,23 +1,7 @@
 -- What is lent behind a ring that goes, and behind one that comes; behind plain rows it is as in a trace of these alone
-use Rattle.std.proofs.Common.{◌≡◌, ◌+◌, ◌≤◌, ◌∷◌, ◌∙◌, ℕ, false, not, List, [], length, map, arith, refl, ap}
-use Rattle.std.proofs.lemmas.List.{length-map}
-use Rattle.safety.proofs.Words.{Header, IsHeader, Ring, DriverKeeps, learned, open_leases}
-use Rattle.traces.specs.declared.row.Row.{Row}
-use Rattle.ring_knowledge.specs.Learned.{known}
-use Rattle.ownership_rules.specs.Leases.{without_end}
-use Rattle.ownership_rules.specs.OpenLeases.{is_among}
-use Rattle.leases.specs.LeaseBooks.Books.{AllUnended}
-use Rattle.leases.specs.LeaseBooks.Lents.{ended_where, grown, lents, passed_on}
-use Rattle.safety.proofs.NothingFree.{nothing_free}
+use Rattle.leases.proofs.BaseWords.{◌≡◌, ◌+◌, ◌≤◌, ◌∷◌, ◌∙◌, ℕ, false, not, List, [], length, map, arith, refl, ap, length-map, Header, IsHeader, Ring, DriverKeeps, learned, open_leases, Row, known, without_end, is_among, AllUnended, ended_where, grown, lents, passed_on, nothing_free, IsInStep, IsComing, is_bad_free, is_bad_ring, TraceRow, Plain, Comes, Goes, header_now, known_now, restored, is_of_ring, open_now, ring_lents}
 use Rattle.leases.proofs.LeaseBooks.Rows.{IsOpen, first_open, nothing_passed, only_passed, passed_open}
-use Rattle.leases.specs.LeaseBooks.InStep.{IsInStep}
 use Rattle.leases.proofs.LeaseBooks.OpenLent.{in_step_behind, in_step_first}
-use Rattle.safety.specs.RingChanges.Changes.{IsComing, is_bad_free, is_bad_ring}
-use Rattle.traces.specs.declared.trace_row.TraceRow.{TraceRow}
-use Rattle.traces.specs.declared.trace_row.TraceRow.TheVariants.{Plain, Comes, Goes}
-use Rattle.safety.specs.RingChanges.Histories.{header_now, known_now}
-use Rattle.safety.specs.RingChanges.Withdrawals.{restored}
-use Rattle.leases.specs.RingLeases.RingLents.{is_of_ring, open_now, ring_lents}
 use Rattle.leases.proofs.RingLeases.NothingRestored.{restored_same}
 use Rattle.leases.proofs.RingLeases.OpenBehind.{among_filtered, comes_open, goes_open}
 

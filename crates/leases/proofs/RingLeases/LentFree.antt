@@ -1,31 +1,10 @@
 -- What is lent where a descriptor is withdrawn, and where a ring is restored
-use Rattle.std.proofs.Common.{if◌then◌else◌, ◌≡◌, ◌≢◌, ◌+◌, ◌%◌, ◌<◌, ◌≤◌, ◌==◌, ◌&&◌, ◌||◌, ◌++◌, ◌∷◌, ◌∙◌, ℕ, zero, suc, Bool, true, false, not, nat_le, nat_lt, List, [], Some, filter, length, map, take, get_or, arith, refl, sym, ap, subst, inl, inr, append-nil, eqb-true}
-use Rattle.std.specs.List.{list_any, range_with_len}
-use Rattle.std.proofs.lemmas.Bool.{and_parts, false≢true, not-true}
-use Rattle.std.proofs.lemmas.Bool.Decides.{nat_tests}
-use Rattle.std.proofs.lemmas.List.{take_more}
-use Rattle.std.proofs.lemmas.List.Folds.{list_any-append}
-use Rattle.trb.specs.declared.ring_kind.RingKind.{RingKind}
-use Rattle.trb.specs.declared.ring_kind.RingKind.TheVariants.{Cmd, Evt, Xfer}
-use Rattle.safety.proofs.Words.{cases_Bool, IsIn, Header, IsHeader, Ring, Known, is_driver_kind, is_transfer_kind, ring_with, shape_of, command_id, driver_rings, on_ring, open_leases, place_count, floor_number, due_positions, from_filter, in_filter}
-use Rattle.safety.proofs.Headers.{transfer_not_command}
-use Rattle.segments.specs.Descriptors.{length_from}
-use Rattle.segments.specs.Givings.{unrestored}
-use Rattle.segments.specs.RingView.{Restores, Withdraws}
-use Rattle.ring_knowledge.proofs.DueNumbers.{same_due}
-use Rattle.ownership_rules.proofs.Among.{in_among}
-use Rattle.ownership_rules.specs.Leases.{as_lease, comes_before}
-use Rattle.ownership_rules.specs.OpenLeases.{Leased, Block, Link, Range, is_among, same_leased}
-use Rattle.leases.specs.LeaseBooks.InStep.{AreOpen}
-use Rattle.leases.specs.LeaseBooks.Lents.{Lent, begun_at, ended_where, in_turn, is_place_free, is_unended, passed_on, precedes, share_a_place, with_begun, with_leased}
+use Rattle.leases.proofs.BaseWords.{if◌then◌else◌, ◌≡◌, ◌≢◌, ◌+◌, ◌%◌, ◌<◌, ◌≤◌, ◌==◌, ◌&&◌, ◌||◌, ◌++◌, ◌∷◌, ◌∙◌, ℕ, zero, suc, Bool, true, false, not, nat_le, nat_lt, List, [], Some, filter, length, map, take, get_or, arith, refl, sym, ap, subst, inl, inr, append-nil, eqb-true, list_any, range_with_len, and_parts, false≢true, not-true, nat_tests, take_more, list_any-append, RingKind, Evt, cases_Bool, IsIn, Header, IsHeader, Ring, Known, is_driver_kind, is_transfer_kind, ring_with, shape_of, command_id, driver_rings, on_ring, open_leases, place_count, floor_number, due_positions, from_filter, in_filter, transfer_not_command, length_from, unrestored, Restores, Withdraws, same_due, in_among, as_lease, comes_before, Leased, Block, Link, Range, is_among, same_leased, AreOpen, Lent, begun_at, ended_where, in_turn, is_place_free, is_unended, passed_on, precedes, share_a_place, with_begun, with_leased, find_some, shape_there, IsAmong, is_freed, rules}
 use Rattle.leases.proofs.LeaseBooks.FreePlaces.{unlent_free}
 use Rattle.leases.proofs.LeaseBooks.Growing.{map_append}
 use Rattle.leases.proofs.LeaseBooks.Members.{from_range}
 use Rattle.leases.proofs.LeaseBooks.Passing.{all_twice, none_over, over_alike}
 use Rattle.leases.proofs.LeaseBooks.Rows.{only_passed}
-use Rattle.trace_record.proofs.RingFinder.HeaderRings.{find_some, shape_there}
-use Rattle.trace_record.proofs.RingFinder.RingsApart.{IsAmong}
-use Rattle.leases.specs.RingLeases.RingLents.{is_freed, is_withdrawn}
 use Rattle.leases.proofs.RingLeases.Filtered.{filter_alike}
 use Rattle.leases.proofs.RingLeases.OpenBehind.{among_filtered}
 use Rattle.leases.proofs.RingLeases.OpenFree.{freed_are, restored_open, withdrawn_open}
@@ -35,9 +14,8 @@ use Rattle.leases.proofs.RingLeases.WithinALap.{are_shaped}
 -- ---- a transfer ring of the header
 
 drives : (kind : RingKind) → is_transfer_kind kind ≡ true → is_driver_kind kind ≡ true
-drives Xfer e = refl
-drives Cmd e = refl
 drives Evt e = absurd (false≢true e)
+drives _ e = refl
 
 to_in : (q : Ring) (rs : List Ring) → IsAmong q rs → IsIn q rs
 to_in q [] at = absurd at
@@ -70,22 +48,18 @@ is_between r from to (Range n a e) = false
 
 none_between : (r from : ℕ) (l : Leased) → is_between r from from l ≡ false
 none_between r from (Block s q) = grind (arith, nat_tests)
-none_between r from (Link s q) = refl
-none_between r from (Range n a e) = refl
+none_between r from _ = refl
 
 one_between : (r from n : ℕ) (l : Leased) → from ≤ n → (is_between r from n l || same_leased (Block r n) l) ≡ is_between r from (n + 1) l
 one_between r from n (Block s q) least = grind (arith, nat_tests, least)
-one_between r from n (Link s q) least = refl
-one_between r from n (Range m a e) least = refl
+one_between r from n _ least = refl
 
 pub ends_none : (r from row : ℕ) (ts : List Lent) → map (ended_where (is_between r from from) row) ts ≡ ts
 ends_none r from row ts = none_over (is_between r from from) row ts (none_between r from)
 
 pub ends_one : (r from n row : ℕ) (ts : List Lent) → from ≤ n →
     map (ended_where (same_leased (Block r n)) row) (map (ended_where (is_between r from n) row) ts) ≡ map (ended_where (is_between r from (n + 1)) row) ts
-ends_one r from n row ts least =
-    all_twice (same_leased (Block r n)) (is_between r from n) row ts
-    ∙ over_alike (λ l. is_between r from n l || same_leased (Block r n) l) (is_between r from (n + 1)) row ts (λ l. one_between r from n l least)
+ends_one r from n row ts least = search (rules, all_twice, over_alike, one_between)
 
 module _ (h : Header) (headed : IsHeader h) (k : Known) (q : Ring) (found : ring_with h q.id ≡ Some q) (transfer : is_transfer_kind q.shape.kind ≡ true)
     (ts : List Lent) (opened : AreOpen h k ts) (row : ℕ) where
@@ -98,18 +72,7 @@ module _ (h : Header) (headed : IsHeader h) (k : Known) (q : Ring) (found : ring
   -- the leases of its blocks end, and nothing begins
   pub withdrawn_lent : (p n : ℕ) → n ≡ length_from (k.ring r).lengths 0 p →
       passed_on (open_leases h k) (open_leases h (on_ring h k r (Withdraws p))) row ts ≡ map (ended_where (is_between r p (p + n)) row) ts
-  withdrawn_lent p n many =
-      only_passed (open_leases h k) (open_leases h (on_ring h k r (Withdraws p))) row ts opened (is_between r p (p + n))
-      (λ l.
-      ap (λ ms. is_among ms l) (withdrawn_open h k r p other)
-      ∙ among_filtered (λ m. not (is_withdrawn r p (length_from (k.ring r).lengths 0 p) m)) (open_leases h k) l
-      ∙ (λ j. is_among (open_leases h k) l && not (is_withdrawn r p (sym many j) l))
-      ∙ ap (λ b. is_among (open_leases h k) l && not b) (same l))
-    where
-      same : (l : Leased) → is_withdrawn r p n l ≡ is_between r p (p + n) l
-      same (Block s x) = refl
-      same (Link s x) = refl
-      same (Range m a e) = refl
+  withdrawn_lent p n many = search (rules, only_passed, open_leases, on_ring, withdrawn_open, other, among_filtered, length_from)
 
 -- ---- a ring is restored
 
@@ -143,9 +106,8 @@ rising r f a (suc n) =
 
 -- those before an index are less
 in_get : (xs : List ℕ) (i : ℕ) → i < length xs → IsIn (get_or xs i 0) xs
-in_get [] i low = absurd (omega arith)
-in_get (x ∷ xs) zero low = inl refl
 in_get (x ∷ xs) (suc i) low = inr (in_get xs i (omega arith))
+in_get _ _ low = search rules
 
 less_before : (f : ℕ → Bool) (a n i : ℕ) → i < length (filter f (range_with_len a n)) → (u : ℕ) → IsIn u (take i (filter f (range_with_len a n))) → u < get_or (filter f (range_with_len a n)) i 0
 less_before f a zero i low u at = absurd (omega (arith, low))
@@ -224,10 +186,7 @@ module _ (h : Header) (k : Known) (ts : List Lent) (q : Ring) (ps : List ℕ) (x
 
     within : (u : ℕ) → IsIn u ps → (floor_number (k.ring id) ≤ u) × (u < floor_number (k.ring id) + place_count q.shape) × ((k.ring id).free u ≡ true)
     unfolding unrestored due_positions
-    within u at =
-        let passed = from_filter (k.ring id).free (due_positions q.shape (k.ring id)) u (subst (IsIn u) x.positions at) in
-        let bounds = from_range (floor_number (k.ring id)) (place_count q.shape) u passed.0 in
-        (bounds.0, bounds.1, passed.1)
+    within u at = search (rules, from_filter, due_positions, from_range)
 
     from_take : (xs : List ℕ) (n : ℕ) (u : ℕ) → IsIn u (take n xs) → IsIn u xs
     from_take [] zero u at = at
@@ -237,10 +196,7 @@ module _ (h : Header) (k : Known) (ts : List Lent) (q : Ring) (ps : List ℕ) (x
 
     less : (u : ℕ) → IsIn u (take i ps) → u < p
     unfolding unrestored due_positions
-    less u at =
-        let low' : i < length (unrestored q.shape (k.ring id)) = subst (λ (xs : List ℕ). i < length xs) x.positions low in
-        subst (λ (xs : List ℕ). u < get_or xs i 0) (sym x.positions)
-        (less_before (k.ring id).free (floor_number (k.ring id)) (place_count q.shape) i low' u (subst (λ (xs : List ℕ). IsIn u (take i xs)) x.positions at))
+    less u at = search (rules, unrestored, less_before)
 
     no_share : (u : ℕ) → IsIn u (take i ps) → share_a_place h (Block id p) (Block id u) ≡ false
     no_share u at = elim (cases_Bool (id == id && p % place_count (shape_of h id) == u % place_count (shape_of h id))) [
@@ -248,8 +204,7 @@ module _ (h : Header) (k : Known) (ts : List Lent) (q : Ring) (ps : List ℕ) (x
           let shaped = shape_there h x.headed q (among h q x.found x.transfer) in
           let here = within p (in_get ps i low) in
           let there = within u (from_take ps i u at) in
-          let rests : p % place_count q.shape ≡ u % place_count q.shape =
-          subst (λ s. p % place_count s ≡ u % place_count s) shaped (eqb-true _ _ (and_parts (id == id) (p % place_count (shape_of h id) == u % place_count (shape_of h id)) shares).1) in
+          let rests : p % place_count q.shape ≡ u % place_count q.shape = search (rules, eqb-true, and_parts, shape_of) in
           let same : p ≡ u = same_due (floor_number (k.ring id)) (place_count q.shape) p u (omega (arith, here.0, here.1)) here.0 here.1 there.0 there.1 rests in
           let less_than : u < p = less u at in
           absurd (omega (arith, same, less_than))
@@ -264,16 +219,7 @@ module _ (h : Header) (k : Known) (ts : List Lent) (q : Ring) (ps : List ℕ) (x
     ]
 
     pub next_free : is_place_free h (with_begun row ts (map (Block id) (take i ps))) (Block id p) ≡ true
-    next_free =
-        let here = within p (in_get ps i low) in
-        free_still h row ts (Block id p) (map (Block id) (take i ps))
-        (unlent_free h (are_shaped h x.headed) k ts x.opened q (in_drivers h q x.found x.transfer) p (omega (arith, here.0, here.1)) here.0 here.1 (freed ((k.ring id).given p) ((k.ring id).free p) here.2))
-        (none_shares (take i ps) no_share)
-      where
-        freed : (g f : Bool) → f ≡ true → (g && not f) ≡ false
-        freed true true e = refl
-        freed false f e = refl
-        freed true false e = absurd (false≢true e)
+    next_free = search (rules, within, in_get, free_still, unlent_free, are_shaped, in_drivers, none_shares, no_share, false≢true)
 
     pub next_begun : with_begun row (with_begun row ts (map (Block id) (take i ps))) (Block id p ∷ []) ≡ with_begun row ts (map (Block id) (take (i + 1) ps))
     next_begun =

@@ -1,50 +1,22 @@
 -- A write that gives a Set TR Dequeue restores the ring that it moves, and begins the lease of its own block. The log is told of both in the order
 -- of their rings' IDs, as of what begins at one row
-use Rattle.std.proofs.Common.{◌≡◌, ◌≢◌, ◌+◌, ◌<◌, ◌≤◌, ◌==◌, ◌&&◌, ◌++◌, ◌∷◌, ◌∙◌, ℕ, Bool, true, false, not, List, [], Option, Some, None, filter, map, option_and_then, slice_get, arith, refl, sym, ap, subst, inl, inr, append-nil, eqb-true}
-use Rattle.std.proofs.lemmas.Bool.{and_parts, false≢true, not-true, or_left}
-use Rattle.std.proofs.lemmas.Bool.Decides.{nat_tests}
-use Rattle.std.specs.List.{range_with_len}
-use Rattle.safety.proofs.Words.{cases_eq, none-some, IsIn, flat_map, Header, IsHeader, Ring, Known, RingView, Writes, changed, on_ring, learned, Write, driver_rings, is_driver_kind, open_leases, shape_of, command_id, positions_given, crossings_given, due_positions, place_count, floor_number, is_inside, address_of, link_address, gives_is, gives_crossing_is, address_inside, link_address_inside, position_given_is, gives, gives_crossing, is_crossing, Command, SetTrDequeue, command_given, command_at, command_of, with_device, with_word, written, taken_device, given_of, given_by, range_of_command, range_of_context, from_filter, DriverKeeps, IsDriverRing}
-use Rattle.safety.proofs.CommandRing.{due_has_ring}
-use Rattle.safety.proofs.DevicesWritten.{contains_first, and_then_parts}
-use Rattle.safety.proofs.DriverRows.{ring_elsewhere, ring_here}
-use Rattle.safety.proofs.Headers.{ring_shape}
-use Rattle.safety.proofs.OtherRingsWritten.{not_in_both}
-use Rattle.segments.specs.Givings.{unrestored}
-use Rattle.segments.specs.RingView.{Restores, due_crossings}
-use Rattle.segments.specs.ShapeValue.{Shape}
-use Rattle.segments.specs.Shape.{IsShape}
-use Rattle.segments.proofs.Giving.{Gives, GivesCrossing}
-use Rattle.segments.proofs.OneGiving.{gives_one}
-use Rattle.segments.proofs.SpotOrder.{data_not_link}
-use Rattle.ring_knowledge.specs.Rings.{Given, Position, Crossing}
-use Rattle.ownership_rules.specs.Leases.{as_lease, comes_before, without_end}
-use Rattle.ownership_rules.specs.OpenLeases.{Leased, Block, Link, Range}
-use Rattle.leases.specs.LeaseBooks.InStep.{AreOpen}
-use Rattle.leases.specs.LeaseBooks.Lents.{Lent, in_turn, is_place_free, newly_open, passed_on, precedes, with_begun, with_leased}
+use Rattle.leases.proofs.BaseWords.{◌≡◌, ◌≢◌, ◌+◌, ◌<◌, ◌≤◌, ◌==◌, ◌&&◌, ◌++◌, ◌∷◌, ◌∙◌, ℕ, Bool, true, false, not, List, [], Option, Some, None, filter, map, option_and_then, slice_get, arith, refl, sym, ap, subst, inl, inr, append-nil, eqb-true, and_parts, false≢true, not-true, or_left, nat_tests, range_with_len, cases_eq, none-some, IsIn, flat_map, Header, IsHeader, Ring, Known, RingView, changed, on_ring, learned, Write, driver_rings, is_driver_kind, open_leases, shape_of, command_id, positions_given, crossings_given, due_positions, place_count, floor_number, is_inside, address_of, link_address, gives_is, gives_crossing_is, address_inside, link_address_inside, position_given_is, gives, gives_crossing, is_crossing, Command, SetTrDequeue, command_given, command_at, command_of, with_device, with_word, written, taken_device, given_of, given_by, range_of_command, range_of_context, from_filter, DriverKeeps, IsDriverRing, due_has_ring, contains_first, and_then_parts, ring_elsewhere, ring_shape, not_in_both, unrestored, Restores, due_crossings, Shape, IsShape, Gives, GivesCrossing, gives_one, data_not_link, Given, Position, Crossing, as_lease, comes_before, without_end, Leased, Block, Link, AreOpen, Lent, in_turn, is_place_free, newly_open, passed_on, precedes, with_begun, with_leased, FreeWasGiven, all_from_one, find_some, ring_found, shape_allowed, shape_there, together, Apart, IsAmong, restored, restored_on, ring_moved, ring_restored, is_freed, MovesRing, rules}
+use Rattle.safety.proofs.DriverRows.{ring_here}
 use Rattle.leases.proofs.LeaseBooks.GivingCommands.{all_kept, contexts_given, new_leases}
 use Rattle.leases.proofs.LeaseBooks.Members.{from_flat_map, from_map, from_range, in_either}
 use Rattle.leases.proofs.LeaseBooks.Rows.{IsOpen, passed_open}
 use Rattle.leases.proofs.LeaseBooks.Writing.{lease_given}
-use Rattle.leases.specs.LeaseBooks.InStep.{FreeWasGiven}
 use Rattle.leases.proofs.LeaseBooks.FreePlaces.{block_free}
-use Rattle.trace_record.proofs.RingFinder.HeaderRings.{all_from_one, find_some, ring_found, shape_allowed, shape_there, together}
-use Rattle.trace_record.proofs.RingFinder.RingsApart.{Apart, IsAmong}
-use Rattle.safety.specs.RingChanges.Withdrawals.{restored, restored_on, ring_moved, ring_restored}
-use Rattle.leases.specs.RingLeases.RingLents.{is_freed}
 use Rattle.leases.proofs.RingLeases.OpenFree.{freed_are, restored_open}
 use Rattle.leases.proofs.RingLeases.TwoSteps.{IsBefore, L_in_U as there_both, newly_own, only_begins, restored_first, restored_last}
 use Rattle.leases.proofs.RingLeases.WithinALap.{among as from_in, are_shaped}
 use Rattle.leases.proofs.RingLeases.LentFree.{among, driver, driver_in, in_drivers, not_command}
-use Rattle.leases.specs.RingLeases.Moving.{MovesRing}
 
 -- ---- rings of the driver
 
 driven : (h : Header) → IsHeader h → (q : Ring) → IsIn q (driver_rings h) → IsDriverRing h q.id
 unfolding driver_rings
-driven h headed q at =
-    let parts = from_filter (λ r. is_driver_kind r.shape.kind) h.rings q at in
-    record { ring = q; found = ring_found h headed q (from_in q h.rings parts.0); kind = parts.1 }
+driven h headed q at = search (rules, from_filter, is_driver_kind, ring_found, from_in)
 
 -- what is free of them was given
 pub was_given : (h : Header) → IsHeader h → (k : Known) → DriverKeeps h k → FreeWasGiven h k
@@ -55,13 +27,7 @@ was_given h headed k d q at p free = (d.rings q.id (driven h headed q at)).free_
 module _ (h : Header) (k : Known) (r a w : ℕ) where
   view_commutes : (s : ℕ) → (with_word h (on_ring h k r Restores) a w).ring s ≡ (on_ring h (with_word h k a w) r Restores).ring s
   unfolding with_word
-  view_commutes s =
-      elim (cases_eq s r) [
-        | inl same ↦
-            subst (λ n. (with_word h (on_ring h k r Restores) a w).ring n ≡ (on_ring h (with_word h k a w) r Restores).ring n) (sym same)
-            (ap (λ v. changed (shape_of h r) v (Writes a w)) (ring_here h k r Restores) ∙ sym (ring_here h (with_word h k a w) r Restores))
-        | inr away ↦ ap (λ v. changed (shape_of h s) v (Writes a w)) (ring_elsewhere h k r s Restores away) ∙ sym (ring_elsewhere h (with_word h k a w) r s Restores away)
-      ]
+  view_commutes s = search (rules, with_word, on_ring, changed, shape_of, ring_here, ring_elsewhere)
 
   pub word_commutes : with_word h (on_ring h k r Restores) a w ≡ on_ring h (with_word h k a w) r Restores
   unfolding with_word on_ring
@@ -78,9 +44,8 @@ pub record Moves (h : Header) (k : Known) (r a w : ℕ) : Type 0 where
 
 moves_by : (h : Header) (k : Known) (r a w : ℕ) (o : Option Command) → command_given h k a w ≡ o → ring_moved k o ≡ Some r → Moves h k r a w
 unfolding ring_moved
-moves_by h k r a w (Some (SetTrDequeue s i p cycle)) given at = record { slot = s; index = i; pointer = p; cycle = cycle; given = given }
 moves_by h k r a w None given at = absurd (none-some r at)
-moves_by h k r a w (Some _) given at = absurd (none-some r at)
+moves_by h k r a w _ given at = search (rules, none-some)
 
 moves_is : (h : Header) (k : Known) (r a w : ℕ) → ring_restored h k (Write a w) ≡ Some r → Moves h k r a w
 unfolding ring_restored
@@ -112,8 +77,7 @@ module _ (h : Header) (headed : IsHeader h) (k : Known) (freed : FreeWasGiven h 
   gives_here =
       let first = and_then_parts (command_at h k) (slice_get (positions_given (shape_of h c) (k.ring c) a w) 0) (SetTrDequeue m.slot m.index m.pointer m.cycle) m.given in
       let fresh = position_given_is (shape_of h c) (k.ring c) a w first.0 (contains_first (positions_given (shape_of h c) (k.ring c) a w) first.0 first.1) in
-      let writes = gives_is (shape_of h c) (k.ring c).floor first.0 a w fresh.1 in
-      record { position = first.0; contained = first.1; gives = fresh.1; command = first.2; ring = due_has_ring h headed (k.ring c).floor first.0 writes.due; at = writes.at }
+      search (rules, gives_is, shape_of, gives, due_has_ring)
 
   shape_is : (q : ℕ) → IsDriverRing h q → IsShape (shape_of h q)
   shape_is q d = (ring_shape h headed q d).is
@@ -257,21 +221,13 @@ module _ (h : Header) (headed : IsHeader h) (k : Known) (freed : FreeWasGiven h 
 
 before_own : (f : ℕ → Bool) (r c p : ℕ) → r < c → (l m : Leased) → is_freed f r l ≡ true → m ≡ Block c p → IsBefore l m
 unfolding precedes comes_before as_lease
-before_own f r c p less (Block s x) m here at = subst (IsBefore (Block s x)) (sym at) (stands s (eqb-true s r (and_parts (s == r) (f x) here).0))
-  where
-    stands : (s : ℕ) → s ≡ r → IsBefore (Block s x) (Block c p)
-    stands s same = (grind (arith, nat_tests, less, same), grind (arith, nat_tests, less, same))
 before_own f r c p less (Link s x) m here at = absurd (false≢true here)
-before_own f r c p less (Range n y e) m here at = absurd (false≢true here)
+before_own f r c p less _ m here at = search (rules, eqb-true, and_parts, nat_tests, false≢true)
 
 after_own : (f : ℕ → Bool) (r c p : ℕ) → c < r → (l m : Leased) → is_freed f r l ≡ true → m ≡ Block c p → IsBefore m l
 unfolding precedes comes_before as_lease
-after_own f r c p less (Block s x) m here at = subst (λ y. IsBefore y (Block s x)) (sym at) (stands s (eqb-true s r (and_parts (s == r) (f x) here).0))
-  where
-    stands : (s : ℕ) → s ≡ r → IsBefore (Block c p) (Block s x)
-    stands s same = (grind (arith, nat_tests, less, same), grind (arith, nat_tests, less, same))
 after_own f r c p less (Link s x) m here at = absurd (false≢true here)
-after_own f r c p less (Range n y e) m here at = absurd (false≢true here)
+after_own f r c p less _ m here at = search (rules, eqb-true, and_parts, nat_tests, false≢true)
 
 -- ---- the two steps
 
@@ -396,17 +352,10 @@ module _ (h : Header) (k : Known) (ts : List Lent) (command : Ring) (p : ℕ) (q
         let s : Shape = shape_of h (command_id h) in
         let new : ℕ → Bool = λ y. not (v.given y) && gives s v.floor y a w in
         let found = from_filter new (range_with_len (floor_number v) (place_count s)) p (subst (IsIn p) (sym x.gives) (inl refl)) in
-        let within = from_range (floor_number v) (place_count s) p found.0 in
-        (within.0, within.1, not-true (v.given p) (and_parts (not (v.given p)) (gives s v.floor p a w) found.1).0)
+        search (rules, from_range, not-true, and_parts, gives)
 
     pub command_free : (m : Known) (us : List Lent) → AreOpen h m us → m.ring (command_id h) ≡ k.ring (command_id h) → is_place_free h us (Block command.id p) ≡ true
-    command_free m us opened same =
-        let view : k.ring (command_id h) ≡ m.ring command.id = sym same ∙ ap (λ i. m.ring i) (sym x.is_command) in
-        let shape : shape_of h (command_id h) ≡ command.shape = ap (shape_of h) (sym x.is_command) ∙ shape_there h x.headed command in_rings in
-        let low : floor_number (m.ring command.id) ≤ p = subst (λ v. floor_number v ≤ p) view bounds.0 in
-        let high : p < floor_number (m.ring command.id) + place_count command.shape =
-        subst (λ s. p < floor_number (m.ring command.id) + place_count s) shape (subst (λ v. p < floor_number v + place_count (shape_of h (command_id h))) view bounds.1) in
-        block_free h (are_shaped h x.headed) m us opened command (driver_in h command x.commands x.drives) p (omega (arith, low, high)) low high (subst (λ (v : RingView). v.given p ≡ false) view bounds.2)
+    command_free m us opened same = search (rules, command_id, shape_of, shape_there, in_rings, bounds, block_free, are_shaped, driver_in)
 
     pub alone_command : alone.ring (command_id h) ≡ k.ring (command_id h)
     alone_command = ring_elsewhere h k r (command_id h) Restores (λ same. other (sym same))

@@ -1,12 +1,6 @@
 -- Where nothing is free a row restores nothing
-use Rattle.std.proofs.Common.{◌≡◌, ◌∙◌, ℕ, Option, None, Some, inl, inr, refl, sym, subst}
-use Rattle.safety.proofs.Words.{cases_eq, Header, Known, RingView, changed, on_ring, shape_of}
-use Rattle.safety.proofs.DriverRows.{ring_elsewhere, ring_here}
-use Rattle.segments.specs.RingKeeps.{IsRestored}
-use Rattle.segments.specs.RingView.{Restores}
-use Rattle.segments.specs.ShapeValue.{Shape}
-use Rattle.traces.specs.declared.row.Row.{Row}
-use Rattle.safety.specs.RingChanges.Withdrawals.{restored, restored_on, ring_restored}
+use Rattle.leases.proofs.BaseWords.{◌≡◌, ◌∙◌, ℕ, Option, None, Some, inl, inr, refl, sym, subst, cases_eq, Header, Known, RingView, changed, on_ring, shape_of, ring_elsewhere, IsRestored, Restores, Shape, Row, restored, restored_on, ring_restored}
+use Rattle.safety.proofs.DriverRows.{ring_here}
 
 view_same : (shape : Shape) (v : RingView) → IsRestored v → changed shape v Restores ≡ v
 view_same shape v none = λ j. record v { free = λ p. sym (none p) j }

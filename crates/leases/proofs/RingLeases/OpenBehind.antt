@@ -1,20 +1,9 @@
 -- What is open behind a ring that goes, and behind one that comes
-use Rattle.std.proofs.Common.{◌≡◌, ◌==◌, ◌&&◌, ◌||◌, ◌++◌, ◌∷◌, ◌∙◌, ℕ, Bool, true, false, List, [], filter, refl, sym, ap, inl, inr}
-use Rattle.std.proofs.lemmas.Bool.{eqb-false}
-use Rattle.std.proofs.lemmas.List.Elements.{filter-append}
-use Rattle.safety.proofs.Words.{cases_Bool, flat_map, Header, IsHeader, Ring, Known, DriverKeeps, IsIn, driver_rings, is_driver_kind, open_leases, open_on, open_ranges}
-use Rattle.segments.specs.RingView.{new_ring}
-use Rattle.ownership_rules.proofs.Among.{leased_is}
-use Rattle.ownership_rules.specs.OpenLeases.{Leased, Block, Link, Range, is_among, same_leased}
+use Rattle.leases.proofs.BaseWords.{◌≡◌, ◌==◌, ◌&&◌, ◌||◌, ◌++◌, ◌∷◌, ◌∙◌, ℕ, Bool, true, false, List, [], filter, refl, sym, ap, inl, inr, eqb-false, filter-append, cases_Bool, flat_map, Header, IsHeader, Ring, Known, DriverKeeps, IsIn, driver_rings, is_driver_kind, open_leases, open_on, open_ranges, new_ring, leased_is, Leased, Block, Link, Range, is_among, same_leased, IsComing, forgotten, is_bad_free, is_bad_ring, with_ring, without_ring, none_found, bad_same, f_keeps, fresh, no_ring, cleared, cleared_apart, is_of_ring}
 use Rattle.leases.proofs.LeaseBooks.RangesAlone.{IsRange, open_are_ranges}
-use Rattle.safety.specs.RingChanges.Changes.{IsComing, forgotten, is_bad_free, is_bad_ring, with_ring, without_ring}
-use Rattle.safety.proofs.RingChanges.ListedRings.{none_found}
-use Rattle.safety.proofs.RingChanges.RingRuns.{bad_same, f_keeps, fresh, no_ring}
-use Rattle.safety.proofs.RingChanges.Squares.{cleared, cleared_apart}
 use Rattle.safety.proofs.RingChanges.Forgotten as forgets
 use Rattle.safety.proofs.RingChanges.NewRings as new
 use Rattle.safety.proofs.RingChanges.GoneRings as gone
-use Rattle.leases.specs.RingLeases.RingLents.{is_of_ring}
 use Rattle.leases.proofs.RingLeases.RangesStay.{ranges_stay}
 use Rattle.leases.proofs.RingLeases.RingsLeft.{keep, one_less, one_more, others}
 

@@ -1,21 +1,10 @@
 -- What is open behind a descriptor that is withdrawn: what was, without the blocks of it. And behind a ring that is restored: the blocks of it too
 -- that were free
-use Rattle.std.proofs.Common.{◌≡◌, ◌≢◌, ◌==◌, ◌&&◌, ◌||◌, ◌++◌, ◌∷◌, ◌∙◌, ℕ, Bool, true, false, not, List, [], filter, map, option_and_then, slice_get, refl, sym, ap, inl, inr, append-nil, eq-eqb, ne_eqb}
-use Rattle.std.proofs.lemmas.Bool.{false≢true}
-use Rattle.std.proofs.lemmas.List.Elements.{filter-append}
-use Rattle.safety.proofs.Words.{cases_eq, flat_map, IsIn, Header, IsHeader, Ring, Known, RingView, RingChange, changed, on_ring, driver_rings, is_driver_kind, open_leases, open_on, open_ranges, shape_of, command_id, due_positions, command_of, context_ranges, range_of_command, unfinished_positions, command_at, device_ranges}
-use Rattle.segments.specs.Descriptors.{length_from}
-use Rattle.segments.specs.Givings.{unrestored}
-use Rattle.segments.specs.Places.{is_in}
-use Rattle.segments.specs.RingView.{Restores, Withdraws, due_crossings, is_handed_over, leased_crossings, leased_positions}
-use Rattle.safety.proofs.DriverRows.{ring_elsewhere, ring_here}
-use Rattle.ownership_rules.specs.OpenLeases.{Leased, Block, Link, Range}
+use Rattle.leases.proofs.BaseWords.{◌≡◌, ◌≢◌, ◌&&◌, ◌||◌, ◌++◌, ◌∷◌, ◌∙◌, ℕ, Bool, true, false, not, List, [], filter, map, option_and_then, slice_get, refl, sym, ap, inl, inr, append-nil, eq-eqb, ne_eqb, false≢true, filter-append, flat_map, IsIn, Header, IsHeader, Ring, Known, RingView, RingChange, changed, on_ring, driver_rings, is_driver_kind, open_leases, open_on, open_ranges, shape_of, command_id, due_positions, command_of, context_ranges, range_of_command, unfinished_positions, command_at, device_ranges, length_from, unrestored, is_in, Restores, Withdraws, due_crossings, is_handed_over, leased_crossings, leased_positions, ring_elsewhere, Leased, Block, Link, Range, all_from_one, together, Apart, IsAmong, is_freed, is_withdrawn, rules}
+use Rattle.safety.proofs.DriverRows.{ring_here}
 use Rattle.leases.proofs.LeaseBooks.RangesAlone.{IsRange, open_are_ranges}
 use Rattle.leases.proofs.LeaseBooks.SameLeases.{entries_kept, flat_alike}
 use Rattle.leases.proofs.LeaseBooks.Writing.{filter_flat_map}
-use Rattle.trace_record.proofs.RingFinder.HeaderRings.{all_from_one, together}
-use Rattle.trace_record.proofs.RingFinder.RingsApart.{Apart, IsAmong}
-use Rattle.leases.specs.RingLeases.RingLents.{is_freed, is_withdrawn}
 use Rattle.leases.proofs.RingLeases.Filtered.{filter_alike, filter_mapped, filter_twice}
 use Rattle.leases.proofs.RingLeases.RingsLeft.{filter_all, filter_none}
 
@@ -28,11 +17,7 @@ module _ (q : Ring) (v w : RingView) (T : Leased → Bool) (crossed : w.crossed 
     (handed : (p : ℕ) → is_handed_over w p ≡ (is_handed_over v p && T (Block q.id p))) (links : (c : ℕ) → T (Link q.id c) ≡ true) where
   fewer_blocks : map (Block q.id) (leased_positions q.shape w) ≡ filter T (map (Block q.id) (leased_positions q.shape v))
   unfolding leased_positions due_positions
-  fewer_blocks =
-      rw floor
-      (ap (map (Block q.id)) (filter_alike (is_handed_over w) (λ p. is_handed_over v p && T (Block q.id p)) (due_positions q.shape v) (λ p at. handed p)
-      ∙ sym (filter_twice (λ p. T (Block q.id p)) (is_handed_over v) (due_positions q.shape v)))
-      ∙ sym (filter_mapped T (Block q.id) (filter (is_handed_over v) (due_positions q.shape v))))
+  fewer_blocks = search (rules, filter_alike, is_handed_over, due_positions, filter_twice, filter_mapped)
 
   same_links : map (Link q.id) (leased_crossings q.shape w) ≡ filter T (map (Link q.id) (leased_crossings q.shape v))
   unfolding leased_crossings due_crossings
@@ -82,15 +67,12 @@ module _ (h : Header) (k : Known) (r p : ℕ) (other : r ≢ command_id h) where
   left m = not (is_withdrawn r p n m)
 
   left_ranges : AllRanges left
-  left_ranges (Block s q) is = absurd is
-  left_ranges (Link s q) is = absurd is
   left_ranges (Range m a e) is = refl
+  left_ranges _ is = absurd is
 
   cut : (g f i : Bool) → (g && not (f || (i && g))) ≡ ((g && not f) && not i)
-  cut true true i = refl
-  cut true false true = refl
-  cut true false false = refl
   cut false f i = refl
+  cut _ _ _ = search rules
 
   -- of the ring, and of others
   view_here : (s : ℕ) → s ≡ r → (on_ring h k r (Withdraws p)).ring s ≡ changed (shape_of h r) (k.ring s) (Withdraws p)
@@ -98,26 +80,7 @@ module _ (h : Header) (k : Known) (r p : ℕ) (other : r ≢ command_id h) where
 
   left_on : (q : Ring) → open_on h (on_ring h k r (Withdraws p)) q ≡ filter left (open_on h k q)
   unfolding open_on
-  left_on q =
-      let w : RingView = (on_ring h k r (Withdraws p)).ring q.id in
-      let v : RingView = k.ring q.id in
-      elim (cases_eq q.id r) [
-        | inl same ↦
-            let here = view_here q.id same in
-            fewer_on q v w left (ap (λ (u : RingView). u.crossed) here) (ap (λ (u : RingView). u.floor) here)
-            (λ x.
-            ap (λ (u : RingView). is_handed_over u x) here ∙ cut (v.given x) (v.free x) (is_in x p (length_from v.lengths 0 p))
-            ∙ (λ j. is_handed_over v x && not (sym (eq-eqb q.id r same) j && is_in x p (length_from (k.ring (same j)).lengths 0 p)))) (λ c. refl)
-        | inr away ↦
-            let there = ring_elsewhere h k r q.id (Withdraws p) away in
-            fewer_on q v w left (ap (λ (u : RingView). u.crossed) there) (ap (λ (u : RingView). u.floor) there)
-            (λ x. ap (λ (u : RingView). is_handed_over u x) there ∙ kept (q.id == r) (is_in x p n) (is_handed_over v x) (ne_eqb q.id r away)) (λ c. refl)
-      ]
-    where
-      kept : (a b c : Bool) → a ≡ false → c ≡ (c && not (a && b))
-      kept true b c e = absurd (false≢true (sym e))
-      kept false b true e = refl
-      kept false b false e = refl
+  left_on q = search (rules, on_ring, view_here, fewer_on, is_handed_over, cut, is_in, length_from, eq-eqb, ring_elsewhere, ne_eqb, false≢true)
 
   pub withdrawn_open : open_leases h (on_ring h k r (Withdraws p)) ≡ filter left (open_leases h k)
   withdrawn_open = fewer_open h k (on_ring h k r (Withdraws p)) left left_ranges (λ q at. left_on q) (ranges_same h k r (Withdraws p) other)
@@ -136,38 +99,15 @@ module _ (h : Header) (k : Known) (r : ℕ) (other : r ≢ command_id h) where
   unfreed x = not (freed x)
 
   unfreed_ranges : AllRanges unfreed
-  unfreed_ranges (Block s q) is = absurd is
-  unfreed_ranges (Link s q) is = absurd is
   unfreed_ranges (Range x a e) is = refl
+  unfreed_ranges _ is = absurd is
 
   restored_here : (s : ℕ) → s ≡ r → m.ring s ≡ changed (shape_of h r) (k.ring s) Restores
   restored_here s same = ap (λ x. m.ring x) same ∙ ring_here h k r Restores ∙ ap (λ x. changed (shape_of h r) (k.ring x) Restores) (sym same)
 
   unfreed_on : (q : Ring) → open_on h k q ≡ filter unfreed (open_on h m q)
   unfolding open_on
-  unfreed_on q =
-      let w : RingView = k.ring q.id in
-      let v : RingView = m.ring q.id in
-      elim (cases_eq q.id r) [
-        | inl same ↦
-            let here = restored_here q.id same in
-            fewer_on q v w unfreed (sym (ap (λ (u : RingView). u.crossed) here)) (sym (ap (λ (u : RingView). u.floor) here))
-            (λ x.
-            given (w.given x) (w.free x) ∙ (λ j. is_handed_over (sym here j) x && not (sym (eq-eqb q.id r same) j && (k.ring (same j)).free x))) (λ c. refl)
-        | inr away ↦
-            let there = ring_elsewhere h k r q.id Restores away in
-            fewer_on q v w unfreed (sym (ap (λ (u : RingView). u.crossed) there)) (sym (ap (λ (u : RingView). u.floor) there))
-            (λ x. sym (ap (λ (u : RingView). is_handed_over u x) there) ∙ kept (q.id == r) ((k.ring r).free x) (is_handed_over v x) (ne_eqb q.id r away)) (λ c. refl)
-      ]
-    where
-      given : (g f : Bool) → (g && not f) ≡ ((g && true) && not f)
-      given true f = refl
-      given false f = refl
-
-      kept : (a b c : Bool) → a ≡ false → c ≡ (c && not (a && b))
-      kept true b c e = absurd (false≢true (sym e))
-      kept false b true e = refl
-      kept false b false e = refl
+  unfreed_on q = search (rules, restored_here, fewer_on, is_handed_over, eq-eqb, ring_elsewhere, ne_eqb, false≢true)
 
   -- what is open before is what is open behind it without these
   pub restored_open : open_leases h k ≡ filter unfreed (open_leases h m)
@@ -186,19 +126,15 @@ module _ (h : Header) (headed : IsHeader h) (k : Known) (q : Ring) (among : IsAm
   test = is_freed (k.ring r).free r
 
   none_of : (s : ℕ) → s ≢ r → (v : RingView) (ps cs : List ℕ) → filter test (map (Block s) ps ++ map (Link s) cs) ≡ []
-  none_of s away v ps cs =
-      filter-append test (map (Block s) ps) (map (Link s) cs)
-      ∙ (λ j. (filter_mapped test (Block s) ps ∙ ap (map (Block s)) (filter_none (λ p. test (Block s p)) ps (λ p. rw (ne_eqb s r away) refl))) j
-      ++ (filter_mapped test (Link s) cs ∙ ap (map (Link s)) (filter_none (λ c. test (Link s c)) cs (λ c. refl))) j)
+  none_of s away v ps cs = search (rules, filter-append, filter_mapped, filter_none, ne_eqb)
 
   none_there : (s : Ring) → Apart q s → filter test (open_on h after s) ≡ []
   unfolding open_on
   none_there s apart = none_of s.id (λ same. apart.ids (sym same)) (after.ring s.id) (leased_positions s.shape (after.ring s.id)) (leased_crossings s.shape (after.ring s.id))
 
   both_tests : (g f : Bool) → (f ≡ true → g ≡ true) → ((g && true) && f) ≡ f
-  both_tests true f e = refl
   both_tests false true e = e refl
-  both_tests false false e = refl
+  both_tests _ _ e = refl
 
   here_are : filter test (open_on h after q) ≡ map (Block r) (unrestored q.shape (k.ring r))
   unfolding open_on leased_positions due_positions unrestored

@@ -1,11 +1,5 @@
 -- With other rings the same ranges are under lease, so long as the event ring and the command ring are the same
-use Rattle.std.proofs.Common.{◌≡◌, ◌*◌, ◌++◌, ◌∷◌, ◌∙◌, ℕ, List, [], map, filter, Option, Some, None, option_and_then, slice_get, refl, ap}
-use Rattle.safety.proofs.Words.{fun_ext, flat_map, slots, segment_ranges, table_range, entry_ranges, device_ranges, context_ranges, range_of_command, range_of_context, range_of_device, range_of_entry, entry_of, open_ranges, unfinished_positions, command_at, due_positions, command_of, named_context, Command, Header, Ring, RingView, Known, Erstba, shape_of, command_id}
-use Rattle.event_ring.specs.EventRing.{table_bytes}
-use Rattle.segments.specs.ShapeValue.{Shape}
-use Rattle.traces.specs.Register.{base_address}
-use Rattle.ownership_rules.specs.OpenLeases.{EventSegment, Range, SegmentTable}
-use Rattle.safety.proofs.RingChanges.OtherRings.{OtherRings}
+use Rattle.leases.proofs.BaseWords.{◌≡◌, ◌*◌, ◌++◌, ◌∷◌, ◌∙◌, ℕ, List, [], map, filter, Option, Some, None, option_and_then, slice_get, refl, ap, fun_ext, flat_map, slots, segment_ranges, table_range, entry_ranges, device_ranges, context_ranges, range_of_command, range_of_context, range_of_device, range_of_entry, entry_of, open_ranges, unfinished_positions, command_at, due_positions, command_of, named_context, Command, Header, Ring, RingView, Known, Erstba, shape_of, command_id, table_bytes, Shape, base_address, EventSegment, Range, SegmentTable, OtherRings}
 
 module _ (h : Header) (rings : List Ring) (k : Known) (views : ℕ → RingView) (o : OtherRings h rings k views) where
   abbrev g : Header

@@ -1,11 +1,5 @@
 -- The leases of blocks and Links with a ring more, and with one left out
-use Rattle.std.proofs.Common.{◌≡◌, ◌==◌, ◌&&◌, ◌++◌, ◌∷◌, ◌∙◌, ℕ, not, Bool, true, false, List, [], map, filter, refl, sym, ap, inl, inr}
-use Rattle.std.proofs.lemmas.List.Elements.{filter-append}
-use Rattle.safety.proofs.Words.{cases_Bool, flat_map, IsIn, Header, Ring, Known, is_driver_kind, open_on}
-use Rattle.segments.specs.RingView.{due_crossings, due_positions, leased_crossings, leased_positions, new_ring}
-use Rattle.segments.specs.Places.{is_crossing}
-use Rattle.ownership_rules.specs.OpenLeases.{Leased, Block, Link}
-use Rattle.leases.specs.RingLeases.RingLents.{is_of_ring}
+use Rattle.leases.proofs.BaseWords.{◌≡◌, ◌==◌, ◌&&◌, ◌++◌, ◌∷◌, ◌∙◌, ℕ, not, Bool, true, false, List, [], map, filter, refl, ap, inl, inr, filter-append, flat_map, IsIn, Header, Ring, Known, is_driver_kind, open_on, due_crossings, due_positions, leased_crossings, leased_positions, new_ring, is_crossing, Leased, Block, Link, is_of_ring, rules}
 
 pub filter_none : {X : Type 0} (p : X → Bool) (xs : List X) → ((x : X) → p x ≡ false) → filter p xs ≡ []
 filter_none p [] none = refl
@@ -25,9 +19,7 @@ and_none false = refl
 
 pub none_on : (h : Header) (k : Known) (r : Ring) → k.ring r.id ≡ new_ring → open_on h k r ≡ []
 unfolding open_on leased_positions leased_crossings
-none_on h k r new = rw new (
-    λ j. map (Block r.id) (filter_none (λ p. false && not false) (due_positions r.shape new_ring) (λ p. refl) j)
-    ++ map (Link r.id) (filter_none (λ q. is_crossing r.shape q && false) (due_crossings r.shape new_ring) (λ q. and_none (is_crossing r.shape q)) j))
+none_on h k r new = search (rules, filter_none, due_positions, new_ring, is_crossing, due_crossings, and_none)
 
 module _ (h g : Header) (k l : Known) where
   on_same : (q : Ring) → l.ring q.id ≡ k.ring q.id → open_on g l q ≡ open_on h k q
@@ -37,23 +29,13 @@ module _ (h g : Header) (k l : Known) where
   -- of rings of which the same is known the same is under lease
   pub all_same : (rs : List Ring) → ((q : Ring) → IsIn q rs → l.ring q.id ≡ k.ring q.id) → flat_map (open_on g l) (filter driver rs) ≡ flat_map (open_on h k) (filter driver rs)
   all_same [] same = refl
-  all_same (q ∷ rs) same =
-      let rest = all_same rs (λ x at. same x (inr at)) in
-      elim (cases_Bool (driver q)) [
-        | inl kept ↦ rw kept (λ j. on_same q (same q (inl refl)) j ++ rest j)
-        | inr other ↦ rw other rest
-      ]
+  all_same (q ∷ rs) same = search (rules, on_same, all_same rs (λ x at. same x (inr at)))
 
   -- of a ring more nothing is
   pub one_more : (rs : List Ring) (r : Ring) → ((q : Ring) → IsIn q rs → l.ring q.id ≡ k.ring q.id) → l.ring r.id ≡ new_ring → driver r ≡ true →
       flat_map (open_on g l) (filter driver (rs ++ r ∷ [])) ≡ flat_map (open_on h k) (filter driver rs)
   one_more [] r same new is = rw (is, none_on g l r new) refl
-  one_more (q ∷ rs) r same new is =
-      let rest = one_more rs r (λ x at. same x (inr at)) new is in
-      elim (cases_Bool (driver q)) [
-        | inl kept ↦ rw kept (λ j. on_same q (same q (inl refl)) j ++ rest j)
-        | inr other ↦ rw other rest
-      ]
+  one_more (q ∷ rs) r same new is = search (rules, on_same, one_more rs r (λ x at. same x (inr at)) new is)
 
 module _ (id : ℕ) where
   abbrev pub others : Leased → Bool
@@ -95,17 +77,4 @@ module _ (id : ℕ) where
   pub one_less : (h g : Header) (k l : Known) (rs : List Ring) → ((s : ℕ) → (s == id) ≡ false → l.ring s ≡ k.ring s) →
       flat_map (open_on g l) (filter driver (filter keep rs)) ≡ filter others (flat_map (open_on h k) (filter driver rs))
   one_less h g k l [] same = refl
-  one_less h g k l (q ∷ rs) same =
-      let rest = one_less h g k l rs same in
-      elim (cases_Bool (q.id == id)) [
-        | inl gone ↦ elim (cases_Bool (driver q)) [
-          | inl is ↦ rw (gone, is) (rest ∙ sym (filter-append others (open_on h k q) (flat_map (open_on h k) (filter driver rs)) ∙ ap (λ ms. ms ++ filter others (flat_map (open_on h k) (filter driver rs))) (on_gone h k q gone)))
-          | inr other ↦ rw (gone, other) rest
-        ]
-        | inr stays ↦ elim (cases_Bool (driver q)) [
-          | inl is ↦
-              rw (stays, is) ((λ j. (on_same h g k l q (same q.id stays) ∙ sym (on_kept h k q stays)) j ++ rest j)
-              ∙ sym (filter-append others (open_on h k q) (flat_map (open_on h k) (filter driver rs))))
-          | inr other ↦ rw (stays, other) rest
-        ]
-      ]
+  one_less h g k l (q ∷ rs) same = search (rules, filter-append, open_on, on_gone, on_same, on_kept, one_less h g k l rs same)

@@ -1,12 +1,6 @@
 -- What begins at a row that restores a ring and begins leases of its own, told in two steps: what is open before it (K), behind it (L), where the
 -- ring alone is restored (R), and where the row's own step alone is made (S)
-use Rattle.std.proofs.Common.{◌≡◌, ◌<◌, ◌&&◌, ◌++◌, ◌∷◌, ◌∙◌, ℕ, Bool, true, false, not, List, [], filter, map, refl, sym, ap, subst, inl, inr, cond}
-use Rattle.std.proofs.lemmas.Bool.{cases_Bool, and_parts, and_from, false≢true}
-use Rattle.ownership_rules.proofs.Among.{IsIn, from_filter, in_among, in_filter}
-use Rattle.ownership_rules.specs.OpenLeases.{Leased, is_among}
-use Rattle.ownership_rules.specs.Leases.{without_end}
-use Rattle.leases.specs.LeaseBooks.Books.{AllUnended}
-use Rattle.leases.specs.LeaseBooks.Lents.{Lent, begun_at, in_turn, newly_open, passed_on, precedes, with_begun, with_leased}
+use Rattle.leases.proofs.BaseWords.{◌≡◌, ◌<◌, ◌&&◌, ◌++◌, ◌∷◌, ◌∙◌, ℕ, Bool, true, false, not, List, [], filter, map, refl, sym, ap, subst, inl, inr, cases_Bool, and_parts, and_from, false≢true, IsIn, from_filter, in_among, in_filter, Leased, is_among, without_end, AllUnended, Lent, begun_at, in_turn, newly_open, passed_on, precedes, with_begun, with_leased, rules}
 use Rattle.leases.proofs.LeaseBooks.Growing.{map_append}
 use Rattle.leases.proofs.LeaseBooks.Passing.{none_over}
 use Rattle.leases.proofs.LeaseBooks.Rows.{IsOpen, from_turn, passed_by, passed_open}
@@ -20,11 +14,7 @@ pub with_first : (l : Leased) (xs ys : List Leased) → ((m : Leased) → IsIn m
 unfolding with_leased
 with_first l [] [] all = refl
 with_first l [] (y ∷ ys) all = rw (all y (inl refl)) refl
-with_first l (x ∷ xs) ys all = by (precedes l x) (with_first l xs ys all)
-  where
-    by : (b : Bool) → with_leased l (xs ++ ys) ≡ with_leased l xs ++ ys → cond b (l ∷ x ∷ xs ++ ys) (x ∷ with_leased l (xs ++ ys)) ≡ cond b (l ∷ x ∷ xs) (x ∷ with_leased l xs) ++ ys
-    by true e = refl
-    by false e = ap (λ zs. x ∷ zs) e
+with_first l (x ∷ xs) ys all = search (rules, with_first l xs ys all)
 
 -- one that precedes none of the first list stands among the second
 with_later : (l : Leased) (xs ys : List Leased) → ((m : Leased) → IsIn m xs → precedes l m ≡ false) → with_leased l (xs ++ ys) ≡ xs ++ with_leased l ys
@@ -41,26 +31,7 @@ pub turn_parted : (P : Leased → Bool) (ls : List Leased) → ((l m : Leased) �
     in_turn ls ≡ in_turn (filter P ls) ++ in_turn (filter (λ l. not (P l)) ls)
 unfolding in_turn
 turn_parted P [] before = refl
-turn_parted P (l ∷ ls) before =
-    let rest : in_turn ls ≡ in_turn (filter P ls) ++ in_turn (filter (λ l. not (P l)) ls) = turn_parted P ls (λ a b at p bt q. before a b (inr at) p (inr bt) q) in
-    elim (cases_Bool (P l)) [
-      | inl holds ↦
-          rw holds
-          (ap (with_leased l) rest
-          ∙ with_first l (in_turn (filter P ls)) (in_turn (filter (λ l. not (P l)) ls)) (λ m at.
-          let found = from_filter (λ l. not (P l)) ls m (from_turn (filter (λ l. not (P l)) ls) m at) in
-          (before l m (inl refl) holds (inr found.0) (not_true (P m) found.1)).0))
-      | inr fails ↦
-          rw fails
-          (ap (with_leased l) rest
-          ∙ with_later l (in_turn (filter P ls)) (in_turn (filter (λ l. not (P l)) ls)) (λ m at.
-          let found = from_filter P ls m (from_turn (filter P ls) m at) in
-          (before m l (inr found.0) found.1 (inl refl) fails).1))
-    ]
-  where
-    not_true : (b : Bool) → not b ≡ true → b ≡ false
-    not_true true e = absurd (false≢true e)
-    not_true false e = refl
+turn_parted P (l ∷ ls) before = search (rules, in_turn, filter, not, with_leased, with_first, from_filter, from_turn, with_later, false≢true, turn_parted P ls (λ a b at p bt q. before a b (inr at) p (inr bt) q))
 
 -- what begins at one row in two steps
 pub begun_both : (n : ℕ) (ts : List Lent) (xs ys : List Leased) → with_begun n (with_begun n ts xs) ys ≡ with_begun n ts (xs ++ ys)
@@ -79,11 +50,8 @@ only_begins before after n ts opened stays =
     ∙ ap (λ us. with_begun n us (in_turn (newly_open before after))) (none_over (λ l. false) n ts (λ l. refl))
 
 either_way : (a b c : Bool) → a ≡ (b && not c) → b ≡ true → not a ≡ c
-either_way true true true e f = absurd (false≢true (sym e))
 either_way true true false e f = refl
-either_way false true true e f = refl
-either_way false true false e f = absurd (false≢true e)
-either_way a false c e f = absurd (false≢true f)
+either_way _ _ _ e f = search (rules, false≢true)
 
 -- R tells what is restored
 module _ (R : Leased → Bool) (K L S U : List Leased)
@@ -187,9 +155,7 @@ module _ (R : Leased → Bool) (K L S U : List Leased)
         ∙ sym (only_begins K U n ts opened K_in_U)
       where
         turned : in_turn N ≡ in_turn (newly_open K L) ++ in_turn (newly_open L U)
-        turned =
-            turn_parted R N (λ l m at holds bt fails. before l m holds (subst (IsIn m) own_part (in_filter other N m bt (ap not fails))))
-            ∙ (λ j. in_turn ((restored_part ∙ sym newly_restored) j) ++ in_turn ((own_part ∙ sym newly_own) j))
+        turned = search (rules, turn_parted, own_part, in_filter, restored_part, newly_restored, newly_own)
 
     -- the row's own step is made first, where what it begins stands before what is restored
     pub restored_last : ((l m : Leased) → R l ≡ true → IsIn m (newly_open K S) → IsBefore m l) → passed_on S U n (passed_on K S n ts) ≡ passed_on K U n ts

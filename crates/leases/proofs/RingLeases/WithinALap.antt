@@ -1,17 +1,9 @@
 -- The open leases of a ring lie within a lap, and a number more, from its floor on: to pass all of these ends them, and no others. A Link may
 -- be given long before blocks are declared up to it, so what is declared is no bound
-use Rattle.std.proofs.Common.{◌≡◌, ◌≢◌, ◌+◌, ◌<◌, ◌≤◌, ◌==◌, ◌&&◌, ◌∷◌, ◌∙◌, ℕ, List, [], true, nat_le, nat_lt, arith, refl, sym, ap, inl, inr}
-use Rattle.std.proofs.lemmas.Bool.Decides.{nat_tests}
-use Rattle.safety.proofs.Words.{cases_eq, Header, IsHeader, Ring, from_filter, is_driver_kind, Known, IsIn, driver_rings, flat_map, open_leases, open_on, open_ranges, shape_of, place_count, floor_number}
-use Rattle.ownership_rules.proofs.Among.{among_is}
-use Rattle.ownership_rules.specs.OpenLeases.{Leased, Block, Link, Range, is_among}
-use Rattle.leases.specs.LeaseBooks.Lents.{is_passed}
+use Rattle.leases.proofs.BaseWords.{◌≡◌, ◌≢◌, ◌+◌, ◌<◌, ◌≤◌, ◌==◌, ◌&&◌, ◌∷◌, ◌∙◌, ℕ, List, [], true, nat_le, nat_lt, arith, refl, sym, ap, inl, inr, nat_tests, cases_eq, Header, IsHeader, Ring, from_filter, is_driver_kind, Known, IsIn, driver_rings, flat_map, open_leases, open_on, open_ranges, shape_of, place_count, floor_number, among_is, Leased, Block, Link, Range, is_among, is_passed, IsAmong, shape_there, is_of_ring}
 use Rattle.leases.proofs.LeaseBooks.Members.{InOn, block, link, from_flat_map, in_either, in_on}
 use Rattle.leases.proofs.LeaseBooks.RangesAlone.{IsRange, open_are_ranges}
 use Rattle.leases.proofs.LeaseBooks.Writing.{AreShaped}
-use Rattle.trace_record.proofs.RingFinder.RingsApart.{IsAmong}
-use Rattle.trace_record.proofs.RingFinder.HeaderRings.{shape_there}
-use Rattle.leases.specs.RingLeases.RingLents.{is_of_ring}
 
 inside : (a id from p to : ℕ) → a ≡ id → from ≤ p → p < to → (id == a && nat_le from p && nat_lt p to) ≡ (a == id)
 inside a id from p to same low high = grind (arith, nat_tests, same, low, high)

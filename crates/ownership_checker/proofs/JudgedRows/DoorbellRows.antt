@@ -1,22 +1,7 @@
 -- Which rule a doorbell breaks
-use Rattle.std.proofs.Common.{◌≡◌, ℕ, [], ◌∷◌, Bool, true, false, refl, ap, sym, ◌∙◌}
-use Rattle.std.specs.Prelude.{if◌then◌else◌}
-use Rattle.traces.specs.declared.header.Header.{Header}
-use Rattle.traces.specs.declared.row.Row.TheVariants.{Bell}
-use Rattle.ring_knowledge.specs.Known.{Known}
-use Rattle.ownership_rules.specs.declared.refusal.Refusal.TheVariants.{AfterStop, BadDoorbell}
-use Rattle.ownership_rules.specs.Refusal.{first_of, first_broken, broken_of}
-use Rattle.ownership_rules.specs.Older.{older, stricter}
-use Rattle.ownership_rules.specs.Rules.{broken, lenient_tests, tests}
+use Rattle.ownership_checker.proofs.Words.{◌≡◌, ℕ, [], ◌∷◌, Bool, true, false, refl, ap, sym, ◌∙◌, if◌then◌else◌, Header, Bell, Known, AfterStop, BadDoorbell, first_of, first_broken, broken_of, older, stricter, broken, lenient_tests, tests, learned, TraceRecord, FollowsTrace, ContextsFit, IsLeast, IsLeastFrom, IsStepFrom, first_broken-is, nothing_broken}
 use Rattle.ownership_rules.specs.Doorbells.{doorbell_tests, is_bad_doorbell}
-use Rattle.ring_knowledge.specs.Learned.{learned}
-use Rattle.trace_record.specs.declared.trace_record.TraceRecord.{TraceRecord}
-use Rattle.trace_record.specs.FollowsTrace.{FollowsTrace}
-use Rattle.trace_record.specs.Premises.{ContextsFit}
-use Rattle.trace_record.specs.Steps.{IsLeast}
-use Rattle.ownership_checker.specs.JudgedRows.Tracking.{IsLeastFrom, IsStepFrom}
 use Rattle.ownership_checker.proofs.JudgedRows.Keeping.{contexts_fit}
-use Rattle.trace_record.proofs.FirstBroken.{first_broken-is, nothing_broken}
 
 module _ (h : Header) (k : Known) (on : k.stopped ≡ false) (s t : ℕ) where
   tested : first_of (broken h k (Bell s t)) ≡ first_broken (doorbell_tests h k s t)

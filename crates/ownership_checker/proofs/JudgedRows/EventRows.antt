@@ -1,37 +1,15 @@
 -- Which rule an event breaks, and what is known behind one that breaks none
-use Rattle.std.proofs.Common.{◌≡◌, ℕ, [], ◌∷◌, true, false, refl, ap, sym, ◌∙◌, ◌+◌, subst}
-use Rattle.std.specs.Prelude.{◌||◌, ◌&&◌, ◌==◌, not, if◌then◌else◌, Bool}
+use Rattle.ownership_checker.proofs.Words.{◌≡◌, ℕ, [], ◌∷◌, true, false, refl, ap, sym, ◌∙◌, ◌+◌, subst, ◌||◌, ◌&&◌, ◌==◌, not, if◌then◌else◌, Bool, and_parts, false≢true, or_parts, not-false, Block, cycle, kind, BlockKind, IsHeader, event_shape, Header, Read, Known, learned, event_read, AfterStop, ImpossibleEvent, NotInProfile, first_of, first_broken, broken_of, older, stricter, broken, lenient_tests, tests, DriverKeeps, lenient_row, AllFail, tests_fail, TraceRecord, FollowsTrace, IsLeast, IsRowStep, IsSetUp, first_broken-is, nothing_broken}
 use Rattle.std.specs.Bool.{OnTrue}
-use Rattle.std.proofs.lemmas.Bool.{and_parts, false≢true, or_parts, not-false}
-use Rattle.trb.specs.declared.block.Block.{Block}
-use Rattle.trb.specs.Block.{cycle, kind}
-use Rattle.trb.specs.declared.kind.BlockKind.{BlockKind}
 use Rattle.trb.specs.declared.kind.BlockKind.TheVariants.{TransferEvent, CommandCompletion}
 use Rattle.segments.specs.Places.{cycle_of}
-use Rattle.traces.specs.Header.{IsHeader, event_shape}
 use Rattle.trb.specs.Kind.{is_event, is_transfer_event}
-use Rattle.traces.specs.declared.header.Header.{Header}
-use Rattle.traces.specs.declared.row.Row.TheVariants.{Read}
-use Rattle.ring_knowledge.specs.Known.{Known}
-use Rattle.ring_knowledge.specs.Learned.{learned, event_read}
 use Rattle.ring_knowledge.specs.Transfers.{transfer_read}
 use Rattle.ring_knowledge.specs.Completions.{completed}
-use Rattle.ownership_rules.specs.declared.refusal.Refusal.TheVariants.{AfterStop, ImpossibleEvent, NotInProfile}
-use Rattle.ownership_rules.specs.Refusal.{first_of, first_broken, broken_of}
-use Rattle.ownership_rules.specs.Older.{older, stricter}
-use Rattle.ownership_rules.specs.Rules.{broken, lenient_tests, tests}
 use Rattle.ownership_rules.specs.Events.{event_tests, is_impossible, is_impossible_by_kind, is_impossible_completion, is_impossible_transfer, is_in_profile, is_past_room}
-use Rattle.safety.specs.Keeps.{DriverKeeps}
-use Rattle.safety.proofs.Lenient.{lenient_row}
-use Rattle.safety.proofs.TestsPassed.{AllFail, tests_fail}
 use Rattle.safety.proofs.SameDriver.{event_same}
-use Rattle.trace_record.specs.declared.trace_record.TraceRecord.{TraceRecord}
-use Rattle.trace_record.specs.FollowsTrace.{FollowsTrace}
-use Rattle.trace_record.specs.Steps.{IsLeast, IsRowStep}
-use Rattle.trace_record.specs.Premises.{IsSetUp}
 use Rattle.event_rows.proofs.TransferEvents.Reports.{left_out as left_out_transfer}
 use Rattle.ownership_checker.proofs.JudgedRows.Keeping.{set_up}
-use Rattle.trace_record.proofs.FirstBroken.{first_broken-is, nothing_broken}
 
 not_true : (b : Bool) → not b ≡ true → b ≡ false
 not_true true e = absurd (false≢true e)

@@ -1,32 +1,18 @@
 -- What the checks of rows rest on, of a driver that has kept the rules so far
-use Rattle.std.proofs.Common.{◌≡◌, ℕ, zero, suc, length, get_or, ◌<◌, List, [], ◌∷◌, true, false, Option, Some, None, refl, ap, sym, ◌∙◌, arith, subst, inl, inr}
-use Rattle.std.specs.Prelude.{is_some, slice_get, option_and_then, ◌/◌, ◌*◌, ◌%◌, Bool, if◌then◌else◌}
-use Rattle.std.proofs.lemmas.Bool.{cases_Bool, or_parts}
+use Rattle.ownership_checker.proofs.Words.{◌≡◌, ℕ, zero, suc, length, get_or, ◌<◌, List, [], ◌∷◌, true, false, Option, Some, None, refl, ap, sym, ◌∙◌, arith, subst, inl, inr, is_some, slice_get, option_and_then, ◌/◌, ◌*◌, ◌%◌, Bool, if◌then◌else◌, cases_Bool, or_parts, Block, BlockKind, aligned, kind, pointer, Evt, Command, Header, Ring, IsHeader, command_id, command_ring, event_ring, event_shape, event_size, id_or_none, ring_with, shape_or, Known, DriverKeeps, IsDriverRing, command_at, unfinished, IsSetUp, ContextsFit, FitsMemory}
 use Rattle.std.proofs.lemmas.Bool.Decides.{nat_tests}
-use Rattle.trb.specs.declared.block.Block.{Block}
-use Rattle.trb.specs.declared.kind.BlockKind.{BlockKind}
 use Rattle.trb.specs.declared.kind.BlockKind.TheVariants as kinds
-use Rattle.trb.specs.Block.{aligned, kind, pointer}
-use Rattle.trb.specs.declared.ring_kind.RingKind.TheVariants.{Evt}
 use Rattle.segments.specs.Places.{place_count}
 use Rattle.contexts.specs.Contexts.{input_context_bytes}
-use Rattle.commands.specs.declared.command.Command.{Command}
 use Rattle.commands.specs.Command.{command_by_kind, command_of, named_context, option_bit}
 use Rattle.trb.specs.Descriptor.{is_command_left_out}
-use Rattle.traces.specs.declared.header.Header.{Header}
-use Rattle.traces.specs.declared.ring.Ring.{Ring}
-use Rattle.traces.specs.Header.{IsHeader, command_id, command_ring, event_ring, event_shape, event_size, id_or_none, ring_with, shape_or}
 use Rattle.traces.specs.declared.register.Register.TheVariants.{Crcr}
-use Rattle.ring_knowledge.specs.Known.{Known}
-use Rattle.safety.specs.Keeps.{DriverKeeps, IsDriverRing}
 use Rattle.safety.proofs.RingIds.{none_has_256}
 use Rattle.safety.proofs.UnfinishedBehind.{listed_unfinished}
 use Rattle.safety.proofs.AreaFacts.{area_parts}
 use Rattle.ownership_rules.specs.Areas.{is_bad_area}
 use Rattle.ownership_rules.specs.Commands.{has_bad_content, has_bad_context, is_bad_command}
-use Rattle.ring_knowledge.specs.Rings.{command_at, unfinished}
 use Rattle.ownership_rules.proofs.Among.{IsIn}
-use Rattle.trace_record.specs.Premises.{IsSetUp, ContextsFit, FitsMemory}
 
 -- what holds of each element holds of all
 all_in : {X : Type 0} (P : X → Type 0) (xs : List X) → ((x : X) → IsIn x xs → P x) → (n : ℕ) → (d : X) → n < length xs → P (get_or xs n d)

@@ -1,24 +1,6 @@
 -- What is said of a row by its kind, and of any row after the stop
-use Rattle.std.proofs.Common.{◌≡◌, ℕ, Bool, true, false, Option, None, Some, ◌+◌, arith, Result, Ok, Err, refl, sym, subst}
-use Rattle.std.specs.Prelude.{IfErr, IfOk, OnOk}
-use Rattle.event_ring.specs.EventPlaceValue.{EventState}
-use Rattle.traces.specs.declared.row.Row.{Row}
-use Rattle.traces.specs.declared.header.Header.{Header}
-use Rattle.traces.specs.Header.{IsHeader}
-use Rattle.ring_knowledge.specs.Known.{Known}
-use Rattle.ownership_rules.specs.Rules.{broken}
-use Rattle.ownership_rules.specs.declared.refusal.Refusal.TheVariants.{AfterStop}
-use Rattle.safety.specs.Keeps.{DriverKeeps}
-use Rattle.trace_record.specs.declared.trace_record.TraceRecord.{TraceRecord}
-use Rattle.trace_record.specs.declared.fault.StepFault.{StepFault}
+use Rattle.ownership_checker.proofs.Words.{◌≡◌, ℕ, Bool, true, false, Option, None, Some, ◌+◌, arith, Result, Ok, Err, refl, sym, subst, IfErr, IfOk, OnOk, EventState, Row, Header, IsHeader, Known, broken, AfterStop, DriverKeeps, TraceRecord, StepFault, FollowsTrace, IsWithin, IsSetUp, IfRefused, IsLeast, IsRowStep, IsOwnedSo, IsPlaced, RowPlace, IsTracked, IsStepFrom, IsLeastFrom}
 use Rattle.trace_record.specs.declared.fault.StepFault.TheVariants.{Refused, Memory}
-use Rattle.trace_record.specs.FollowsTrace.{FollowsTrace}
-use Rattle.trace_record.specs.Fresh.{IsWithin}
-use Rattle.trace_record.specs.Premises.{IsSetUp}
-use Rattle.trace_record.specs.Steps.{IfRefused, IsLeast, IsRowStep}
-use Rattle.trace_record.specs.RowPlaces.{IsOwnedSo, IsPlaced}
-use Rattle.trace_record.specs.declared.row_place.RowPlace.{RowPlace}
-use Rattle.ownership_checker.specs.JudgedRows.Tracking.{IsTracked, IsStepFrom, IsLeastFrom}
 use Rattle.ownership_checker.proofs.JudgedRows.Keeping.{set_up}
 
 -- any row after the stop

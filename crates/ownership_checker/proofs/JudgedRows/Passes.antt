@@ -1,31 +1,8 @@
 -- A pass over the rows of a trace: what was checked so far, and what that says of the whole
-use Rattle.std.proofs.Common.{◌≡◌, ℕ, ◌+◌, ◌<◌, ◌≤◌, List, [], ◌∷◌, Option, Some, None, refl, ap, sym, ◌∙◌, arith, length, subst, get_or, add-zero}
-use Rattle.std.specs.Prelude.{reverse, take, drop, option_map}
-use Rattle.std.proofs.lemmas.Grind.{common_steps}
-use Rattle.traces.specs.declared.row.Row.{Row}
-use Rattle.traces.specs.Limits.{most_lines}
-use Rattle.traces.specs.declared.header.Header.{Header}
-use Rattle.traces.specs.Header.{IsHeader}
-use Rattle.ring_knowledge.specs.Known.{Known, nothing}
-use Rattle.ring_knowledge.specs.Learned.{learned, known}
-use Rattle.ownership_rules.specs.declared.refusal.Refusal.{Refusal}
-use Rattle.ownership_rules.specs.Refusal.{first_of}
-use Rattle.ownership_rules.specs.Rules.{broken, verdict_from, first_or}
-use Rattle.ownership_rules.specs.Clean.{IsClean}
-use Rattle.ownership_rules.specs.Leases.{without_end}
+use Rattle.ownership_checker.proofs.Words.{◌≡◌, ℕ, ◌+◌, ◌<◌, ◌≤◌, List, [], ◌∷◌, Option, Some, None, refl, ap, sym, ◌∙◌, arith, length, subst, get_or, add-zero, reverse, take, drop, option_map, common_steps, Row, most_lines, Header, IsHeader, Known, nothing, learned, known, Refusal, first_of, broken, verdict_from, first_or, IsClean, without_end, clean_tests, nothing_kept, TraceRecord, StepFault, RowPlace, IsPlaced, FollowsTrace, IsWithin, IfRefused, IsLeast, IsRowStep, IsTracked, IsChecked, IsPass}
 use Rattle.ownership_checker.proofs.JudgedRows.CleanHistories.{lenient_row}
-use Rattle.safety.proofs.TestsPassed.{clean_tests}
-use Rattle.safety.proofs.NothingKept.{nothing_kept}
 use Rattle.safety.proofs.DriverHistories.{kept_history}
-use Rattle.trace_record.specs.declared.trace_record.TraceRecord.{TraceRecord}
-use Rattle.trace_record.specs.declared.fault.StepFault.{StepFault}
 use Rattle.trace_record.specs.declared.fault.StepFault.TheVariants.{Refused, Memory}
-use Rattle.trace_record.specs.declared.row_place.RowPlace.{RowPlace}
-use Rattle.trace_record.specs.RowPlaces.{IsPlaced}
-use Rattle.trace_record.specs.FollowsTrace.{FollowsTrace}
-use Rattle.trace_record.specs.Fresh.{IsWithin}
-use Rattle.trace_record.specs.Steps.{IfRefused, IsLeast, IsRowStep}
-use Rattle.ownership_checker.specs.JudgedRows.Tracking.{IsTracked, IsChecked, IsPass}
 
 -- one row more: the newest first
 pub one_more : (rows : List Row) (i : ℕ) (d : Row) → i < length rows → reverse (take (i + 1) rows) ≡ get_or rows i d ∷ reverse (take i rows)

@@ -1,10 +1,5 @@
 -- The one rule for a ring that comes or goes: where it is broken, and where none is
-use Rattle.std.proofs.Common.{◌≡◌, ◌∷◌, Bool, true, false, [], Some, refl, if◌then◌else◌}
-use Rattle.ring_knowledge.specs.Known.{Known}
-use Rattle.ownership_rules.specs.Refusal.{broken_of, first_of}
-use Rattle.ownership_rules.specs.declared.refusal.Refusal.{Refusal}
-use Rattle.ownership_rules.specs.declared.refusal.Refusal.TheVariants.{AfterStop}
-use Rattle.ownership_checker.specs.RingPasses.Rules.{broken_alone}
+use Rattle.ownership_checker.proofs.Words.{◌≡◌, ◌∷◌, Bool, true, false, [], Some, refl, if◌then◌else◌, Known, broken_of, first_of, Refusal, AfterStop, broken_alone}
 
 none_alone : (stopped bad : Bool) (c : Refusal) → (if stopped then AfterStop ∷ [] else broken_of ((c, bad) ∷ [])) ≡ [] → (stopped ≡ false) × (bad ≡ false)
 none_alone true bad c e = cc e

@@ -1,36 +1,16 @@
 -- The leases that end where a descriptor is withdrawn, and those that begin where a ring is started or moved, as the log is told of them
-use Rattle.std.proofs.Common.{◌≤◌, ◌-◌, ◌≡◌, ◌+◌, ◌<◌, ◌^◌, ◌∷◌, ◌∙◌, ℕ, zero, suc, Bool, true, false, not, List, [], Option, None, Some, slice_get, slice_index, length, arith, refl, ap, sym, subst}
-use Rattle.std.proofs.lemmas.Bool.{or_parts}
-use Rattle.std.specs.Prelude.{is_some}
+use Rattle.ownership_checker.proofs.Words.{◌≤◌, ◌-◌, ◌≡◌, ◌+◌, ◌<◌, ◌^◌, ◌∷◌, ◌∙◌, ℕ, zero, suc, Bool, true, false, not, List, [], Option, None, Some, slice_get, slice_index, length, arith, refl, ap, sym, subst, or_parts, is_some, Header, IsHeader, Known, Ring, RingView, DriverKeeps, Row, Bell, Write, Command, command_id, none-some, on_ring, open_leases, positions_given, ring_with, same_Some, shape_of, length_from, descriptor_length, unrestored, command_ring, id_or_none, Restores, ring_found, shape_there, among_at, lenient, clean_tests, is_transfer_ring, IsTransferRing, AreOpen, Lent, passed_on, FindsRanges, RangeIndexes, HoldsAll, has_stopped, is_bad_withdraw, restored, restored_on, ring_moved, ring_restored, stopped_still, NamesTransfer, MovesRing}
 use Rattle.std.specs.Option.{SomeIff}
-use Rattle.safety.proofs.Words.{Header, IsHeader, Known, Ring, RingView, DriverKeeps, Row, Bell, Write, Command, SetTrDequeue, command_given, command_id, none-some, on_ring, open_leases, positions_given, ring_with, same_Some, shape_of}
-use Rattle.segments.specs.Descriptors.{length_from}
-use Rattle.segments.specs.Givings.{descriptor_length, unrestored}
-use Rattle.traces.specs.Header.{command_ring, id_or_none}
-use Rattle.segments.specs.RingView.{Restores, Withdraws}
+use Rattle.safety.proofs.Words.{SetTrDequeue, command_given}
+use Rattle.segments.specs.RingView.{Withdraws}
 use Rattle.segments.specs.ShapeValue.{Shape}
 use Rattle.ring_knowledge.specs.RingRecords.{FollowsRing}
 use Rattle.ring_knowledge.specs.declared.ring_record.RingRecord.{RingRecord}
 use Rattle.trace_record.proofs.RingFinder.FoundRings.{command_found}
-use Rattle.trace_record.proofs.RingFinder.HeaderRings.{ring_found, shape_there}
-use Rattle.trace_record.proofs.RingFinder.RingsApart.{among_at}
-use Rattle.ownership_rules.specs.Rules.{lenient}
-use Rattle.safety.proofs.TestsPassed.{clean_tests}
-use Rattle.safety.specs.EndpointsKeep.{is_transfer_ring}
-use Rattle.safety.specs.Keeps.{IsTransferRing}
-use Rattle.leases.specs.LeaseBooks.InStep.{AreOpen}
-use Rattle.leases.specs.LeaseBooks.Lents.{Lent, passed_on}
-use Rattle.leases.specs.LeaseBooks.Ranges.{FindsRanges}
-use Rattle.leases.specs.declared.book.ranges.RangeIndexes.{RangeIndexes}
-use Rattle.leases.specs.LeaseRows.CleanRows.{HoldsAll}
-use Rattle.safety.specs.RingChanges.Withdrawals.{has_stopped, is_bad_withdraw, restored, restored_on, ring_moved, ring_restored}
-use Rattle.safety.proofs.RingChanges.Restored.{stopped_still}
 use Rattle.safety.proofs.RingChanges.Withdrawn.{stopped_with}
 use Rattle.driver_rows.specs.RingRows.GivenCommands.{GivesCommandAt}
 use Rattle.driver_rows.specs.RingRows.RingSteps.{IsTransferAt}
-use Rattle.driver_rows.specs.RingRows.Withdrawing.{NamesTransfer}
 use Rattle.driver_rows.proofs.RingRows.GivenAt.{command_drives}
-use Rattle.leases.specs.RingLeases.Moving.{MovesRing}
 use Rattle.leases.proofs.RingLeases.FoundFree.{found_restored, found_withdrawn}
 use Rattle.leases.proofs.RingLeases.LentFree.{Restoring}
 use Rattle.leases.proofs.RingLeases.MovingRings.{was_given}

@@ -1,29 +1,10 @@
 -- What a row of the driver says that breaks no rule; where no descriptor was withdrawn nothing is free; and what breaks no rule of the trace's version
 -- breaks no lenient one
-use Rattle.std.proofs.Common.{◌≡◌, ◌∷◌, ◌++◌, ◌∙◌, ◌==◌, ℕ, Bool, true, false, if◌then◌else◌, List, [], Option, Some, None, filter, refl, sym, ap, subst, inl, inr}
-use Rattle.std.proofs.lemmas.Bool.{or_parts}
+use Rattle.ownership_checker.proofs.Words.{◌≡◌, ◌∷◌, ◌++◌, ◌∙◌, ◌==◌, ℕ, Bool, true, false, if◌then◌else◌, List, [], Option, Some, None, filter, refl, sym, ap, subst, inl, inr, or_parts, cases_Bool, cond-true, Header, Known, Ring, Write, Sub, Reg, Bell, Read, learned, nothing, shape_of, flips_passed, is_not_restored, unrestored, due_positions, Row, TraceRow, Plain, Comes, Goes, driver_rings, broken_of, first_of, broken, tests, Refusal, AfterStop, BadFree, BadRing, BadWithdraw, NotRestored, WriteToOwned, lenient_row, forgotten, is_bad_free, is_bad_ring, AreKept, IsKept, header_now, known_now, is_bad_withdraw, is_left, restored, ring_restored, some_flips, is_passed, withdraws_badly, restored_same, AreClean, NothingFree, broken_restored, driver_broken}
 use Rattle.std.specs.List.{list_any}
-use Rattle.safety.proofs.Words.{cases_Bool, cond-true, no_flips, Header, Known, Ring, Write, Sub, Reg, Bell, Read, learned, nothing, shape_of}
-use Rattle.segments.specs.Givings.{flips_passed, is_not_restored, unrestored}
-use Rattle.segments.specs.RingView.{due_positions}
-use Rattle.traces.specs.declared.row.Row.{Row}
-use Rattle.traces.specs.declared.trace_row.TraceRow.{TraceRow}
-use Rattle.traces.specs.declared.trace_row.TraceRow.TheVariants.{Plain, Comes, Goes, Withdraws}
-use Rattle.traces.specs.Header.{driver_rings}
-use Rattle.ownership_rules.specs.Refusal.{broken_of, first_of}
-use Rattle.ownership_rules.specs.Rules.{broken, tests}
-use Rattle.ownership_rules.specs.declared.refusal.Refusal.{Refusal}
-use Rattle.ownership_rules.specs.declared.refusal.Refusal.TheVariants.{AfterStop, BadFree, BadRing, BadWithdraw, NotRestored, WriteToOwned}
-use Rattle.safety.proofs.Lenient.{lenient_row}
+use Rattle.safety.proofs.Words.{no_flips}
+use Rattle.traces.specs.declared.trace_row.TraceRow.TheVariants.{Withdraws}
 use Rattle.safety.proofs.NothingFree.{free_same}
-use Rattle.safety.specs.RingChanges.Changes.{forgotten, is_bad_free, is_bad_ring}
-use Rattle.safety.specs.RingChanges.Histories.{AreKept, IsKept, header_now, known_now}
-use Rattle.safety.specs.RingChanges.Withdrawals.{is_bad_withdraw, is_left, restored, ring_restored, some_flips}
-use Rattle.driver_rows.specs.RingRows.Withdrawing.{is_passed, withdraws_badly}
-use Rattle.leases.proofs.RingLeases.NothingRestored.{restored_same}
-use Rattle.ownership_checker.specs.RingPasses.Clean.{AreClean}
-use Rattle.ownership_checker.specs.RingPasses.Passing.{NothingFree}
-use Rattle.ownership_checker.specs.RingPasses.Rules.{broken_restored, driver_broken}
 use Rattle.ownership_checker.proofs.RingPasses.Broken.{breaks_none}
 
 -- ---- a row of the driver

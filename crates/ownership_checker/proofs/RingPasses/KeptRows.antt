@@ -1,25 +1,7 @@
 -- How far a pass has come over rows that are kept in memory, and what that says of all of them
-use Rattle.std.proofs.Common.{◌≡◌, ℕ, ◌+◌, ◌<◌, ◌≤◌, List, [], ◌∷◌, ◌++◌, ◌∙◌, All, Some, ap, sym, subst, arith, length, get_or, add-zero}
-use Rattle.std.specs.Prelude.{drop, reverse, take}
-use Rattle.std.proofs.lemmas.Grind.{common_steps}
-use Rattle.std.proofs.lemmas.List.Elements.{All-weaker}
-use Rattle.traces.specs.Limits.{most_streamed_lines}
-use Rattle.traces.specs.TraceRows.{IsTraceRow}
-use Rattle.traces.specs.declared.header.Header.{Header}
-use Rattle.traces.specs.declared.trace_row.TraceRow.{TraceRow}
-use Rattle.ring_knowledge.specs.declared.lease.Lease.{Lease}
-use Rattle.ownership_rules.specs.declared.refusal.Refusal.{Refusal}
-use Rattle.ownership_rules.specs.Leases.{without_end}
-use Rattle.leases.specs.LeaseBooks.Lents.{Lent, lents}
-use Rattle.trace_record.specs.declared.fault.StepFault.{StepFault}
+use Rattle.ownership_checker.proofs.Words.{◌≡◌, ℕ, ◌+◌, ◌<◌, ◌≤◌, List, [], ◌∷◌, ◌++◌, ◌∙◌, All, Some, ap, sym, subst, arith, length, get_or, add-zero, drop, reverse, take, common_steps, All-weaker, most_streamed_lines, IsTraceRow, Header, TraceRow, Lease, Refusal, without_end, Lent, lents, StepFault, IfRefused, FitsFields, header_now, known_now, IsLeastOfRow, IsRingLogged, IsRingPassed, ring_verdict, RingPass}
 use Rattle.trace_record.specs.declared.fault.StepFault.TheVariants.{Refused}
-use Rattle.trace_record.specs.Steps.{IfRefused}
-use Rattle.safety.specs.RingChanges.Histories.{FitsFields, header_now, known_now}
-use Rattle.ownership_checker.specs.RingPasses.Clean.{IsLeastOfRow}
 use Rattle.ownership_checker.specs.RingPasses.KeptRows.{IsBehindAll}
-use Rattle.ownership_checker.specs.RingPasses.Passing.{IsRingLogged, IsRingPassed}
-use Rattle.ownership_checker.specs.RingPasses.Rules.{ring_verdict}
-use Rattle.ownership_checker.specs.declared.pass.ring_pass.RingPass.{RingPass}
 use Rattle.ownership_checker.proofs.RingPasses.RowsFit.{fits}
 use Rattle.ownership_checker.proofs.RingPasses.Steps.{all_reversed, no_harm}
 use Rattle.ownership_checker.proofs.RingPasses.Verdicts.{none_refused, reversed_twice, row_refused}

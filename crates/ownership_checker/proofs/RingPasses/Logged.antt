@@ -1,40 +1,12 @@
 -- What the log of a pass keeps behind one row more
-use Rattle.std.proofs.Common.{◌≡◌, ◌+◌, ◌<◌, ◌≤◌, ◌∷◌, ◌∙◌, ℕ, Bool, true, false, not, ◌||◌, ◌==◌, None, Some, List, [], length, map, arith, refl, sym, ap, subst}
-use Rattle.std.proofs.lemmas.Bool.{or_parts}
-use Rattle.safety.proofs.Words.{Header, Known, Ring, IsHeader, Bell, Write, learned, none-some, on_ring, open_leases}
-use Rattle.std.proofs.lemmas.Bool.{false≢true}
+use Rattle.ownership_checker.proofs.Words.{◌≡◌, ◌+◌, ◌<◌, ◌≤◌, ◌∷◌, ◌∙◌, ℕ, Bool, true, false, not, ◌||◌, ◌==◌, None, Some, List, [], length, map, arith, refl, sym, ap, subst, or_parts, Header, Known, Ring, IsHeader, Bell, Write, learned, none-some, on_ring, open_leases, false≢true, RingKind, Cmd, Evt, Xfer, not_found, ring_found, IsAmong, lenient, clean_tests, is_transfer_ring, Row, TraceRow, Plain, Comes, Goes, is_driver_kind, is_transfer_kind, ring_with, without_end, AreOpen, IsInStep, Lent, ended_where, grown, lents, passed_on, FindsRanges, RangeIndexes, HoldsAll, IsNextRow, IsComing, is_bad_free, is_bad_ring, is_had, with_ring, without_ring, header_now, known_now, is_of_ring, ring_lents, comes_lent, goes_lent, in_step_now, lent_open, IsRingPassed, RingPass, ring_restored, Restores}
 use Rattle.std.specs.List.{position}
-use Rattle.trb.specs.declared.ring_kind.RingKind.{RingKind}
-use Rattle.trb.specs.declared.ring_kind.RingKind.TheVariants.{Cmd, Evt, Xfer}
 use Rattle.trace_record.proofs.RingFinder.FoundRings.{none_here}
-use Rattle.trace_record.proofs.RingFinder.HeaderRings.{not_found, ring_found}
-use Rattle.trace_record.proofs.RingFinder.RingsApart.{IsAmong}
-use Rattle.ownership_rules.specs.Rules.{lenient}
-use Rattle.safety.proofs.TestsPassed.{clean_tests}
-use Rattle.safety.specs.EndpointsKeep.{is_transfer_ring}
-use Rattle.traces.specs.declared.row.Row.{Row}
-use Rattle.traces.specs.declared.trace_row.TraceRow.{TraceRow}
-use Rattle.traces.specs.declared.trace_row.TraceRow.TheVariants.{Plain, Comes, Goes}
-use Rattle.traces.specs.Header.{is_driver_kind, is_transfer_kind, ring_with}
-use Rattle.ownership_rules.specs.Leases.{without_end}
 use Rattle.ownership_rules.specs.Moves.{is_being_bound}
-use Rattle.leases.specs.LeaseBooks.InStep.{AreOpen, IsInStep}
-use Rattle.leases.specs.LeaseBooks.Lents.{Lent, ended_where, grown, lents, passed_on}
 use Rattle.leases.specs.LeaseBooks.OtherShapes.{AreShapedAlike}
-use Rattle.leases.specs.LeaseBooks.Ranges.{FindsRanges}
-use Rattle.leases.specs.declared.book.ranges.RangeIndexes.{RangeIndexes}
 use Rattle.leases.proofs.LeaseBooks.RangePlaces.{some_end}
-use Rattle.leases.specs.LeaseRows.CleanRows.{HoldsAll, IsNextRow}
-use Rattle.safety.specs.RingChanges.Changes.{IsComing, is_bad_free, is_bad_ring, is_had, with_ring, without_ring}
-use Rattle.safety.specs.RingChanges.Histories.{header_now, known_now}
-use Rattle.leases.specs.RingLeases.RingLents.{is_of_ring, ring_lents}
 use Rattle.leases.proofs.RingLeases.HeldBehind.{comes_alike, comes_commands, goes_alike, goes_commands, ranges_found}
-use Rattle.leases.proofs.RingLeases.LentBehind.{comes_lent, goes_lent, in_step_now, lent_open}
-use Rattle.ownership_checker.specs.RingPasses.Passing.{IsRingPassed}
-use Rattle.ownership_checker.specs.declared.pass.ring_pass.RingPass.{RingPass}
 use Rattle.leases.proofs.RingLeases.FreeRows.{rung_now}
-use Rattle.safety.specs.RingChanges.Withdrawals.{ring_restored}
-use Rattle.segments.specs.RingView.{Restores}
 use Rattle.ownership_checker.proofs.RingPasses.Steps.{headed_now, tracked_now}
 
 -- before the first row the leases of a history are those of a trace

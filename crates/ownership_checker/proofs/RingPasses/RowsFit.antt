@@ -1,15 +1,7 @@
 -- A row that was read fits the fields of its type
-use Rattle.std.proofs.Common.{◌≡◌, ℕ, false, List, Option, Some, Ok, subst}
-use Rattle.traces.specs.declared.trace_row.TraceRow.{TraceRow}
-use Rattle.traces.specs.declared.trace_row.TraceRow.TheVariants.{Plain, Comes, Goes, Withdraws}
-use Rattle.traces.specs.TraceRows.{IsTraceRow}
-use Rattle.trace_reader.specs.Streaming.Ahead.{ahead_of}
-use Rattle.trace_reader.specs.Streaming.Answers.{IsCall}
-use Rattle.trace_reader.specs.Streaming.ReaderState.{progress_of}
-use Rattle.trace_reader.specs.declared.row_reader.reader.RowReader.{RowReader}
+use Rattle.ownership_checker.proofs.Words.{◌≡◌, ℕ, false, List, Option, Some, Ok, subst, TraceRow, Plain, Comes, Goes, IsTraceRow, ahead_of, IsCall, progress_of, RowReader, FitsFields, ring_row}
+use Rattle.traces.specs.declared.trace_row.TraceRow.TheVariants.{Withdraws}
 use Rattle.trace_reader.proofs.Streaming.RowsFit.{answer_fits}
-use Rattle.safety.specs.RingChanges.Histories.{FitsFields}
-use Rattle.ownership_checker.specs.RingPasses.RingRows.{ring_row}
 
 pub fits : (row : TraceRow) → IsTraceRow row → FitsFields row
 fits (Plain row) is = is.0

@@ -1,32 +1,10 @@
 -- How far the rows of a trace were read and passed, between which rings come and go, and what that says of the whole text
-use Rattle.std.proofs.Common.{◌≡◌, ℕ, Bool, ◌+◌, ◌-◌, ◌<◌, ◌≤◌, List, [], ◌∷◌, ◌++◌, ◌∙◌, true, false, Option, Some, None, Result, Ok, Err, All, refl, ap, sym, subst, arith, length, append-nil, append_assoc, add-zero}
-use Rattle.std.specs.Prelude.{IfErr, IfOk, reverse}
-use Rattle.safety.proofs.Words.{All-cons, All-nil}
-use Rattle.traces.specs.Limits.{most_streamed_lines}
-use Rattle.traces.specs.declared.header.Header.{Header}
-use Rattle.traces.specs.declared.trace_row.TraceRow.{TraceRow}
-use Rattle.trace_reader.specs.declared.fault.LineFault.{LineFault}
-use Rattle.trace_reader.specs.DriverRows.{text_taken}
-use Rattle.trace_reader.specs.declared.row_reader.reader.RowReader.{RowReader}
-use Rattle.trace_reader.specs.declared.row_reader.fault.StreamFault.{StreamFault}
-use Rattle.trace_reader.specs.declared.row_reader.fault.StreamFault.TheVariants.{Line, Device, Memory}
-use Rattle.trace_reader.specs.Streaming.Ahead.{ahead_of}
-use Rattle.trace_reader.specs.Streaming.Answers.{IsCall, has_ended}
-use Rattle.trace_reader.specs.Streaming.ReaderState.{IsOpened, IsSameTrace, progress_of}
-use Rattle.trace_reader.specs.Streaming.Streams.{HasRead, IfBadLine, IsBadTaken, OfStream}
+use Rattle.ownership_checker.proofs.Words.{◌≡◌, ℕ, Bool, ◌+◌, ◌-◌, ◌<◌, List, [], ◌∷◌, ◌++◌, ◌∙◌, true, false, Option, Some, None, Result, Ok, Err, All, refl, ap, sym, subst, arith, length, append-nil, append_assoc, add-zero, IfErr, IfOk, reverse, All-cons, All-nil, most_streamed_lines, Header, TraceRow, LineFault, text_taken, RowReader, StreamFault, Line, Device, ahead_of, IsCall, has_ended, IsOpened, IsSameTrace, progress_of, HasRead, IfBadLine, IsBadTaken, OfStream, Lease, Refusal, without_end, Lent, lents, FitsFields, header_now, known_now, ring_lents, IsLeastOfRow, DoNoHarm, IsRingLogged, IsRingPassed, Begins, IfRefusedRow, IsWholeLog, OfTrace, with_rows, ring_row, ring_verdict, RingPass}
+use Rattle.trace_reader.specs.declared.row_reader.fault.StreamFault.TheVariants.{Memory}
 use Rattle.trace_reader.proofs.Streaming.Streams.{end_read, line_read_bad, opened_read, row_numbered, row_read}
-use Rattle.ring_knowledge.specs.declared.lease.Lease.{Lease}
-use Rattle.ownership_rules.specs.declared.refusal.Refusal.{Refusal}
-use Rattle.ownership_rules.specs.Leases.{without_end}
-use Rattle.leases.specs.LeaseBooks.Lents.{Lent, lents}
-use Rattle.safety.specs.RingChanges.Histories.{FitsFields, header_now, known_now}
-use Rattle.leases.specs.RingLeases.RingLents.{ring_lents}
-use Rattle.ownership_checker.specs.RingPasses.Clean.{IsLeastOfRow}
-use Rattle.ownership_checker.specs.RingPasses.Passing.{DoNoHarm, IsRingLogged, IsRingPassed}
-use Rattle.ownership_checker.specs.RingPasses.Reading.{Begins, IfRefusedRow, IsWholeLog, OfTrace, with_rows}
-use Rattle.ownership_checker.specs.RingPasses.RingRows.{ring_row}
-use Rattle.ownership_checker.specs.RingPasses.Rules.{ring_verdict}
-use Rattle.ownership_checker.specs.declared.pass.ring_pass.RingPass.{RingPass}
+use Rattle.trace_record.specs.declared.fault.StepFault.{StepFault}
+use Rattle.trace_record.specs.declared.fault.StepFault.TheVariants.{Refused as RefusedBy}
+use Rattle.trace_record.specs.Steps.{IfRefused}
 use Rattle.ownership_checker.specs.declared.pass.reading.Passed.{Passed}
 use Rattle.ownership_checker.specs.declared.pass.reading.Passed.TheVariants.{Whole, Refused}
 use Rattle.ownership_checker.proofs.RingPasses.RowsFit.{row_fits}
@@ -43,9 +21,9 @@ pub record IsGiven (held held' : Option (List ℕ)) (r r' : RowReader) (row : �
   pub on : r'.ended ≡ false
   pub call : Gives held held' r r' (Ok (Some row))
 
-pub given : {o : Option (ℕ × TraceRow)} (held held' : Option (List ℕ)) (r r' : RowReader) (row : ℕ × TraceRow) → o ≡ Some row → IsSameTrace r r' → r'.ended ≡ has_ended (Ok o) → Gives held held' r r' (Ok o) →
+pub given : {o : Option (ℕ × TraceRow)} {held held' : Option (List ℕ)} {row : ℕ × TraceRow} (r r' : RowReader) → o ≡ Some row → IsSameTrace r r' → r'.ended ≡ has_ended (Ok o) → Gives held held' r r' (Ok o) →
     IsGiven held held' r r' row
-given held held' r r' row is headed over call = record {
+given {held} {held'} r r' is headed over call = record {
   headed = headed;
   on = subst (λ (o : Option (ℕ × TraceRow)). r'.ended ≡ has_ended (Ok o)) is over;
   call = subst (λ (o : Option (ℕ × TraceRow)). Gives held held' r r' (Ok o)) is call;
@@ -57,16 +35,16 @@ pub record IsOver (held held' : Option (List ℕ)) (r r' : RowReader) : Type 0 w
   pub over : r'.ended ≡ true
   pub call : Gives held held' r r' (Ok None)
 
-pub ended : {o : Option (ℕ × TraceRow)} (held held' : Option (List ℕ)) (r r' : RowReader) → o ≡ None → IsSameTrace r r' → r'.ended ≡ has_ended (Ok o) → Gives held held' r r' (Ok o) → IsOver held held' r r'
-ended held held' r r' is headed over call = record {
+pub ended : {o : Option (ℕ × TraceRow)} {held held' : Option (List ℕ)} (r r' : RowReader) → o ≡ None → IsSameTrace r r' → r'.ended ≡ has_ended (Ok o) → Gives held held' r r' (Ok o) → IsOver held held' r r'
+ended {held} {held'} r r' is headed over call = record {
   headed = headed;
   over = subst (λ (o : Option (ℕ × TraceRow)). r'.ended ≡ has_ended (Ok o)) is over;
   call = subst (λ (o : Option (ℕ × TraceRow)). Gives held held' r r' (Ok o)) is call;
 }
 
 -- behind a row fewer lines may be left
-pub fewer_left : (held held' : Option (List ℕ)) (r r' : RowReader) (row : ℕ × TraceRow) → IsGiven held held' r r' row → most_streamed_lines - r'.lines < most_streamed_lines - r.lines
-fewer_left held held' r r' row next = let n = row_numbered ring_row held held' r r' row next.on next.call in omega (arith, n.0, n.1, r'.within)
+pub fewer_left : {held held' : Option (List ℕ)} {r r' : RowReader} {row : ℕ × TraceRow} → IsGiven held held' r r' row → most_streamed_lines - r'.lines < most_streamed_lines - r.lines
+fewer_left {held} {held'} {r} {r'} {row} next = let n = row_numbered ring_row held held' r r' row next.on next.call in omega (arith, n.0, n.1, r'.within)
 
 -- each row is taken as it stands
 as_taken : (row one : TraceRow) → row ≡ one → ring_row row ≡ Ok one
@@ -101,7 +79,7 @@ pub record IsUnderway {B M : Type 0} (words : M → ℕ → ℕ) (holds : List L
   pub passed : IsRingPassed words start.header past pass
   pub logged : (list : List Lease) → Begins (holds list) start log → IsRingLogged (holds list) start.header (start.lines + 1) past pass
 
-module _ {B M : Type 0} (words : M → ℕ → ℕ) (holds : List Lease → Header → List Lent → B → Type 0) (start : RowReader) (held : Option (List ℕ)) (log : B) where
+module _ {B M : Type 0} {words : M → ℕ → ℕ} {holds : List Lease → Header → List Lent → B → Type 0} {start : RowReader} {held : Option (List ℕ)} {log : B} where
   pub underway : (pass : RingPass B M) (h : Header) → h ≡ start.header → IsRingPassed words h [] pass →
       ((list : List Lease) (first : ℕ) → holds list h (lents h first []) log → IsRingLogged (holds list) h first [] pass) → IsUnderway words holds start held held log start pass
   underway pass h is passed logged = record {
@@ -116,17 +94,14 @@ module _ {B M : Type 0} (words : M → ℕ → ℕ) (holds : List Lease → Head
         (logged list (start.lines + 1) (subst (λ (x : Header). holds list x (lents x (start.lines + 1) []) log) (sym is) (begins (start.lines + 1))));
   }
 
-  module _ (held' held'' : Option (List ℕ)) (r r' : RowReader) (pass : RingPass B M) (u : IsUnderway words holds start held held' log r pass) where
-    module _ (row : ℕ × TraceRow) (next : IsGiven held' held'' r r' row) (one : TraceRow) (told : row.1 ≡ one) where
+  module _ {held' : Option (List ℕ)} {r : RowReader} {pass : RingPass B M} (u : IsUnderway words holds start held held' log r pass) where
+    module _ {held'' : Option (List ℕ)} {r' : RowReader} {row : ℕ × TraceRow} (next : IsGiven held' held'' r r' row) {one : TraceRow} (told : row.1 ≡ one) where
       number_so : row.0 ≡ start.lines + 1 + length u.past
       number_so = let n = row_numbered ring_row held' held'' r r' row next.on next.call in omega (arith, n.0, u.numbered)
 
       room_so : start.lines + 1 + length u.past < without_end
       unfolding without_end
       room_so = let n = row_numbered ring_row held' held'' r r' row next.on next.call in omega (arith, n.0, n.1, u.numbered, r'.within)
-
-      pub few_so : (h : Header) × (past : List TraceRow) × IsRingPassed words h past pass × (length past ≤ most_streamed_lines)
-      few_so = (start.header, u.past, u.passed, omega (arith, u.numbered, r.within))
 
       pub fits_so : FitsFields one
       fits_so = row_fits held' held'' r r' row one (as_taken row.1 one told) next.on next.call
@@ -168,6 +143,14 @@ module _ {B M : Type 0} (words : M → ℕ → ℕ) (holds : List Lease → Head
             refused,
           )
 
+      pub refused_at : (last : Option (List ℕ)) {fault : StepFault} → IfRefused fault (λ c. (h : Header) (past : List TraceRow) → IsRingPassed words h past pass → IsLeastOfRow (header_now h past) (known_now h past) one c) →
+          (number : ℕ) (c : Refusal) → (number ≡ row.0) × (fault ≡ RefusedBy c) × ((before : Option (List ℕ)) (first : ℕ) (done : List TraceRow) → HasRead ring_row before held'' first done r' →
+          (more : List TraceRow) × OfStream before last (λ text. text_taken r'.keeps ring_row text ≡ Ok (with_rows r' first (done ++ more)))) →
+          (keeps : Bool) (before : Option (List ℕ)) → IsOpened keeps before held (Ok start) → OfTrace keeps before last (λ trace. ring_verdict trace.header trace.first trace.rows ≡ Some (number, c))
+      refused_at last least number c so keeps before opened =
+          let told = subst (λ (e : StepFault). IfRefused e (λ y. (h : Header) (past : List TraceRow) → IsRingPassed words h past pass → IsLeastOfRow (header_now h past) (known_now h past) one y)) so.1 least in
+          subst (λ n. OfTrace keeps before last (λ trace. ring_verdict trace.header trace.first trace.rows ≡ Some (n, c))) (sym so.0) (refused_so last c told so.2 keeps before opened)
+
       -- a refused row, and a bad line behind it
       pub bad_behind : (last : Option (List ℕ)) (e : StreamFault) →
           IfBadLine e (λ line fault. (before : Option (List ℕ)) (first : ℕ) (done : List TraceRow) → HasRead ring_row before held'' first done r' → IsBadTaken r'.keeps ring_row before last line fault) →
@@ -178,19 +161,19 @@ module _ {B M : Type 0} (words : M → ℕ → ℕ) (holds : List Lease → Head
       bad_behind last Memory told = tt
 
     -- a bad line is told
-    pub bad_so : (e : StreamFault) → IsSameTrace r r' → r'.ended ≡ true → Gives held' held'' r r' (Err e) →
+    pub bad_so : (held'' : Option (List ℕ)) (r' : RowReader) (e : StreamFault) → IsSameTrace r r' → r'.ended ≡ true → Gives held' held'' r r' (Err e) →
         IfBadLine e (λ line fault. (keeps : Bool) (before : Option (List ℕ)) → IsOpened keeps before held (Ok start) → IsBadTaken keeps ring_row before held'' line fault)
-    bad_so (Line line fault) headed over call = λ keeps before opened.
+    bad_so held'' r' (Line line fault) headed over call = λ keeps before opened.
         subst (λ (k : Bool). IsBadTaken k ring_row before held'' line fault) (u.headed.1 ∙ opened.0) (line_read_bad ring_row before held' held'' (start.lines + 1) (reverse u.past) r r' headed (u.read keeps before opened) over line fault call)
-    bad_so Device headed over call = tt
-    bad_so Memory headed over call = tt
+    bad_so held'' r' Device headed over call = tt
+    bad_so held'' r' Memory headed over call = tt
 
     -- no row is left
-    pub whole_so : IsOver held' held'' r r' → (r.ended ≡ true → held'' ≡ held') →
+    pub whole_so : {held'' : Option (List ℕ)} {r' : RowReader} → IsOver held' held'' r r' → (r.ended ≡ true → held'' ≡ held') →
         (kept : B) → ((h : Header) (past : List TraceRow) → IsRingPassed words h past pass → All FitsFields past → DoNoHarm h (reverse past)) →
         ((list : List Lease) (h : Header) (first : ℕ) (past : List TraceRow) → IsRingLogged (holds list) h first past pass → holds list (header_now h past) (ring_lents h first past) kept) →
         (keeps : Bool) (before : Option (List ℕ)) (list : List Lease) → IsOpened keeps before held (Ok start) → Begins (holds list) start log → OfTrace keeps before held'' (λ trace. IsWholeLog (holds list) trace kept)
-    whole_so last still kept harmless logs keeps before list opened begins =
+    whole_so {held''} {r'} last still kept harmless logs keeps before list opened begins =
         let first = start.lines + 1 in (
           with_rows start first (reverse u.past),
           subst (λ (k : Bool). OfStream before held'' (λ text. text_taken k ring_row text ≡ Ok (with_rows start first (reverse u.past)))) opened.0 (of_start before held'' start r first (reverse u.past) u.headed
@@ -210,15 +193,15 @@ pub record IsReadOn (start : RowReader) (held held' : Option (List ℕ)) (reader
   pub headed : IsSameTrace start reader
   pub read : (before : Option (List ℕ)) (first : ℕ) (done : List TraceRow) → HasRead ring_row before held first done start → (more : List TraceRow) × HasRead ring_row before held' first (done ++ more) reader
 
-module _ (start : RowReader) (held : Option (List ℕ)) where
+module _ {start : RowReader} {held : Option (List ℕ)} where
   pub none_read_on : IsReadOn start held held start
   none_read_on = record {
     headed = (refl, refl);
     read = λ before first done read. ([], subst (λ (rows : List TraceRow). HasRead ring_row before held first rows start) (sym (append-nil done)) read);
   }
 
-  module _ (held' held'' : Option (List ℕ)) (r r' : RowReader) (u : IsReadOn start held held' r) where
-    module _ (before : Option (List ℕ)) (first : ℕ) (done : List TraceRow) where
+  module _ {held' : Option (List ℕ)} {r : RowReader} (u : IsReadOn start held held' r) where
+    module _ (held'' : Option (List ℕ)) (r' : RowReader) (before : Option (List ℕ)) (first : ℕ) (done : List TraceRow) where
       abbrev Read : Option (List ℕ) → RowReader → Type 0
       Read x reader = (more : List TraceRow) × HasRead ring_row before x first (done ++ more) reader
 
@@ -241,19 +224,19 @@ module _ (start : RowReader) (held : Option (List ℕ)) where
       bad_more headed over line fault call (more, read) =
           subst (λ (k : Bool). IsBadTaken k ring_row before held'' line fault) u.headed.1 (line_read_bad ring_row before held' held'' first (done ++ more) r r' headed read over line fault call)
 
-    pub row_read_on : (row : ℕ × TraceRow) → IsGiven held' held'' r r' row → IsReadOn start held held'' r'
-    row_read_on row next = record {
+    pub row_read_on : {held'' : Option (List ℕ)} {r' : RowReader} {row : ℕ × TraceRow} → IsGiven held' held'' r r' row → IsReadOn start held held'' r'
+    row_read_on {held''} {r'} {row} next = record {
       headed = (next.headed.0 ∙ u.headed.0, next.headed.1 ∙ u.headed.1);
-      read = λ before first done read. row_more before first done row next row.1 (as_taken row.1 row.1 refl) (u.read before first done read);
+      read = λ before first done read. row_more held'' r' before first done row next row.1 (as_taken row.1 row.1 refl) (u.read before first done read);
     }
 
-    pub all_read_on : IsOver held' held'' r r' → (r.ended ≡ true → held'' ≡ held') →
+    pub all_read_on : {held'' : Option (List ℕ)} {r' : RowReader} → IsOver held' held'' r r' → (r.ended ≡ true → held'' ≡ held') →
         (before : Option (List ℕ)) (first : ℕ) (done : List TraceRow) → HasRead ring_row before held first done start →
         (more : List TraceRow) × OfStream before held'' (λ text. text_taken start.keeps ring_row text ≡ Ok (with_rows start first (done ++ more)))
-    all_read_on last still before first done read = all_more before first done last still (u.read before first done read)
+    all_read_on {held''} {r'} last still before first done read = all_more held'' r' before first done last still (u.read before first done read)
 
-    pub bad_read_on : (e : StreamFault) → IsSameTrace r r' → r'.ended ≡ true → Gives held' held'' r r' (Err e) →
+    pub bad_read_on : (held'' : Option (List ℕ)) (r' : RowReader) (e : StreamFault) → IsSameTrace r r' → r'.ended ≡ true → Gives held' held'' r r' (Err e) →
         IfBadLine e (λ line fault. (before : Option (List ℕ)) (first : ℕ) (done : List TraceRow) → HasRead ring_row before held first done start → IsBadTaken start.keeps ring_row before held'' line fault)
-    bad_read_on (Line line fault) headed over call = λ before first done read. bad_more before first done headed over line fault call (u.read before first done read)
-    bad_read_on Device headed over call = tt
-    bad_read_on Memory headed over call = tt
+    bad_read_on held'' r' (Line line fault) headed over call = λ before first done read. bad_more held'' r' before first done headed over line fault call (u.read before first done read)
+    bad_read_on held'' r' Device headed over call = tt
+    bad_read_on held'' r' Memory headed over call = tt

@@ -1,11 +1,6 @@
 -- Each row is taken as it stands: what a text says is the trace that it spells
-use Rattle.std.proofs.Common.{Bool, ◌≡◌, ◌∷◌, ◌∙◌, ℕ, List, [], Option, Some, None, Result, Ok, Err, refl, sym}
-use Rattle.traces.specs.declared.trace_row.TraceRow.{TraceRow}
+use Rattle.ownership_checker.proofs.Words.{Bool, ◌≡◌, ◌∷◌, ◌∙◌, ℕ, List, [], Option, Some, None, Result, Ok, Err, refl, sym, TraceRow, LineFault, State, TraceText, go_on, next_number, read_line, read_lines, start, trace_of, whole, take_lines, taken, text_taken, ring_row}
 use Rattle.line_text.specs.Lines.{TextLine, lines_of}
-use Rattle.trace_reader.specs.declared.fault.LineFault.{LineFault}
-use Rattle.trace_reader.specs.Reading.{State, TraceText, go_on, next_number, read_line, read_lines, start, trace_of, whole}
-use Rattle.trace_reader.specs.DriverRows.{take_lines, taken, text_taken}
-use Rattle.ownership_checker.specs.RingPasses.RingRows.{ring_row}
 
 taken_same : (r : Result (State × Option TraceRow) LineFault) → taken ring_row r ≡ r
 taken_same (Ok (st, Some row)) = refl

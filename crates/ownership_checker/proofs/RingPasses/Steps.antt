@@ -1,48 +1,21 @@
 -- A row more of a pass
-use Rattle.std.proofs.Common.{◌≡◌, ◌+◌, ◌++◌, ◌∷◌, ◌∙◌, ℕ, true, false, List, [], All, Option, Some, None, Result, Ok, Err, IfErr, suc, length, reverse, arith, refl, sym, ap, subst, inl, inr}
-use Rattle.safety.proofs.Words.{reverse-append, All-cons, All-head, All-nil, All-tail, Header, Known, Ring, IsHeader, DriverKeeps, nothing, on_ring}
-use Rattle.std.proofs.lemmas.Bool.{false≢true}
+use Rattle.ownership_checker.proofs.Words.{◌≡◌, ◌+◌, ◌++◌, ◌∷◌, ◌∙◌, ℕ, true, false, List, [], All, Option, Some, None, Result, Ok, Err, IfErr, suc, length, reverse, arith, refl, sym, ap, subst, inl, inr, reverse-append, All-cons, All-head, All-nil, All-tail, Header, Known, Ring, IsHeader, DriverKeeps, nothing, on_ring, false≢true, lenient_row, nothing_kept, clean_tests, EventState, Xfer, Row, TraceRow, Plain, Comes, Goes, id_below, IsAmong, TraceRecord, FollowsTrace, IsWithin, IsLeast, IsRowStep, Refusal, IsTracked, ContextsFit, IsComing, forgotten, is_bad_free, is_bad_ring, with_ring, without_ring, AreKept, FitsFields, header_now, known_now, is_left, restored, restored_on, ring_restored, some_flips, row_comes, stopped_still, BadFree, BadRing, BadWithdraw, first_of, withdraws_badly, restored_same, IsLeastOfRow, DoNoHarm, IsRingPassed, NothingFree, RingPass}
 use Rattle.safety.proofs.DriverHistories.{kept_driver}
-use Rattle.safety.proofs.Lenient.{lenient_row}
-use Rattle.safety.proofs.NothingKept.{nothing_kept}
-use Rattle.safety.proofs.TestsPassed.{clean_tests}
-use Rattle.event_ring.specs.EventPlaceValue.{EventState}
-use Rattle.trb.specs.declared.ring_kind.RingKind.TheVariants.{Xfer}
-use Rattle.traces.specs.declared.row.Row.{Row}
-use Rattle.traces.specs.declared.trace_row.TraceRow.{TraceRow}
-use Rattle.traces.specs.declared.trace_row.TraceRow.TheVariants.{Plain, Comes, Goes, Withdraws}
+use Rattle.traces.specs.declared.trace_row.TraceRow.TheVariants.{Withdraws}
 use Rattle.trace_record.specs.RingFinder.Finding.{IsFinder}
-use Rattle.trace_record.proofs.RingFinder.HeaderRings.{id_below, shape_allowed}
-use Rattle.trace_record.proofs.RingFinder.RingsApart.{IsAmong}
-use Rattle.trace_record.specs.declared.trace_record.TraceRecord.{TraceRecord}
-use Rattle.trace_record.specs.FollowsTrace.{FollowsTrace}
-use Rattle.trace_record.specs.Fresh.{IsWithin}
+use Rattle.trace_record.proofs.RingFinder.HeaderRings.{shape_allowed}
 use Rattle.trace_record.specs.declared.fault.StepFault as step
 use Rattle.trace_record.specs.declared.fault.StepFault.TheVariants as variants
 use Rattle.trace_record.specs.Steps as steps
-use Rattle.trace_record.specs.Steps.{IsLeast, IsRowStep}
-use Rattle.ownership_rules.specs.declared.refusal.Refusal.{Refusal}
-use Rattle.ownership_checker.specs.JudgedRows.Tracking.{IsTracked}
 use Rattle.ownership_checker.proofs.JudgedRows.Keeping.{contexts_fit}
-use Rattle.trace_record.specs.Premises.{ContextsFit}
 use Rattle.leases.specs.LeaseRows.LeftBehind.{EntriesFit}
 use Rattle.leases.proofs.LeaseRows.EntriesFit.{nothing_fits, row_fits, still_fit}
-use Rattle.safety.specs.RingChanges.Changes.{IsComing, forgotten, is_bad_free, is_bad_ring, with_ring, without_ring}
-use Rattle.safety.specs.RingChanges.Histories.{AreKept, FitsFields, header_now, known_now}
-use Rattle.safety.specs.RingChanges.Withdrawals.{is_left, restored, restored_on, ring_restored, some_flips}
-use Rattle.safety.proofs.RingChanges.Restored.{row_comes, row_keeps, stopped_still}
+use Rattle.safety.proofs.RingChanges.Restored.{row_keeps}
 use Rattle.safety.proofs.RingChanges.Withdrawn.{withdraw_keeps}
 use Rattle.safety.proofs.RingChanges.GoneRings.{gone_ring_kept}
 use Rattle.safety.proofs.RingChanges.RingRuns.{comes_keeps}
 use Rattle.safety.proofs.RingChanges.RingsHeadline.{rings_headline}
-use Rattle.ownership_rules.specs.declared.refusal.Refusal.TheVariants.{BadFree, BadRing, BadWithdraw}
-use Rattle.ownership_rules.specs.Refusal.{first_of}
 use Rattle.driver_rows.specs.RingRows.RingSteps.{IsRingStep}
-use Rattle.driver_rows.specs.RingRows.Withdrawing.{withdraws_badly}
-use Rattle.leases.proofs.RingLeases.NothingRestored.{restored_same}
-use Rattle.ownership_checker.specs.RingPasses.Clean.{IsLeastOfRow}
-use Rattle.ownership_checker.specs.RingPasses.Passing.{DoNoHarm, IsRingPassed, NothingFree}
-use Rattle.ownership_checker.specs.declared.pass.ring_pass.RingPass.{RingPass}
 use Rattle.ownership_checker.proofs.RingPasses.Broken.{least_broken, none_broken}
 use Rattle.ownership_checker.proofs.RingPasses.Histories.{comes_free, driver_same, flips_none_restored, goes_free, kept_now, no_rule_broken, nothing_free, plain_free, stands_where_restored}
 use Rattle.ownership_checker.proofs.RingPasses.Verdicts.{reversed_twice}

@@ -1,16 +1,5 @@
 -- The verdict on rows between which rings come and go, by those that were passed
-use Rattle.std.proofs.Common.{◌≡◌, ◌+◌, ◌∷◌, ◌++◌, ◌∙◌, ℕ, List, [], Option, Some, None, ap, sym, arith, length, append-nil, add-zero}
-use Rattle.std.specs.Prelude.{option_map, reverse}
-use Rattle.std.proofs.lemmas.Grind.{common_steps}
-use Rattle.traces.specs.declared.header.Header.{Header}
-use Rattle.traces.specs.declared.trace_row.TraceRow.{TraceRow}
-use Rattle.ring_knowledge.specs.Known.{nothing}
-use Rattle.ownership_rules.specs.declared.refusal.Refusal.{Refusal}
-use Rattle.ownership_rules.specs.Refusal.{first_of}
-use Rattle.ownership_rules.specs.Rules.{first_or}
-use Rattle.safety.specs.RingChanges.Histories.{header_after, header_now, known_after, known_now}
-use Rattle.ownership_checker.specs.RingPasses.Clean.{AreClean, IsLeastOfRow}
-use Rattle.ownership_checker.specs.RingPasses.Rules.{ring_verdict, ring_verdict_from, row_broken}
+use Rattle.ownership_checker.proofs.Words.{◌≡◌, ◌+◌, ◌∷◌, ◌++◌, ◌∙◌, ℕ, List, [], Option, Some, None, ap, sym, arith, length, append-nil, add-zero, option_map, reverse, common_steps, Header, TraceRow, nothing, Refusal, first_of, first_or, header_after, header_now, known_after, known_now, AreClean, IsLeastOfRow, ring_verdict, ring_verdict_from, row_broken}
 
 pub one_more : (past : List TraceRow) (row : TraceRow) (more : List TraceRow) → reverse (row ∷ past) ++ more ≡ reverse past ++ (row ∷ more)
 one_more past row more = grind (arith, common_steps)

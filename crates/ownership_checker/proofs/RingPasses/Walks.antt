@@ -1,34 +1,13 @@
 -- Behind any rows that break no rule the walk through each ring that is there reads what was declared
-use Rattle.std.proofs.Common.{◌≡◌, ◌∷◌, ◌++◌, ◌∙◌, ℕ, true, false, List, [], All, sym, ap, subst}
-use Rattle.std.specs.Prelude.{drop, reverse, take}
-use Rattle.std.proofs.lemmas.Bool.{false≢true}
-use Rattle.std.proofs.lemmas.List.{reverse-append, take-append-drop}
-use Rattle.trb.specs.declared.ring_kind.RingKind.{RingKind}
-use Rattle.trb.specs.declared.ring_kind.RingKind.TheVariants.{Evt}
-use Rattle.segments.proofs.WalkReads.{walk_reads}
-use Rattle.traces.specs.declared.trace_row.TraceRow.{TraceRow}
-use Rattle.traces.specs.declared.trace_row.TraceRow.TheVariants.{Plain, Comes, Goes, Withdraws}
-use Rattle.traces.specs.Header.{is_driver_kind, shape_of}
-use Rattle.safety.proofs.Words.{All-tail, Header, IsHeader, Known}
-use Rattle.safety.specs.Keeps.{DriverKeeps}
+use Rattle.ownership_checker.proofs.Words.{◌≡◌, ◌∷◌, ◌++◌, ◌∙◌, ℕ, true, false, List, [], All, sym, ap, subst, drop, reverse, take, false≢true, reverse-append, take-append-drop, RingKind, Evt, walk_reads, TraceRow, Plain, Comes, Goes, is_driver_kind, shape_of, All-tail, Header, IsHeader, Known, DriverKeeps, rings_of, endpoints_of, still_of, lenient_row, HasRing, has_ring, still_reads, BadFree, BadRing, BadWithdraw, on_ring, forgotten, is_bad_free, is_bad_ring, FitsFields, header_now, known_now, restored, row_comes, withdraws_badly, AreClean}
+use Rattle.traces.specs.declared.trace_row.TraceRow.TheVariants.{Withdraws}
 use Rattle.safety.specs.RingsKeep.{RingsKeep}
-use Rattle.safety.proofs.DriverRings.{rings_of, endpoints_of}
 use Rattle.safety.proofs.DriverRows.{nothing_keeps}
 use Rattle.safety.proofs.Histories.{row_keeps}
-use Rattle.safety.proofs.KeptRings.{still_of}
-use Rattle.safety.proofs.Lenient.{lenient_row}
-use Rattle.safety.proofs.RingsOfHeader.{HasRing, has_ring, shape_allowed}
-use Rattle.safety.proofs.StillPlacing.{still_reads}
-use Rattle.ownership_rules.specs.declared.refusal.Refusal.TheVariants.{BadFree, BadRing, BadWithdraw}
-use Rattle.ring_knowledge.specs.Rings.{on_ring}
-use Rattle.safety.specs.RingChanges.Changes.{forgotten, is_bad_free, is_bad_ring}
-use Rattle.safety.specs.RingChanges.Histories.{FitsFields, header_now, known_now}
-use Rattle.safety.specs.RingChanges.Withdrawals.{restored}
-use Rattle.safety.proofs.RingChanges.Restored.{row_comes, row_keeps as restored_keeps}
+use Rattle.safety.proofs.RingsOfHeader.{shape_allowed}
+use Rattle.safety.proofs.RingChanges.Restored.{row_keeps as restored_keeps}
 use Rattle.safety.proofs.RingChanges.RingsHeadline.{now_keeps}
-use Rattle.driver_rows.specs.RingRows.Withdrawing.{withdraws_badly}
 use Rattle.ownership_checker.specs.RingPasses.Accepted.{WalksRead}
-use Rattle.ownership_checker.specs.RingPasses.Clean.{AreClean}
 use Rattle.ownership_checker.proofs.RingPasses.Broken.{breaks_none}
 use Rattle.ownership_checker.proofs.RingPasses.Histories.{breaks_no_rule, kept_now}
 use Rattle.ownership_checker.proofs.RingPasses.Verdicts.{reversed_twice}

@@ -4,6 +4,7 @@ ghost use Rattle.trb.specs.declared.ring_kind.RingKind.TheVariants.{Xfer};
 ghost use Rattle.traces.specs.Header.{IsHeader};
 ghost use Rattle.traces.specs.Limits.{most_streamed_lines};
 ghost use Rattle.traces.specs.declared.header.Header.{Header};
+ghost use Rattle.traces.specs.declared.row.Row.TheVariants.{Read};
 ghost use Rattle.traces.specs.declared.trace_row.TraceRow.{TraceRow};
 ghost use Rattle.traces.specs.declared.trace_row.TraceRow.TheVariants.{Plain, Comes, Goes};
 ghost use Rattle.traces.specs.Header.{ring_with};
@@ -34,6 +35,7 @@ use ownership_rules::Refusal;
 use std::alloc::{AllocError, Global};
 use trace_record::{Finder, RowPlace, StepFault, TraceRecord};
 use traces::{Header, Ring, Row};
+use trb::{Block, BlockKind};
 
 /// The place of a row that writes no word and ends no command.
 const NOWHERE: RowPlace = RowPlace {
@@ -103,15 +105,31 @@ impl<B: LeaseLog + Drop, M: WordMemory + Drop> RingPass<B, M> {
                 let place = self.record.place(&self.header, &self.finder, row);
                 self.placed_row(number, row, &place)
             }
-            Row::Read { .. } => {
-                let place = self.record.place(&self.header, &self.finder, row);
-                self.placed_row(number, row, &place)
+            Row::Read { event } if event.kind() == BlockKind::CommandCompletion => {
+                self.completion_row(number, *event)
             }
             _ => self.placed_row(number, row, &NOWHERE),
         }
     }
 
-    /// The same of a row with this place, where nothing was withdrawn. It goes inline for writes, for events and for other rows each by itself.
+    /// The same of a Command Completion Event, where nothing was withdrawn. It stays apart, so that writes and other rows go inline.
+    #[inline(never)]
+    fn completion_row(&mut self, number: u32, event: Block) -> Result<(), StepFault>
+        requires unwithdrawn { self.old.has_withdrawn ≡ false }
+        requires so_far { (h : Header) × (past : List TraceRow) × IsRingPassed M.words h past self.old × (length past ≤ most_streamed_lines) }
+        ensures passed { OnOk result ((h : Header) (past : List TraceRow) → IsRingPassed M.words h past self.old → IsRingPassed M.words h (Plain (Read event) ∷ past) self.new) }
+        ensures logged { OnOk result ((list : List Lease) (h : Header) (first : ℕ) (past : List TraceRow) → IsRingPassed M.words h past self.old →
+            number ≡ first + length past → first + length past < without_end →
+            IsRingLogged (B.holds list) h first past self.old → IsRingLogged (B.holds list) h first (Plain (Read event) ∷ past) self.new) }
+        ensures refused { IfErr result (λ e. IfRefused e (λ c. (h : Header) (past : List TraceRow) → IsRingPassed M.words h past self.old →
+            IsLeastOfRow (header_now h past) (known_now h past) (Plain (Read event)) c)) }
+    {
+        let row = Row::Read { event };
+        let place = self.record.place(&self.header, &self.finder, &row);
+        self.placed_row(number, &row, &place)
+    }
+
+    /// The same of a row with this place, where nothing was withdrawn. It goes inline for writes, for completions and for other rows each by itself.
     #[inline(always)]
     fn placed_row(&mut self, number: u32, row: &Row, place: &RowPlace) -> Result<(), StepFault>
         requires unwithdrawn { self.old.has_withdrawn ≡ false }

@@ -1,12 +1,11 @@
 -- The Address Device commands among the unfinished ones, counted by slot
-use Rattle.trace_record.proofs.DeviceSlots.Words.{◌≡◌, ◌<◌, ◌≤◌, ◌&&◌, ◌||◌, ◌∙◌, ◌∷◌, if◌then◌else◌, ℕ, zero, suc, Bool, true, false, List, [], Option, Some, None, ap, sym, refl, arith, inl, inr, length, get_or, All, nat_lt, filter, le-ltb, lt-ltb, eq-eqb, list_any, sum_by, cases_Bool, cases_lt, and_parts, false≢true, sum_by-le, sum_by-cons, Command, AddressDevice, KeptCommand, UnfinishedCommands, addressing_count, is_address_device, is_addressing, FollowsUnfinished, as_list, is_about, kept_of, no_command}
+use Rattle.trace_record.proofs.BaseWords.{rules, common_steps, ◌≡◌, ◌<◌, ◌≤◌, ◌&&◌, ◌||◌, ◌∙◌, ◌∷◌, if◌then◌else◌, ℕ, suc, Bool, true, false, List, [], Option, Some, None, ap, sym, refl, arith, inl, inr, length, get_or, All, nat_lt, filter, le-ltb, lt-ltb, eq-eqb, list_any, sum_by, cases_Bool, cases_lt, and_parts, false≢true, sum_by-le, sum_by-cons, Command, AddressDevice, KeptCommand, UnfinishedCommands, addressing_count, is_address_device, is_addressing, FollowsUnfinished, as_list, is_about, kept_of, no_command}
 use Rattle.trace_record.proofs.DeviceSlots.NamedCommands.{found_about}
 
 -- ---- how many there are
 
 pub at_most_one : (b : Bool) → (if b then 1 else 0) ≤ 1
-at_most_one true = omega arith
-at_most_one false = omega arith
+at_most_one b = search rules
 
 each_at_most : (xs : List KeptCommand) → All (λ x. addressing_count x ≤ 1) xs
 each_at_most xs = λ k d below. at_most_one (is_addressing (get_or xs k d).command)
@@ -23,9 +22,7 @@ none_counted b is = ap (λ c. let n : ℕ = if c then 1 else 0 in n) is
 
 -- one is counted, and where one is counted there is one
 counted_at : (xs : List KeptCommand) (s : ℕ) → is_addressing (get_or xs s no_command).command ≡ true → 0 < sum_by addressing_count xs
-counted_at [] s is = absurd (false≢true is)
-counted_at (x ∷ xs) zero is = omega (arith, sum_by-cons addressing_count x xs, one_counted (is_addressing x.command) is)
-counted_at (x ∷ xs) (suc s) is = omega (arith, sum_by-cons addressing_count x xs, counted_at xs s is)
+counted_at xs s h1 = grind (arith, common_steps, false≢true, sum_by-cons, addressing_count, one_counted, is_addressing)
 
 counted_where : (xs : List KeptCommand) → 0 < sum_by addressing_count xs → (s : ℕ) × (is_addressing (get_or xs s no_command).command ≡ true)
 counted_where [] some = absurd (omega (arith, some))
@@ -39,29 +36,21 @@ counted_where (x ∷ xs) some = elim (cases_Bool (is_addressing x.command)) [
 -- ---- in a list of commands
 
 or_true : (b : Bool) → (b || true) ≡ true
-or_true true = refl
-or_true false = refl
+or_true b = search rules
 
 or_false_true : (b : Bool) → (b || false) ≡ true → b ≡ true
-or_false_true true e = refl
-or_false_true false e = e
+or_false_true b h1 = search rules
 
 -- one that passes a test
 pub any_gives : {X : Type 0} (p : X → Bool) (xs : List X) → list_any p xs ≡ true → (x : X) × (p x ≡ true) × ((q : X → Bool) → q x ≡ true → list_any q xs ≡ true)
 any_gives p [] e = absurd (false≢true e)
 any_gives p (x ∷ xs) e = elim (cases_Bool (p x)) [
   | inl here ↦ (x, here, λ q passes. ap (λ b. b || list_any q xs) passes)
-  | inr later ↦
-      let rest = any_gives p xs (sym (ap (λ b. b || list_any p xs) later) ∙ e) in
-      (rest.0, rest.1, λ q passes. ap (λ b. q x || b) (rest.2 q passes) ∙ or_true (q x))
+  | inr later ↦ search (rules, list_any, or_true, any_gives p xs (sym (ap (λ b. b || list_any p xs) later) ∙ e))
 ]
 
 any_left_step : {X : Type 0} (p : X → Bool) (x : X) (ys xs : List X) (b : Bool) → (list_any p ys ≡ true → list_any p xs ≡ true) → list_any p (if b then x ∷ ys else ys) ≡ true → (p x || list_any p xs) ≡ true
-any_left_step p x ys xs false rest e = ap (λ r. p x || r) (rest e) ∙ or_true (p x)
-any_left_step p x ys xs true rest e = elim (cases_Bool (p x)) [
-  | inl here ↦ ap (λ r. r || list_any p xs) here
-  | inr later ↦ ap (λ r. p x || r) (rest (sym (ap (λ r. r || list_any p ys) later) ∙ e)) ∙ or_true (p x)
-]
+any_left_step p x ys xs b h1 h2 = search (rules, or_true, list_any)
 
 any_left : {X : Type 0} (p q : X → Bool) (xs : List X) → list_any p (filter q xs) ≡ true → list_any p xs ≡ true
 any_left p q [] e = e
@@ -69,13 +58,7 @@ any_left p q (x ∷ xs) e = any_left_step p x (filter q xs) xs (q x) (any_left p
 
 -- the first that is left passes
 first_step : {X : Type 0} (q : X → Bool) (x y : X) (ys zs : List X) → ((ys ≡ y ∷ zs) → q y ≡ true) → (if q x then x ∷ ys else ys) ≡ y ∷ zs → q y ≡ true
-first_step q x y ys zs rest e = elim (cases_Bool (q x)) [
-  | inl here ↦ ap q (sym (heads x y ys zs (sym (ap (λ b. if b then x ∷ ys else ys) here) ∙ e))) ∙ here
-  | inr later ↦ rest (sym (ap (λ b. if b then x ∷ ys else ys) later) ∙ e)
-]
-  where
-    heads : {X : Type 0} (x y : X) (xs ys : List X) → x ∷ xs ≡ y ∷ ys → x ≡ y
-    heads x y xs ys e = cc
+first_step q x y ys zs rest e = search rules
 
 pub first_passes : {X : Type 0} (q : X → Bool) (xs : List X) (y : X) (zs : List X) → filter q xs ≡ y ∷ zs → q y ≡ true
 first_passes q [] y zs e = absurd (cc)
@@ -94,8 +77,7 @@ module _ (u : UnfinishedCommands) (all : List Command) (f : FollowsUnfinished al
       any_left is_address_device (is_about s i) all (ap (list_any is_address_device) (f.each s i ∙ ap as_list kept) ∙ ap (λ b. b || false) is)
 
   in_kept : (s : ℕ) (o : Option Command) → list_any (λ d. is_about s 0 d && is_address_device d) (as_list o) ≡ true → is_addressing o ≡ true
-  in_kept s None e = absurd (false≢true e)
-  in_kept s (Some d) e = (and_parts (is_about s 0 d) (is_address_device d) (or_false_true (is_about s 0 d && is_address_device d) e)).1
+  in_kept s o h1 = search (rules, false≢true, and_parts, is_about, is_address_device, or_false_true)
 
   -- an Address Device is kept of its slot as a whole
   kept_of_command : (c : Command) → is_address_device c ≡ true → ((q : Command → Bool) → q c ≡ true → list_any q all ≡ true) → (s : ℕ) × (is_addressing (kept_of u s 0) ≡ true)
@@ -117,8 +99,4 @@ module _ (u : UnfinishedCommands) (all : List Command) (f : FollowsUnfinished al
   ]
     where
       nothing : (b : Bool) → list_any is_address_device all ≡ b → sum_by addressing_count u.by_slot.items ≤ 0 → list_any is_address_device all ≡ false
-      nothing false is none = is
-      nothing true is none =
-          let one = any_gives is_address_device all is in
-          let there = kept_of_command one.0 one.1 one.2 in
-          absurd (omega (arith, none, counted_at u.by_slot.items there.0 there.1))
+      nothing b h1 h2 = search (rules, any_gives, is_address_device, kept_of_command, counted_at)

@@ -1,9 +1,8 @@
 -- What passes a test of a list, where at most one element does
-use Rattle.trace_record.proofs.DeviceSlots.Words.{◌≡◌, ◌++◌, ◌||◌, if◌then◌else◌, ◌∙◌, ◌∷◌, Bool, true, false, List, [], All, All-append, All-cons, All-head, All-nil, All-tail, ap, refl, filter, list_any}
+use Rattle.trace_record.proofs.BaseWords.{rules, ◌≡◌, ◌++◌, ◌||◌, if◌then◌else◌, ◌∙◌, ◌∷◌, Bool, true, false, List, [], All, All-append, All-cons, All-head, All-nil, All-tail, ap, refl, filter, list_any}
 
 none_step : {X : Type 0} (x : X) (ys : List X) (b r : Bool) → (b || r) ≡ false → (r ≡ false → ys ≡ []) → (if b then x ∷ ys else ys) ≡ []
-none_step x ys true r e rest = absurd (cc)
-none_step x ys false r e rest = rest e
+none_step x ys b r h1 h2 = search rules
 
 -- a test that holds of none
 pub none_passes : {X : Type 0} (p : X → Bool) (xs : List X) → list_any p xs ≡ false → filter p xs ≡ []
@@ -11,17 +10,14 @@ none_passes p [] none = refl
 none_passes p (x ∷ xs) none = none_step x (filter p xs) (p x) (list_any p xs) none (none_passes p xs)
 
 pub any_same : {X : Type 0} (p q : X → Bool) (xs : List X) → ((x : X) → p x ≡ q x) → list_any p xs ≡ list_any q xs
-any_same p q [] same = refl
-any_same p q (x ∷ xs) same = λ i. same x i || any_same p q xs same i
+any_same p q xs h1 = search rules
 
 not_true : false ≡ true → ⊥
 not_true e = absurd (cc)
 
 filtered_step : {X : Type 0} (p : X → Bool) (x : X) (ys xs : List X) (b a : Bool) → (a ≡ true → b ≡ true) → p x ≡ a → list_any p ys ≡ list_any p xs →
     list_any p (if b then x ∷ ys else ys) ≡ (a || list_any p xs)
-filtered_step p x ys xs true a holds is rest = ap (λ r. p x || r) rest ∙ ap (λ r. r || list_any p xs) is
-filtered_step p x ys xs false true holds is rest = absurd (not_true (holds refl))
-filtered_step p x ys xs false false holds is rest = rest
+filtered_step p x ys xs b a h1 h2 h3 = search (rules, list_any, not_true)
 
 -- a test that holds only where another does looks at nothing else
 pub any_filtered : {X : Type 0} (p q : X → Bool) (xs : List X) → ((x : X) → p x ≡ true → q x ≡ true) → list_any p (filter q xs) ≡ list_any p xs
@@ -29,8 +25,7 @@ any_filtered p q [] only = refl
 any_filtered p q (x ∷ xs) only = filtered_step p x (filter q xs) xs (q x) (p x) (only x) refl (any_filtered p q xs only)
 
 any_none_step : {X : Type 0} (x : X) (ys : List X) (b r : Bool) → (if b then x ∷ ys else ys) ≡ [] → (ys ≡ [] → r ≡ false) → (b || r) ≡ false
-any_none_step x ys true r e rest = absurd (cc)
-any_none_step x ys false r e rest = rest e
+any_none_step x ys b r h1 h2 = search rules
 
 -- no element passes, or one does
 pub any_none : {X : Type 0} (p : X → Bool) (xs : List X) → filter p xs ≡ [] → list_any p xs ≡ false
@@ -38,8 +33,7 @@ any_none p [] e = refl
 any_none p (x ∷ xs) e = any_none_step x (filter p xs) (p x) (list_any p xs) e (any_none p xs)
 
 any_one_step : {X : Type 0} (x d : X) (ys : List X) (b r : Bool) → (if b then x ∷ ys else ys) ≡ d ∷ [] → (ys ≡ d ∷ [] → r ≡ true) → (b || r) ≡ true
-any_one_step x d ys true r e rest = refl
-any_one_step x d ys false r e rest = rest e
+any_one_step x d ys b r h1 h2 = search rules
 
 pub any_one : {X : Type 0} (p : X → Bool) (xs : List X) (d : X) → filter p xs ≡ d ∷ [] → list_any p xs ≡ true
 any_one p [] d e = absurd (cc)
@@ -91,10 +85,7 @@ module _ {X : Type 0} (P : X → Type 0) where
 
 module _ {X : Type 0} (p q : X → Bool) where
   or_step : (a b r s : Bool) → ((a || b) || (r || s)) ≡ ((a || r) || (b || s))
-  or_step true b r s = refl
-  or_step false true true s = refl
-  or_step false true false s = refl
-  or_step false false r s = refl
+  or_step a b r s = search rules
 
   -- one of two tests
   pub any_either : (xs : List X) → list_any (λ x. p x || q x) xs ≡ (list_any p xs || list_any q xs)
@@ -102,9 +93,7 @@ module _ {X : Type 0} (p q : X → Bool) where
   any_either (x ∷ xs) = ap (λ r. (p x || q x) || r) (any_either xs) ∙ or_step (p x) (q x) (list_any p xs) (list_any q xs)
 
   more_step : (a b r s : Bool) → (a ≡ true → b ≡ true) → (r ≡ true → s ≡ true) → (a || r) ≡ true → (b || s) ≡ true
-  more_step true b r s here there e = ap (λ v. v || s) (here refl)
-  more_step false true r s here there e = refl
-  more_step false false r s here there e = there e
+  more_step a b r s h1 h2 h3 = search rules
 
   -- what passes the one passes the other
   pub any_more : (xs : List X) → ((x : X) → p x ≡ true → q x ≡ true) → list_any p xs ≡ true → list_any q xs ≡ true

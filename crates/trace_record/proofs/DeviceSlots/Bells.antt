@@ -1,5 +1,5 @@
 -- A doorbell is rung
-use Rattle.trace_record.proofs.DeviceSlots.Words.{◌≡◌, ◌==◌, ◌≤◌, ◌&&◌, if◌then◌else◌, ◌∙◌, ◌+◌, ◌*◌, ℕ, Bool, true, false, Option, Some, None, ap, sym, subst, nat_lt, is_some, slice_index_or, eq-eqb, ne_eqb, le-ltb, cond-true, cond-false, put_pair, Opens, is_stopped, Running, Header, command_id, Known, on_ring, endpoint_rung, rung, Endpoint, DeviceRecord, rung_endpoint, FollowsDevices, IsWithEndpoint, endpoint_at, fresh_endpoint}
+use Rattle.trace_record.proofs.BaseWords.{rules, ◌≡◌, ◌==◌, ◌≤◌, ◌&&◌, if◌then◌else◌, ◌∙◌, ℕ, Bool, Option, None, ap, sym, subst, nat_lt, is_some, slice_index_or, eq-eqb, ne_eqb, le-ltb, cond-true, cond-false, put_pair, Opens, is_stopped, Running, Header, command_id, Known, on_ring, endpoint_rung, rung, Endpoint, DeviceRecord, rung_endpoint, FollowsDevices, IsWithEndpoint, endpoint_at, fresh_endpoint}
 use Rattle.trace_record.proofs.DeviceSlots.Steps.{follows_beside, follows_still, follows_state}
 
 module _ (h : Header) (k : Known) (s t : ℕ) where
@@ -14,9 +14,7 @@ module _ (h : Header) (k : Known) (s t : ℕ) where
 
   -- there is no endpoint with an index above 31
   pub no_ring_beyond : (d : DeviceRecord) → FollowsDevices k d → 32 ≤ t → k.ring_of s t ≡ None
-  no_ring_beyond d f far =
-      f.ring_of s t
-      ∙ ap (λ (e : Endpoint). e.ring) (cond-false (nat_lt t 32) (slice_index_or d.endpoints.items (s * 32 + t) fresh_endpoint) fresh_endpoint (le-ltb t 32 far))
+  no_ring_beyond d f far = search (rules, cond-false, nat_lt, slice_index_or, fresh_endpoint, le-ltb)
 
   pub rung_none : k.ring_of s t ≡ None → endpoint_rung h k s t (k.ring_of s t) ≡ k
   unfolding endpoint_rung
@@ -37,17 +35,12 @@ module _ (h : Header) (k : Known) (s t : ℕ) (old new : DeviceRecord) (f : Foll
   with_ring : (r : ℕ) (b : Bool) → x ≡ (if b then record (endpoint_at old.endpoints.items s t) { state = Running } else endpoint_at old.endpoints.items s t) →
       FollowsDevices (record (on_ring h k r Opens) { endpoint_state = if b then put_pair k.endpoint_state s t Running else k.endpoint_state }) new
   unfolding on_ring
-  with_ring r true is =
-      follows_beside (record k { endpoint_state = put_pair k.endpoint_state s t Running }) (on_ring h k r Opens) new (follows_state k old new f s t x Running w is)
-  with_ring r false is = follows_beside k (on_ring h k r Opens) new (follows_still k old new f s t x w is)
+  with_ring r b h1 = search (rules, follows_beside, put_pair, on_ring, follows_state, follows_still)
 
   by_ring : (o : Option ℕ) → x ≡ (if is_some o && is_stopped (k.endpoint_state s t) then record (endpoint_at old.endpoints.items s t) { state = Running } else endpoint_at old.endpoints.items s t) →
       FollowsDevices (endpoint_rung h k s t o) new
   unfolding endpoint_rung
-  by_ring None is = follows_still k old new f s t x w is
-  by_ring (Some r) is = with_ring r (is_stopped (k.endpoint_state s t)) is
+  by_ring o h1 = search (rules, follows_still, with_ring, is_stopped)
 
   pub follows_rung : (s ≡ 0 → ⊥) → x ≡ rung_endpoint (endpoint_at old.endpoints.items s t) → FollowsDevices (rung h k s t) new
-  follows_rung some is =
-      subst (λ k'. FollowsDevices k' new) (sym (rung_later h k s t some))
-      (by_ring (k.ring_of s t) (is ∙ sym (λ i. if is_some (f.ring_of s t i) && is_stopped (f.endpoint_state s t i) then record (endpoint_at old.endpoints.items s t) { state = Running } else endpoint_at old.endpoints.items s t)))
+  follows_rung some is = search (rules, rung_later, by_ring, is_some, is_stopped, endpoint_at)

@@ -1,18 +1,10 @@
 -- Where one endpoint alone has a ring, the sum of numbers that is kept of the ring is its number
-use Rattle.trace_record.proofs.DeviceSlots.Words.{◌≡◌, ◌≢◌, ◌+◌, ◌*◌, ◌<◌, ◌≤◌, ◌∙◌, ◌∷◌, if◌then◌else◌, ℕ, zero, suc, Bool, true, false, List, [], Option, Some, None, ap, sym, refl, arith, inl, inr, length, get_or, nat_lt, replicate, slice_index_or, lt-ltb, cond-true, Known, DeviceRecord, FollowsDevices, cases_Bool, eqb-true, false≢true, Endpoint, fresh_endpoint}
-use Rattle.std.specs.Prelude.{◌/◌, ◌%◌, nat_eq}
-use Rattle.std.specs.Option.{option_eq}
-use Rattle.std.proofs.Common.{set}
-use Rattle.std.proofs.lemmas.List.Sums.{sum_by-set}
-use Rattle.traces.specs.Header.{is_ring}
+use Rattle.trace_record.proofs.BaseWords.{rules, common_steps, ◌≡◌, ◌≢◌, ◌+◌, ◌*◌, ◌<◌, ◌≤◌, ◌∙◌, ◌∷◌, if◌then◌else◌, ℕ, zero, suc, Bool, true, false, List, [], Option, Some, None, ap, sym, refl, arith, inl, inr, length, get_or, nat_lt, replicate, slice_index_or, lt-ltb, cond-true, Known, DeviceRecord, FollowsDevices, cases_Bool, eqb-true, false≢true, Endpoint, fresh_endpoint, ◌/◌, ◌%◌, nat_eq, option_eq, set, sum_by-set, is_ring, Holders, AreCounted, AreSummed, HasOneHolder, HasRoom, HasSumRoom, IsSummed, count_of, one_of, place_of, places_sum, sum_of}
 use Rattle.trace_record.proofs.DeviceSlots.HolderCounts.{is_same, named, read_at}
 use Rattle.trace_record.proofs.DeviceSlots.NewRecord.{alike}
-use Rattle.trace_record.specs.declared.device_record.holders.Holders.{Holders}
-use Rattle.trace_record.specs.DeviceSlots.Holders.{AreCounted, AreSummed, HasOneHolder, HasRoom, HasSumRoom, IsSummed, count_of, one_of, place_of, places_sum, sum_of}
 
 if_at_most : (b : Bool) (n : ℕ) → (if b then n else 0) ≤ n
-if_at_most true n = omega arith
-if_at_most false n = omega arith
+if_at_most b n = search rules
 
 -- ---- the numbers of a list
 
@@ -21,10 +13,7 @@ in_sum : (r : ℕ) (xs : List Endpoint) (start n : ℕ) (d : Endpoint) → n < l
 unfolding places_sum
 in_sum r [] start n d below = absurd (omega arith)
 in_sum r (x ∷ xs) start zero d below = let same : start + 0 ≡ start = omega arith in rw same (omega arith)
-in_sum r (x ∷ xs) start (suc n) d below =
-    let same : start + 1 + n ≡ start + suc n = omega arith in
-    let rest : place_of r (get_or xs n d).ring (start + suc n) ≤ places_sum r xs (start + 1) = rw same at (in_sum r xs (start + 1) n d (omega arith)) in
-    omega (arith, rest)
+in_sum r (x ∷ xs) start (suc n) d below = search (rules, get_or, in_sum r xs (start + 1) n d (omega arith))
 
 -- another endpoint in place of one
 sum_set : (r : ℕ) (xs : List Endpoint) (start n : ℕ) (x d : Endpoint) → n < length xs →
@@ -32,21 +21,13 @@ sum_set : (r : ℕ) (xs : List Endpoint) (start n : ℕ) (x d : Endpoint) → n 
 unfolding places_sum
 sum_set r [] start n x d below = absurd (omega arith)
 sum_set r (y ∷ xs) start zero x d below = let same : start + 0 ≡ start = omega arith in rw same (omega arith)
-sum_set r (y ∷ xs) start (suc n) x d below =
-    let same : start + 1 + n ≡ start + suc n = omega arith in
-    let rest : places_sum r (set xs n x) (start + 1) + place_of r (get_or xs n d).ring (start + suc n) ≡ places_sum r xs (start + 1) + place_of r x.ring (start + suc n) =
-    rw same at (sum_set r xs (start + 1) n x d (omega arith)) in
-    omega (arith, rest)
+sum_set r (y ∷ xs) start (suc n) x d below = search (rules, set, get_or, sum_set r xs (start + 1) n x d (omega arith))
 
 -- it isn't large
 few : (r : ℕ) (xs : List Endpoint) (start most : ℕ) → start + length xs ≤ most → places_sum r xs start ≤ length xs * most
 unfolding places_sum
 few r [] start most fits = omega arith
-few r (x ∷ xs) start most fits =
-    let here = if_at_most (is_ring r x.ring) start in
-    let rest = few r xs (start + 1) most (omega arith) in
-    let all : (length xs + 1) * most ≡ length xs * most + most = grind arith in
-    omega (arith, here, rest, all)
+few r (x ∷ xs) start most fits = search (rules, if_at_most, length, few r xs (start + 1) most (omega arith))
 
 -- none has the ring
 none : (r : ℕ) (xs : List Endpoint) (start : ℕ) → ((m : ℕ) (d : Endpoint) → m < length xs → is_ring r (get_or xs m d).ring ≡ false) → places_sum r xs start ≡ 0
@@ -74,10 +55,7 @@ alone r (x ∷ xs) start (suc n) below has others =
 none_fresh : (r n start : ℕ) → places_sum r (replicate n fresh_endpoint) start ≡ 0
 unfolding places_sum
 none_fresh r zero start = refl
-none_fresh r (suc n) start = zero_on (places_sum r (replicate n fresh_endpoint) (start + 1)) ∙ none_fresh r n (start + 1)
-  where
-    zero_on : (n : ℕ) → 0 + n ≡ n
-    zero_on n = omega arith
+none_fresh r (suc n) start = search (rules, replicate, fresh_endpoint, none_fresh r n (start + 1))
 
 pub fresh_summed : (es : List Endpoint) (hs : Holders) (n : ℕ) → es ≡ replicate n fresh_endpoint → hs.sums.items ≡ replicate 256 0 → AreSummed es hs
 fresh_summed es hs n none zeros = λ r fits.
@@ -99,11 +77,7 @@ module _ (es : List Endpoint) (hs : Holders) (counted : AreCounted es hs) (summe
       omega (arith, here, among r, summed r fits)
 
   pub takes_sum : (o : Option ℕ) → length es ≡ 256 * 32 → HasSumRoom hs o n
-  takes_sum None many = tt
-  takes_sum (Some r) many = λ fits.
-      let most : places_sum r es 0 ≤ length es * (256 * 32) = few r es 0 (256 * 32) (omega arith) in
-      let end : length es * (256 * 32) ≡ 256 * 32 * (256 * 32) = ap (λ m. m * (256 * 32)) many in
-      omega (arith, most, end, summed r fits, many, below)
+  takes_sum o h1 = search (rules, length, few)
 
   -- which has another ring, or the same
   pub counted_now : (new : Holders) (x : Endpoint) → ((r : ℕ) → count_of new r + one_of r (get_or es n d).ring ≡ count_of hs r + one_of r x.ring) → AreCounted (set es n x) new
@@ -114,12 +88,10 @@ module _ (es : List Endpoint) (hs : Holders) (counted : AreCounted es hs) (summe
 
 -- room stays where one lets go
 pub room_left : (old left : Holders) (before o : Option ℕ) → ((r : ℕ) → count_of left r + one_of r before ≡ count_of old r) → HasRoom old o → HasRoom left o
-room_left old left before None after room = tt
-room_left old left before (Some r) after room = λ fits. omega (arith, after r, room fits)
+room_left old left before o h1 h2 = search rules
 
 pub sum_room_left : (old left : Holders) (before o : Option ℕ) (n : ℕ) → ((r : ℕ) → sum_of left r + place_of r before n ≡ sum_of old r) → HasSumRoom old o n → HasSumRoom left o n
-sum_room_left old left before None n after room = tt
-sum_room_left old left before (Some r) n after room = λ fits. omega (arith, after r, room fits)
+sum_room_left old left before o n h1 h2 = search rules
 
 -- one lets go and another is taken
 pub passed_on : (left new old before now : ℕ) → left + before ≡ old → new ≡ left + now → new + before ≡ old + now
@@ -128,22 +100,14 @@ passed_on left new old before now leaves takes = omega (arith, leaves, takes)
 -- ---- the endpoint that has a ring
 
 get_or_within : (xs : List Endpoint) (m : ℕ) (a b : Endpoint) → m < length xs → get_or xs m a ≡ get_or xs m b
-get_or_within [] m a b below = absurd (omega arith)
-get_or_within (x ∷ xs) zero a b below = refl
-get_or_within (x ∷ xs) (suc m) a b below = get_or_within xs m a b (omega arith)
+get_or_within xs m a b h1 = grind (arith, common_steps)
 
 module _ (k : Known) (d : DeviceRecord) (f : FollowsDevices k d) (r : ℕ) (fits : r < 256) (one : HasOneHolder k r) (s i : ℕ) (has : k.ring_of s i ≡ Some r) where
   here : (i < 32) × (s * 32 + i < length d.endpoints.items) × ((get_or d.endpoints.items (s * 32 + i) fresh_endpoint).ring ≡ Some r)
   here = read_at k d f r s i has
 
   known_at : (m : ℕ) → k.ring_of (m / 32) (m % 32) ≡ (get_or d.endpoints.items m fresh_endpoint).ring
-  known_at m =
-      let at : m / 32 * 32 + m % 32 ≡ m = omega arith in
-      let low : nat_lt (m % 32) 32 ≡ true = lt-ltb (m % 32) 32 (omega arith) in
-      f.ring_of (m / 32) (m % 32)
-      ∙ ap (λ (e : Endpoint). e.ring)
-      (cond-true (nat_lt (m % 32) 32) (slice_index_or d.endpoints.items (m / 32 * 32 + m % 32) fresh_endpoint) fresh_endpoint low
-      ∙ ap (λ n. slice_index_or d.endpoints.items n fresh_endpoint) at)
+  known_at m = search (rules, nat_lt, lt-ltb, cond-true, slice_index_or, fresh_endpoint)
 
   other : (m : ℕ) (e : Endpoint) → m < length d.endpoints.items → m ≢ s * 32 + i → is_ring r (get_or d.endpoints.items m e).ring ≡ false
   other m e below away = elim (cases_Bool (is_ring r (get_or d.endpoints.items m e).ring)) [
@@ -166,7 +130,4 @@ module _ (k : Known) (d : DeviceRecord) (f : FollowsDevices k d) (r : ℕ) (fits
 
 -- two rings that are found to be one
 pub same_ring : (a b : Option ℕ) → option_eq nat_eq a b ≡ true → a ≡ b
-same_ring None None same = refl
-same_ring None (Some q) same = absurd (false≢true same)
-same_ring (Some p) None same = absurd (false≢true same)
-same_ring (Some p) (Some q) same = ap (λ n. Some n) (eqb-true p q same)
+same_ring a b h1 = search (rules, false≢true, eqb-true)

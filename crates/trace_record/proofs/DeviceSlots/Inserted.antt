@@ -1,5 +1,5 @@
 -- What passes a test of a list where one element more passes, or none
-use Rattle.trace_record.proofs.DeviceSlots.Words.{◌≡◌, ◌++◌, ◌&&◌, ◌||◌, if◌then◌else◌, ◌∙◌, ◌∷◌, not, Bool, true, false, List, [], Option, Some, None, ap, sym, refl, filter, filter_map, cons_option, filter_map-append}
+use Rattle.trace_record.proofs.BaseWords.{rules, ◌≡◌, ◌++◌, ◌&&◌, ◌||◌, if◌then◌else◌, ◌∙◌, ◌∷◌, not, Bool, true, false, List, [], Option, Some, None, ap, sym, refl, filter, filter_map, cons_option, filter_map-append}
 
 -- the new list is the old one with x at some place
 pub record Inserted {X : Type 0} (x : X) (old new : List X) : Type 0 where
@@ -17,32 +17,24 @@ tails x y xs ys e = cc
 module _ {X : Type 0} where
   none_step : (x : X) (os ns ts : List X) (o w : Bool) → (if not o && w then x ∷ ts else ts) ≡ [] → (ts ≡ [] → ns ≡ os) →
       (if o || w then x ∷ ns else ns) ≡ (if o then x ∷ os else os)
-  none_step x os ns ts true w e rest = ap (λ l. x ∷ l) (rest e)
-  none_step x os ns ts false true e rest = absurd (cc)
-  none_step x os ns ts false false e rest = rest e
+  none_step x os ns ts o w h1 h2 = search rules
 
   -- of what didn't pass before nothing passes now
   pub filter_as_before : (old now : X → Bool) (xs : List X) → filter (λ x. not (old x) && now x) xs ≡ [] → filter (λ x. old x || now x) xs ≡ filter old xs
   filter_as_before old now [] none = refl
-  filter_as_before old now (x ∷ xs) none =
-      none_step x (filter old xs) (filter (λ x. old x || now x) xs) (filter (λ x. not (old x) && now x) xs) (old x) (now x) none (filter_as_before old now xs)
+  filter_as_before old now (x ∷ xs) none = search (rules, none_step, filter, not, filter_as_before old now xs)
 
   further : (x p : X) (os ns : List X) → Inserted p os ns → Inserted p (x ∷ os) (x ∷ ns)
   further x p os ns i = record { front = x ∷ i.front; back = i.back; was = ap (λ l. x ∷ l) i.was; is = ap (λ l. x ∷ l) i.is }
 
   one_step : (x p : X) (os ns ts : List X) (o w : Bool) → (if not o && w then x ∷ ts else ts) ≡ p ∷ [] → (ts ≡ [] → ns ≡ os) → (ts ≡ p ∷ [] → Inserted p os ns) →
       Inserted p (if o then x ∷ os else os) (if o || w then x ∷ ns else ns)
-  one_step x p os ns ts true w e none one = further x p os ns (one e)
-  one_step x p os ns ts false true e none one =
-      record { front = []; back = os; was = refl; is = ap (λ y. y ∷ ns) (heads x p ts [] e) ∙ ap (λ l. p ∷ l) (none (tails x p ts [] e)) }
-  one_step x p os ns ts false false e none one = one e
+  one_step x p os ns ts o w h1 h2 h3 = search (rules, further, heads, tails)
 
   -- one does
   pub filter_with_one : (old now : X → Bool) (p : X) (xs : List X) → filter (λ x. not (old x) && now x) xs ≡ p ∷ [] → Inserted p (filter old xs) (filter (λ x. old x || now x) xs)
   filter_with_one old now p [] one = absurd (cc)
-  filter_with_one old now p (x ∷ xs) one =
-      one_step x p (filter old xs) (filter (λ x. old x || now x) xs) (filter (λ x. not (old x) && now x) xs) (old x) (now x) one (filter_as_before old now xs)
-      (filter_with_one old now p xs)
+  filter_with_one old now p (x ∷ xs) one = search (rules, one_step, filter, not, filter_as_before, filter_with_one old now p xs)
 
   module _ {Y : Type 0} (f : X → Option Y) (p : X) (os ns : List X) (i : Inserted p os ns) where
     old_parts : filter_map f os ≡ filter_map f i.front ++ filter_map f i.back
@@ -61,8 +53,7 @@ module _ {X : Type 0} where
 
   mapped_step : {Y : Type 0} (f g : X → Option Y) (x : X) (xs : List X) (b : Bool) → (b ≡ true → f x ≡ g x) → filter_map f xs ≡ filter_map g xs →
       filter_map f (if b then x ∷ xs else xs) ≡ filter_map g (if b then x ∷ xs else xs)
-  mapped_step f g x xs true same rest = λ i. cons_option (same refl i) (rest i)
-  mapped_step f g x xs false same rest = rest
+  mapped_step f g x xs b h1 h2 = search (rules, cons_option)
 
   -- what all stand for that pass is the same
   pub mapped_same : {Y : Type 0} (f g : X → Option Y) (test : X → Bool) (xs : List X) → ((x : X) → test x ≡ true → f x ≡ g x) →

@@ -1,5 +1,5 @@
 -- What moves or holds rings alone
-use Rattle.trace_record.proofs.DeviceSlots.Words.{ℕ, Bool, Option, Some, None, Spot, target, Header, shape_of, Known, on_ring, set_to, moved_to, moved, held_at_ceiling, DeviceRecord, FollowsDevices}
+use Rattle.trace_record.proofs.BaseWords.{ℕ, Bool, Option, Some, None, Spot, target, Header, shape_of, Known, on_ring, set_to, moved_to, moved, held_at_ceiling, DeviceRecord, FollowsDevices}
 use Rattle.trace_record.proofs.DeviceSlots.Steps.{follows_beside}
 
 module _ (h : Header) (k : Known) (d : DeviceRecord) (f : FollowsDevices k d) where

@@ -1,13 +1,12 @@
 -- Which of the unfinished commands are about a slot or an endpoint
-use Rattle.trace_record.proofs.DeviceSlots.Words.{◌≡◌, ◌==◌, ◌<◌, ◌+◌, ◌*◌, ◌++◌, ◌&&◌, ◌||◌, ◌≢◌, ◌⊎◌, if◌then◌else◌, ◌∙◌, ◌∷◌, ℕ, not, Bool, true, false, List, [], Option, Some, None, All, All-head, All-nil, All-tail, ap, arith, sym, subst, refl, inl, inr, replicate, filter, nat_lt, slice_index_or, is_some, eqb-true, eq-eqb, ne_eqb, lt-ltb, le-ltb, cases_lt, list_any, filter-append, and_parts, or_parts, cases_eq, false≢true, Command, NoOp, EnableSlot, DisableSlot, AddressDevice, ConfigureEndpoint, EvaluateContext, ResetEndpoint, StopEndpoint, SetTrDequeue, ResetDevice, exclude, name_one_slot, named_endpoint, named_slot, other_endpoint, same_slot, UnfinishedCommands, KeptCommand, FollowsUnfinished, IsEndpoint, IsOnlyAbout, NamesEndpoint, as_list, endpoint_index, index_of, is_about, is_slot, endpoint_count, kept_at, kept_of, names, no_command}
+use Rattle.trace_record.proofs.BaseWords.{rules, ◌≡◌, ◌==◌, ◌<◌, ◌+◌, ◌*◌, ◌++◌, ◌&&◌, ◌||◌, ◌≢◌, ◌⊎◌, if◌then◌else◌, ◌∙◌, ◌∷◌, ℕ, not, Bool, true, false, List, [], Option, Some, None, All, All-head, All-nil, All-tail, ap, arith, sym, subst, refl, inl, inr, replicate, filter, nat_lt, slice_index_or, is_some, eqb-true, eq-eqb, ne_eqb, lt-ltb, le-ltb, cases_lt, list_any, filter-append, and_parts, or_parts, cases_eq, false≢true, Command, exclude, name_one_slot, named_endpoint, named_slot, other_endpoint, same_slot, UnfinishedCommands, KeptCommand, FollowsUnfinished, IsEndpoint, IsOnlyAbout, NamesEndpoint, as_list, endpoint_index, index_of, is_about, is_slot, endpoint_count, kept_at, kept_of, names, no_command}
 use Rattle.trace_record.proofs.DeviceSlots.NewRecord.{alike}
 use Rattle.trace_record.proofs.DeviceSlots.EndpointCounts.{count_none, count_where}
 use Rattle.trace_record.proofs.DeviceSlots.AtMostOne.{all_back, all_with, all_without, alone, any_either, any_filtered, any_more, any_none, any_one, any_same, any_same_of, none_passes, not_empty, only_left}
 
 -- with an element in a list that has at most one, none is left without it
 none_left : (xs ys : List Command) (c : Command) (o : Option Command) → xs ++ c ∷ ys ≡ as_list o → xs ++ ys ≡ []
-none_left xs ys c None e = absurd (not_empty xs ys c e)
-none_left xs ys c (Some d) e = only_left xs ys c d e
+none_left xs ys c o h1 = search (rules, not_empty, only_left)
 
 -- ---- two commands of one slot
 
@@ -17,87 +16,30 @@ IsOfSlot o None = Unit {0}
 IsOfSlot o (Some e) = o ≡ Some e.0
 
 of_slot : (c : Command) → IsOfSlot (named_slot c) (named_endpoint c)
-of_slot (ResetEndpoint s i) = refl
-of_slot (StopEndpoint s i) = refl
-of_slot (SetTrDequeue s i p cycle) = refl
-of_slot NoOp = tt
-of_slot EnableSlot = tt
-of_slot (DisableSlot s) = tt
-of_slot (AddressDevice s bsr n) = tt
-of_slot (ConfigureEndpoint s dc n) = tt
-of_slot (EvaluateContext s n) = tt
-of_slot (ResetDevice s) = tt
+of_slot c = search rules
 
 -- the slot that is named
 slot_is : (s : ℕ) (o : Option ℕ) → is_slot s o ≡ true → o ≡ Some s
-slot_is s None e = absurd (false≢true e)
-slot_is s (Some t) e = ap Some (sym (eqb-true s t e))
+slot_is s o h1 = search (rules, false≢true, eqb-true)
 
 names_is : (s : ℕ) (c : Command) → named_slot c ≡ Some s → names s c ≡ true
 names_is s c named = ap (is_slot s) named ∙ eq-eqb s s refl
 
 same_named : (c d : Command) (s : ℕ) → named_slot c ≡ Some s → name_one_slot c d ≡ names s d
-same_named c d s named = ap (λ o. same_slot o (named_slot d)) named ∙ by (named_slot d)
-  where
-    by : (o : Option ℕ) → same_slot (Some s) o ≡ is_slot s o
-    by None = refl
-    by (Some t) = refl
+same_named c d s named = search (rules, same_slot, named_slot, is_slot)
 
 -- whether a command of endpoint e excludes one of the same slot that names d: one that names none, or that endpoint
 excluded : (s i : ℕ) (d : Option (ℕ × ℕ)) → IsOfSlot (Some s) d → IsEndpoint d →
     not (other_endpoint (Some (s, i)) d) ≡ (endpoint_index d == 0 || endpoint_index d == i)
-excluded s i None of fits = refl
-excluded s i (Some f) of fits =
-    let here : s ≡ f.0 = some_is of in
-    let some : 0 < f.1 = fits.0 in
-    ap (λ b. not (not (b && i == f.1))) (eq-eqb s f.0 here) ∙ twice (i == f.1) ∙ turned
-    ∙ sym (ap (λ b. b || f.1 == i) (ne_eqb f.1 0 (λ zero. absurd (omega (arith, some, zero)))))
-  where
-    some_is : {a b : ℕ} → Some a ≡ Some b → a ≡ b
-    some_is e = cc
-
-    twice : (b : Bool) → not (not b) ≡ b
-    twice true = refl
-    twice false = refl
-
-    turned : (i == f.1) ≡ (f.1 == i)
-    turned = elim (cases_eq i f.1) [
-      | inl same ↦ eq-eqb i f.1 same ∙ sym (eq-eqb f.1 i (sym same))
-      | inr other ↦ ne_eqb i f.1 other ∙ sym (ne_eqb f.1 i (λ same. other (sym same)))
-    ]
+excluded s i d h1 h2 = search (rules, not, eq-eqb, ne_eqb)
 
 -- two commands about the same of one slot exclude each other
 exclude_same : (s i : ℕ) (c d : Command) → is_about s i c ≡ true → is_about s i d ≡ true → exclude c d ≡ true
-exclude_same s i c d c_is d_is =
-    let of_c = and_parts (names s c) (index_of c == i) c_is in
-    let of_d = and_parts (names s d) (index_of d == i) d_is in
-    let c_slot = slot_is s (named_slot c) of_c.0 in
-    let d_slot = slot_is s (named_slot d) of_d.0 in
-    ap (λ b. b && not (other_endpoint (named_endpoint c) (named_endpoint d))) (same_named c d s c_slot ∙ names_is s d d_slot)
-    ∙ not_other (named_endpoint c) (named_endpoint d) (of_slot_is (named_endpoint c) (of_slot c) c_slot) (of_slot_is (named_endpoint d) (of_slot d) d_slot) of_c.1 of_d.1
-  where
-    of_slot_is : {o : Option ℕ} (e : Option (ℕ × ℕ)) → IsOfSlot o e → o ≡ Some s → IsOfSlot (Some s) e
-    of_slot_is None is named = tt
-    of_slot_is (Some f) is named = sym named ∙ is
-
-    some_is : {a b : ℕ} → Some a ≡ Some b → a ≡ b
-    some_is e = cc
-
-    not_other : (e f : Option (ℕ × ℕ)) → IsOfSlot (Some s) e → IsOfSlot (Some s) f → (endpoint_index e == i) ≡ true → (endpoint_index f == i) ≡ true → not (other_endpoint e f) ≡ true
-    not_other None f e_of f_of e_is f_is = refl
-    not_other (Some e) None e_of f_of e_is f_is = refl
-    not_other (Some e) (Some f) e_of f_of e_is f_is =
-        let slots : e.0 ≡ f.0 = sym (some_is e_of) ∙ some_is f_of in
-        let indices : e.1 ≡ f.1 = eqb-true e.1 i e_is ∙ sym (eqb-true f.1 i f_is) in
-        ap (λ b. not (not (b && e.1 == f.1))) (eq-eqb e.0 f.0 slots) ∙ ap (λ b. not (not b)) (eq-eqb e.1 f.1 indices)
+exclude_same s i c d c_is d_is = search (rules, and_parts, names, index_of, slot_is, named_slot, not, other_endpoint, named_endpoint, same_named, names_is, of_slot, endpoint_index, eqb-true, eq-eqb)
 
 -- where nothing excludes a command, nothing else is about the same
 none_about : (s i : ℕ) (c : Command) (all : List Command) → is_about s i c ≡ true → list_any (exclude c) all ≡ false → filter (is_about s i) all ≡ []
-none_about s i c all is free = none_passes (is_about s i) all (by (list_any (is_about s i) all) refl)
-  where
-    by : (b : Bool) → list_any (is_about s i) all ≡ b → list_any (is_about s i) all ≡ false
-    by false none = none
-    by true some = absurd (false≢true (sym free ∙ any_more (is_about s i) (exclude c) all (λ d about. exclude_same s i c d is about) some))
+none_about s i c all is free = search (rules, none_passes, is_about, list_any, false≢true, any_more, exclude, exclude_same)
 
 -- ---- one command more, or one less
 
@@ -108,9 +50,7 @@ module _ (s i : ℕ) (c : Command) (xs ys : List Command) where
   -- a command is added, or taken away: b says whether it is about this
   added : (b : Bool) (o : Option Command) → is_about s i c ≡ b → list_any (exclude c) (xs ++ ys) ≡ false → filter (is_about s i) (xs ++ ys) ≡ as_list o →
       filter (is_about s i) xs ++ (if b then c ∷ filter (is_about s i) ys else filter (is_about s i) ys) ≡ as_list (if b then Some c else o)
-  added true o is free old =
-      alone (filter (is_about s i) xs) (filter (is_about s i) ys) c (sym (filter-append (is_about s i) xs ys) ∙ none_about s i c (xs ++ ys) is free)
-  added false o is free old = sym (filter-append (is_about s i) xs ys) ∙ old
+  added b o h1 h2 h3 = search (rules, alone, filter, is_about, filter-append, none_about)
 
   taken : (b : Bool) (o : Option Command) → filter (is_about s i) xs ++ (if b then c ∷ filter (is_about s i) ys else filter (is_about s i) ys) ≡ as_list o →
       filter (is_about s i) (xs ++ ys) ≡ as_list (if b then None else o)
@@ -147,11 +87,7 @@ module _ (u : UnfinishedCommands) (all : List Command) (f : FollowsUnfinished al
 
   -- something is kept exactly where a command is about it
   pub kept_about : (s i : ℕ) → is_some (kept_of u s i) ≡ list_any (is_about s i) all
-  kept_about s i = by (kept_of u s i) (f.each s i)
-    where
-      by : (o : Option Command) → filter (is_about s i) all ≡ as_list o → is_some o ≡ list_any (is_about s i) all
-      by None e = sym (any_none (is_about s i) all e)
-      by (Some d) e = sym (any_one (is_about s i) all d e)
+  kept_about s i = search (rules, kept_of, filter, is_about, as_list, is_some, list_any, any_none, any_one)
 
   -- a command that names an endpoint is excluded by one that names its slot alone, or the same endpoint
   pub excluded_by : (c : Command) (s i : ℕ) → named_endpoint c ≡ Some (s, i) → (list_any (is_about s 0) all || list_any (is_about s i) all) ≡ list_any (exclude c) all
@@ -163,46 +99,31 @@ module _ (u : UnfinishedCommands) (all : List Command) (f : FollowsUnfinished al
       slot = subst (IsOfSlot (named_slot c)) named (of_slot c)
 
       either : (a x y : Bool) → (a && (x || y)) ≡ ((a && x) || (a && y))
-      either true x y = refl
-      either false x y = refl
+      either a x y = search rules
 
       same : (d : Command) (b : Bool) → names s d ≡ b → NamesEndpoint d →
           (b && not (other_endpoint (named_endpoint c) (named_endpoint d))) ≡ (b && (index_of d == 0 || index_of d == i))
-      same d false at fits = refl
-      same d true at fits =
-          ap (λ o. not (other_endpoint o (named_endpoint d))) named
-          ∙ excluded s i (named_endpoint d) (subst (λ o. IsOfSlot o (named_endpoint d)) (slot_is s (named_slot d) at) (of_slot d)) fits
+      same d b h1 h2 = search (rules, not, other_endpoint, named_endpoint, excluded, slot_is, named_slot, of_slot)
 
       each : (d : Command) → NamesEndpoint d → exclude c d ≡ (is_about s 0 d || is_about s i d)
-      each d fits =
-          ap (λ b. b && not (other_endpoint (named_endpoint c) (named_endpoint d))) (same_named c d s slot)
-          ∙ same d (names s d) refl fits ∙ either (names s d) (index_of d == 0) (index_of d == i)
+      each d fits = search (rules, not, other_endpoint, named_endpoint, same_named, slot, same, names, either, index_of)
 
   -- a command that names none is excluded by any of its slot
   pub excluded_by_any : (c : Command) → named_endpoint c ≡ None → list_any (name_one_slot c) all ≡ list_any (exclude c) all
-  excluded_by_any c named = any_same (name_one_slot c) (exclude c) all (λ d. sym (each d))
-    where
-      whole : (b : Bool) → (b && true) ≡ b
-      whole true = refl
-      whole false = refl
-
-      each : (d : Command) → exclude c d ≡ name_one_slot c d
-      each d = ap (λ o. name_one_slot c d && not (other_endpoint o (named_endpoint d))) named ∙ whole (name_one_slot c d)
+  excluded_by_any c named = search (rules, any_same, name_one_slot, exclude, not, other_endpoint, named_endpoint)
 
   pub shared_by : (c : Command) (s : ℕ) → named_slot c ≡ Some s → list_any (names s) all ≡ list_any (name_one_slot c) all
   shared_by c s named = any_same (names s) (name_one_slot c) all (λ d. sym (same_named c d s named))
 
   -- one is kept of some index of the slot: a command names it
   pub some_named : (s i : ℕ) → is_some (kept_of u s i) ≡ true → list_any (names s) all ≡ true
-  some_named s i kept =
-      any_more (is_about s i) (names s) all (λ d about. (and_parts (names s d) (index_of d == i) about).0) (sym (kept_about s i) ∙ kept)
+  some_named s i kept = search (rules, any_more, is_about, names, and_parts, index_of, kept_about)
 
 none_named_step : (s : ℕ) (d : Command) (rest : List Command) → NamesEndpoint d → ((i : ℕ) → i < 32 → list_any (is_about s i) (d ∷ rest) ≡ false) → names s d ≡ false
 none_named_step s d rest fits none = by (names s d) refl
   where
     below : (e : Option (ℕ × ℕ)) → IsEndpoint e → endpoint_index e < 32
-    below None fits = omega arith
-    below (Some e) fits = fits.1
+    below e h1 = search rules
 
     by : (b : Bool) → names s d ≡ b → names s d ≡ false
     by false is = is
@@ -234,15 +155,11 @@ counts_named u all f s whole = elim (cases_lt 0 (endpoint_count u.by_endpoint.it
 ]
   where
     at_endpoint : (i : ℕ) → 0 < i → kept_of u s i ≡ (kept_at u.by_endpoint.items s i).command
-    at_endpoint i some =
-        ap (λ b. if b then (slice_index_or u.by_slot.items s no_command).command else (kept_at u.by_endpoint.items s i).command)
-        (ne_eqb i 0 (λ zero. absurd (omega (arith, some, zero))))
+    at_endpoint i some = search (rules, slice_index_or, no_command, kept_at, ne_eqb)
 
     by : (i : ℕ) → i < 32 → (i ≡ 0) ⊎ (i ≢ 0) → endpoint_count u.by_endpoint.items s ≡ 0 → is_some (kept_of u s i) ≡ false
     by i below (inl zero) none = ap (λ j. is_some (kept_of u s j)) zero ∙ whole
-    by i below (inr other) none =
-        let some : 0 < i = omega (arith, other) in
-        ap is_some (at_endpoint i some) ∙ count_none u.by_endpoint.items s none i some below
+    by i below (inr other) none = search (rules, is_some, at_endpoint, count_none, below)
 
 pub none_shares : (all : List Command) (c : Command) → named_slot c ≡ None → list_any (name_one_slot c) all ≡ false
 none_shares [] c named = refl

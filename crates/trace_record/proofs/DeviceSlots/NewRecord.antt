@@ -1,5 +1,5 @@
 -- Before the first row
-use Rattle.trace_record.proofs.DeviceSlots.Words.{◌≡◌, ◌+◌, ◌*◌, if◌then◌else◌, ◌∙◌, ℕ, zero, suc, Bool, true, false, ap, sym, refl, replicate, nat_lt, slice_index_or, nothing, Slot, Endpoint, DeviceRecord, FollowsDevices, fresh_slot, fresh_endpoint, slot_at, endpoint_at}
+use Rattle.trace_record.proofs.BaseWords.{◌≡◌, ◌+◌, ◌*◌, if◌then◌else◌, ◌∙◌, ℕ, zero, suc, Bool, true, false, ap, sym, refl, replicate, nat_lt, slice_index_or, nothing, Slot, Endpoint, DeviceRecord, FollowsDevices, fresh_slot, fresh_endpoint, slot_at, endpoint_at}
 
 pub alike : {X : Type 0} (n i : ℕ) (x : X) → slice_index_or (replicate n x) i x ≡ x
 alike zero i x = refl

@@ -1,17 +1,10 @@
 -- Rows by which nothing changes that the record speaks of
-use Rattle.trace_record.proofs.DeviceSlots.Words.{◌≡◌, ◌+◌, ◌&&◌, ◌||◌, if◌then◌else◌, ℕ, not, Bool, true, false, List, None, sym, subst, refl, option_and_then, Block, BlockKind, TransferEvent, CommandCompletion, Header, Register, Usbcmd, Sub, Write, Reg, run_bit, reset_bit, Known, on_ring, taken_device, command_given, with_device, with_word, written, run_or_stop, valued, register_written, event_read, learned, DeviceRecord, FollowsDevices}
+use Rattle.trace_record.proofs.BaseWords.{rules, ◌≡◌, ◌&&◌, ◌||◌, if◌then◌else◌, ℕ, not, Bool, true, List, None, sym, subst, option_and_then, Block, Header, Register, Sub, Write, Reg, run_bit, reset_bit, Known, on_ring, taken_device, command_given, with_device, with_word, written, run_or_stop, valued, register_written, learned, DeviceRecord, FollowsDevices}
 use Rattle.trace_record.proofs.DeviceSlots.Steps.{follows_beside}
-
--- how many events were read
-counted : (k : Known) (n : ℕ) (d : DeviceRecord) → FollowsDevices k d → FollowsDevices (record k { reads = n }) d
-counted k n d f = follows_beside k (record k { reads = n }) d f
 
 started_or_not : (k : Known) (d : DeviceRecord) → FollowsDevices k d → (a b c : Bool) →
     FollowsDevices (if a then (if b then record k { started = true } else k) else (if c then record k { stopped = true } else k)) d
-started_or_not k d f true true c = follows_beside k (record k { started = true }) d f
-started_or_not k d f true false c = f
-started_or_not k d f false b true = follows_beside k (record k { stopped = true }) d f
-started_or_not k d f false b false = f
+started_or_not k d h1 a b c = search (rules, follows_beside)
 
 pub after_run : (k : Known) (v : ℕ) (d : DeviceRecord) → FollowsDevices k d → FollowsDevices (run_or_stop k v) d
 unfolding run_or_stop
@@ -34,11 +27,4 @@ module _ (h : Header) (k : Known) (d : DeviceRecord) (f : FollowsDevices k d) wh
 
   pub after_register : (r : Register) (v : ℕ) → FollowsDevices (learned h k (Reg r v)) d
   unfolding learned register_written valued
-  after_register Usbcmd v = after_run (valued k Usbcmd v) v d (follows_beside k (valued k Usbcmd v) d f)
-  after_register r v = follows_beside k (register_written h k r v) d f
-
-  by_kind : (b : Block) (t : BlockKind) → (t ≡ TransferEvent → ⊥) → (t ≡ CommandCompletion → ⊥) → FollowsDevices (record (event_read h k t b) { reads = k.reads + 1 }) d
-  unfolding event_read
-  by_kind b TransferEvent no_transfer no_completion = absurd (no_transfer refl)
-  by_kind b CommandCompletion no_transfer no_completion = absurd (no_completion refl)
-  by_kind b _ no_transfer no_completion = counted k (k.reads + 1) d f
+  after_register r v = search (rules, after_run, valued, follows_beside, register_written)

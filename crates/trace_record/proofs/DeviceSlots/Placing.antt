@@ -1,37 +1,22 @@
 -- An endpoint gets a ring, or keeps its own
-use Rattle.trace_record.proofs.DeviceSlots.Words.{◌≡◌, ◌<◌, ◌==◌, if◌then◌else◌, ◌∙◌, ℕ, Bool, true, false, List, Option, Some, None, ap, sym, subst, refl, length, inl, inr, get_or-set_same, get_or-set_other, arith, slice_index_or, slice_set, eq-eqb, ne_eqb, cases_eq, cond-true, cond-false, put, put_pair, EndpointState, is_off, Spot, target, Header, ring_having, shape_of, Known, on_ring, bound_to, in_state, moved, moved_to, pointed, set_to, Endpoint, DeviceRecord, placed_endpoint, ring_got, FollowsDevices, IsWithBound, IsWithEndpoint, endpoint_at}
+use Rattle.trace_record.proofs.BaseWords.{rules, ◌≡◌, ◌<◌, ◌==◌, if◌then◌else◌, ◌∙◌, ℕ, Bool, true, false, List, Option, Some, None, ap, sym, subst, length, get_or-set_same, get_or-set_other, slice_index_or, slice_set, eq-eqb, ne_eqb, cond-true, cond-false, put, put_pair, EndpointState, is_off, Spot, target, Header, ring_having, shape_of, Known, on_ring, bound_to, in_state, moved, moved_to, pointed, set_to, Endpoint, DeviceRecord, placed_endpoint, ring_got, FollowsDevices, IsWithBound, IsWithEndpoint, endpoint_at}
 use Rattle.trace_record.proofs.DeviceSlots.Moves.{follows_moved}
 use Rattle.trace_record.proofs.DeviceSlots.Steps.{endpoints_same, states_same, devices_same, follows_beside, follows_halt, follows_placed}
 
 pub set_at : {X : Type 0} (xs : List X) (n m : ℕ) (x d : X) → n < length xs → slice_index_or (slice_set xs n x) m d ≡ (if m == n then x else slice_index_or xs m d)
-set_at xs n m x d below = elim (cases_eq m n) [
-  | inl same ↦
-      (λ i. slice_index_or (slice_set xs n x) (same i) d) ∙ get_or-set_same xs n x d below ∙ sym (cond-true (m == n) x (slice_index_or xs m d) (eq-eqb m n same))
-  | inr apart ↦ get_or-set_other xs n m x d apart ∙ sym (cond-false (m == n) x (slice_index_or xs m d) (ne_eqb m n apart))
-]
+set_at xs n m x d below = search (rules, slice_index_or, slice_set, get_or-set_same, cond-true, eq-eqb, get_or-set_other, cond-false, ne_eqb)
 
 -- the rings that were bound
 module _ (k : Known) (old new : DeviceRecord) (f : FollowsDevices k old) where
   other_fields : (bound : ℕ → Bool) → new.slots.items ≡ old.slots.items → new.endpoints.items ≡ old.endpoints.items →
       ((r : ℕ) → bound r ≡ slice_index_or new.bound.items r false) → FollowsDevices (record k { was_bound = bound }) new
-  other_fields bound slots endpoints is = record {
-    slot_state = states_same k old new f slots;
-    device = devices_same k old new f slots;
-    endpoint_state = endpoints_same k old new f (λ (e : Endpoint). e.state) k.endpoint_state endpoints f.endpoint_state;
-    ring_of = endpoints_same k old new f (λ (e : Endpoint). e.ring) k.ring_of endpoints f.ring_of;
-    must_move = endpoints_same k old new f (λ (e : Endpoint). e.must_move) k.must_move endpoints f.must_move;
-    stop_seen = endpoints_same k old new f (λ (e : Endpoint). e.stop_seen) k.stop_seen endpoints f.stop_seen;
-    was_bound = is;
-  }
+  other_fields bound slots endpoints is = search (rules, states_same, devices_same, endpoints_same)
 
   pub follows_unbound : IsWithBound old new None → FollowsDevices k new
   follows_unbound w = other_fields k.was_bound w.slots w.endpoints (λ r. f.was_bound r ∙ sym (ap (λ xs. slice_index_or xs r false) w.bound))
 
   pub follows_bound : (q : ℕ) → IsWithBound old new (Some q) → FollowsDevices (record k { was_bound = put k.was_bound q true }) new
-  follows_bound q w =
-      let below : q < 256 = w.below in
-      other_fields (put k.was_bound q true) w.slots w.endpoints
-      (λ r. ap (λ b. if r == q then true else b) (f.was_bound r) ∙ sym (ap (λ xs. slice_index_or xs r false) w.bound ∙ set_at old.bound.items q r true false (omega (arith, below, old.bound_many))))
+  follows_bound q w = search (rules, other_fields, put, slice_index_or, set_at)
 
 module _ (h : Header) (k : Known) (s i p : ℕ) (cycle : Bool) (state : EndpointState) (old mid new : DeviceRecord) (f : FollowsDevices k old) (x e : Endpoint)
     (w : IsWithEndpoint mid new s i x) (was : e ≡ endpoint_at mid.endpoints.items s i) where
@@ -47,9 +32,7 @@ module _ (h : Header) (k : Known) (s i p : ℕ) (cycle : Bool) (state : Endpoint
         ring_of = put_pair k.ring_of s i (Some r);
         must_move = put_pair k.must_move s i false;
       }) new
-  gets_still r b is =
-      follows_placed (record k { was_bound = put k.was_bound r true }) mid new (follows_bound k old mid f r b) s i x state (Some r) false w
-      (is ∙ ap (λ (y : Endpoint). placed_endpoint y (Some r) state) was)
+  gets_still r b is = search (rules, follows_placed, put, follows_bound, placed_endpoint)
 
   -- the ring that it gets is moved to a spot, if one is named
   gets_at : (r : ℕ) (o : Option Spot) → IsWithBound old mid (Some r) → x ≡ placed_endpoint e (Some r) state →
@@ -57,16 +40,7 @@ module _ (h : Header) (k : Known) (s i p : ℕ) (cycle : Bool) (state : Endpoint
         must_move = put_pair k.must_move s i false;
       }) new
   unfolding in_state moved_to set_to on_ring
-  gets_at r None b is = gets_still r b is
-  gets_at r (Some t) b is =
-      follows_beside
-      (record k {
-        was_bound = put k.was_bound r true;
-        endpoint_state = put_pair k.endpoint_state s i state;
-        ring_of = put_pair k.ring_of s i (Some r);
-        must_move = put_pair k.must_move s i false;
-      })
-      (set_to h k r t) new (gets_still r b is)
+  gets_at r o h1 h2 = search (rules, gets_still, follows_beside, put, put_pair, set_to)
 
   gets_ring : (o : Option ℕ) → IsWithBound old mid o → x ≡ placed_endpoint e o state →
       FollowsDevices (record (in_state h (bound_to h k s i o p cycle) s i state) { must_move = put_pair k.must_move s i false }) new
@@ -91,10 +65,7 @@ module _ (h : Header) (k : Known) (s i p : ℕ) (cycle : Bool) (state : Endpoint
       FollowsDevices (record (in_state h (if b then bound_to h k s i (ring_having h p) p cycle else moved h k (k.ring_of s i) p cycle) s i state) {
         must_move = put_pair k.must_move s i false;
       }) new
-  by_state true ring named b is =
-      subst (λ o. FollowsDevices (record (in_state h (bound_to h k s i o p cycle) s i state) { must_move = put_pair k.must_move s i false }) new) (sym (named refl))
-      (gets_ring ring b is)
-  by_state false ring named b is = keeps_ring (k.ring_of s i) b is
+  by_state b ring h1 h2 h3 = search (rules, in_state, bound_to, put_pair, gets_ring, keeps_ring)
 
   pub follows_place : (ring : Option ℕ) → (is_off (k.endpoint_state s i) ≡ true → ring_having h p ≡ ring) →
       IsWithBound old mid (ring_got (k.endpoint_state s i) ring) → x ≡ placed_endpoint e (ring_got (k.endpoint_state s i) ring) state →

@@ -1,5 +1,5 @@
 -- The record follows what is known where one slot, one endpoint or nothing of these is kept anew
-use Rattle.trace_record.proofs.DeviceSlots.Words.{◌≡◌, ◌∙◌, ℕ, Option, Bool, false, ap, sym, refl, slice_index_or, SlotState, EndpointState, put, put_pair, Known, Slot, Endpoint, DeviceRecord, FollowsDevices, IsWithSlot, IsWithEndpoint, slot_at, endpoint_at}
+use Rattle.trace_record.proofs.BaseWords.{rules, ◌≡◌, ◌∙◌, ℕ, Option, Bool, false, ap, sym, slice_index_or, SlotState, EndpointState, put, put_pair, Known, Slot, Endpoint, DeviceRecord, FollowsDevices, IsWithSlot, IsWithEndpoint, slot_at, endpoint_at}
 use Rattle.trace_record.proofs.DeviceSlots.Fields.{endpoint_put, endpoint_kept, slot_put, slot_kept}
 
 -- what the record doesn't speak of is that of another k'
@@ -16,15 +16,7 @@ beside k k' = record k {
 }
 
 pub follows_beside : (k k' : Known) (d : DeviceRecord) → FollowsDevices k d → FollowsDevices (beside k k') d
-follows_beside k k' d f = record {
-  slot_state = f.slot_state;
-  device = f.device;
-  endpoint_state = f.endpoint_state;
-  ring_of = f.ring_of;
-  must_move = f.must_move;
-  stop_seen = f.stop_seen;
-  was_bound = f.was_bound;
-}
+follows_beside k k' d f = search rules
 
 module _ (k : Known) (old new : DeviceRecord) (f : FollowsDevices k old) where
   pub states_same : new.slots.items ≡ old.slots.items → (s : ℕ) → k.slot_state s ≡ (slot_at new.slots.items s).state
@@ -40,29 +32,13 @@ module _ (k : Known) (old new : DeviceRecord) (f : FollowsDevices k old) where
   pub follows_state : (s i : ℕ) (x : Endpoint) (state : EndpointState) → IsWithEndpoint old new s i x →
       x ≡ record (endpoint_at old.endpoints.items s i) { state = state } →
       FollowsDevices (record k { endpoint_state = put_pair k.endpoint_state s i state }) new
-  follows_state s i x state w is = record {
-    slot_state = states_same w.slots;
-    device = devices_same w.slots;
-    endpoint_state = endpoint_put (λ (e : Endpoint). e.state) old new s i x w k.endpoint_state f.endpoint_state state (sym (ap (λ (e : Endpoint). e.state) is));
-    ring_of = endpoint_kept (λ (e : Endpoint). e.ring) old new s i x w k.ring_of f.ring_of (sym (ap (λ (e : Endpoint). e.ring) is));
-    must_move = endpoint_kept (λ (e : Endpoint). e.must_move) old new s i x w k.must_move f.must_move (sym (ap (λ (e : Endpoint). e.must_move) is));
-    stop_seen = endpoint_kept (λ (e : Endpoint). e.stop_seen) old new s i x w k.stop_seen f.stop_seen (sym (ap (λ (e : Endpoint). e.stop_seen) is));
-    was_bound = bound_same w.bound;
-  }
+  follows_state s i x state w is = search (rules, states_same, devices_same, endpoint_put, endpoint_kept, bound_same)
 
   -- its state, and that it must be moved
   pub follows_halt : (s i : ℕ) (x : Endpoint) (state : EndpointState) (must : Bool) → IsWithEndpoint old new s i x →
       x ≡ record (endpoint_at old.endpoints.items s i) { state = state; must_move = must } →
       FollowsDevices (record k { endpoint_state = put_pair k.endpoint_state s i state; must_move = put_pair k.must_move s i must }) new
-  follows_halt s i x state must w is = record {
-    slot_state = states_same w.slots;
-    device = devices_same w.slots;
-    endpoint_state = endpoint_put (λ (e : Endpoint). e.state) old new s i x w k.endpoint_state f.endpoint_state state (sym (ap (λ (e : Endpoint). e.state) is));
-    ring_of = endpoint_kept (λ (e : Endpoint). e.ring) old new s i x w k.ring_of f.ring_of (sym (ap (λ (e : Endpoint). e.ring) is));
-    must_move = endpoint_put (λ (e : Endpoint). e.must_move) old new s i x w k.must_move f.must_move must (sym (ap (λ (e : Endpoint). e.must_move) is));
-    stop_seen = endpoint_kept (λ (e : Endpoint). e.stop_seen) old new s i x w k.stop_seen f.stop_seen (sym (ap (λ (e : Endpoint). e.stop_seen) is));
-    was_bound = bound_same w.bound;
-  }
+  follows_halt s i x state must w is = search (rules, states_same, devices_same, endpoint_put, endpoint_kept, bound_same)
 
   -- its state, its ring, and that it must be moved
   pub follows_placed : (s i : ℕ) (x : Endpoint) (state : EndpointState) (ring : Option ℕ) (must : Bool) → IsWithEndpoint old new s i x →
@@ -72,41 +48,17 @@ module _ (k : Known) (old new : DeviceRecord) (f : FollowsDevices k old) where
         ring_of = put_pair k.ring_of s i ring;
         must_move = put_pair k.must_move s i must;
       }) new
-  follows_placed s i x state ring must w is = record {
-    slot_state = states_same w.slots;
-    device = devices_same w.slots;
-    endpoint_state = endpoint_put (λ (e : Endpoint). e.state) old new s i x w k.endpoint_state f.endpoint_state state (sym (ap (λ (e : Endpoint). e.state) is));
-    ring_of = endpoint_put (λ (e : Endpoint). e.ring) old new s i x w k.ring_of f.ring_of ring (sym (ap (λ (e : Endpoint). e.ring) is));
-    must_move = endpoint_put (λ (e : Endpoint). e.must_move) old new s i x w k.must_move f.must_move must (sym (ap (λ (e : Endpoint). e.must_move) is));
-    stop_seen = endpoint_kept (λ (e : Endpoint). e.stop_seen) old new s i x w k.stop_seen f.stop_seen (sym (ap (λ (e : Endpoint). e.stop_seen) is));
-    was_bound = bound_same w.bound;
-  }
+  follows_placed s i x state ring must w is = search (rules, states_same, devices_same, endpoint_put, endpoint_kept, bound_same)
 
   -- the mark of a stop
   pub follows_stop_seen : (s i : ℕ) (x : Endpoint) (seen : Bool) → IsWithEndpoint old new s i x →
       x ≡ record (endpoint_at old.endpoints.items s i) { stop_seen = seen } →
       FollowsDevices (record k { stop_seen = put_pair k.stop_seen s i seen }) new
-  follows_stop_seen s i x seen w is = record {
-    slot_state = states_same w.slots;
-    device = devices_same w.slots;
-    endpoint_state = endpoint_kept (λ (e : Endpoint). e.state) old new s i x w k.endpoint_state f.endpoint_state (sym (ap (λ (e : Endpoint). e.state) is));
-    ring_of = endpoint_kept (λ (e : Endpoint). e.ring) old new s i x w k.ring_of f.ring_of (sym (ap (λ (e : Endpoint). e.ring) is));
-    must_move = endpoint_kept (λ (e : Endpoint). e.must_move) old new s i x w k.must_move f.must_move (sym (ap (λ (e : Endpoint). e.must_move) is));
-    stop_seen = endpoint_put (λ (e : Endpoint). e.stop_seen) old new s i x w k.stop_seen f.stop_seen seen (sym (ap (λ (e : Endpoint). e.stop_seen) is));
-    was_bound = bound_same w.bound;
-  }
+  follows_stop_seen s i x seen w is = search (rules, states_same, devices_same, endpoint_kept, endpoint_put, bound_same)
 
   -- nothing of it
   pub follows_still : (s i : ℕ) (x : Endpoint) → IsWithEndpoint old new s i x → x ≡ endpoint_at old.endpoints.items s i → FollowsDevices k new
-  follows_still s i x w is = record {
-    slot_state = states_same w.slots;
-    device = devices_same w.slots;
-    endpoint_state = endpoint_kept (λ (e : Endpoint). e.state) old new s i x w k.endpoint_state f.endpoint_state (sym (ap (λ (e : Endpoint). e.state) is));
-    ring_of = endpoint_kept (λ (e : Endpoint). e.ring) old new s i x w k.ring_of f.ring_of (sym (ap (λ (e : Endpoint). e.ring) is));
-    must_move = endpoint_kept (λ (e : Endpoint). e.must_move) old new s i x w k.must_move f.must_move (sym (ap (λ (e : Endpoint). e.must_move) is));
-    stop_seen = endpoint_kept (λ (e : Endpoint). e.stop_seen) old new s i x w k.stop_seen f.stop_seen (sym (ap (λ (e : Endpoint). e.stop_seen) is));
-    was_bound = bound_same w.bound;
-  }
+  follows_still s i x w is = search (rules, states_same, devices_same, endpoint_kept, bound_same)
 
   pub endpoints_same : {A : Type 0} (get : Endpoint → A) (g : ℕ → ℕ → A) → new.endpoints.items ≡ old.endpoints.items →
       ((t j : ℕ) → g t j ≡ get (endpoint_at old.endpoints.items t j)) → (t j : ℕ) → g t j ≡ get (endpoint_at new.endpoints.items t j)
@@ -115,25 +67,9 @@ module _ (k : Known) (old new : DeviceRecord) (f : FollowsDevices k old) where
   -- a slot's state is kept anew
   pub follows_slot_state : (s : ℕ) (x : Slot) (state : SlotState) → IsWithSlot old new s x → state ≡ x.state → (slot_at old.slots.items s).device ≡ x.device →
       FollowsDevices (record k { slot_state = put k.slot_state s state }) new
-  follows_slot_state s x state w is kept = record {
-    slot_state = slot_put (λ (y : Slot). y.state) old new s x w k.slot_state f.slot_state state is;
-    device = slot_kept (λ (y : Slot). y.device) old new s x w k.device f.device kept;
-    endpoint_state = endpoints_same (λ (e : Endpoint). e.state) k.endpoint_state w.endpoints f.endpoint_state;
-    ring_of = endpoints_same (λ (e : Endpoint). e.ring) k.ring_of w.endpoints f.ring_of;
-    must_move = endpoints_same (λ (e : Endpoint). e.must_move) k.must_move w.endpoints f.must_move;
-    stop_seen = endpoints_same (λ (e : Endpoint). e.stop_seen) k.stop_seen w.endpoints f.stop_seen;
-    was_bound = bound_same w.bound;
-  }
+  follows_slot_state s x state w is kept = search (rules, slot_put, slot_kept, endpoints_same, bound_same)
 
   -- its device context
   pub follows_device : (s : ℕ) (x : Slot) → IsWithSlot old new s x → (slot_at old.slots.items s).state ≡ x.state →
       FollowsDevices (record k { device = put k.device s x.device }) new
-  follows_device s x w kept = record {
-    slot_state = slot_kept (λ (y : Slot). y.state) old new s x w k.slot_state f.slot_state kept;
-    device = slot_put (λ (y : Slot). y.device) old new s x w k.device f.device x.device refl;
-    endpoint_state = endpoints_same (λ (e : Endpoint). e.state) k.endpoint_state w.endpoints f.endpoint_state;
-    ring_of = endpoints_same (λ (e : Endpoint). e.ring) k.ring_of w.endpoints f.ring_of;
-    must_move = endpoints_same (λ (e : Endpoint). e.must_move) k.must_move w.endpoints f.must_move;
-    stop_seen = endpoints_same (λ (e : Endpoint). e.stop_seen) k.stop_seen w.endpoints f.stop_seen;
-    was_bound = bound_same w.bound;
-  }
+  follows_device s x w kept = search (rules, slot_kept, slot_put, endpoints_same, bound_same)

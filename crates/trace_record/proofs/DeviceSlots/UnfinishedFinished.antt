@@ -1,5 +1,5 @@
 -- The unfinished commands behind a completion: the first is finished
-use Rattle.trace_record.proofs.DeviceSlots.Words.{◌≡◌, ◌+◌, ◌<◌, ◌∙◌, if◌then◌else◌, ◌∷◌, ℕ, suc, zero, Bool, true, false, arith, ap, sym, refl, filter, option_and_then, slice_get, filter_map, cons_option, range_with_len, Block, Shape, place_count, after, RingView, Reaches, changed, floor_number, due_positions, number-after, command_of, Header, shape_of, command_id, Known, next_command, command_at, unfinished_positions, unfinished, finished, completed}
+use Rattle.trace_record.proofs.BaseWords.{rules, ◌≡◌, ◌+◌, ◌<◌, ◌∙◌, ◌∷◌, ℕ, suc, zero, Bool, true, false, arith, ap, refl, filter, option_and_then, slice_get, filter_map, cons_option, range_with_len, Block, Shape, place_count, after, RingView, Reaches, changed, floor_number, due_positions, number-after, command_of, Header, shape_of, command_id, Known, next_command, command_at, unfinished_positions, unfinished, finished, completed}
 use Rattle.trace_record.proofs.DeviceSlots.UnfinishedSame.{ring_here}
 
 -- ---- numbers of a range, and those of the range one further
@@ -7,19 +7,11 @@ use Rattle.trace_record.proofs.DeviceSlots.UnfinishedSame.{ring_here}
 -- behind the end nothing passes
 pub filter_longer : (test : ℕ → Bool) (a n : ℕ) → test (a + n) ≡ false → filter test (range_with_len a (suc n)) ≡ filter test (range_with_len a n)
 filter_longer test a zero none = let here : test a ≡ false = ap test (omega arith) ∙ none in rw here refl
-filter_longer test a (suc n) none =
-    let rest : filter test (range_with_len (a + 1) (suc n)) ≡ filter test (range_with_len (a + 1) n) = filter_longer test (a + 1) n (ap test (omega arith) ∙ none) in
-    ap (λ xs. if test a then a ∷ xs else xs) rest
+filter_longer test a (suc n) none = search (rules, filter, range_with_len, filter_longer test (a + 1) n (ap test (omega arith) ∙ none))
 
 -- the first passes
 pub filter_first : (test : ℕ → Bool) (a n : ℕ) → test a ≡ true → test (a + n) ≡ false → filter test (range_with_len a n) ≡ a ∷ filter test (range_with_len (a + 1) n)
-filter_first test a zero first none = absurd (wrong (sym first ∙ ap test (omega arith) ∙ none))
-  where
-    wrong : true ≡ false → ⊥
-    wrong e = absurd (cc)
-filter_first test a (suc n) first none =
-    ap (λ b. if b then a ∷ filter test (range_with_len (a + 1) n) else filter test (range_with_len (a + 1) n)) first
-    ∙ ap (λ xs. a ∷ xs) (sym (filter_longer test (a + 1) n (ap test (omega arith) ∙ none)))
+filter_first test a n h1 h2 = search (rules, filter, range_with_len, filter_longer)
 
 module _ (h : Header) (k : Known) (b : Block) where
   abbrev shape : Shape
@@ -47,17 +39,12 @@ module _ (h : Header) (k : Known) (b : Block) where
 
     positions_after : unfinished_positions h (completed h k b) ≡ filter view.given (range_with_len (floor_number view + 1) (place_count shape))
     unfolding unfinished_positions due_positions
-    positions_after = ap (λ n. filter ((completed h k b).ring (command_id h)).given (range_with_len n (place_count shape))) floor_after
-        ∙ ap (λ (v : RingView). filter v.given (range_with_len (floor_number view + 1) (place_count shape))) completed_view
+    positions_after = search (rules, filter, completed, command_id, range_with_len, place_count, floor_after, floor_number, completed_view)
 
     -- nothing is given a lap ahead, and the next command is given
     module _ (next : view.given (next_command h k) ≡ true) (within : (p : ℕ) → view.given p ≡ true → p < floor_number view + place_count shape) where
       lap : view.given (floor_number view + place_count shape) ≡ false
-      lap = by (view.given (floor_number view + place_count shape)) refl
-        where
-          by : (o : Bool) → view.given (floor_number view + place_count shape) ≡ o → o ≡ false
-          by true is = absurd (omega (arith, within (floor_number view + place_count shape) is))
-          by false is = refl
+      lap = search (rules, floor_number, place_count)
 
       positions_before : unfinished_positions h k ≡ next_command h k ∷ filter view.given (range_with_len (floor_number view + 1) (place_count shape))
       unfolding unfinished_positions due_positions next_command
@@ -66,6 +53,4 @@ module _ (h : Header) (k : Known) (b : Block) where
       -- the next command, where the block is one, was the first
       pub unfinished_completed : unfinished h k ≡ cons_option (command_at h k (next_command h k)) (unfinished h (completed h k b))
       unfolding unfinished
-      unfinished_completed =
-          ap (filter_map (command_at h k)) positions_before
-          ∙ ap (cons_option (command_at h k (next_command h k))) (λ i. filter_map (sym commands_same i) (sym positions_after i))
+      unfinished_completed = search (rules, filter_map, command_at, positions_before, cons_option, next_command, commands_same, positions_after)

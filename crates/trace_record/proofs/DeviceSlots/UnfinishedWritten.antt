@@ -1,5 +1,5 @@
 -- The unfinished commands behind a write: with the one that it gives, if it gives one
-use Rattle.trace_record.proofs.DeviceSlots.Words.{◌≡◌, ◌∙◌, ◌||◌, ◌⊎◌, ◌∷◌, ℕ, List, [], Option, Some, None, ap, sym, subst, refl, inl, inr, filter, option_and_then, slice_get, filter_map, none-some, Shape, IsShape, RingView, Writes, changed, gives, due_positions, positions_given, positions_given-one, Command, command_of, Header, Write, shape_of, command_id, Known, command_at, unfinished_positions, unfinished, taken_device, command_given, with_device, with_word, written, learned}
+use Rattle.trace_record.proofs.BaseWords.{rules, ◌≡◌, ◌∙◌, ◌||◌, ◌⊎◌, ◌∷◌, ℕ, List, [], Option, Some, None, ap, sym, inl, inr, filter, option_and_then, slice_get, filter_map, none-some, Shape, IsShape, RingView, Writes, changed, gives, due_positions, positions_given, positions_given-one, Command, command_of, Header, Write, shape_of, command_id, Known, command_at, unfinished_positions, unfinished, taken_device, command_given, with_device, with_word, written, learned}
 use Rattle.trace_record.proofs.DeviceSlots.Inserted.{Inserted, filter_as_before, filter_with_one, mapped_with_one, mapped_as_before}
 
 module _ (h : Header) (k : Known) (a w : ℕ) where
@@ -14,8 +14,7 @@ module _ (h : Header) (k : Known) (a w : ℕ) where
 
   same_rings : (m : Known) (o : Option (ℕ × ℕ)) → (with_device h m o).ring ≡ m.ring
   unfolding with_device
-  same_rings m None = refl
-  same_rings m (Some e) = refl
+  same_rings m o = search rules
 
   -- what is known of the command ring
   pub written_view : l.ring (command_id h) ≡ changed shape view (Writes a w)
@@ -49,16 +48,12 @@ module _ (h : Header) (k : Known) (a w : ℕ) where
     -- it gives one position there, with this command
     pub gives_one : (c : Command) → command_at h k p ≡ Some c → Inserted c (unfinished h k) (unfinished h l)
     unfolding unfinished
-    gives_one c at =
-        subst (λ new. Inserted c (unfinished h k) new) (sym listed)
-        (mapped_with_one (command_at h k) p (unfinished_positions h k) (filter (λ p. view.given p || gives shape view.floor p a w) (due_positions shape view)) inserted c at)
+    gives_one c at = search (rules, unfinished, listed, mapped_with_one, command_at, unfinished_positions, filter, gives, due_positions, inserted)
 
     -- or with a block that is no command of the profile
     pub gives_other : command_at h k p ≡ None → unfinished h l ≡ unfinished h k
     unfolding unfinished
-    gives_other none =
-        listed
-        ∙ mapped_as_before (command_at h k) p (unfinished_positions h k) (filter (λ p. view.given p || gives shape view.floor p a w) (due_positions shape view)) inserted none
+    gives_other none = search (rules, listed, mapped_as_before, command_at, unfinished_positions, filter, gives, due_positions, inserted)
 
   -- at most one position is given
   abbrev pub GivesOne : Type 0

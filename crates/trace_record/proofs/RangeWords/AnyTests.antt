@@ -1,6 +1,5 @@
 -- No element of a list passes a test
-use Rattle.std.proofs.Common.{◌≡◌, ℕ, ◌<◌, List, [], ◌∷◌, Bool, false, refl, arith, length, get_or, suc}
-use Rattle.std.specs.List.{list_any}
+use Rattle.trace_record.proofs.BaseWords.{◌≡◌, ℕ, ◌<◌, List, [], ◌∷◌, Bool, false, refl, arith, length, get_or, suc, list_any}
 
 pub any_none : (p : ℕ → Bool) (xs : List ℕ) → ((k d : ℕ) → k < length xs → p (get_or xs k d) ≡ false) → list_any p xs ≡ false
 any_none p [] none = refl

@@ -1,5 +1,5 @@
 -- Areas by their first addresses, in rising order
-use Rattle.trace_record.proofs.RangeWords.Words.{◌≡◌, ◌+◌, ◌-◌, ◌<◌, ◌≤◌, ◌∷◌, ◌++◌, ◌∙◌, ℕ, List, true, false, refl, arith, length, get_or, inl, inr, sym, leb, nat_lt, Err, nat_cmp, list_any, insert, remove, Contains, IsNonDecreasingBy, IsPartitionPoint, IsPermutation, IsBinarySearchResult, cases_lt, cases_Bool, nat_tests, get_or_default, list_any_at, Contains-append_right, length-remove, get_or-remove_below, get_or-remove_above, IsNonDecreasingBy-insert, IsPermutation-insert, IsPermutation-cons, IsPermutation-middle, IsPermutation-trans, Contains-permutation, searched, overlap}
+use Rattle.trace_record.proofs.BaseWords.{rules, ◌≡◌, ◌+◌, ◌-◌, ◌<◌, ◌≤◌, ◌∷◌, ◌++◌, ◌∙◌, ℕ, List, true, false, refl, arith, length, get_or, inl, inr, sym, leb, nat_lt, Err, nat_cmp, list_any, insert, remove, Contains, IsNonDecreasingBy, IsPartitionPoint, IsPermutation, IsBinarySearchResult, cases_lt, cases_Bool, nat_tests, get_or_default, list_any_at, Contains-append_right, length-remove, get_or-remove_below, get_or-remove_above, IsNonDecreasingBy-insert, IsPermutation-insert, IsPermutation-cons, IsPermutation-middle, IsPermutation-trans, Contains-permutation, searched, overlap}
 use Rattle.trace_record.proofs.RangeWords.AnyTests.{any_none}
 
 -- those that start before an end are the first ones; of them only the last can touch
@@ -13,9 +13,7 @@ module _ (items : List ℕ) (sorted : IsNonDecreasingBy (λ s. s) items) (from l
 
   pub last_touches : 0 < after → after ≤ length items → nat_lt from (get_or items (after - 1) 0 + n) ≡ list_any (λ a. overlap from len a n) items
   last_touches some bound = elim (cases_Bool (nat_lt from (get_or items (after - 1) 0 + n))) [
-    | inl near_end ↦
-        let near = point.0 (after - 1) 0 (omega arith) (omega arith) in
-        near_end ∙ sym (list_any_at (λ a. overlap from len a n) items (after - 1) 0 (omega arith) (grind (arith, nat_tests, near, near_end)))
+    | inl near_end ↦ search (rules, list_any_at, overlap, nat_tests)
     | inr past ↦ past ∙ sym (any_none (λ a. overlap from len a n) items (λ k d below. elim (cases_lt k after) [
       | inl early ↦
           let rising = sorted k (after - 1) d (omega arith) (omega arith) in
@@ -58,15 +56,7 @@ module _ (items : List ℕ) (start after : ℕ) where
 
 -- one less
 pub removed_sorted : (items : List ℕ) (i : ℕ) → i < length items → IsNonDecreasingBy (λ s. s) items → IsNonDecreasingBy (λ s. s) (remove items i)
-removed_sorted items i within sorted = λ j k d le below.
-    let shorter = length-remove items i within in
-    elim (cases_lt j i) [
-      | inl early ↦ elim (cases_lt k i) [
-        | inl both ↦ rw (get_or-remove_below items i d j early within, get_or-remove_below items i d k both within) (sorted j k d le (omega arith))
-        | inr late ↦ rw (get_or-remove_below items i d j early within, get_or-remove_above items i d k late within) (sorted j (k + 1) d (omega arith) (omega (arith, shorter)))
-      ]
-      | inr late ↦ rw (get_or-remove_above items i d j late within, get_or-remove_above items i d k (omega arith) within) (sorted (j + 1) (k + 1) d (omega arith) (omega (arith, shorter)))
-    ]
+removed_sorted items i within sorted = search (rules, length-remove, get_or-remove_below, get_or-remove_above)
 
 -- what stands there is found
 pub not_missed : (items xs ys : List ℕ) (start i : ℕ) → IsBinarySearchResult (λ y. nat_cmp y start) items (Err i) → IsNonDecreasingBy (λ s. s) items → IsPermutation (xs ++ start ∷ ys) items → ⊥
@@ -76,10 +66,4 @@ not_missed items xs ys start i missed sorted all = missed_at there.0 there.1 the
     there = Contains-permutation (xs ++ start ∷ ys) items start all (Contains-append_right xs (start ∷ ys) start (0, omega arith, refl))
 
     missed_at : (k : ℕ) → k < length items → get_or items k start ≡ start → ⊥
-    missed_at k below at =
-        let parts = searched items start (Err i) missed (λ a b le l. sorted a b 0 le l) in
-        let same = get_or_default items k start 0 below in
-        elim (cases_lt k i) [
-          | inl early ↦ let low = parts.1 k early in omega (arith, low, at, same)
-          | inr late ↦ let high = parts.2 k late below in omega (arith, high, at, same)
-        ]
+    missed_at k below at = search (rules, searched, get_or_default)

@@ -1,7 +1,5 @@
 -- Bits of a group of words
-use Rattle.trace_record.proofs.RangeWords.Words.{◌≡◌, ◌≢◌, ◌-◌, ◌*◌, ◌/◌, ◌%◌, ◌^◌, ◌<◌, ◌≤◌, ◌∙◌, ◌&&◌, ◌||◌, ℕ, true, false, arith, ap, sym, inl, inr, min, max, not, nat_eq, nat_le, nat_lt, cases_lt, cases_eq, nat_tests, bit_and, bit_not, bit_or, bit_at, w64, trailing_zeros}
-use Rattle.std.proofs.lemmas.Nat.{and_le_r, pow_below, pow_pos}
-use Rattle.std.proofs.lemmas.Nat.Bits.{and_pow, bit_at-lt, bit_at-pow_other, bit_at-pow_same, bit_at_and, bit_at_not, bit_at_or, bit_at-zero, bit_at-trailing_zeros, ones_shl, ones_shr, bit_at_mask_inside, bit_at_mask_below, bit_at_ones, bit_at_ones_above}
+use Rattle.trace_record.proofs.BaseWords.{rules, ◌≡◌, ◌≢◌, ◌-◌, ◌*◌, ◌/◌, ◌%◌, ◌^◌, ◌<◌, ◌≤◌, ◌∙◌, ◌&&◌, ◌||◌, ℕ, true, false, arith, ap, sym, min, max, not, nat_eq, nat_le, nat_lt, nat_tests, bit_and, bit_not, bit_or, bit_at, w64, trailing_zeros, and_le_r, pow_below, pow_pos, and_pow, bit_at-lt, bit_at-pow_other, bit_at-pow_same, bit_at_and, bit_at_not, bit_at_or, bit_at-zero, bit_at-trailing_zeros, ones_shl, ones_shr, bit_at_mask_inside, bit_at_mask_below, bit_at_ones, bit_at_ones_above}
 
 min_none : (x y : ℕ) → min x y ≡ 0 → nat_lt 0 y ≡ true → nat_lt 0 x ≡ false
 min_none x y none some = grind (arith, nat_tests, none, some)
@@ -43,30 +41,14 @@ run_of_ones low high i starts ends within =
     whole = omega arith
 
     decided : (x y : ℕ) → (i < low → x ≡ 0) → (low ≤ i → x ≡ 1) → (i < high → y ≡ 1) → (high ≤ i → y ≡ 0) → nat_lt 0 (min x y) ≡ (nat_le low i && nat_lt i high)
-    decided x y below above inside behind =
-        elim (cases_lt i low) [
-          | inl early ↦ grind (arith, nat_tests, early, below early)
-          | inr late ↦ elim (cases_lt i high) [
-            | inl there ↦ grind (arith, nat_tests, late, there, above late, inside there)
-            | inr past ↦ grind (arith, nat_tests, late, past, above late, behind past)
-          ]
-        ]
+    decided x y below above inside behind = search (rules, nat_tests)
 
     tested : nat_lt 0 (min (bit_at (2 ^ 64 - 2 ^ low) i) (bit_at (2 ^ high - 1) i)) ≡ (nat_le low i && nat_lt i high)
-    tested =
-        decided (bit_at (2 ^ 64 - 2 ^ low) i) (bit_at (2 ^ high - 1) i) (bit_at_mask_below low 64 i) (λ from. bit_at_mask_inside low 64 i from within) (bit_at_ones high i) (bit_at_ones_above high i)
+    tested = search (rules, decided, bit_at, bit_at_mask_below, bit_at_mask_inside, bit_at_ones, bit_at_ones_above)
 
 -- the test of one bit
 tested_product : (x y : ℕ) → x < 2 → 0 < y → not (nat_eq (x * y) 0) ≡ nat_lt 0 x
-tested_product x y bit some = elim (cases_eq x 0) [
-  | inl none ↦
-      let product : x * y ≡ 0 = ap (λ z. z * y) none ∙ omega arith in
-      grind (arith, nat_tests, none, product)
-  | inr other ↦
-      let one : x ≡ 1 = omega (arith, bit, other) in
-      let product : x * y ≡ y = ap (λ z. z * y) one ∙ omega arith in
-      grind (arith, nat_tests, other, product, some)
-]
+tested_product x y bit some = search (rules, nat_tests)
 
 pub tested_bit : (b k : ℕ) → not (nat_eq (bit_and b (2 ^ k)) 0) ≡ nat_lt 0 (bit_at b k)
 tested_bit b k = ap (λ x. not (nat_eq x 0)) (and_pow b k) ∙ tested_product (bit_at b k) (2 ^ k) (bit_at-lt b k) (pow_pos k)
@@ -77,11 +59,7 @@ module _ (b k : ℕ) (within : k < 64) where
   others i low = bit_at_and b _ i ∙ ap (min (bit_at b i)) (bit_at_not w64 (2 ^ k) i (pow_below k 64 within) low)
 
   pub cleared_here : nat_lt 0 (bit_at (bit_and b (bit_not w64 (2 ^ k))) k) ≡ false
-  cleared_here =
-      let none : min (bit_at b k) (1 - 1) ≡ 0 = omega arith in
-      ap (nat_lt 0) (others k within ∙ ap (λ x. min (bit_at b k) (1 - x)) (bit_at-pow_same k) ∙ none)
+  cleared_here = search (rules, min, bit_at, nat_lt, others, bit_at-pow_same)
 
   pub cleared_other : (i : ℕ) → i < 64 → i ≢ k → nat_lt 0 (bit_at (bit_and b (bit_not w64 (2 ^ k))) i) ≡ nat_lt 0 (bit_at b i)
-  cleared_other i low apart =
-      let same : min (bit_at b i) (1 - 0) ≡ bit_at b i = omega (arith, bit_at-lt b i) in
-      ap (nat_lt 0) (others i low ∙ ap (λ x. min (bit_at b i) (1 - x)) (bit_at-pow_other k i apart) ∙ same)
+  cleared_other i low apart = search (rules, min, bit_at, bit_at-lt, nat_lt, others, bit_at-pow_other)

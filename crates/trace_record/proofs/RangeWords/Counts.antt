@@ -1,5 +1,5 @@
 -- Lists in which each number stands equally often are the same but for their order
-use Rattle.trace_record.proofs.RangeWords.Words.{◌≡◌, ◌<◌, ◌∷◌, ◌++◌, ℕ, List, [], arith, length, get_or, suc, inl, inr, sym, cond, eqb, sum_by, remove, IsPermutation, cases_eq, nat_tests, sum_by-cons, IsPermutation-refl, IsPermutation-cons, IsPermutation-sym, IsPermutation-trans, IsPermutation-remove, IsPermutation-middle, sum_by-IsPermutation}
+use Rattle.trace_record.proofs.BaseWords.{◌≡◌, ◌<◌, ◌∷◌, ◌++◌, ℕ, List, [], arith, length, get_or, suc, inl, inr, sym, cond, eqb, sum_by, remove, IsPermutation, cases_eq, nat_tests, sum_by-cons, IsPermutation-refl, IsPermutation-cons, IsPermutation-sym, IsPermutation-trans, IsPermutation-remove, IsPermutation-middle, sum_by-IsPermutation}
 
 -- 1 for v, and 0 for another number
 abbrev one_for : ℕ → ℕ → ℕ

@@ -1,5 +1,5 @@
 -- Words whose bits are 1
-use Rattle.trace_record.proofs.RangeWords.Words.{◌≡◌, ◌≢◌, ◌==◌, ◌+◌, ◌*◌, ◌/◌, ◌%◌, ◌^◌, ◌<◌, ◌≤◌, ◌∙◌, ◌&&◌, ◌||◌, ℕ, Bool, true, false, refl, arith, ap, sym, inl, inr, not, cond-true, cond-false, eq-eqb, ne_eqb, nat_le, nat_lt, cases_eq, nat_tests, bit_and, bit_not, bit_or, bit_at, w64, put, is_in, is_marked}
+use Rattle.trace_record.proofs.BaseWords.{rules, ◌≡◌, ◌≢◌, ◌==◌, ◌+◌, ◌*◌, ◌/◌, ◌%◌, ◌^◌, ◌<◌, ◌≤◌, ◌∙◌, ◌&&◌, ◌||◌, ℕ, Bool, true, false, refl, arith, ap, sym, inl, inr, not, cond-true, cond-false, eq-eqb, ne_eqb, nat_le, nat_lt, cases_eq, nat_tests, bit_and, bit_not, bit_or, bit_at, w64, put, is_in, is_marked}
 use Rattle.trace_record.proofs.RangeWords.BitTests.{either_bit, cleared_here, cleared_other}
 
 put_here : (f : ℕ → ℕ) (n x m : ℕ) → m ≡ n → put f n x m ≡ x
@@ -32,8 +32,7 @@ one_group_more : (h g : ℕ) → h ≢ g → nat_lt h g ≡ nat_lt h (g + 1)
 one_group_more h g apart = grind (arith, nat_tests, apart)
 
 with_group : (inside old before here : Bool) (h g : ℕ) → h ≡ g → before ≡ ((inside && nat_lt h g) || old) → here ≡ inside → (before || here) ≡ ((inside && nat_lt h (g + 1)) || old)
-with_group true old before here h g same was is = grind (arith, nat_tests, same, was, is)
-with_group false old before here h g same was is = grind (arith, nat_tests, same, was, is)
+with_group inside old before here h g h1 h2 h3 = search (rules, nat_tests)
 
 -- the words of one group more are soiled
 module _ (first old new : ℕ → ℕ) (from words g bits mask a : ℕ) where
@@ -73,16 +72,4 @@ module _ (old new : ℕ → ℕ) (at bits : ℕ) (aligned : at % 4 ≡ 0) (held 
   place_below a = omega arith
 
   pub cleared : (a : ℕ) → a % 4 ≡ 0 → (is_marked old a && not (a == at)) ≡ is_marked new a
-  cleared a place = elim (cases_eq a at) [
-    | inl same ↦
-        gone (is_marked old a) a at same
-        ∙ sym (marked_at new (at / 256) (at / 4 % 64) a (ap (λ x. x / 256) same) (ap (λ x. x / 4 % 64) same) ∙ ap (λ b. nat_lt 0 (bit_at b (at / 4 % 64))) at_group ∙ cleared_here bits (at / 4 % 64) (place_below at))
-    | inr apart ↦ kept (is_marked old a) a at apart ∙ elim (cases_eq (a / 256) (at / 256)) [
-      | inl here ↦
-          let i : ℕ = a / 4 % 64 in
-          let elsewhere : i ≢ at / 4 % 64 = λ same. apart (omega (arith, same, here, place, aligned)) in
-          marked_at old (at / 256) i a here refl ∙ ap (λ b. nat_lt 0 (bit_at b i)) (sym held)
-          ∙ sym (marked_at new (at / 256) i a here refl ∙ ap (λ b. nat_lt 0 (bit_at b i)) at_group ∙ cleared_other bits (at / 4 % 64) (place_below at) i (place_below a) elsewhere)
-      | inr other ↦ sym (ap (λ b. nat_lt 0 (bit_at b (a / 4 % 64))) (set (a / 256) ∙ put_other old (at / 256) _ (a / 256) other))
-    ]
-  ]
+  cleared a place = search (rules, gone, is_marked, marked_at, nat_lt, bit_at, at_group, cleared_here, place_below, kept, cleared_other, put_other)

@@ -1,5 +1,5 @@
 -- Words from an address on
-use Rattle.trace_record.proofs.RangeWords.Words.{◌≡◌, ◌<◌, ◌∙◌, ℕ, Bool, true, false, arith, ap, list_any, range_with_len, length-range_with_len, get_or-range_with_len, list_any_at}
+use Rattle.trace_record.proofs.BaseWords.{◌≡◌, ◌<◌, ◌∙◌, ℕ, Bool, true, false, arith, ap, list_any, range_with_len, length-range_with_len, get_or-range_with_len, list_any_at}
 use Rattle.trace_record.proofs.RangeWords.AnyTests.{any_none}
 
 -- one of the first numbers passes a test

@@ -1,20 +1,12 @@
 -- The command ring of a header, and its number
-use Rattle.trace_record.proofs.RingFinder.Words.{◌≡◌, ◌<◌, ◌∙◌, ◌∷◌, ◌==◌, ℕ, List, [], Bool, true, false, None, Some, refl, ap, sym, arith, get_or, length, position, slice_get, slice_get_read, position-Some, Ring, Header, IsHeader, command_ring, is_command_kind, is_driver_kind}
-use Rattle.std.specs.Prelude.{is_some}
-use Rattle.std.proofs.lemmas.Bool.{false≢true}
-use Rattle.std.proofs.lemmas.Option.{slice_get-get_or}
-use Rattle.trb.specs.declared.ring_kind.RingKind.{RingKind}
-use Rattle.trb.specs.declared.ring_kind.RingKind.TheVariants.{Cmd, Evt, Xfer}
-use Rattle.traces.specs.Header.{command_id, id_or_none, ring_with}
+use Rattle.trace_record.proofs.BaseWords.{rules, ◌≡◌, ◌<◌, ◌∙◌, ◌∷◌, ℕ, List, [], Bool, true, None, Some, refl, ap, sym, get_or, length, position, slice_get, slice_get_read, position-Some, Ring, Header, IsHeader, command_ring, is_command_kind, is_driver_kind, is_some, false≢true, slice_get-get_or, RingKind, command_id, id_or_none, ring_with}
 use Rattle.trace_record.proofs.RingFinder.RingsApart.{IsAmong, among_at, other_number}
 use Rattle.trace_record.proofs.RingFinder.HeaderRings.{find_some, id_below, not_found}
 use Rattle.trace_record.proofs.RingFinder.FoundRings.{command_found}
 
 -- the command ring is the driver's
 pub driven : (kind : RingKind) → is_command_kind kind ≡ true → is_driver_kind kind ≡ true
-driven Cmd e = refl
-driven Evt e = absurd (cc)
-driven Xfer e = refl
+driven kind h1 = search rules
 
 pub commands_among : (h : Header) (c : Ring) → command_ring h ≡ Some c → IsAmong c h.rings × (is_command_kind c.shape.kind ≡ true)
 unfolding command_ring
@@ -28,8 +20,7 @@ command_id_is h ring there = ap id_or_none there
 -- without a command ring no ring has its ID
 pub no_ring : (h : Header) → IsHeader h → command_ring h ≡ None → ring_with h (command_id h) ≡ None
 unfolding command_id
-no_ring h headed none =
-    ap (λ o. ring_with h (id_or_none o)) none ∙ not_found (λ r. r.id == 256) h.rings (λ q among. other_number q.id 256 (λ e. omega (arith, e, id_below h headed q among)))
+no_ring h headed none = search (rules, not_found, other_number, id_below)
 
 pub has_commands : {X : Type 0} (h : Header) → is_some (command_ring h) ≡ true → command_ring h ≡ None → X
 has_commands h some none = absurd (false≢true (ap (λ o. is_some o) (sym none) ∙ some))
@@ -52,11 +43,4 @@ pub record IsCommandNumber (h : Header) (n : ℕ) : Type 0 where
   pub there : command_ring h ≡ Some ring
 
 pub command_number : (h : Header) → IsHeader h → (n : ℕ) → position (λ r. is_command_kind r.shape.kind) h.rings ≡ Some n → IsCommandNumber h n
-command_number h headed n e =
-    let found = found_at (λ r. is_command_kind r.shape.kind) h.rings n e in
-    record {
-      ring = found.0;
-      at = found.1;
-      driver = driven found.0.shape.kind found.2;
-      there = command_found h headed found.0 (among_at h.rings n found.0 found.1) found.2;
-    }
+command_number h headed n e = search (rules, found_at, is_command_kind, driven, command_found, among_at)

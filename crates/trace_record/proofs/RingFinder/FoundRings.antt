@@ -1,5 +1,5 @@
 -- What a search through the rings of a header has found
-use Rattle.trace_record.proofs.RingFinder.Words.{◌≡◌, ◌∙◌, ℕ, List, Bool, true, false, None, Some, refl, ap, sym, subst, get_or, length, slice_get, position, slice_get_read, position-Some, position-None, Ring, Header, IsHeader, command_ring, is_command_kind}
+use Rattle.trace_record.proofs.BaseWords.{◌≡◌, ◌∙◌, ℕ, List, Bool, true, false, None, Some, refl, ap, sym, subst, get_or, length, slice_get, position, slice_get_read, position-Some, position-None, Ring, Header, IsHeader, command_ring, is_command_kind}
 use Rattle.trace_record.proofs.RingFinder.ListTests.{false_unless}
 use Rattle.trace_record.proofs.RingFinder.RingsApart.{IsAmong, each_among}
 use Rattle.trace_record.proofs.RingFinder.HeaderRings.{find_only, not_found, together}

@@ -1,5 +1,5 @@
 -- A finder finds the transfer ring that has a block at an address, as a walk over all would
-use Rattle.trace_record.proofs.RingFinder.Words.{◌≡◌, ◌-◌, ◌%◌, ◌<◌, ◌∷◌, ◌∙◌, ◌&&◌, ℕ, List, [], Bool, true, false, Some, None, refl, ap, sym, inl, inr, length, get_or, subst, find, position, cases_Bool, false≢true, and_parts, position-Some, is_inside, touches, touches-word_of, position-None, Ring, Header, IsHeader, id_of, is_transfer_kind, ring_having}
+use Rattle.trace_record.proofs.BaseWords.{rules, ◌≡◌, ◌-◌, ◌%◌, ◌<◌, ◌∷◌, ◌∙◌, ◌&&◌, ℕ, List, [], Bool, true, false, Some, None, refl, ap, sym, inl, inr, length, get_or, subst, find, position, cases_Bool, false≢true, and_parts, position-Some, is_inside, touches, touches-word_of, position-None, Ring, Header, IsHeader, id_of, is_transfer_kind, ring_having}
 use Rattle.trace_record.proofs.RingFinder.ListTests.{false_unless}
 use Rattle.trace_record.proofs.RingFinder.RingsApart.{IsAmong, among_get, each_among, same_or_apart}
 use Rattle.trace_record.proofs.RingFinder.HeaderRings.{not_found, shape_allowed, together}
@@ -13,8 +13,7 @@ find_one f (x ∷ rest) r among passes only = elim (cases_Bool (f x)) [
 ]
   where
     later : f x ≡ false → IsAmong r (x ∷ rest) → IsAmong r rest
-    later fails (inl same) = absurd (false≢true (sym fails ∙ ap f same ∙ passes))
-    later fails (inr a) = a
+    later h1 h2 = search (rules, false≢true)
 
 module _ (h : Header) (headed : IsHeader h) (a : ℕ) where
   -- it is a transfer ring that has the byte
@@ -53,15 +52,11 @@ module _ (h : Header) (headed : IsHeader h) (a : ℕ) where
     inside = sym (is_same ring among_here) ∙ ap has_word item ∙ passed.1
 
     only_here : (q : Ring) → IsAmong q h.rings → has q ≡ true → q ≡ ring
-    only_here q among it = elim (same_or_apart h.rings (together h headed) ring q among_here among) [
-      | inl same ↦ same
-      | inr apart ↦ absurd (apart.memory a inside (and_parts (is_transfer_kind q.shape.kind) (is_inside q.shape a) it).1)
-    ]
+    only_here q among it = search (rules, same_or_apart, together, among_here, inside, and_parts, is_transfer_kind, is_inside)
 
     pub here_had : is_transfer_kind ring.shape.kind ≡ true → Some ring.id ≡ ring_having h a
     unfolding ring_having
     here_had it = sym (ap id_of (find_one has h.rings ring among_here (rw (it, inside) refl) only_here))
 
     pub elsewhere_had : is_transfer_kind ring.shape.kind ≡ false → None ≡ ring_having h a
-    elsewhere_had fails = none_has (λ q among it. false≢true (
-        sym fails ∙ ap (λ (r : Ring). is_transfer_kind r.shape.kind) (sym (only_here q among it)) ∙ (and_parts (is_transfer_kind q.shape.kind) (is_inside q.shape a) it).0))
+    elsewhere_had fails = search (rules, none_has, false≢true, is_transfer_kind, only_here, and_parts, is_inside)

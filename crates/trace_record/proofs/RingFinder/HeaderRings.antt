@@ -1,5 +1,5 @@
 -- Each ring of a header is found by its ID and its kind
-use Rattle.trace_record.proofs.RingFinder.Words.{◌≡◌, ◌≢◌, ◌<◌, ◌∷◌, ◌++◌, ◌∙◌, ◌==◌, ◌&&◌, List, [], Bool, true, false, Option, Some, None, refl, ap, sym, arith, inl, inr, subst, nat_lt, filter, find, ltb-true, list_any, list_all, flat_map, cases_Bool, and_parts, false≢true, IsShape, is_shape, Evt, Xfer, Ring, Header, may_stand_together, IsHeader, is_driver_kind, is_command_kind, is_event_kind, ring_with, shape_of, shape_or, id_or_none, command_ring, command_id, event_ring, event_shape}
+use Rattle.trace_record.proofs.BaseWords.{rules, ◌≡◌, ◌≢◌, ◌<◌, ◌∷◌, ◌++◌, ◌∙◌, ◌==◌, ◌&&◌, List, [], Bool, true, false, Option, Some, None, refl, ap, sym, arith, inl, inr, nat_lt, filter, find, ltb-true, list_any, list_all, flat_map, cases_Bool, and_parts, false≢true, IsShape, is_shape, Evt, Xfer, Ring, Header, may_stand_together, IsHeader, is_driver_kind, is_command_kind, is_event_kind, ring_with, shape_of, shape_or, id_or_none, command_ring, command_id, event_ring, event_shape}
 use Rattle.trace_record.proofs.RingFinder.ListTests.{or_false}
 use Rattle.trace_record.proofs.RingFinder.RingsApart.{IsAmong, Apart, apart_back, first_apart, rest_together, same_or_apart, same_number, other_number}
 
@@ -7,23 +7,15 @@ use Rattle.trace_record.proofs.RingFinder.RingsApart.{IsAmong, Apart, apart_back
 pub find_only : (f : Ring → Bool) (rs : List Ring) → may_stand_together rs ≡ true → (r : Ring) → IsAmong r rs → f r ≡ true → ((q : Ring) → Apart r q → f q ≡ false) → find f rs ≡ Some r
 find_only f [] together r among passes others = absurd among
 find_only f (x ∷ rest) together r (inl same) passes others = rw (ap f same ∙ passes) (ap (λ y. Some y) same)
-find_only f (x ∷ rest) together r (inr later) passes others =
-    rw (others x (apart_back x r (first_apart x rest together r later))) (find_only f rest (rest_together x rest together) r later passes others)
+find_only f (x ∷ rest) together r (inr later) passes others = search (rules, apart_back, first_apart, rest_together, find_only f rest (rest_together x rest together) r later passes others)
 
 -- what is found stands there and passes
 pub find_some : (f : Ring → Bool) (rs : List Ring) (r : Ring) → find f rs ≡ Some r → IsAmong r rs × (f r ≡ true)
 find_some f [] r e = absurd (cc)
 find_some f (x ∷ rest) r e = elim (cases_Bool (f x)) [
-  | inl passes ↦
-      let same : x ≡ r = some_is x r (sym (rw passes refl) ∙ e) in
-      (inl same, ap f (sym same) ∙ passes)
-  | inr fails ↦
-      let later = find_some f rest r (sym (rw fails refl) ∙ e) in
-      (inr later.0, later.1)
+  | inl passes ↦ search rules
+  | inr fails ↦ search (rules, find_some f rest r (sym (rw fails refl) ∙ e))
 ]
-  where
-    some_is : (x y : Ring) → Some x ≡ Some y → x ≡ y
-    some_is x y e = cc
 
 abbrev pub drivers_of : List Ring → List Ring
 drivers_of rs = filter (λ r. is_driver_kind r.shape.kind) rs
@@ -31,52 +23,29 @@ drivers_of rs = filter (λ r. is_driver_kind r.shape.kind) rs
 -- no driver ring passes
 pub no_driver : (f : Ring → Bool) (rs : List Ring) → ((q : Ring) → IsAmong q rs → is_driver_kind q.shape.kind ≡ true → f q ≡ false) → list_any f (drivers_of rs) ≡ false
 no_driver f [] none = refl
-no_driver f (x ∷ rest) none = elim (cases_Bool (is_driver_kind x.shape.kind)) [
-  | inl driver ↦ rw (driver, none x (inl refl) driver) (no_driver f rest (λ q among d. none q (inr among) d))
-  | inr other ↦ rw other (no_driver f rest (λ q among d. none q (inr among) d))
-]
+no_driver f (x ∷ rest) none = search (rules, is_driver_kind, no_driver f rest (λ q among d. none q (inr among) d))
 
 -- no driver ring but r passes
 pub one_driver : (f : Ring → Bool) (rs : List Ring) → may_stand_together rs ≡ true → (r : Ring) → IsAmong r rs → is_driver_kind r.shape.kind ≡ true →
     ((q : Ring) → IsAmong q rs → Apart r q → f q ≡ false) → list_any f (drivers_of rs) ≡ f r
 one_driver f [] together r among driver none = absurd among
-one_driver f (x ∷ rest) together r (inl same) driver none =
-    let here : is_driver_kind x.shape.kind ≡ true = ap (λ (y : Ring). is_driver_kind y.shape.kind) same ∙ driver in
-    let later : list_any f (drivers_of rest) ≡ false =
-    no_driver f rest (λ q among d. none q (inr among) (subst (λ (y : Ring). Apart y q) same (first_apart x rest together q among))) in
-    rw (here, later) (or_false (f x) ∙ ap f same)
-one_driver f (x ∷ rest) together r (inr later) driver none =
-    let x_fails : f x ≡ false = none x (inl refl) (apart_back x r (first_apart x rest together r later)) in
-    let rest_is : list_any f (drivers_of rest) ≡ f r =
-    one_driver f rest (rest_together x rest together) r later driver (λ q among apart. none q (inr among) apart) in
-    elim (cases_Bool (is_driver_kind x.shape.kind)) [ inl here ↦ rw (here, x_fails) rest_is | inr other ↦ rw other rest_is ]
+one_driver f (x ∷ rest) together r (inl same) driver none = search (rules, is_driver_kind, list_any, no_driver, first_apart, or_false)
+one_driver f (x ∷ rest) together r (inr later) driver none = search (rules, apart_back, first_apart, list_any, rest_together, is_driver_kind, one_driver f rest (rest_together x rest together) r later driver (λ q among apart. none q (inr among) apart))
 
 -- driver rings from which nothing comes
 pub nothing_from : {X : Type 0} (f : Ring → List X) (rs : List Ring) → ((q : Ring) → IsAmong q rs → is_driver_kind q.shape.kind ≡ true → f q ≡ []) → flat_map f (drivers_of rs) ≡ []
 nothing_from f [] none = refl
-nothing_from f (x ∷ rest) none = elim (cases_Bool (is_driver_kind x.shape.kind)) [
-  | inl driver ↦ rw (driver, none x (inl refl) driver) (nothing_from f rest (λ q among d. none q (inr among) d))
-  | inr other ↦ rw other (nothing_from f rest (λ q among d. none q (inr among) d))
-]
+nothing_from f (x ∷ rest) none = search (rules, is_driver_kind, nothing_from f rest (λ q among d. none q (inr among) d))
 
 pub all_from_one : {X : Type 0} (f : Ring → List X) (rs : List Ring) → may_stand_together rs ≡ true → (r : Ring) → IsAmong r rs → is_driver_kind r.shape.kind ≡ true →
     ((q : Ring) → IsAmong q rs → Apart r q → f q ≡ []) → flat_map f (drivers_of rs) ≡ f r ++ []
 all_from_one f [] together r among driver none = absurd among
-all_from_one f (x ∷ rest) together r (inl same) driver none =
-    let here : is_driver_kind x.shape.kind ≡ true = ap (λ (y : Ring). is_driver_kind y.shape.kind) same ∙ driver in
-    let later : flat_map f (drivers_of rest) ≡ [] =
-    nothing_from f rest (λ q among d. none q (inr among) (subst (λ (y : Ring). Apart y q) same (first_apart x rest together q among))) in
-    rw (here, later) (ap (λ y. f y ++ []) same)
-all_from_one f (x ∷ rest) together r (inr later) driver none =
-    let x_fails : f x ≡ [] = none x (inl refl) (apart_back x r (first_apart x rest together r later)) in
-    let rest_is : flat_map f (drivers_of rest) ≡ f r ++ [] =
-    all_from_one f rest (rest_together x rest together) r later driver (λ q among apart. none q (inr among) apart) in
-    elim (cases_Bool (is_driver_kind x.shape.kind)) [ inl here ↦ rw (here, x_fails) rest_is | inr other ↦ rw other rest_is ]
+all_from_one f (x ∷ rest) together r (inl same) driver none = search (rules, is_driver_kind, flat_map, nothing_from, first_apart)
+all_from_one f (x ∷ rest) together r (inr later) driver none = search (rules, apart_back, first_apart, flat_map, rest_together, is_driver_kind, all_from_one f rest (rest_together x rest together) r later driver (λ q among apart. none q (inr among) apart))
 
 each_allowed : (rs : List Ring) → list_all (λ r. nat_lt r.id 256 && is_shape r.shape) rs ≡ true → (r : Ring) → IsAmong r rs → (nat_lt r.id 256 && is_shape r.shape) ≡ true
 each_allowed [] all r among = absurd among
-each_allowed (x ∷ rest) all r (inl same) =
-    ap (λ (y : Ring). nat_lt y.id 256 && is_shape y.shape) (sym same) ∙ (and_parts (nat_lt x.id 256 && is_shape x.shape) (list_all (λ r. nat_lt r.id 256 && is_shape r.shape) rest) all).0
+each_allowed (x ∷ rest) all r (inl same) = search (rules, nat_lt, is_shape, and_parts, list_all)
 each_allowed (x ∷ rest) all r (inr later) = each_allowed rest (and_parts (nat_lt x.id 256 && is_shape x.shape) (list_all (λ r. nat_lt r.id 256 && is_shape r.shape) rest) all).1 r later
 
 module _ (h : Header) (headed : IsHeader h) where
@@ -85,9 +54,7 @@ module _ (h : Header) (headed : IsHeader h) where
 
   module _ (r : Ring) (among : IsAmong r h.rings) where
     parts : (nat_lt r.id 256 ≡ true) × (is_shape r.shape ≡ true)
-    parts =
-        and_parts (nat_lt r.id 256) (is_shape r.shape)
-        (each_allowed h.rings (and_parts (list_all (λ r. nat_lt r.id 256 && is_shape r.shape) h.rings) (may_stand_together h.rings) headed).0 r among)
+    parts = search (rules, and_parts, nat_lt, is_shape, each_allowed, list_all, may_stand_together)
 
     pub id_below : r.id < 256
     id_below = ltb-true r.id 256 parts.0
@@ -104,11 +71,7 @@ module _ (h : Header) (headed : IsHeader h) where
     shape_there = ap (λ o. shape_or Xfer o) ring_found
 
     not_event : (q : Ring) → is_event_kind r.shape.kind ≡ true → Apart r q → is_event_kind q.shape.kind ≡ false
-    not_event q is apart = by (is_event_kind q.shape.kind) (λ e. apart.one_event is e)
-      where
-        by : (b : Bool) → (b ≡ true → ⊥) → b ≡ false
-        by true n = absurd (n refl)
-        by false n = refl
+    not_event q is apart = search (rules, is_event_kind)
 
     pub event_found : is_event_kind r.shape.kind ≡ true → event_ring h ≡ Some r
     unfolding event_ring

@@ -1,5 +1,5 @@
 -- A finder finds the ring of an ID that a walk over all would find
-use Rattle.trace_record.proofs.RingFinder.Words.{◌≡◌, ◌+◌, ◌<◌, ◌∷◌, ◌∙◌, ◌==◌, ℕ, List, [], Bool, true, false, Option, Some, None, refl, ap, sym, arith, inl, inr, length, get_or, set, Bor, slice_get, position, unwrap_or, eqb-true, get_or-set_same, get_or-set_other, option_copied, option_flatten, option_map, cases_eq, slice_get-get_or, slice_get_within, get_or_from_slice_get, length-set, position_only, position_nowhere, Ring, may_stand_together, Finder, AreNumbers, IsFinder}
+use Rattle.trace_record.proofs.BaseWords.{rules, ◌≡◌, ◌+◌, ◌<◌, ◌∷◌, ◌∙◌, ◌==◌, ℕ, List, [], Bool, true, false, Option, Some, None, refl, ap, sym, arith, inl, inr, get_or, set, Bor, slice_get, position, unwrap_or, eqb-true, get_or-set_same, get_or-set_other, option_copied, option_flatten, option_map, cases_eq, slice_get-get_or, slice_get_within, get_or_from_slice_get, length-set, position_only, position_nowhere, Ring, may_stand_together, Finder, AreNumbers, IsFinder}
 use Rattle.trace_record.proofs.RingFinder.RingsApart.{Apart, numbers_apart, same_number}
 
 pub some_ring : (q r : Ring) → Some q ≡ Some r → q ≡ r
@@ -26,41 +26,25 @@ no_position (r ∷ rest) p none =
     position_nowhere p (r ∷ rest) r (λ k below. no_true (p (get_or (r ∷ rest) k r)) (λ e. none k (get_or (r ∷ rest) k r) (slice_get-get_or (r ∷ rest) k r below) e))
   where
     no_true : (b : Bool) → (b ≡ true → ⊥) → b ≡ false
-    no_true true n = absurd (n refl)
-    no_true false n = refl
+    no_true b h1 = search rules
 
 -- the table of numbers, ring by ring
 pub one_number : (rings : List Ring) → may_stand_together rings ≡ true → (numbers : List (Option ℕ)) (i : ℕ) (ring : Ring) → AreNumbers rings i numbers → slice_get rings i ≡ Some ring → ring.id < 256 →
     AreNumbers rings (i + 1) (set numbers ring.id (Some i))
 one_number rings together numbers i ring a at below = record {
   all = length-set numbers ring.id (Some i) ∙ a.all;
-  right = λ id n found. elim (cases_eq id ring.id) [
-    | inl same ↦
-        let here : Some i ≡ Some n = sym (ap (λ x. get_or (set numbers ring.id (Some i)) x None) same ∙ get_or-set_same numbers ring.id (Some i) None inside) ∙ found in
-        let number : i ≡ n = some_is i n here in
-        (ring, ap (λ x. slice_get rings x) (sym number) ∙ at, sym same)
-    | inr other ↦ a.right id n (sym (get_or-set_other numbers ring.id id (Some i) None other) ∙ found)
-  ];
+  right = search (rules, get_or, set, get_or-set_same, slice_get, get_or-set_other);
   each = λ n q l there. elim (cases_eq n i) [
-    | inl same ↦
-        let one : q ≡ ring = some_ring q ring (sym there ∙ ap (λ x. slice_get rings x) same ∙ at) in
-        ap (λ (y : Ring). get_or (set numbers ring.id (Some i)) y.id None) one ∙ get_or-set_same numbers ring.id (Some i) None inside ∙ ap (λ x. Some x) (sym same)
+    | inl same ↦ search (rules, some_ring, slice_get, get_or, set, get_or-set_same)
     | inr other ↦
         let apart = numbers_apart rings together n i q ring there at other in
         get_or-set_other numbers ring.id q.id (Some i) None apart.ids ∙ a.each n q (omega arith) there
   ];
 }
-  where
-    inside : ring.id < length numbers
-    inside = omega (arith, a.all)
-
-    some_is : (m n : ℕ) → Some m ≡ Some n → m ≡ n
-    some_is m n e = cc
 
 -- the ring of an ID
 pub flattened : (o : Option (Bor (Option ℕ))) (p : Option ℕ) → unwrap_or (option_map (λ x. x.now) o) None ≡ p → option_flatten (option_copied o) ≡ p
-flattened None p e = e
-flattened (Some x) p e = e
+flattened o p h1 = search rules
 
 pub named_is : (rings : List Ring) (f : Finder) → IsFinder rings f → (id : ℕ) → get_or f.numbers.items id None ≡ position (λ ring. ring.id == id) rings
 named_is rings f is id = by (get_or f.numbers.items id None) refl

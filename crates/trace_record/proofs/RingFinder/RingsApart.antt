@@ -1,6 +1,5 @@
 -- The rings of a header lie apart: no two have the same ID or a byte in common
-use Rattle.segments.specs.Shape.{rings_overlap}
-use Rattle.trace_record.proofs.RingFinder.Words.{◌≡◌, ◌≢◌, ◌<◌, ◌∷◌, ◌∙◌, ◌==◌, ◌&&◌, ◌||◌, ◌⊎◌, ℕ, List, [], Bool, true, false, Some, None, refl, ap, sym, arith, length, get_or, zero, suc, inl, inr, subst, not, slice_get, get_or_from_slice_get, slice_get_within, list_any, or_parts, and_parts, false≢true, nat_tests, is_inside, rings_apart, Ring, clash, may_stand_together, is_command_kind, is_event_kind}
+use Rattle.trace_record.proofs.BaseWords.{rules, ◌≡◌, ◌≢◌, ◌<◌, ◌∷◌, ◌∙◌, ◌==◌, ◌&&◌, ◌⊎◌, ℕ, List, [], Bool, true, false, Some, refl, ap, sym, arith, length, get_or, zero, suc, inl, inr, subst, not, slice_get, get_or_from_slice_get, slice_get_within, list_any, or_parts, and_parts, false≢true, nat_tests, is_inside, rings_apart, Ring, clash, may_stand_together, is_command_kind, is_event_kind}
 
 pub same_number : (n : ℕ) → (n == n) ≡ true
 same_number n = grind (arith, nat_tests)
@@ -35,32 +34,16 @@ pub record Apart (r q : Ring) : Type 0 where
   pub one_event : is_event_kind r.shape.kind ≡ true → is_event_kind q.shape.kind ≡ true → ⊥
 
 not_both : (x y : Bool) → (x && y) ≡ false → x ≡ true → y ≡ true → ⊥
-not_both true y e f g = false≢true (sym e ∙ g)
-not_both false y e f g = false≢true f
+not_both x y h1 h2 h3 = search (rules, false≢true)
 
 not_equal : (m n : ℕ) → (m == n) ≡ false → m ≢ n
 not_equal m n e same = false≢true (sym e ∙ ap (λ x. x == n) same ∙ same_number n)
 
 apart_from : (r q : Ring) → clash r q ≡ false → Apart r q
-apart_from r q e =
-    let first = or_parts (r.id == q.id || rings_overlap r.shape q.shape || (is_command_kind r.shape.kind && is_command_kind q.shape.kind))
-    (is_event_kind r.shape.kind && is_event_kind q.shape.kind) e in
-    let second = or_parts (r.id == q.id || rings_overlap r.shape q.shape) (is_command_kind r.shape.kind && is_command_kind q.shape.kind) first.0 in
-    let third = or_parts (r.id == q.id) (rings_overlap r.shape q.shape) second.0 in
-    record {
-      ids = not_equal r.id q.id third.0;
-      memory = λ a here there. rings_apart r.shape q.shape a third.1 here there;
-      one_command = not_both (is_command_kind r.shape.kind) (is_command_kind q.shape.kind) second.1;
-      one_event = not_both (is_event_kind r.shape.kind) (is_event_kind q.shape.kind) first.1;
-    }
+apart_from r q e = search (rules, or_parts, is_command_kind, is_event_kind, not_equal, rings_apart, not_both)
 
 pub apart_back : (r q : Ring) → Apart r q → Apart q r
-apart_back r q x = record {
-  ids = λ e. x.ids (sym e);
-  memory = λ a here there. x.memory a there here;
-  one_command = λ here there. x.one_command there here;
-  one_event = λ here there. x.one_event there here;
-}
+apart_back r q x = search rules
 
 each_apart : (r : Ring) (rest : List Ring) → list_any (clash r) rest ≡ false → (q : Ring) → IsAmong q rest → Apart r q
 each_apart r [] e q among = absurd among
@@ -68,8 +51,7 @@ each_apart r (x ∷ rest) e q (inl same) = subst (λ (y : Ring). Apart r y) same
 each_apart r (x ∷ rest) e q (inr later) = each_apart r rest (or_parts (clash r x) (list_any (clash r) rest) e).1 q later
 
 not_true : (b : Bool) → not b ≡ true → b ≡ false
-not_true true e = absurd (cc)
-not_true false e = refl
+not_true b h1 = search rules
 
 pub first_apart : (r : Ring) (rest : List Ring) → may_stand_together (r ∷ rest) ≡ true → (q : Ring) → IsAmong q rest → Apart r q
 first_apart r rest together q among =
@@ -88,10 +70,7 @@ same_or_apart (x ∷ rest) together r q (inr a) (inr b) = same_or_apart rest (re
 
 -- rings of two numbers are apart
 pub numbers_apart : (rs : List Ring) → may_stand_together rs ≡ true → (i n : ℕ) (q r : Ring) → slice_get rs i ≡ Some q → slice_get rs n ≡ Some r → i ≢ n → Apart q r
-numbers_apart [] together i n q r e f other = absurd (none_some e)
-  where
-    none_some : None ≡ Some q → ⊥
-    none_some e = cc
+numbers_apart [] together i n q r e f other = search rules
 numbers_apart (x ∷ rest) together zero zero q r e f other = absurd (other refl)
 numbers_apart (x ∷ rest) together zero (suc n) q r e f other = subst (λ (y : Ring). Apart y r) (some_is e) (first_apart x rest together r (among_at rest n r f))
   where

@@ -1,33 +1,22 @@
 -- A finder finds the ring that has an address, as a walk over all would
-use Rattle.trace_record.proofs.RingFinder.Words.{◌≡◌, ◌+◌, ◌-◌, ◌*◌, ◌/◌, ◌%◌, ◌<◌, ◌≤◌, ◌∷◌, ◌++◌, ◌∙◌, ◌||◌, ℕ, zero, suc, List, [], Bool, true, false, Some, None, refl, ap, sym, arith, inl, inr, length, get_or, map, take, append_assoc, add-zero, zero-add, leb, leb-true, slice_get, position, le-leb, length-take, append-nil, Contains, list_any, IsNonDecreasingBy, IsPartitionPoint, cases_Bool, cases_eq, cases_lt, false≢true, slice_get-get_or, slice_get_within, get_or_from_slice_get, take_more, Contains-permutation, IsPermutation-sym, Contains-get_or, Contains-append_left, Contains-append_right, Contains-append_cases, segment_at, shape_facts, Segment, IsShape, is_inside, segment_has, touches, touches-word, is_in-true, is_in-parts, Ring, Header, IsHeader, Start, Finder, IsFinder, IsRingBefore, start_of, starts_from}
+use Rattle.trace_record.proofs.BaseWords.{rules, common_steps, ◌≡◌, ◌+◌, ◌-◌, ◌*◌, ◌/◌, ◌%◌, ◌<◌, ◌≤◌, ◌∷◌, ◌++◌, ◌∙◌, ◌||◌, ℕ, zero, suc, List, [], Bool, true, false, Some, None, refl, ap, sym, arith, inl, inr, length, get_or, map, take, append_assoc, add-zero, zero-add, leb, leb-true, slice_get, position, le-leb, length-take, append-nil, Contains, list_any, IsNonDecreasingBy, IsPartitionPoint, cases_Bool, cases_eq, cases_lt, false≢true, slice_get-get_or, slice_get_within, get_or_from_slice_get, take_more, Contains-permutation, IsPermutation-sym, Contains-get_or, Contains-append_left, Contains-append_right, Contains-append_cases, segment_at, shape_facts, Segment, IsShape, is_inside, segment_has, touches, touches-word, is_in-true, is_in-parts, Ring, Header, IsHeader, Start, Finder, IsFinder, IsRingBefore, start_of, starts_from}
 use Rattle.trace_record.proofs.RingFinder.RingsApart.{numbers_apart, among_at}
 use Rattle.trace_record.proofs.RingFinder.HeaderRings.{together, shape_allowed}
 use Rattle.trace_record.proofs.RingFinder.Numbers.{one_position, no_position, some_ring}
 
 or_true : (b : Bool) → (b || true) ≡ true
-or_true true = refl
-or_true false = refl
+or_true b = search rules
 
 -- the starts, ring by ring
 pub starts_append : (m : ℕ) (xs ys : List Ring) → starts_from m (xs ++ ys) ≡ starts_from m xs ++ starts_from (m + length xs) ys
 starts_append m [] ys = ap (λ n. starts_from n ys) (sym (add-zero m))
-starts_append m (r ∷ xs) ys =
-    let number : m + 1 + length xs ≡ m + length (r ∷ xs) = omega arith in
-    ap (λ rest. map (start_of m) r.shape.segments ++ rest) (starts_append (m + 1) xs ys)
-    ∙ sym (append_assoc (map (start_of m) r.shape.segments) (starts_from (m + 1) xs) (starts_from (m + 1 + length xs) ys))
-    ∙ ap (λ n. (map (start_of m) r.shape.segments ++ starts_from (m + 1) xs) ++ starts_from n ys) number
+starts_append m (r ∷ xs) ys = search (rules, length, map, start_of, append_assoc, starts_from, starts_append (m + 1) xs ys)
 
 pub starts_push : (rings : List Ring) (i : ℕ) (ring : Ring) → i < length rings → ring ≡ get_or rings i ring → starts_from 0 (take (i + 1) rings) ≡ starts_from 0 (take i rings) ++ map (start_of i) ring.shape.segments
-starts_push rings i ring below item =
-    let long : 0 + length (take i rings) ≡ i = omega (arith, length-take i rings) in
-    ap (λ xs. starts_from 0 xs) (take_more rings i ring below) ∙ starts_append 0 (take i rings) (get_or rings i ring ∷ [])
-    ∙ ap (λ n. starts_from 0 (take i rings) ++ starts_from n (get_or rings i ring ∷ [])) long
-    ∙ ap (λ (r : Ring). starts_from 0 (take i rings) ++ (map (start_of i) r.shape.segments ++ [])) (sym item)
-    ∙ ap (λ xs. starts_from 0 (take i rings) ++ xs) (append-nil (map (start_of i) ring.shape.segments))
+starts_push rings i ring below item = grind (arith, common_steps, length, take, length-take, starts_from, take_more, starts_append, get_or, map, start_of, append-nil)
 
 single : (y x : Start) → Contains (y ∷ []) x → y ≡ x
-single y x (zero, h, e) = e
-single y x (suc k, h, e) = absurd (omega arith)
+single y x h1 = search rules
 
 -- a start has this number, and all its bytes lie inside
 record Lies (m : ℕ) (inside : ℕ → Bool) (x : Start) : Type 0 where
@@ -49,13 +38,7 @@ starts_inside m (s ∷ rest) some x within = elim (Contains-append_cases (start_
         covers = λ b l u. ap (λ c. c || list_any (segment_has b) rest) (is_in-true b s.base (16 * s.count) (omega (arith, base, l)) (omega (arith, base, long, u)));
         some = omega (arith, some 0 (omega arith), long);
       }
-  | inr later ↦
-      let there = starts_inside m rest (λ j l. some (suc j) (omega arith)) x later in
-      record {
-        number = there.number;
-        covers = λ b l u. ap (λ c. segment_has b s || c) (there.covers b l u) ∙ or_true (segment_has b s);
-        some = there.some;
-      }
+  | inr later ↦ search (rules, segment_has, or_true, starts_inside m rest (λ j l. some (suc j) (omega arith)) x later)
 ]
 
 -- and each byte of a ring lies behind a start, in one segment
@@ -114,10 +97,7 @@ all_inside m (r ∷ rest) allowed x within = elim (Contains-append_cases (map (s
 ]
 
 all_before : (m : ℕ) (rs : List Ring) (i : ℕ) (r : Ring) (a : ℕ) → ((j : ℕ) (q : Ring) → slice_get rs j ≡ Some q → IsShape q.shape) → slice_get rs i ≡ Some r → is_inside r.shape a ≡ true → Behind (m + i) (λ b. is_inside r.shape b) (starts_from m rs) a
-all_before m [] i r a allowed at inside = absurd (no_ring at)
-  where
-    no_ring : None ≡ Some r → ⊥
-    no_ring e = cc
+all_before m [] i r a allowed at inside = search rules
 all_before m (q ∷ rest) zero r a allowed at inside =
     let same : q ≡ r = some_ring q r at in
     let here = starts_before m q.shape.segments a (λ j l. ((shape_facts q.shape (allowed 0 q refl)).each j l).page) (ap (λ (y : Ring). is_inside y.shape a) same ∙ inside) in
@@ -144,13 +124,7 @@ all_before m (q ∷ rest) (suc i) r a allowed at inside =
 module _ (starts : List Start) (sorted : IsNonDecreasingBy (λ s. s.address) starts) (a after : ℕ)
     (point : IsPartitionPoint (λ s. leb s.address a ≡ true) (λ s. leb s.address a ≡ false) starts after) where
   pub none_before : after ≡ 0 → IsRingBefore starts a None
-  none_before none = λ s within. above s within.0 within.1 within.2
-    where
-      above : (s : Start) (k : ℕ) → k < length starts → get_or starts k s ≡ s → a < s.address
-      above s k below at = elim (cases_lt a s.address) [
-        | inl more ↦ more
-        | inr low ↦ absurd (false≢true (sym (ap (λ (y : Start). leb y.address a) (sym at) ∙ point.1 k s (omega arith) below) ∙ le-leb s.address a low))
-      ]
+  none_before none = search (rules, length, get_or, false≢true, leb, le-leb)
 
   pub last_before : 0 < after → after ≤ length starts → (d : Start) → IsRingBefore starts a (Some (get_or starts (after - 1) d).ring)
   last_before some below d =
@@ -219,8 +193,7 @@ module _ (h : Header) (headed : IsHeader h) (f : Finder) (is : IsFinder h.rings 
         let there = start_is y within in
         let at : slice_get h.rings y.ring ≡ Some there.ring = ap (λ n. slice_get h.rings n) (there.numbered ∙ zero-add there.number) ∙ there.at in
         let inside = there.covers a l u in
-        sym (one_position h.rings (together h headed) (λ q. touches q.shape a 4) y.ring there.ring at (inside_is y.ring there.ring at ∙ inside)
-        (λ k q here apart hits. apart.memory a (sym (inside_is k q here) ∙ hits) inside))
+        search (rules, one_position, together, touches, inside_is)
 
     module _ (number : ℕ) (before : IsRingBefore f.starts.items a (Some number)) (ring : Ring) (item : ring ≡ get_or h.rings number ring) where
       last : StartOf 0 h.rings before.0
@@ -237,9 +210,7 @@ module _ (h : Header) (headed : IsHeader h) (f : Finder) (is : IsFinder h.rings 
 
       -- the ring of the last start before the address has it
       pub ring_hit : touches ring.shape a 4 ≡ true → Some number ≡ position (λ q. touches q.shape a 4) h.rings
-      ring_hit it =
-          sym (one_position h.rings (together h headed) (λ q. touches q.shape a 4) number last.ring last_at (ap (λ (r : Ring). touches r.shape a 4) (sym is_last) ∙ it)
-          (λ k q there apart hits. apart.memory a (sym (inside_is k q there) ∙ hits) (last_has ∙ it)))
+      ring_hit it = search (rules, one_position, together, touches, last, last_at, is_last, inside_is, last_has)
 
       -- or no ring has
       pub ring_miss : touches ring.shape a 4 ≡ false → None ≡ position (λ q. touches q.shape a 4) h.rings
@@ -247,9 +218,7 @@ module _ (h : Header) (headed : IsHeader h) (f : Finder) (is : IsFinder h.rings 
         where
           not_here : (n : ℕ) (q : Ring) → slice_get h.rings n ≡ Some q → is_inside q.shape a ≡ true → ⊥
           not_here n q there inside = elim (cases_eq n number) [
-            | inl same ↦
-                let one : q ≡ last.ring = some_ring q last.ring (sym there ∙ ap (λ i. slice_get h.rings i) same ∙ last_at) in
-                false≢true (sym (last_has ∙ it) ∙ ap (λ (r : Ring). is_inside r.shape a) (sym one) ∙ inside)
+            | inl same ↦ search (rules, last, some_ring, slice_get, last_at, false≢true, last_has, is_inside)
             | inr other ↦
                 let behind = behind_in n q there inside in
                 let low : before.0.address ≤ a = before.3 in

@@ -1,5 +1,5 @@
 -- Of the segments that start before an end only the last can touch the bytes up to there, since no two segments have a byte in common
-use Rattle.trace_record.proofs.RingFinder.Words.{◌≡◌, ◌+◌, ◌-◌, ◌*◌, ◌<◌, ◌≤◌, ◌∷◌, ◌∙◌, ◌&&◌, ◌||◌, ℕ, suc, zero, List, [], Bool, true, false, refl, ap, sym, arith, inl, inr, subst, length, get_or, get_or_default, not, nat_lt, map, cond, slice_get, Some, list_any, count_by, sum_by, sum_by-append, sum_by-cons, sum_by-IsPermutation, get_or-le-sum_by, list_any_at, list_any-IsPermutation, Contains-get_or, cases_Bool, cases_lt, nat_tests, and_parts, false≢true, IsPartitionPoint, is_in, is_in-true, lt-ltb, ltb-false, list_any_none, overlap, segment_has, is_inside, touches, are_apart, segments_overlap, rings_apart, IsShape, shape_facts, Xfer, Segment, Ring, Header, IsHeader, may_stand_together, touches_ring, Start, Finder, IsFinder, start_of, starts_from}
+use Rattle.trace_record.proofs.BaseWords.{sum_by, rules, common_steps, ◌≡◌, ◌+◌, ◌-◌, ◌*◌, ◌<◌, ◌≤◌, ◌∷◌, ◌∙◌, ◌&&◌, ◌||◌, ℕ, suc, zero, List, [], Bool, true, false, refl, ap, sym, arith, inl, inr, subst, length, get_or, get_or_default, not, nat_lt, map, cond, slice_get, Some, list_any, count_by, sum_by-append, sum_by-cons, sum_by-IsPermutation, get_or-le-sum_by, list_any_at, list_any-IsPermutation, Contains-get_or, cases_Bool, cases_lt, nat_tests, and_parts, false≢true, IsPartitionPoint, is_in, is_in-true, lt-ltb, ltb-false, list_any_none, overlap, segment_has, is_inside, touches, are_apart, segments_overlap, rings_apart, IsShape, shape_facts, Xfer, Segment, Ring, Header, IsHeader, may_stand_together, touches_ring, Start, Finder, IsFinder, start_of, starts_from}
 use Rattle.trace_record.proofs.RingFinder.ListTests.{any_append, any_map, any_nowhere, false_unless, from_not}
 use Rattle.trace_record.proofs.RingFinder.RingsApart.{IsAmong, first_apart, rest_together}
 use Rattle.trace_record.proofs.RingFinder.HeaderRings.{together}
@@ -18,10 +18,7 @@ meets from len x = overlap from len x.address x.bytes
 all_meet : (from len m : ℕ) (rs : List Ring) →
     list_any (λ r. list_any (λ s. overlap from len s.base (16 * s.count)) r.shape.segments) rs ≡ list_any (meets from len) (starts_from m rs)
 all_meet from len m [] = refl
-all_meet from len m (r ∷ rest) =
-    sym (any_append (meets from len) (map (start_of m) r.shape.segments) (starts_from (m + 1) rest)
-    ∙ ap (λ b. b || list_any (meets from len) (starts_from (m + 1) rest)) (any_map (meets from len) (start_of m) r.shape.segments)
-    ∙ ap (λ b. list_any (λ s. overlap from len s.base (16 * s.count)) r.shape.segments || b) (sym (all_meet from len (m + 1) rest)))
+all_meet from len m (r ∷ rest) = search (rules, any_append, map, start_of, starts_from, list_any, any_map, overlap, all_meet from len (m + 1) rest)
 
 -- ---- no two segments have a byte in common
 
@@ -40,17 +37,13 @@ once x = cond x 1 0
 
 -- of two lists of segments only one has it
 once_more : (x y : Bool) (m n t : ℕ) → t ≡ m + n → m ≤ once x → n ≤ once y → (x ≡ true → y ≡ false) → t ≤ once (x || y)
-once_more true true m n t all here there one = absurd (false≢true (sym (one refl)))
-once_more true false m n t all here there one = omega (arith, all, here, there)
-once_more false y m n t all here there one = omega (arith, all, here, there)
+once_more x y m n t h1 h2 h3 h4 = search (rules, false≢true)
 
 ring_once : (m : ℕ) (segments : List Segment) (b : ℕ) → are_apart segments ≡ true → having b (map (start_of m) segments) ≤ once (list_any (segment_has b) segments)
 ring_once m [] b apart = omega arith
 ring_once m (s ∷ rest) b apart =
     let parts = and_parts (not (list_any (segments_overlap s) rest)) (are_apart rest) apart in
-    once_more (segment_has b s) (list_any (segment_has b) rest) (once (segment_has b s)) (having b (map (start_of m) rest)) (having b (map (start_of m) (s ∷ rest)))
-    (sum_by-cons (λ (x : Start). cond (has b x) 1 0) (start_of m s) (map (start_of m) rest)) (omega arith) (ring_once m rest b parts.1)
-    (others_lack s rest b (from_not (list_any (segments_overlap s) rest) true parts.0))
+    grind (arith, common_steps, once_more, segment_has, list_any, map, start_of, sum_by-cons, cond, others_lack, from_not, segments_overlap, ring_once m rest b parts.1)
 
 others_outside : (r : Ring) (rest : List Ring) (b : ℕ) → may_stand_together (r ∷ rest) ≡ true → is_inside r.shape b ≡ true → list_any (λ q. is_inside q.shape b) rest ≡ false
 others_outside r rest b together here = none rest (λ q among. (first_apart r rest together q among).memory b here)
@@ -83,8 +76,7 @@ module _ (h : Header) (headed : IsHeader h) (f : Finder) (is : IsFinder h.rings 
       omega (arith, all, moved, once_most (list_any (λ r. is_inside r.shape b) h.rings))
     where
       once_most : (x : Bool) → once x ≤ 1
-      once_most true = omega arith
-      once_most false = omega arith
+      once_most x = search rules
 
   -- a segment ends before the next one starts
   ends_before : (i k : ℕ) (d : Start) → i < k → k < length f.starts.items → (get_or f.starts.items i d).address + (get_or f.starts.items i d).bytes ≤ (get_or f.starts.items k d).address
@@ -110,9 +102,7 @@ module _ (h : Header) (headed : IsHeader h) (f : Finder) (is : IsFinder h.rings 
     last_meets : 0 < after → after ≤ length f.starts.items → (d : Start) →
         nat_lt from ((get_or f.starts.items (after - 1) d).address + (get_or f.starts.items (after - 1) d).bytes) ≡ list_any (meets from len) f.starts.items
     last_meets some bound d = elim (cases_Bool (nat_lt from ((get_or f.starts.items (after - 1) d).address + (get_or f.starts.items (after - 1) d).bytes))) [
-      | inl reaches ↦
-          let near = point.0 (after - 1) d (omega arith) (omega arith) in
-          reaches ∙ sym (list_any_at (meets from len) f.starts.items (after - 1) d (omega arith) (grind (arith, nat_tests, near, reaches)))
+      | inl reaches ↦ search (rules, list_any_at, nat_tests)
       | inr past ↦ past ∙ sym (list_any_none (meets from len) f.starts.items (λ k e below. elim (cases_lt k after) [
         | inl early ↦
             let ended = ends_early past k e early in
@@ -128,9 +118,7 @@ module _ (h : Header) (headed : IsHeader h) (f : Finder) (is : IsFinder h.rings 
             let low : (get_or f.starts.items (after - 1) d).address + (get_or f.starts.items (after - 1) d).bytes ≤ from = ltb-false _ _ past in
             elim (cases_lt k (after - 1)) [
               | inl before ↦ omega (arith, low, ends_before k (after - 1) e before (omega arith), ap (λ (x : Start). x.address) last)
-              | inr at ↦
-                  let same : k ≡ after - 1 = omega arith in
-                  rw (same, last) low
+              | inr at ↦ search rules
             ]
 
   -- bytes that there are touch a ring where they meet one of the segments

@@ -1,6 +1,4 @@
-use Rattle.std.proofs.Common.{ap, sym, ◌∙◌}
-use Rattle.std.specs.Prelude.{not}
-use Rattle.driver_rows.proofs.RegisterWrites.RegisterRows.{bad_register, bad_erdp, step_is}
+use Rattle.driver_rows.proofs.Laws.{ap, sym, ◌∙◌, not, bad_register, bad_erdp, step_is}
 use Rattle.driver_rows.proofs.registers.check_register.Goals as goal
 
 pub returns-then-is_bad_register-clause-refused : goal.returns-then-is_bad_register-clause-refused

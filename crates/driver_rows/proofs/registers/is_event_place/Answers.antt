@@ -1,9 +1,4 @@
-use Rattle.std.proofs.Common.{◌≡◌, ◌<◌, ℕ, Some, nat_lt, ap, sym, ◌∙◌, arith}
-use Rattle.std.specs.Prelude.{true}
-use Rattle.std.proofs.lemmas.Bool.Decides.{nat_tests}
-use Rattle.controller_model.proofs.EventPlaces.{is_place, no_place}
-use Rattle.segments.proofs.PlaceAtLemmas.{place_at-Data}
-use Rattle.controller_model.proofs.Words.{Data, Link, none-some}
+use Rattle.driver_rows.proofs.Words.{◌≡◌, ◌<◌, ℕ, Some, nat_lt, ap, sym, ◌∙◌, arith, true, nat_tests, is_place, no_place, place_at-Data, Data, Link, none-some}
 use Rattle.driver_rows.proofs.registers.is_event_place.Goals as goal
 
 pub returns-in-None : goal.returns-in-None

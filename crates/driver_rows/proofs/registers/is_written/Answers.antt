@@ -1,6 +1,4 @@
-use Rattle.std.proofs.Common.{ap, ◌∙◌}
-use Rattle.std.specs.Prelude.{is_some}
-use Rattle.ownership_rules.specs.Registers.{is_written}
+use Rattle.driver_rows.proofs.Words.{ap, ◌∙◌, is_some, is_written}
 use Rattle.driver_rows.proofs.registers.is_written.Goals as goal
 
 pub returns : goal.returns

@@ -1,19 +1,5 @@
-use Rattle.std.proofs.Common.{◌≡◌, ap, sym, ◌∙◌, refl, subst}
-use Rattle.std.specs.Prelude.{Bool, ◌&&◌, ◌||◌, not, is_some, true, false}
-use Rattle.std.proofs.lemmas.Bool.{and_parts, not-true}
-use Rattle.traces.specs.Versions.{is_three}
-use Rattle.traces.specs.Header.{event_ring, event_shape}
-use Rattle.trace_record.specs.FollowsTrace.{FollowsEvents}
-use Rattle.event_ring.specs.EventRing.{erdp_address, is_event_place}
-use Rattle.driver_rows.proofs.RegisterWrites.RegisterRows.{passed, passed_is, moved_follows, others_follow, fine_erdp, stays_follows}
+use Rattle.driver_rows.proofs.Laws.{ap, sym, ◌∙◌, refl, subst, ◌&&◌, not, is_some, and_parts, not-true, is_three, event_ring, event_shape, FollowsEvents, erdp_address, is_event_place, passed, passed_is, moved_follows, others_follow, fine_erdp, stays_follows}
 use Rattle.driver_rows.proofs.registers.note_dequeue.Goals as goal
-
-reached_passes : (r x : Bool) → r ≡ true → not (r || x) ≡ not true
-reached_passes true x e = refl
-reached_passes false x e = absurd (cc)
-
-rest_decides : (r x b : Bool) → r ≡ false → b ≡ x → not (r || x) ≡ not b
-rest_decides r x b one two = rw (one, two) refl
 
 pub returns-then-set_dequeue-clause-moved : goal.returns-then-set_dequeue-clause-moved
 returns-then-set_dequeue-clause-moved c = λ is k started f.
@@ -22,13 +8,13 @@ returns-then-set_dequeue-clause-moved c = λ is k started f.
 pub returns-then-set_dequeue-clause-exact : goal.returns-then-set_dequeue-clause-exact
 returns-then-set_dequeue-clause-exact c = λ k started f s.
     ap (λ r. passed c.args.header.now r c.args.value k) c.in-Erdp.is ∙ passed_is c.args.header.now k c.args.value s
-    ∙ reached_passes _ _ (sym (c.set_dequeue.ensures.exact c.args.header.now k f) ∙ c.if-set_dequeue.true) ∙ ap not (sym c.if-set_dequeue.true)
+    ∙ rw (sym (c.set_dequeue.ensures.exact c.args.header.now k f) ∙ c.if-set_dequeue.true, c.if-set_dequeue.true) refl
 
 pub returns-else-set_dequeue-clause-exact : goal.returns-else-set_dequeue-clause-exact
 returns-else-set_dequeue-clause-exact c = λ k started f s.
     ap (λ r. passed c.args.header.now r c.args.value k) c.in-Erdp.is ∙ passed_is c.args.header.now k c.args.value s
-    ∙ rest_decides _ _ _ (sym (c.set_dequeue.ensures.exact c.args.header.now k f) ∙ c.if-set_dequeue.false)
-    (c.may_be_ignored.ensures k started (subst (FollowsEvents c.args.header.now k) (sym (c.set_dequeue.ensures.kept c.if-set_dequeue.false)) f))
+    ∙ rw (sym (c.set_dequeue.ensures.exact c.args.header.now k f) ∙ c.if-set_dequeue.false)
+    (ap not (sym (c.may_be_ignored.ensures k started (subst (FollowsEvents c.args.header.now k) (sym (c.set_dequeue.ensures.kept c.if-set_dequeue.false)) f))))
 
 pub returns-else-set_dequeue-clause-moved : goal.returns-else-set_dequeue-clause-moved
 returns-else-set_dequeue-clause-moved c = λ is k started f.

@@ -1,7 +1,6 @@
-use Rattle.std.proofs.Common.{subst}
-use Rattle.trace_record.specs.FollowsTrace.{FollowsEvents}
-use Rattle.driver_rows.proofs.RegisterWrites.StartRules.{no_place}
+use Rattle.driver_rows.proofs.Laws.{◌≡◌, None, refl, subst, event_ring, event_shape, FollowsEvents}
 use Rattle.driver_rows.proofs.registers.set_dequeue.Goals as goal
 
 pub returns-in-None-clause-exact : goal.returns-in-None-clause-exact
-returns-in-None-clause-exact c = λ h k f. no_place h _ _ _ (subst (FollowsEvents h k) c.in-None.is f)
+unfolding event_shape
+returns-in-None-clause-exact c = λ h k f. let none : event_ring h ≡ None = subst (FollowsEvents h k) c.in-None.is f in rw none refl

@@ -1,6 +1,4 @@
-use Rattle.std.specs.Prelude.{[], reverse}
-use Rattle.safety.specs.RingChanges.Histories.{header_now}
-use Rattle.leases.specs.RingLeases.RingLents.{ring_lents}
+use Rattle.ownership_checker.proofs.Words.{[], reverse, header_now, ring_lents}
 use Rattle.ownership_checker.proofs.kept_check.check_kept.Goals as goal
 
 pub returns-in-Whole-clause-accepted : goal.returns-in-Whole-clause-accepted

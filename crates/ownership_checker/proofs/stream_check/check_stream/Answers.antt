@@ -1,10 +1,4 @@
-use Rattle.std.proofs.Common.{ℕ, [], subst}
-use Rattle.std.specs.Prelude.{reverse}
-use Rattle.std.proofs.lemmas.Result.{err_from_is_err_and}
-use Rattle.traces.specs.declared.header.Header.{Header}
-use Rattle.leases.specs.LeaseBooks.Books.{FollowsLeases, HoldsLents}
-use Rattle.safety.specs.RingChanges.Histories.{header_now}
-use Rattle.leases.specs.RingLeases.RingLents.{ring_lents}
+use Rattle.ownership_checker.proofs.Words.{ℕ, [], subst, reverse, err_from_is_err_and, Header, FollowsLeases, HoldsLents, header_now, ring_lents}
 use Rattle.ownership_checker.proofs.Streams.{opened_bad, sound_so}
 use Rattle.ownership_checker.proofs.stream_check.check_stream.Goals as goal
 

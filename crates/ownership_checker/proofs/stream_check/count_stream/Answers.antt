@@ -1,10 +1,4 @@
-use Rattle.std.proofs.Common.{false, ◌≡◌, ℕ, [], length, subst}
-use Rattle.std.specs.Prelude.{reverse}
-use Rattle.std.proofs.lemmas.Result.{err_from_is_err_and}
-use Rattle.traces.specs.declared.header.Header.{Header}
-use Rattle.leases.specs.LeaseBooks.Lents.{lents}
-use Rattle.safety.specs.RingChanges.Histories.{header_now}
-use Rattle.leases.specs.RingLeases.RingLents.{ring_lents}
+use Rattle.ownership_checker.proofs.Words.{false, ◌≡◌, ℕ, [], length, subst, reverse, err_from_is_err_and, Header, lents, header_now, ring_lents}
 use Rattle.ownership_checker.specs.declared.lease_count.LeaseCount.{LeaseCount}
 use Rattle.ownership_checker.proofs.Streams.{opened_bad, sound_count}
 use Rattle.ownership_checker.proofs.stream_check.count_stream.Goals as goal

@@ -1,9 +1,4 @@
-use Rattle.std.proofs.Common.{◌≡◌, ◌∙◌, [], Some, length, sym, subst, arith}
-use Rattle.ring_knowledge.specs.Known.{nothing}
-use Rattle.ring_knowledge.specs.Learned.{known}
-use Rattle.ownership_rules.specs.declared.refusal.Refusal.{Refusal}
-use Rattle.ownership_rules.specs.Rules.{verdict_from}
-use Rattle.leases.specs.LeaseBooks.Lents.{lents}
+use Rattle.ownership_checker.proofs.Words.{◌≡◌, ◌∙◌, [], Some, length, sym, subst, arith, nothing, known, Refusal, verdict_from, lents}
 use Rattle.leases.proofs.LeaseBooks.Growing.{leases_are}
 use Rattle.ownership_checker.proofs.JudgedRows.Passes.{by_place, refused, room_for}
 use Rattle.ownership_checker.proofs.Checking.{started, stepped, ended, walked}

@@ -1,4 +1,4 @@
-use Rattle.ownership_checker.specs.Tracking.{IsProgress}
+use Rattle.ownership_checker.proofs.Words.{IsProgress}
 use Rattle.ownership_checker.proofs.trace_check.check_rows.Given as goal
 
 abbrev pub invariant-loop-row : goal.invariant-loop-row

@@ -1,5 +1,4 @@
-use Rattle.std.proofs.Common.{◌<◌, length, get_or, ap, sym, ◌∙◌, arith}
-use Rattle.event_ring.specs.EventRing.{EventCounts}
+use Rattle.trace_record.proofs.Words.{◌<◌, length, get_or, ap, sym, ◌∙◌, arith, EventCounts}
 use Rattle.trace_record.proofs.FreshRecords.{place_first, no_event_ring}
 use Rattle.trace_record.proofs.fresh.event_place.Goals as goal
 

@@ -1,7 +1,4 @@
-use Rattle.std.proofs.Common.{◌∙◌, Some, None, if◌then◌else◌, ap, sym}
-use Rattle.std.specs.Option.{option_map}
-use Rattle.driver_rows.specs.RingBindings.Bindings.{binding_of}
-use Rattle.driver_rows.specs.RingBindings.Contexts.{dequeue_in}
+use Rattle.driver_rows.proofs.Words.{◌∙◌, Some, None, if◌then◌else◌, ap, sym, option_map, binding_of, dequeue_in}
 use Rattle.driver_rows.proofs.bindings.binding.binding_in.Goals as goal
 
 pub returns : goal.returns

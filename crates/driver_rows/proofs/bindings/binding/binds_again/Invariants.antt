@@ -1,10 +1,4 @@
-use Rattle.std.proofs.Common.{◌≡◌, ◌-◌, ◌<◌, true}
-use Rattle.std.specs.List.{list_any}
-use Rattle.contexts.specs.Contexts.{has_flag}
-use Rattle.ring_knowledge.specs.Known.{Known}
-use Rattle.trace_record.specs.Premises.{FitsMemory}
-use Rattle.driver_rows.specs.RingBindings.Contexts.{HoldsContexts}
-use Rattle.driver_rows.specs.RingBindings.Bindings.{bindings_from, was_bound}
+use Rattle.driver_rows.proofs.Words.{◌≡◌, ◌-◌, ◌<◌, true, list_any, has_flag, Known, FitsMemory, HoldsContexts, bindings_from, was_bound}
 use Rattle.driver_rows.proofs.bindings.binding.binds_again.Given as goal
 
 -- those that are left decide

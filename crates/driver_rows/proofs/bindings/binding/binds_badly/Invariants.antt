@@ -1,11 +1,4 @@
-use Rattle.std.proofs.Common.{◌≡◌, ◌-◌, ◌<◌, true}
-use Rattle.contexts.specs.Contexts.{has_flag}
-use Rattle.ring_knowledge.specs.Known.{Known}
-use Rattle.safety.specs.Keeps.{DriverKeeps}
-use Rattle.trace_record.specs.FollowsTrace.{FollowsTrace}
-use Rattle.trace_record.specs.Premises.{FitsMemory}
-use Rattle.driver_rows.specs.RingBindings.Bindings.{are_bad, bindings_from, is_misplaced}
-use Rattle.driver_rows.specs.RingBindings.Dropped.{HoldsDropped}
+use Rattle.driver_rows.proofs.Words.{◌≡◌, ◌-◌, ◌<◌, true, has_flag, Known, DriverKeeps, FollowsTrace, FitsMemory, are_bad, bindings_from, is_misplaced, HoldsDropped}
 use Rattle.driver_rows.proofs.bindings.binding.binds_badly.Given as goal
 
 -- those that are left decide

@@ -1,9 +1,4 @@
-use Rattle.std.proofs.Common.{◌+◌, ◌||◌, ◌∙◌, ap, sym, arith}
-use Rattle.std.specs.List.{list_any}
-use Rattle.driver_rows.specs.RingBindings.Bindings.{bindings_from, is_to}
-use Rattle.trace_record.specs.RingSets.{has}
-use Rattle.driver_rows.proofs.RingBindings.Lists.{or_none}
-use Rattle.driver_rows.proofs.RingBindings.BindingLists.{bindings_at, bindings_end, binds_ring_is, noted}
+use Rattle.driver_rows.proofs.Laws.{◌+◌, ◌||◌, ◌∙◌, ap, sym, arith, list_any, bindings_from, is_to, has, bindings_at, bindings_end, binds_ring_is, noted, or_none}
 use Rattle.driver_rows.proofs.bindings.binding.note_bound.Goals as goal
 
 pub loop-index-init : goal.loop-index-init

@@ -1,11 +1,4 @@
-use Rattle.std.proofs.Common.{◌≡◌, ℕ, ◌||◌, ◌-◌, ◌<◌, true}
-use Rattle.std.specs.List.{list_any}
-use Rattle.contexts.specs.Contexts.{has_flag}
-use Rattle.ring_knowledge.specs.Known.{Known}
-use Rattle.trace_record.specs.Premises.{FitsMemory}
-use Rattle.driver_rows.specs.RingBindings.Contexts.{HoldsContexts}
-use Rattle.driver_rows.specs.RingBindings.Bindings.{bindings_from, is_to}
-use Rattle.trace_record.specs.RingSets.{has}
+use Rattle.driver_rows.proofs.Words.{◌≡◌, ℕ, ◌||◌, ◌-◌, ◌<◌, true, list_any, has_flag, Known, FitsMemory, HoldsContexts, bindings_from, is_to, has}
 use Rattle.driver_rows.proofs.bindings.binding.note_bound.Given as goal
 
 -- with those that are left it comes to the same

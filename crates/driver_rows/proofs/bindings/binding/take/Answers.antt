@@ -1,10 +1,4 @@
-use Rattle.std.proofs.Common.{◌≡◌, ◌||◌, ◌∙◌, Some, ap, sym, true, false}
-use Rattle.std.specs.Prelude.{not}
-use Rattle.traces.specs.Header.{ring_having}
-use Rattle.ownership_rules.specs.Moves.{is_kept, is_placed}
-use Rattle.driver_rows.specs.RingBindings.Bindings.{as_binding, is_in_set, is_kept_ring, is_misplaced}
-use Rattle.driver_rows.specs.declared.bindings.binding.RingBinding.{RingBinding}
-use Rattle.driver_rows.proofs.RingBindings.BindingLists.{bad_first, or_last, taken_next}
+use Rattle.driver_rows.proofs.Laws.{◌≡◌, ◌||◌, ◌∙◌, Some, ap, sym, true, false, not, ring_having, is_kept, is_placed, as_binding, is_in_set, is_kept_ring, is_misplaced, RingBinding, bad_first, or_last, taken_next}
 use Rattle.driver_rows.proofs.bindings.binding.take.Goals as goal
 
 pub returns-in_default : goal.returns-in_default

@@ -1,5 +1,4 @@
-use Rattle.std.proofs.Common.{◌∙◌, ap, sym}
-use Rattle.ownership_rules.specs.Moves.{was_ring_bound}
+use Rattle.driver_rows.proofs.Words.{◌∙◌, ap, sym, was_ring_bound}
 use Rattle.driver_rows.proofs.bindings.binding.was_bound.Goals as goal
 
 pub returns-in-None : goal.returns-in-None

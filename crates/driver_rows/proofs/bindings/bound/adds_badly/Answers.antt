@@ -1,5 +1,4 @@
-use Rattle.std.proofs.Common.{◌∙◌}
-use Rattle.driver_rows.proofs.RingBindings.BindingLists.{bad_is}
+use Rattle.driver_rows.proofs.Laws.{◌∙◌, bad_is}
 use Rattle.driver_rows.proofs.bindings.bound.adds_badly.Goals as goal
 
 pub returns : goal.returns

@@ -1,5 +1,4 @@
-use Rattle.std.proofs.Common.{sym}
-use Rattle.driver_rows.proofs.RingBindings.BindingLists.{nothing_bad}
+use Rattle.driver_rows.proofs.Laws.{sym, nothing_bad}
 use Rattle.driver_rows.proofs.bindings.bound.is_bad_binding.Goals as goal
 
 pub returns-then-not-adds_endpoints : goal.returns-then-not-adds_endpoints

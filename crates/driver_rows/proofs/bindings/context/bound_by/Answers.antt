@@ -1,8 +1,4 @@
-use Rattle.std.proofs.Common.{subst, sym}
-use Rattle.commands.specs.declared.command.Command.{Command}
-use Rattle.trace_record.specs.Premises.{FitsMemory}
-use Rattle.driver_rows.specs.RingBindings.Contexts.{HasBound}
-use Rattle.driver_rows.proofs.RingBindings.BoundFlags.{of_others}
+use Rattle.driver_rows.proofs.Laws.{subst, sym, Command, FitsMemory, HasBound, of_others}
 use Rattle.driver_rows.proofs.bindings.context.bound_by.Goals as goal
 
 pub returns-in-AddressDevice : goal.returns-in-AddressDevice

@@ -1,8 +1,4 @@
-use Rattle.std.proofs.Common.{subst, sym, ap, ◌∙◌}
-use Rattle.commands.specs.declared.command.Command.TheVariants.{AddressDevice}
-use Rattle.commands.specs.States.{is_off}
-use Rattle.driver_rows.specs.RingBindings.Contexts.{HasBound}
-use Rattle.driver_rows.proofs.RingBindings.BoundFlags.{of_address, of_nothing, off_only}
+use Rattle.driver_rows.proofs.Laws.{subst, sym, ap, ◌∙◌, AddressDevice, is_off, HasBound, of_address, of_nothing, off_only}
 use Rattle.driver_rows.proofs.bindings.context.bound_by_address.Goals as goal
 
 pub returns-then-not-is_off : goal.returns-then-not-is_off

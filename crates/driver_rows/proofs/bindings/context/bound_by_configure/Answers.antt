@@ -1,8 +1,4 @@
-use Rattle.std.proofs.Common.{◌+◌, ◌/◌, ◌*◌, ◌∙◌, true, false, refl, subst, sym}
-use Rattle.commands.specs.declared.command.Command.TheVariants.{ConfigureEndpoint}
-use Rattle.trace_record.specs.Premises.{FitsMemory}
-use Rattle.driver_rows.specs.RingBindings.Contexts.{HasBound}
-use Rattle.driver_rows.proofs.RingBindings.BoundFlags.{of_configure, of_nothing}
+use Rattle.driver_rows.proofs.Laws.{◌+◌, ◌/◌, ◌*◌, ◌∙◌, true, false, refl, subst, sym, ConfigureEndpoint, FitsMemory, HasBound, of_configure, of_nothing}
 use Rattle.driver_rows.proofs.bindings.context.bound_by_configure.Goals as goal
 
 pub returns-then-deconfigure : goal.returns-then-deconfigure

@@ -1,6 +1,4 @@
-use Rattle.std.proofs.Common.{◌≡◌, ◌+◌, ◌*◌, ◌/◌, ◌%◌, ◌^◌, ◌==◌, ◌∙◌, ℕ, ap, arith}
-use Rattle.contexts.specs.Contexts.{input_endpoint}
-use Rattle.driver_rows.specs.declared.bindings.context.Dequeue.{Dequeue}
+use Rattle.driver_rows.proofs.Words.{◌≡◌, ◌+◌, ◌*◌, ◌/◌, ◌%◌, ◌^◌, ◌==◌, ◌∙◌, ℕ, ap, arith, input_endpoint, Dequeue}
 use Rattle.driver_rows.proofs.bindings.context.dequeue_in.Goals as goal
 
 -- the lowest bit of two words is that of the first

@@ -1,6 +1,4 @@
-use Rattle.std.proofs.Common.{◌∙◌, ap, sym}
-use Rattle.std.specs.Prelude.{not}
-use Rattle.driver_rows.proofs.RingBindings.KeptRings.{kept_is, left_is, none_keeps}
+use Rattle.driver_rows.proofs.Laws.{◌∙◌, ap, sym, not, kept_is, left_is, none_keeps}
 use Rattle.driver_rows.proofs.bindings.dropped.is_kept.Goals as goal
 
 pub returns-then-has_endpoint : goal.returns-then-has_endpoint

@@ -1,10 +1,4 @@
-use Rattle.std.proofs.Common.{◌+◌, ◌-◌, ◌||◌, ◌∙◌, ap, sym, arith}
-use Rattle.std.specs.List.{list_any, range_with_len}
-use Rattle.traces.specs.Header.{is_ring}
-use Rattle.driver_rows.specs.RingBindings.Dropped.{is_left}
-use Rattle.trace_record.specs.RingSets.{has}
-use Rattle.driver_rows.proofs.RingBindings.Lists.{or_assoc, or_none, crossed}
-use Rattle.driver_rows.proofs.RingBindings.LeftRings.{left_skipped, left_next, left_end}
+use Rattle.driver_rows.proofs.Laws.{◌+◌, ◌-◌, ◌||◌, ◌∙◌, ap, sym, arith, list_any, range_with_len, is_ring, is_left, has, or_assoc, crossed, left_skipped, left_next, left_end, or_none}
 use Rattle.driver_rows.proofs.bindings.dropped.note_dropped.Goals as goal
 
 pub loop-index-init : goal.loop-index-init

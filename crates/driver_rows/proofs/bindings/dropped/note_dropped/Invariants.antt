@@ -1,10 +1,4 @@
-use Rattle.std.proofs.Common.{◌≡◌, ℕ, ◌-◌, ◌||◌, ◌<◌, ◌≤◌, true}
-use Rattle.std.specs.List.{list_any, range_with_len}
-use Rattle.contexts.specs.Contexts.{has_flag}
-use Rattle.ring_knowledge.specs.Known.{Known}
-use Rattle.trace_record.specs.DeviceSlots.Devices.{FollowsDevices}
-use Rattle.driver_rows.specs.RingBindings.Dropped.{is_left}
-use Rattle.trace_record.specs.RingSets.{has}
+use Rattle.driver_rows.proofs.Words.{◌≡◌, ℕ, ◌-◌, ◌||◌, ◌<◌, ◌≤◌, true, list_any, range_with_len, has_flag, Known, FollowsDevices, is_left, has}
 use Rattle.driver_rows.proofs.bindings.dropped.note_dropped.Given as goal
 
 -- with those that are left it comes to the same

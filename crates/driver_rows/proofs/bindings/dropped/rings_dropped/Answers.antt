@@ -1,20 +1,11 @@
-use Rattle.std.proofs.Common.{◌≡◌, ◌||◌, ◌∙◌, Bool, false, true, ap, refl, subst, sym}
-use Rattle.std.specs.List.{list_any, range_with_len}
-use Rattle.commands.specs.declared.command.Command.{Command}
-use Rattle.commands.specs.declared.command.Command.TheVariants.{ConfigureEndpoint}
-use Rattle.trace_record.specs.Premises.{FitsMemory}
-use Rattle.driver_rows.specs.RingBindings.Dropped.{is_left, leaves}
-use Rattle.driver_rows.proofs.RingBindings.LeftRings.{nothing_left}
+use Rattle.driver_rows.proofs.Laws.{◌≡◌, ◌||◌, ◌∙◌, Bool, false, ap, refl, subst, sym, list_any, range_with_len, Command, ConfigureEndpoint, FitsMemory, is_left, leaves, nothing_left}
 use Rattle.driver_rows.proofs.bindings.dropped.rings_dropped.Goals as goal
 
 pub returns-in_default : goal.returns-in_default
 returns-in_default g c = λ k f fits r. c.new-rings.ensures r ∙ sym (nothing_left k r c.args.command.now c.in_default.not-ConfigureEndpoint)
 
 pub returns-then-deconfigure : goal.returns-then-deconfigure
-returns-then-deconfigure g c = λ k f fits r.
-    let is : c.args.command.now ≡ ConfigureEndpoint c.in-ConfigureEndpoint.slot true c.in-ConfigureEndpoint.input_context =
-    c.in-ConfigureEndpoint.is ∙ ap (λ (b : Bool). ConfigureEndpoint c.in-ConfigureEndpoint.slot b c.in-ConfigureEndpoint.input_context) c.if-deconfigure.true in
-    c.new-rings.ensures r ∙ sym (ap (λ d. list_any (λ i. leaves k d i r) (range_with_len 2 30)) is)
+returns-then-deconfigure g c = λ k f fits r. rw (c.in-ConfigureEndpoint.is, c.if-deconfigure.true) (c.new-rings.ensures r)
 
 pub returns : goal.returns
 returns g c = λ k f fits r.

@@ -1,16 +1,4 @@
-use Rattle.std.proofs.Common.{◌≡◌, ℕ, ◌||◌, ◌∙◌, true, false, List, [], ◌∷◌, refl, ap, sym, arith}
-use Rattle.std.specs.Prelude.{is_some}
-use Rattle.std.specs.List.{list_any}
-use Rattle.commands.specs.declared.command.Command.{Command}
-use Rattle.commands.specs.declared.command.Command.TheVariants.{AddressDevice}
-use Rattle.commands.specs.Command.{named_slot}
-use Rattle.traces.specs.declared.header.Header.{Header}
-use Rattle.ring_knowledge.specs.Known.{Known}
-use Rattle.ring_knowledge.specs.Rings.{unfinished}
-use Rattle.trace_record.specs.DeviceSlots.Addressing.{is_address_device}
-use Rattle.ownership_rules.specs.Moves.{is_being_moved, moves_ring}
-use Rattle.driver_rows.specs.RingBindings.Slots.{names_below}
-use Rattle.driver_rows.proofs.RingBindings.SlotWalk.{below_none, below_next, below_all, passes_below}
+use Rattle.driver_rows.proofs.Laws.{◌≡◌, ℕ, ◌||◌, ◌∙◌, true, false, List, [], ◌∷◌, refl, ap, sym, arith, is_some, list_any, Command, AddressDevice, named_slot, Header, Known, unfinished, is_address_device, is_being_moved, moves_ring, names_below, below_none, below_next, below_all, passes_below}
 use Rattle.driver_rows.proofs.bindings.moved.is_being_moved.Goals as goal
 
 named : (h : Header) (k : Known) (r : ℕ) (c : Command) → moves_ring h k r c ≡ true → is_some (named_slot c) ≡ true

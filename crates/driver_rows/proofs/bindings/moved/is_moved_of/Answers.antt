@@ -1,12 +1,4 @@
-use Rattle.std.proofs.Common.{◌≡◌, ◌∙◌, ℕ, true, refl, sym}
-use Rattle.commands.specs.declared.command.Command.{Command}
-use Rattle.commands.specs.declared.command.Command.TheVariants.{AddressDevice}
-use Rattle.traces.specs.declared.header.Header.{Header}
-use Rattle.ring_knowledge.specs.Known.{Known}
-use Rattle.ring_knowledge.specs.Rings.{unfinished}
-use Rattle.trace_record.specs.DeviceSlots.Indices.{index_of}
-use Rattle.ownership_rules.specs.Moves.{moves_ring}
-use Rattle.driver_rows.proofs.RingBindings.SlotWalk.{named_here, of_none, of_some}
+use Rattle.driver_rows.proofs.Laws.{◌≡◌, ◌∙◌, ℕ, true, refl, sym, Command, AddressDevice, Header, Known, unfinished, index_of, moves_ring, named_here, of_none, of_some}
 use Rattle.driver_rows.proofs.bindings.moved.is_moved_of.Goals as goal
 
 -- a command that moves a ring names no endpoint

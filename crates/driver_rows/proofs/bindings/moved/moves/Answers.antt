@@ -1,9 +1,4 @@
-use Rattle.std.proofs.Common.{◌≡◌, ℕ, ◌∙◌, Bool, false, refl, ap, sym}
-use Rattle.commands.specs.declared.command.Command.{Command}
-use Rattle.commands.specs.declared.command.Command.TheVariants.{AddressDevice}
-use Rattle.traces.specs.declared.header.Header.{Header}
-use Rattle.ring_knowledge.specs.Known.{Known}
-use Rattle.ownership_rules.specs.Moves.{moves_ring}
+use Rattle.driver_rows.proofs.Words.{◌≡◌, ℕ, ◌∙◌, Bool, false, refl, ap, sym, Command, AddressDevice, Header, Known, moves_ring}
 use Rattle.driver_rows.proofs.bindings.moved.moves.Goals as goal
 
 addressed : (h : Header) (k : Known) (r : ℕ) (c : Command) → ((s : ℕ) (bsr : Bool) (n : ℕ) → c ≡ AddressDevice s bsr n → ⊥) → false ≡ moves_ring h k r c

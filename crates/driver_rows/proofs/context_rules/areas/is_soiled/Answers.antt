@@ -1,4 +1,4 @@
-use Rattle.ownership_rules.specs.Areas.{is_soiled}
+use Rattle.driver_rows.proofs.Words.{is_soiled}
 use Rattle.driver_rows.proofs.context_rules.areas.is_soiled.Goals as goal
 
 pub returns : goal.returns

@@ -1,14 +1,4 @@
-use Rattle.std.proofs.Common.{◌≡◌, ◌+◌, ◌-◌, ◌<◌, ◌≤◌, ◌∙◌, ℕ, List, true, false, nat_lt, length, get_or, subst, sym, ap, arith, inl, inr}
-use Rattle.std.proofs.lemmas.Bool.{cases_eq, lt-ltb}
-use Rattle.segments.proofs.Words.{get_or_default}
-use Rattle.std.proofs.lemmas.Bool.Decides.{nat_tests}
-use Rattle.std.specs.List.Sorted.{IsPartitionPoint}
-use Rattle.traces.specs.Header.{IsHeader, touches_ring}
-use Rattle.traces.specs.declared.header.Header.{Header}
-use Rattle.trace_record.specs.declared.ring_finder.finder.Start.{Start}
-use Rattle.trace_record.specs.declared.ring_finder.finder.Finder.{Finder}
-use Rattle.trace_record.specs.RingFinder.Finding.{IsFinder}
-use Rattle.trace_record.proofs.RingFinder.TouchedSegments.{no_bytes, last_before_end}
+use Rattle.driver_rows.proofs.Words.{◌≡◌, ◌+◌, ◌-◌, ◌<◌, ◌≤◌, ◌∙◌, ℕ, List, true, false, nat_lt, length, get_or, subst, sym, ap, arith, inl, inr, cases_eq, lt-ltb, get_or_default, nat_tests, IsPartitionPoint, IsHeader, touches_ring, Header, Start, Finder, IsFinder, no_bytes, last_before_end}
 use Rattle.driver_rows.proofs.context_rules.areas.lies_behind.Goals as goal
 
 -- all segments start before the end of bytes that lie behind the last one

@@ -1,5 +1,4 @@
-use Rattle.std.proofs.Common.{sym, ◌∙◌}
-use Rattle.driver_rows.proofs.ContextRules.HeldRanges.{any_device}
+use Rattle.driver_rows.proofs.Laws.{sym, ◌∙◌, any_device}
 use Rattle.driver_rows.proofs.context_rules.areas.touches_devices.Goals as goal
 
 pub returns : goal.returns

@@ -1,10 +1,4 @@
-use Rattle.std.proofs.Common.{◌≡◌, ◌-◌, ◌<◌, true}
-use Rattle.std.specs.Prelude.{◌&&◌}
-use Rattle.contexts.specs.Contexts.{has_flag, input_add_flag}
-use Rattle.ring_knowledge.specs.Known.{Known}
-use Rattle.trace_record.specs.DeviceSlots.Devices.{FollowsDevices}
-use Rattle.driver_rows.specs.ContextRules.Contents.{adds_bad, is_bad_added_in}
-use Rattle.driver_rows.proofs.ContextRules.RestOfRange.{any_left}
+use Rattle.driver_rows.proofs.Laws.{◌≡◌, ◌-◌, ◌<◌, true, ◌&&◌, has_flag, input_add_flag, Known, FollowsDevices, adds_bad, is_bad_added_in, any_left}
 use Rattle.driver_rows.proofs.context_rules.contents.adds_bad.Given as goal
 
 -- the answer is that of the endpoints from the index on

@@ -1,17 +1,10 @@
-use Rattle.std.proofs.Common.{◌≡◌, ◌||◌, ◌==◌, ◌∙◌, Bool, false, ap, not, ne_eqb, sym}
-use Rattle.commands.specs.States.{is_off}
-use Rattle.contexts.specs.Contexts.{endpoint_type, has_flag, input_drop_flag, input_endpoint}
-use Rattle.driver_rows.specs.ContextRules.Contents.{is_bad_added_in}
+use Rattle.driver_rows.proofs.Words.{refl, ◌≡◌, ◌||◌, ◌==◌, ◌∙◌, Bool, false, ap, not, ne_eqb, sym, is_off, endpoint_type, has_flag, input_drop_flag, input_endpoint, is_bad_added_in}
 use Rattle.driver_rows.proofs.context_rules.contents.is_bad_added.Goals as goal
 use Rattle.driver_rows.proofs.context_rules.contents.is_bad_added.Goals.{then-is_off, else-is_off}
 
 pub returns-then-endpoint_type-eq0 : goal.returns-then-endpoint_type-eq0
 unfolding is_bad_added_in
-returns-then-endpoint_type-eq0 g c = λ k f.
-    let dropped : Bool = input_drop_flag (g.M.WordMemory.words c.args.memory.now) c.args.address c.args.index in
-    let off : Bool = is_off (k.endpoint_state c.args.slot c.args.index) in
-    ap (λ n. n == 0) c.if-endpoint_type-eq0.true
-    ∙ sym (ap (λ n. (n == 0) || not (off || dropped)) (sym (c.endpoint_type.ensures c.requires.aligned c.requires.inside) ∙ c.if-endpoint_type-eq0.true))
+returns-then-endpoint_type-eq0 g c = λ k f. rw (← c.endpoint_type.ensures c.requires.aligned c.requires.inside, c.if-endpoint_type-eq0.true) refl
 
 pub returns-after-is_off : goal.returns-after-is_off
 unfolding is_bad_added_in

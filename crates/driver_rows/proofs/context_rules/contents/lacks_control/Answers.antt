@@ -1,6 +1,4 @@
-use Rattle.std.proofs.Common.{◌&&◌, ◌||◌, ◌==◌, ◌∙◌, not}
-use Rattle.contexts.specs.Contexts.{has_flag}
-use Rattle.driver_rows.specs.ContextRules.Contents.{lacks_control}
+use Rattle.driver_rows.proofs.Words.{◌&&◌, ◌||◌, ◌==◌, ◌∙◌, not, has_flag, lacks_control}
 use Rattle.driver_rows.proofs.context_rules.contents.lacks_control.Goals as goal
 
 pub returns : goal.returns

@@ -1,9 +1,4 @@
-use Rattle.std.proofs.Common.{◌+◌, ap, sym, ◌∙◌, arith}
-use Rattle.std.proofs.lemmas.Bool.{and_from, and_left, and_right}
-use Rattle.contexts.specs.Contexts.{has_flag}
-use Rattle.driver_rows.specs.ContextRules.Contents.{adds_left_out}
-use Rattle.driver_rows.proofs.ContextRules.RestOfRange.{go_on, found, none_left, skip}
-use Rattle.driver_rows.proofs.ContextRules.AddedEndpoints.{any_added}
+use Rattle.driver_rows.proofs.Laws.{◌+◌, ap, sym, ◌∙◌, arith, and_from, and_left, and_right, has_flag, adds_left_out, go_on, found, skip, any_added, none_left}
 use Rattle.driver_rows.proofs.context_rules.endpoints.adds_left_out.Goals as goal
 
 pub loop-index-init : goal.loop-index-init

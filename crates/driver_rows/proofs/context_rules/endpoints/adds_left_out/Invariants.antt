@@ -1,8 +1,4 @@
-use Rattle.std.proofs.Common.{◌≡◌, ◌-◌, ◌<◌, true}
-use Rattle.std.specs.Prelude.{◌&&◌}
-use Rattle.contexts.specs.Contexts.{has_flag, input_add_flag}
-use Rattle.driver_rows.specs.ContextRules.Contents.{adds_left_out, is_left_out_in}
-use Rattle.driver_rows.proofs.ContextRules.RestOfRange.{any_left}
+use Rattle.driver_rows.proofs.Laws.{◌≡◌, ◌-◌, ◌<◌, true, ◌&&◌, has_flag, input_add_flag, adds_left_out, is_left_out_in, any_left}
 use Rattle.driver_rows.proofs.context_rules.endpoints.adds_left_out.Given as goal
 
 -- the answer is that of the endpoints from the index on

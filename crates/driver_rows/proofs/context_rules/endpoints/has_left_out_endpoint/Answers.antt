@@ -1,7 +1,4 @@
-use Rattle.std.proofs.Common.{◌∙◌, ap}
-use Rattle.std.specs.Prelude.{not}
-use Rattle.driver_rows.specs.ContextRules.Contents.{is_left_out_by}
-use Rattle.driver_rows.proofs.ContextRules.LeftOut.{left_out}
+use Rattle.driver_rows.proofs.Laws.{◌∙◌, ap, not, is_left_out_by, left_out}
 use Rattle.driver_rows.proofs.context_rules.endpoints.has_left_out_endpoint.Goals as goal
 
 pub returns : goal.returns

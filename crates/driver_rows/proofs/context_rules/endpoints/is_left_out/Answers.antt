@@ -1,6 +1,4 @@
-use Rattle.std.proofs.Common.{◌&&◌, ◌||◌, ◌∙◌, nat_lt}
-use Rattle.contexts.specs.Contexts.{is_isochronous}
-use Rattle.driver_rows.specs.ContextRules.Contents.{is_left_out_in}
+use Rattle.driver_rows.proofs.Words.{◌&&◌, ◌||◌, ◌∙◌, nat_lt, is_isochronous, is_left_out_in}
 use Rattle.driver_rows.proofs.context_rules.endpoints.is_left_out.Goals as goal
 
 pub returns : goal.returns

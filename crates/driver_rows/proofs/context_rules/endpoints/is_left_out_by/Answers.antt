@@ -1,6 +1,4 @@
-use Rattle.std.proofs.Common.{ap}
-use Rattle.commands.specs.Command.{named_context}
-use Rattle.driver_rows.proofs.ContextRules.NamedContexts.{configure_names}
+use Rattle.driver_rows.proofs.Laws.{ap, named_context, configure_names}
 use Rattle.driver_rows.proofs.context_rules.endpoints.is_left_out_by.Goals as goal
 
 pub is_left_out-requires-clause-inside : goal.is_left_out-requires-clause-inside

@@ -1,6 +1,4 @@
-use Rattle.std.proofs.Common.{ap, sym}
-use Rattle.event_ring.specs.EventRing.{table_bytes}
-use Rattle.driver_rows.proofs.ContextRules.EventShapes.{no_events}
+use Rattle.driver_rows.proofs.Laws.{ap, sym, table_bytes, no_events}
 use Rattle.driver_rows.proofs.context_rules.leases.table_bytes.Goals as goal
 
 pub returns-in-None : goal.returns-in-None

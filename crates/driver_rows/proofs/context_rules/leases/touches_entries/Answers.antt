@@ -1,11 +1,4 @@
-use Rattle.std.proofs.Common.{◌≡◌, ◌+◌, ◌<◌, ◌≤◌, ◌∙◌, ap, sym, arith}
-use Rattle.std.specs.Prelude.{unwrap_or}
-use Rattle.contexts.specs.Contexts.{slot_entry}
-use Rattle.traces.specs.declared.register.Register.TheVariants.{Dcbaap}
-use Rattle.driver_rows.specs.ContextRules.Entries.{touches_entry}
-use Rattle.driver_rows.proofs.ContextRules.EntrySlots.{begins_behind, ends_before}
-use Rattle.driver_rows.proofs.ContextRules.RestOfRange.{found, go_on, none_behind, skip}
-use Rattle.driver_rows.proofs.ContextRules.HeldRanges.{any_entry}
+use Rattle.driver_rows.proofs.Laws.{◌≡◌, ◌+◌, ◌<◌, ◌≤◌, ◌∙◌, ap, sym, arith, unwrap_or, slot_entry, Dcbaap, touches_entry, begins_behind, ends_before, found, go_on, none_behind, skip, any_entry}
 use Rattle.driver_rows.proofs.context_rules.leases.touches_entries.Goals as goal
 
 pub loop-slot-init : goal.loop-slot-init

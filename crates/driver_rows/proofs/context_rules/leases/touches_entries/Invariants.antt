@@ -1,11 +1,4 @@
-use Rattle.std.proofs.Common.{◌≡◌, ℕ}
-use Rattle.std.specs.List.{list_any}
-use Rattle.traces.specs.declared.header.Header.{Header}
-use Rattle.ring_knowledge.specs.Known.{Known}
-use Rattle.ownership_rules.specs.OpenLeases.{covers, entry_ranges}
-use Rattle.trace_record.specs.FollowsTrace.{FollowsTrace}
-use Rattle.driver_rows.specs.ContextRules.Entries.{touches_entry}
-use Rattle.driver_rows.proofs.ContextRules.RestOfRange.{any_left}
+use Rattle.driver_rows.proofs.Laws.{◌≡◌, ℕ, list_any, Header, Known, covers, entry_ranges, FollowsTrace, touches_entry, any_left}
 use Rattle.driver_rows.proofs.context_rules.leases.touches_entries.Given as goal
 
 -- the answer is that of the slots from this one on

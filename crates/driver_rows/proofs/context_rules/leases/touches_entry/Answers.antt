@@ -1,12 +1,4 @@
-use Rattle.std.proofs.Common.{◌≡◌, ◌≤◌, ◌^◌, ap, sym, ◌∙◌, refl, arith}
-use Rattle.std.specs.Prelude.{is_some, unwrap_or}
-use Rattle.std.proofs.lemmas.Bool.{and_left, and_right, le-ltb}
-use Rattle.segments.specs.Places.{overlap}
-use Rattle.contexts.specs.Contexts.{slot_entry}
-use Rattle.traces.specs.declared.register.Register.TheVariants.{Dcbaap}
-use Rattle.ring_knowledge.specs.Writes.{entry_of}
-use Rattle.driver_rows.specs.ContextRules.Entries.{touches_entry}
-use Rattle.driver_rows.proofs.ContextRules.Chains.{both_hold}
+use Rattle.driver_rows.proofs.Laws.{◌≡◌, ◌≤◌, ◌^◌, ap, sym, ◌∙◌, refl, arith, is_some, unwrap_or, and_left, and_right, le-ltb, overlap, slot_entry, Dcbaap, entry_of, touches_entry, both_hold}
 use Rattle.driver_rows.proofs.context_rules.leases.touches_entry.Goals as goal
 
 pub returns-then-is_none : goal.returns-then-is_none

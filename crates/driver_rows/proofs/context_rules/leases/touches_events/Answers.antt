@@ -1,6 +1,4 @@
-use Rattle.std.proofs.Common.{ap, sym}
-use Rattle.driver_rows.specs.ContextRules.Entries.{touches_segment}
-use Rattle.driver_rows.proofs.ContextRules.EventShapes.{no_events}
+use Rattle.driver_rows.proofs.Laws.{ap, sym, touches_segment, no_events}
 use Rattle.driver_rows.proofs.context_rules.leases.touches_events.Goals as goal
 
 pub returns-in-None : goal.returns-in-None

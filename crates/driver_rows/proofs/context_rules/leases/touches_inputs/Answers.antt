@@ -1,5 +1,4 @@
-use Rattle.std.proofs.Common.{sym, ◌∙◌}
-use Rattle.driver_rows.proofs.ContextRules.HeldRanges.{any_context}
+use Rattle.driver_rows.proofs.Laws.{sym, ◌∙◌, any_context}
 use Rattle.driver_rows.proofs.context_rules.leases.touches_inputs.Goals as goal
 
 pub returns : goal.returns

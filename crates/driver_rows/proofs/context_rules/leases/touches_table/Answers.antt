@@ -1,7 +1,4 @@
-use Rattle.std.proofs.Common.{◌*◌, ◌/◌, ap, sym, ◌∙◌}
-use Rattle.segments.specs.Places.{overlap}
-use Rattle.traces.specs.declared.register.Register.TheVariants.{Erstba}
-use Rattle.driver_rows.proofs.ContextRules.HeldRanges.{any_table, of_table}
+use Rattle.driver_rows.proofs.Laws.{◌*◌, ◌/◌, ap, sym, ◌∙◌, overlap, Erstba, any_table, of_table}
 use Rattle.driver_rows.proofs.context_rules.leases.touches_table.Goals as goal
 
 pub returns-in_default : goal.returns-in_default

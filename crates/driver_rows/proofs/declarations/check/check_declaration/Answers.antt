@@ -1,10 +1,4 @@
-use Rattle.std.proofs.Common.{◌≡◌, true, refl, get_or, sym, ◌∙◌, ap, arith, length}
-use Rattle.std.specs.Prelude.{◌==◌, not}
-use Rattle.std.proofs.lemmas.Bool.{eqb-true}
-use Rattle.std.proofs.lemmas.Option.{slice_get_read, slice_get_within}
-use Rattle.traces.specs.Header.{is_driver_kind}
-use Rattle.driver_rows.proofs.DeclarationRows.FoundRing.{ring_here, none_here}
-use Rattle.driver_rows.proofs.DeclarationRows.Declared.{undeclared, on_events, declared_ok, declared_bad}
+use Rattle.driver_rows.proofs.Laws.{◌≡◌, true, refl, rules, get_or, sym, ◌∙◌, ap, arith, length, ◌==◌, not, eqb-true, slice_get_read, slice_get_within, is_driver_kind, ring_here, none_here, undeclared, on_events, declared_ok, declared_bad}
 use Rattle.driver_rows.proofs.declarations.check.check_declaration.Goals as goal
 
 pub returns-in_default-clause-refused : goal.returns-in_default-clause-refused
@@ -18,24 +12,18 @@ returns-then-is_event_ring-clause-refused c = λ k m f on.
     let here = ring_here c.args.header.now (λ q. q.id == c.args.id) c.args.header.now.rings c.in-Some.number ring (sym (c.ring_named.ensures c.args.header.now.rings c.requires.found) ∙ c.in-Some.is) refl (c.index-rings-number.is ∙ ap (λ xs. get_or xs c.in-Some.number ring) c.as_slice-rings.ensures) in
     on_events c.args.header.now c.requires.headed c.args.id c.args.blocks.now c.in-Some.number ring here.0 (eqb-true ring.id c.args.id here.1) (sym c.is_event_ring.ensures ∙ c.if-is_event_ring.true) k on
 
-pub returns-clause-ok : goal.returns-clause-ok
-returns-clause-ok c =
+pub returns : goal.returns
+returns c =
     let ring = c.index-rings-number.result in
     let here = ring_here c.args.header.now (λ q. q.id == c.args.id) c.args.header.now.rings c.in-Some.number ring (sym (c.ring_named.ensures c.args.header.now.rings c.requires.found) ∙ c.in-Some.is) refl (c.index-rings-number.is ∙ ap (λ xs. get_or xs c.in-Some.number ring) c.as_slice-rings.ensures) in
     let driver : is_driver_kind ring.shape.kind ≡ true = ap not (sym c.is_event_ring.ensures ∙ c.if-is_event_ring.false) in
     let items = c.args.kept.now.rings.items in
     let within = slice_get_within c.args.header.now.rings c.in-Some.number ring here.0 in
-    declared_ok c.args.header.now c.requires.headed c.args.id c.args.blocks.now c.in-Some.number ring here.0 (eqb-true ring.id c.args.id here.1) driver
-    c.args.kept.now c.index_mut.result.now (slice_get_read items (length items) c.in-Some.number c.index_mut.result.now refl (omega (arith, c.requires.as_many, within)) c.index_mut.ensures.value)
-    c.declare_on.new.known c.declare_on.result c.declare_on.ensures.ok
-
-pub returns-clause-refused : goal.returns-clause-refused
-returns-clause-refused c =
-    let ring = c.index-rings-number.result in
-    let here = ring_here c.args.header.now (λ q. q.id == c.args.id) c.args.header.now.rings c.in-Some.number ring (sym (c.ring_named.ensures c.args.header.now.rings c.requires.found) ∙ c.in-Some.is) refl (c.index-rings-number.is ∙ ap (λ xs. get_or xs c.in-Some.number ring) c.as_slice-rings.ensures) in
-    let driver : is_driver_kind ring.shape.kind ≡ true = ap not (sym c.is_event_ring.ensures ∙ c.if-is_event_ring.false) in
-    let items = c.args.kept.now.rings.items in
-    let within = slice_get_within c.args.header.now.rings c.in-Some.number ring here.0 in
-    declared_bad c.args.header.now c.requires.headed c.args.id c.args.blocks.now c.in-Some.number ring here.0 (eqb-true ring.id c.args.id here.1) driver
-    c.args.kept.now c.index_mut.result.now (slice_get_read items (length items) c.in-Some.number c.index_mut.result.now refl (omega (arith, c.requires.as_many, within)) c.index_mut.ensures.value)
-    c.declare_on.result c.declare_on.ensures.refused
+    let there = slice_get_read items (length items) c.in-Some.number c.index_mut.result.now refl (omega (arith, c.requires.as_many, within)) c.index_mut.ensures.value in
+    let same = eqb-true ring.id c.args.id here.1 in
+    record {
+      ok = declared_ok c.args.header.now c.requires.headed c.args.id c.args.blocks.now c.in-Some.number ring here.0 same driver c.args.kept.now c.index_mut.result.now there
+          c.declare_on.new.known c.declare_on.result c.declare_on.ensures.ok;
+      refused = declared_bad c.args.header.now c.requires.headed c.args.id c.args.blocks.now c.in-Some.number ring here.0 same driver c.args.kept.now c.index_mut.result.now there c.declare_on.result c.declare_on.ensures.refused;
+      events = search rules;
+    }

@@ -1,5 +1,4 @@
-use Rattle.std.proofs.Common.{refl, sym, ◌∙◌}
-use Rattle.driver_rows.proofs.DoorbellRows.Ringing.{follows_rung}
+use Rattle.driver_rows.proofs.Laws.{refl, sym, ◌∙◌, follows_rung}
 use Rattle.driver_rows.proofs.doorbells.bells.ring_doorbell.Goals as goal
 
 pub returns-clause-followed : goal.returns-clause-followed

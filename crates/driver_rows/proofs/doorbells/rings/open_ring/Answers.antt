@@ -1,10 +1,4 @@
-use Rattle.std.proofs.Common.{◌≡◌, refl, ap, sym, ◌∙◌, subst, length}
-use Rattle.std.specs.Prelude.{slice_get}
-use Rattle.std.proofs.lemmas.Option.{same_Some, slice_get_read}
-use Rattle.segments.specs.RingView.{RingView, Opens}
-use Rattle.ring_knowledge.specs.RingRecords.{FollowsRing}
-use Rattle.ring_knowledge.specs.Rings.{on_ring}
-use Rattle.driver_rows.proofs.DoorbellRows.Followed.{rings_with, rings_without, only_on, here_on, none_past}
+use Rattle.driver_rows.proofs.Laws.{◌≡◌, refl, ap, sym, ◌∙◌, subst, length, slice_get, same_Some, slice_get_read, RingView, Opens, FollowsRing, on_ring, rings_with, rings_without, only_on, here_on, none_past}
 use Rattle.driver_rows.proofs.doorbells.rings.open_ring.Goals as goal
 
 pub returns-in-Some-get_mut-clause-opened : goal.returns-in-Some-get_mut-clause-opened

@@ -1,12 +1,5 @@
-use Rattle.std.proofs.Common.{◌∙◌, ap, subst, sym}
-use Rattle.std.proofs.Math.Path.{fun_ext}
-use Rattle.std.specs.Prelude.{IfSome}
-use Rattle.std.specs.List.{list_any}
-use Rattle.commands.specs.Changes.{changes, touches}
-use Rattle.trace_record.specs.DeviceSlots.Unfinished.{as_list}
-use Rattle.ownership_rules.specs.Doorbells.{touches_endpoint}
-use Rattle.trace_record.specs.Premises.{FitsMemory}
-use Rattle.trace_record.proofs.RingFinder.ListTests.{or_false}
+use Rattle.driver_rows.proofs.Words.{◌∙◌, ap, subst, sym, fun_ext, IfSome, list_any, changes, as_list, touches_endpoint, FitsMemory, or_false}
+use Rattle.commands.specs.Changes.{touches}
 use Rattle.driver_rows.proofs.doorbells.touches.is_touched_by.Goals as goal
 
 pub returns-in-Some : goal.returns-in-Some

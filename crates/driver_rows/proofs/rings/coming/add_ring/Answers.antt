@@ -1,8 +1,4 @@
-use Rattle.std.proofs.Common.{rules, refl, sym, ap, subst}
-use Rattle.traces.specs.Header.{IsHeader}
-use Rattle.trace_record.specs.RingFinder.Finding.{IsFinder}
-use Rattle.safety.specs.RingChanges.Changes.{IsComing, with_ring}
-use Rattle.driver_rows.proofs.RingRows.Came.{clear_header, clear_together}
+use Rattle.driver_rows.proofs.Laws.{rules, refl, sym, ap, subst, IsHeader, IsFinder, IsComing, with_ring, clear_header, clear_together}
 use Rattle.driver_rows.proofs.rings.coming.add_ring.Goals as goal
 
 pub returns-clause-comes : goal.returns-clause-comes

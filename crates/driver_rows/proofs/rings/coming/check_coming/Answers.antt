@@ -1,6 +1,4 @@
-use Rattle.std.proofs.Common.{◌∙◌, rules, refl, sym}
-use Rattle.safety.specs.RingChanges.Changes.{IsComing}
-use Rattle.driver_rows.proofs.RingRows.Came.{came}
+use Rattle.driver_rows.proofs.Laws.{◌∙◌, rules, refl, sym, IsComing, came}
 use Rattle.driver_rows.proofs.rings.coming.check_coming.Goals as goal
 
 pub returns-then-is_bad_ring-clause-refused : goal.returns-then-is_bad_ring-clause-refused

@@ -1,7 +1,4 @@
-use Rattle.std.proofs.Common.{◌≡◌, ◌+◌, ◌-◌, ◌*◌, ◌%◌, ◌==◌, ◌∙◌, sym, ap, arith}
-use Rattle.std.specs.List.{list_any, range_with_len}
-use Rattle.safety.specs.RingChanges.Changes.{shows_first_lap}
-use Rattle.driver_rows.proofs.ContextRules.RestOfRange.{any_left, found, go_on, none_left}
+use Rattle.driver_rows.proofs.Laws.{◌≡◌, ◌+◌, ◌-◌, ◌*◌, ◌%◌, ◌==◌, ◌∙◌, sym, ap, arith, list_any, range_with_len, shows_first_lap, any_left, found, go_on, none_left}
 use Rattle.driver_rows.proofs.rings.first_lap.shows_first_lap.Goals as goal
 
 pub loop-block-init : goal.loop-block-init

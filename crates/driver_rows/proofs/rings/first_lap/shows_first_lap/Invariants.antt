@@ -1,7 +1,4 @@
-use Rattle.std.proofs.Common.{◌≡◌, ◌+◌, ◌*◌, ◌%◌, ◌==◌, ℕ}
-use Rattle.ring_knowledge.specs.Known.{Known}
-use Rattle.safety.specs.RingChanges.Changes.{shows_first_lap}
-use Rattle.driver_rows.proofs.ContextRules.RestOfRange.{any_left}
+use Rattle.driver_rows.proofs.Laws.{◌≡◌, ◌+◌, ◌*◌, ◌%◌, ◌==◌, ℕ, Known, shows_first_lap, any_left}
 use Rattle.driver_rows.proofs.rings.first_lap.shows_first_lap.Given as goal
 
 -- the answer is that of the blocks from this one on

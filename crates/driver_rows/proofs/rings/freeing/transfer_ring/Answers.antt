@@ -1,11 +1,4 @@
-use Rattle.std.proofs.Common.{◌∙◌, ◌==◌, get_or, refl, sym, ap}
-use Rattle.std.proofs.lemmas.Bool.{eqb-true}
-use Rattle.traces.specs.declared.ring.Ring.{Ring}
-use Rattle.traces.specs.Header.{is_transfer_kind}
-use Rattle.trace_record.proofs.RingFinder.FoundRings.{none_here, ring_here}
-use Rattle.trace_record.proofs.RingFinder.HeaderRings.{not_found}
-use Rattle.safety.specs.EndpointsKeep.{is_transfer_ring}
-use Rattle.driver_rows.proofs.RingRows.Went.{another_there}
+use Rattle.driver_rows.proofs.Laws.{◌∙◌, ◌==◌, get_or, refl, sym, ap, eqb-true, Ring, is_transfer_kind, none_here, ring_here, not_found, is_transfer_ring, another_there}
 use Rattle.driver_rows.proofs.rings.freeing.transfer_ring.Goals as goal
 
 pub returns-in_default-clause-none : goal.returns-in_default-clause-none

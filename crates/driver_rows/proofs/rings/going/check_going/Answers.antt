@@ -1,7 +1,4 @@
-use Rattle.std.proofs.Common.{◌∙◌, refl, sym, ap, subst, arith}
-use Rattle.std.proofs.lemmas.Option.{slice_get_within}
-use Rattle.traces.specs.Header.{IsHeader}
-use Rattle.driver_rows.proofs.RingRows.Went.{rest_header, rest_is, went}
+use Rattle.driver_rows.proofs.Laws.{◌∙◌, refl, sym, ap, subst, arith, slice_get_within, IsHeader, rest_header, rest_is, went}
 use Rattle.driver_rows.proofs.rings.going.check_going.Goals as goal
 
 pub remove-requires : goal.remove-requires

@@ -1,9 +1,4 @@
-use Rattle.std.proofs.Common.{◌≡◌, ◌*◌, false, take}
-use Rattle.std.specs.List.{list_any}
-use Rattle.traces.specs.Header.{touches_ring}
-use Rattle.ring_knowledge.specs.Known.{Known}
-use Rattle.trace_record.specs.FollowsTrace.{FollowsTrace}
-use Rattle.safety.specs.RingChanges.Changes.{is_bad_segment}
+use Rattle.driver_rows.proofs.Words.{◌≡◌, ◌*◌, false, take, list_any, touches_ring, Known, FollowsTrace, is_bad_segment}
 use Rattle.driver_rows.proofs.rings.new_rings.is_bad_ring.Given as goal
 
 -- none of the segments so far is bad

@@ -1,7 +1,4 @@
-use Rattle.std.proofs.Common.{◌∙◌, ◌==◌, [], ap, is_some}
-use Rattle.trb.specs.declared.ring_kind.RingKind.TheVariants.{Xfer}
-use Rattle.traces.specs.declared.ring.Ring.{Ring}
-use Rattle.driver_rows.proofs.RingRows.NamedRings.{is_found}
+use Rattle.driver_rows.proofs.Laws.{◌∙◌, ◌==◌, [], ap, is_some, Xfer, Ring, is_found}
 use Rattle.driver_rows.proofs.rings.new_rings.is_named.Goals as goal
 
 pub returns : goal.returns

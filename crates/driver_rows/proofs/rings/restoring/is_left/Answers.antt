@@ -1,15 +1,10 @@
-use Rattle.std.proofs.Common.{◌≡◌, ◌∙◌, ap, arith, get_or, length, refl, subst, sym}
-use Rattle.std.proofs.lemmas.Option.{slice_get_read, slice_get_within}
-use Rattle.traces.specs.declared.ring.Ring.{Ring}
-use Rattle.driver_rows.proofs.RingRows.Lists.{read_there}
-use Rattle.safety.proofs.Words.{false≢true}
+use Rattle.driver_rows.proofs.Laws.{◌≡◌, ◌∙◌, ap, arith, get_or, length, refl, subst, sym, slice_get_read, slice_get_within, Ring, false≢true, NamesTransfer, read_there, left_so}
 use Rattle.safety.specs.RingChanges.Withdrawals.{is_left}
-use Rattle.driver_rows.specs.RingRows.Withdrawing.{NamesTransfer}
-use Rattle.driver_rows.proofs.RingRows.OneRing.{left_so, none_left}
 use Rattle.driver_rows.proofs.rings.restoring.is_left.Goals as goal
 
 pub returns-in_default : goal.returns-in_default
-returns-in_default g c = λ k f names. none_left c.args.header.now k c.args.ring c.in_default.is
+unfolding is_left
+returns-in_default g c = λ k f names. rw c.in_default.is refl
 
 pub returns-in_default-transfer_ring : goal.returns-in_default-transfer_ring
 returns-in_default-transfer_ring g c = λ k f names. absurd (false≢true (sym c.in_default-transfer_ring.ensures.none ∙ subst (NamesTransfer c.args.header.now) c.in-Some.is names))

@@ -1,7 +1,4 @@
-use Rattle.std.proofs.Common.{◌∙◌, ap, subst, sym}
-use Rattle.trace_record.specs.RowPlaces.{IsPlaced}
-use Rattle.safety.specs.RingChanges.Withdrawals.{some_flips}
-use Rattle.driver_rows.proofs.RingRows.GivenAt.{flips_by_others}
+use Rattle.driver_rows.proofs.Laws.{◌∙◌, ap, subst, sym, IsPlaced, some_flips, flips_by_others}
 use Rattle.driver_rows.proofs.rings.started.some_flips.Goals as goal
 
 pub returns-in-Write : goal.returns-in-Write

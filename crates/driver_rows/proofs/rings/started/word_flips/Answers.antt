@@ -1,10 +1,4 @@
-use Rattle.std.proofs.Common.{◌≡◌, ◌∙◌, true, ap, arith, get_or, length, not, refl, sym}
-use Rattle.std.proofs.lemmas.Option.{slice_get_read, slice_get_within}
-use Rattle.segments.specs.Places.{touches}
-use Rattle.traces.specs.Header.{is_driver_kind}
-use Rattle.trace_record.proofs.RingFinder.FoundRings.{none_here, ring_here}
-use Rattle.trace_record.proofs.RingFinder.RingsApart.{among_at}
-use Rattle.driver_rows.proofs.RingRows.PassedFlips.{event_flips, none_flips, ring_flips}
+use Rattle.driver_rows.proofs.Laws.{◌≡◌, ◌∙◌, true, ap, arith, get_or, length, not, refl, sym, slice_get_read, slice_get_within, touches, is_driver_kind, none_here, ring_here, among_at, event_flips, none_flips, ring_flips}
 use Rattle.driver_rows.proofs.rings.started.word_flips.Goals as goal
 
 pub returns-in_default : goal.returns-in_default

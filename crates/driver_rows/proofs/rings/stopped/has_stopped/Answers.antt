@@ -1,6 +1,4 @@
-use Rattle.std.proofs.Common.{◌∙◌, sym, ap}
-use Rattle.commands.specs.States.{is_stopped}
-use Rattle.driver_rows.proofs.RingRows.AtRest.{goes_on, nobody, rests}
+use Rattle.driver_rows.proofs.Laws.{◌∙◌, sym, ap, is_stopped, nobody, rests, runs_on}
 use Rattle.driver_rows.proofs.rings.stopped.has_stopped.Goals as goal
 
 pub returns-in_default : goal.returns-in_default
@@ -8,7 +6,7 @@ returns-in_default g c = λ k f d fits. nobody c.args.header.now k d c.args.id (
 
 pub returns-then-not-is_stopped : goal.returns-then-not-is_stopped
 returns-then-not-is_stopped g c = λ k f d fits.
-    goes_on c.args.header.now k d c.args.id _ _ (c.in-Some.ensures.some k f.devices) (ap is_stopped (sym (c.endpoint_state.ensures k f.devices)) ∙ sym c.is_stopped.ensures ∙ c.if-not-is_stopped.true)
+    runs_on c.args.header.now k d c.args.id _ _ (c.in-Some.ensures.some k f.devices) (ap is_stopped (sym (c.endpoint_state.ensures k f.devices)) ∙ sym c.is_stopped.ensures ∙ c.if-not-is_stopped.true)
 
 pub returns : goal.returns
 returns g c = λ k f d fits.

@@ -1,5 +1,4 @@
-use Rattle.std.proofs.Common.{◌∙◌, sym}
-use Rattle.driver_rows.proofs.RingRows.AtRest.{unlisted}
+use Rattle.driver_rows.proofs.Laws.{◌∙◌, sym, unlisted}
 use Rattle.driver_rows.proofs.rings.stopped.stopped_ring.Goals as goal
 
 pub returns-in_default-clause-none : goal.returns-in_default-clause-none

@@ -1,7 +1,4 @@
-use Rattle.std.proofs.Common.{◌∙◌, ap, sym, nat_lt, if◌then◌else◌}
-use Rattle.segments.specs.Ceiling.{ceiling}
-use Rattle.segments.specs.RingView.{floor_number}
-use Rattle.driver_rows.specs.RingRows.Withdrawing.{is_passed}
+use Rattle.driver_rows.proofs.Words.{◌∙◌, ap, sym, nat_lt, if◌then◌else◌, ceiling, floor_number, is_passed}
 use Rattle.driver_rows.proofs.rings.withdrawing.is_passed.Goals as goal
 
 pub returns-then-is_three : goal.returns-then-is_three

@@ -1,7 +1,4 @@
-use Rattle.std.proofs.Common.{◌∙◌, refl, sym, inr}
-use Rattle.std.proofs.lemmas.Bool.{not-false, not-true}
-use Rattle.driver_rows.specs.RingRows.Withdrawing.{is_no_descriptor}
-use Rattle.driver_rows.proofs.RingRows.Withdrawn.{not_passed}
+use Rattle.driver_rows.proofs.Laws.{◌∙◌, refl, sym, inr, not-false, not-true, is_no_descriptor, not_passed}
 use Rattle.driver_rows.proofs.rings.withdrawing.withdraw_on.Goals as goal
 
 pub returns-then-not-may_withdraw-clause-refused : goal.returns-then-not-may_withdraw-clause-refused

@@ -1,7 +1,4 @@
-use Rattle.std.proofs.Common.{subst}
-use Rattle.std.proofs.lemmas.Result.{on_ok_weaker}
-use Rattle.driver_rows.specs.WriteEffects.Starting.{IsWith}
-use Rattle.driver_rows.proofs.WriteEffects.Inserting.{area_added}
+use Rattle.driver_rows.proofs.Laws.{subst, on_ok_weaker, IsWith, area_added}
 use Rattle.driver_rows.proofs.write_effects.devices.add_area.Goals as goal
 
 pub returns-in-Some : goal.returns-in-Some

@@ -1,9 +1,4 @@
-use Rattle.std.proofs.Common.{◌≡◌, ◌+◌, ◌*◌, ◌/◌, Some, sym, ◌∙◌, ap, arith, unwrap_or}
-use Rattle.guest_memory.specs.Memory.{long_at}
-use Rattle.traces.specs.declared.register.Register.TheVariants.{Dcbaap}
-use Rattle.traces.specs.Register.{register_or_zero}
-use Rattle.ring_knowledge.specs.Writes.{entry_of}
-use Rattle.driver_rows.proofs.WriteEffects.Taking.{entry_is, named_is}
+use Rattle.driver_rows.proofs.Laws.{◌≡◌, ◌+◌, ◌*◌, ◌/◌, Some, sym, ◌∙◌, ap, arith, unwrap_or, long_at, Dcbaap, register_or_zero, entry_of, entry_is, named_is}
 use Rattle.driver_rows.proofs.write_effects.devices.device_named.Goals as goal
 
 pub returns : goal.returns

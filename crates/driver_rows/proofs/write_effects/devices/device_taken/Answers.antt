@@ -1,9 +1,4 @@
-use Rattle.std.proofs.Common.{◌≡◌, Some, sym, ◌∙◌, ap, subst}
-use Rattle.std.specs.Prelude.{option_and_then}
-use Rattle.commands.specs.declared.command.Command.TheVariants.{AddressDevice}
-use Rattle.ring_knowledge.specs.Writes.{taken_device}
-use Rattle.driver_rows.specs.WriteEffects.Starting.{EntryFits}
-use Rattle.driver_rows.proofs.WriteEffects.Taking.{takes_nothing}
+use Rattle.driver_rows.proofs.Laws.{◌≡◌, Some, sym, ◌∙◌, ap, subst, option_and_then, AddressDevice, taken_device, EntryFits, takes_nothing}
 use Rattle.driver_rows.proofs.write_effects.devices.device_taken.Goals as goal
 
 pub returns-in-AddressDevice : goal.returns-in-AddressDevice

@@ -1,7 +1,4 @@
-use Rattle.std.proofs.Common.{sym, ◌∙◌, ap}
-use Rattle.std.specs.Prelude.{is_some}
-use Rattle.ring_knowledge.specs.Writes.{device_named}
-use Rattle.driver_rows.proofs.WriteEffects.Taking.{takes_none, none_under_lease, takes_named}
+use Rattle.driver_rows.proofs.Laws.{sym, ◌∙◌, ap, is_some, device_named, takes_none, none_under_lease, takes_named}
 use Rattle.driver_rows.proofs.write_effects.devices.new_device.Goals as goal
 
 pub returns-then-is_some : goal.returns-then-is_some

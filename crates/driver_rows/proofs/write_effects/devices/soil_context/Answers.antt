@@ -1,8 +1,4 @@
-use Rattle.std.proofs.Common.{◌≡◌, ◌*◌, ◌||◌, ℕ, arith, subst}
-use Rattle.std.proofs.lemmas.Result.{on_ok_weaker}
-use Rattle.segments.specs.Places.{is_in}
-use Rattle.contexts.specs.Contexts.{device_context_bytes}
-use Rattle.trace_record.specs.RangeWords.Holding.{HoldsSoiled}
+use Rattle.driver_rows.proofs.Words.{◌≡◌, ◌*◌, ◌||◌, ℕ, arith, subst, on_ok_weaker, is_in, device_context_bytes, HoldsSoiled}
 use Rattle.driver_rows.proofs.write_effects.devices.soil_context.Goals as goal
 
 pub returns-then-address-words : goal.returns-then-address-words

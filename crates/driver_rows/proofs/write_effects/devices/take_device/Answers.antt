@@ -1,10 +1,4 @@
-use Rattle.std.proofs.Common.{subst, sym}
-use Rattle.std.proofs.lemmas.Result.{on_ok_weaker}
-use Rattle.ring_knowledge.specs.Writes.{with_device}
-use Rattle.trace_record.specs.DeviceSlots.Devices.{FollowsDevices}
-use Rattle.trace_record.specs.RangeWords.Holding.{HoldsSoiled}
-use Rattle.driver_rows.specs.WriteEffects.Starting.{IsWith, LiesOnWords, address_taken}
-use Rattle.driver_rows.proofs.WriteEffects.Taking.{soiled_with}
+use Rattle.driver_rows.proofs.Laws.{subst, sym, on_ok_weaker, with_device, FollowsDevices, HoldsSoiled, IsWith, LiesOnWords, address_taken, soiled_with}
 use Rattle.driver_rows.proofs.write_effects.devices.take_device.Goals as goal
 
 pub returns-in-None-clause-devices : goal.returns-in-None-clause-devices

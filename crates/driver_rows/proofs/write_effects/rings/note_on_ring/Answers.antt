@@ -1,10 +1,4 @@
-use Rattle.std.proofs.Common.{ℕ, Option, get_or, sym, ◌∙◌, ap, refl, length, set, subst}
-use Rattle.std.proofs.lemmas.Option.{slice_get_read}
-use Rattle.std.proofs.lemmas.Bool.{ltb-true}
-use Rattle.segments.specs.Places.{touches}
-use Rattle.trace_record.proofs.RingFinder.FoundRings.{ring_here, none_here}
-use Rattle.trace_record.specs.RowPlaces.{IsGivenBy}
-use Rattle.driver_rows.proofs.WriteEffects.NotedRings.{noted_nowhere, noted_here}
+use Rattle.driver_rows.proofs.Laws.{ℕ, Option, get_or, sym, ◌∙◌, ap, refl, length, set, subst, slice_get_read, ltb-true, touches, ring_here, none_here, IsGivenBy, noted_nowhere, noted_here}
 use Rattle.driver_rows.proofs.write_effects.rings.note_on_ring.Goals as goal
 
 pub returns-in_default : goal.returns-in_default

@@ -1,9 +1,4 @@
-use Rattle.std.proofs.Common.{subst, sym}
-use Rattle.std.proofs.lemmas.Result.{on_ok_weaker}
-use Rattle.commands.specs.Command.{named_context}
-use Rattle.trace_record.specs.FollowsTrace.{inputs_of}
-use Rattle.driver_rows.specs.WriteEffects.Starting.{IsWith}
-use Rattle.driver_rows.proofs.WriteEffects.Inserting.{mapped_with}
+use Rattle.driver_rows.proofs.Laws.{subst, sym, on_ok_weaker, named_context, inputs_of, IsWith, mapped_with}
 use Rattle.driver_rows.proofs.write_effects.starts.note_given.Goals as goal
 
 pub returns-in-Some-clause-inputs : goal.returns-in-Some-clause-inputs

@@ -1,20 +1,4 @@
-use Rattle.std.proofs.Common.{◌≡◌, ℕ, List, None, refl, sym, ap, subst}
-use Rattle.std.specs.Prelude.{option_and_then}
-use Rattle.contexts.specs.Contexts.{device_context_bytes, input_context_bytes}
-use Rattle.commands.specs.declared.command.Command.{Command}
-use Rattle.ring_knowledge.specs.Rings.{unfinished}
-use Rattle.ring_knowledge.specs.Learned.{learned}
-use Rattle.ring_knowledge.specs.Writes.{command_given, taken_device, with_device}
-use Rattle.traces.specs.declared.row.Row.TheVariants.{Write}
-use Rattle.trace_record.specs.DeviceSlots.Unfinished.{FollowsUnfinished}
-use Rattle.trace_record.specs.RangeWords.Holding.{HoldsAreas}
-use Rattle.safety.proofs.WrittenKnown.{taken}
-use Rattle.trace_record.specs.FollowsTrace.{device_contexts, inputs_of}
-use Rattle.trace_record.specs.RingSets.{has}
-use Rattle.driver_rows.specs.WriteEffects.Starting.{IsWith, address_taken}
-use Rattle.driver_rows.proofs.WriteEffects.GivenNow.{new_command, new_device}
-use Rattle.driver_rows.proofs.WriteEffects.BoundNow.{holds_bound, or_none}
-use Rattle.driver_rows.proofs.WriteEffects.Followed.{devices_then, soiled_then, followed}
+use Rattle.driver_rows.proofs.Laws.{◌≡◌, ℕ, List, None, refl, sym, ap, subst, option_and_then, device_context_bytes, input_context_bytes, Command, unfinished, learned, command_given, taken_device, with_device, Write, FollowsUnfinished, HoldsAreas, taken, device_contexts, inputs_of, has, IsWith, address_taken, new_command, new_device, holds_bound, devices_then, soiled_then, followed, or_none}
 use Rattle.driver_rows.proofs.write_effects.starts.note_plain_write.Goals as goal
 
 pub returns-clause-ok : goal.returns-clause-ok

@@ -1,16 +1,4 @@
-use Rattle.std.proofs.Common.{◌≡◌, refl, sym, ◌∙◌, ap, subst}
-use Rattle.std.specs.Prelude.{option_and_then}
-use Rattle.contexts.specs.Contexts.{device_context_bytes, input_context_bytes}
-use Rattle.ring_knowledge.specs.Rings.{unfinished}
-use Rattle.ring_knowledge.specs.Learned.{learned}
-use Rattle.ring_knowledge.specs.Writes.{taken_device, with_word}
-use Rattle.traces.specs.declared.row.Row.TheVariants.{Write}
-use Rattle.safety.proofs.WrittenKnown.{taken}
-use Rattle.trace_record.specs.FollowsTrace.{device_contexts}
-use Rattle.driver_rows.specs.WriteEffects.Starting.{IsWith, LiesOnWords, address_taken}
-use Rattle.driver_rows.proofs.WriteEffects.GivenNow.{new_command, may_be_given, entry_fits, lies_well, new_device}
-use Rattle.driver_rows.proofs.WriteEffects.BoundNow.{given_fits, holds_bound, holds_contexts}
-use Rattle.driver_rows.proofs.WriteEffects.Followed.{from_three, devices_then, soiled_then, followed}
+use Rattle.driver_rows.proofs.Laws.{◌≡◌, refl, sym, ◌∙◌, ap, subst, option_and_then, device_context_bytes, input_context_bytes, unfinished, learned, taken_device, with_word, Write, taken, device_contexts, IsWith, LiesOnWords, address_taken, new_command, may_be_given, entry_fits, lies_well, new_device, given_fits, holds_bound, holds_contexts, from_three, devices_then, soiled_then, followed}
 use Rattle.driver_rows.proofs.write_effects.starts.note_write.Goals as goal
 
 pub returns-clause-ok : goal.returns-clause-ok

@@ -1,14 +1,13 @@
-use Rattle.std.proofs.Common.{sym, ◌∙◌}
-use Rattle.driver_rows.proofs.MemoryWrites.GivenTests.{is_bound, is_moved, stays}
+use Rattle.driver_rows.proofs.Laws.{sym, refl, ◌∙◌}
 use Rattle.driver_rows.proofs.writes.checks.block_refusal.Goals as goal
 
 pub returns-then-is_being_moved : goal.returns-then-is_being_moved
-returns-then-is_being_moved c = λ h k shape m f follows. is_moved h k c.args.ring (sym (c.is_being_moved.ensures h k m f) ∙ c.if-is_being_moved.true)
+returns-then-is_being_moved c = λ h k shape m f follows. rw (sym (c.is_being_moved.ensures h k m f) ∙ c.if-is_being_moved.true) refl
 
 pub returns-then-awaits_binding : goal.returns-then-awaits_binding
 returns-then-awaits_binding c = λ h k shape m f follows.
-    is_bound h k c.args.ring (sym (c.is_being_moved.ensures h k m f) ∙ c.if-is_being_moved.false) (sym (c.awaits_binding.ensures h k shape m f follows) ∙ c.if-awaits_binding.true)
+    rw (sym (c.is_being_moved.ensures h k m f) ∙ c.if-is_being_moved.false, sym (c.awaits_binding.ensures h k shape m f follows) ∙ c.if-awaits_binding.true) refl
 
 pub returns : goal.returns
 returns c = λ h k shape m f follows.
-    stays h k c.args.ring (sym (c.is_being_moved.ensures h k m f) ∙ c.if-is_being_moved.false) (sym (c.awaits_binding.ensures h k shape m f follows) ∙ c.if-awaits_binding.false)
+    rw (sym (c.is_being_moved.ensures h k m f) ∙ c.if-is_being_moved.false, sym (c.awaits_binding.ensures h k shape m f follows) ∙ c.if-awaits_binding.false) refl

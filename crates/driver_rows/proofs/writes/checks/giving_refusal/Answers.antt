@@ -1,9 +1,4 @@
-use Rattle.std.proofs.Common.{rules, ◌≡◌, [], ◌∷◌, Option, Some, ap, sym, ◌∙◌}
-use Rattle.ring_knowledge.specs.declared.ring_record.RingGiving.{RingGiving}
-use Rattle.ring_knowledge.specs.declared.ring_record.RingGiving.TheVariants.{Crossing, Position}
-use Rattle.ownership_rules.specs.Refusal.{first_broken}
-use Rattle.driver_rows.specs.MemoryWrites.WriteTests.{crossing_tests, given_tests, place_tests, position_tests}
-use Rattle.driver_rows.proofs.MemoryWrites.GivenTests.{first_fails, none_fails}
+use Rattle.driver_rows.proofs.Laws.{rules, ◌≡◌, [], ◌∷◌, Some, ap, sym, ◌∙◌, Crossing, Position, first_broken, crossing_tests, place_tests, position_tests, first_fails, none_fails}
 use Rattle.driver_rows.proofs.writes.checks.giving_refusal.Goals as goal
 
 pub returns-in-Some-clause-first : goal.returns-in-Some-clause-first
@@ -12,9 +7,8 @@ returns-in-Some-clause-first g c =
     λ k f d fit r from.
     let ring = c.args.given.now.ring.now in
     let memory = g.M.WordMemory.words c.args.memory.now in
-    first_fails (position_tests ring.shape (k.ring ring.id) memory c.args.write.now.at c.args.write.now.word (c.in-Some-Position.p ∷ [])) (place_tests c.args.header.now k ring.id c.args.given.now.command)
-    c.in-Some.refusal (sym c.in-Some.is ∙ c.position_refusal.ensures (k.ring ring.id) r (rw is at from))
-    ∙ ap (λ (o : Option RingGiving). first_broken (given_tests c.args.header.now k ring memory c.args.write.now.at c.args.write.now.word o c.args.given.now.command)) (sym is)
+    rw is (first_fails (position_tests ring.shape (k.ring ring.id) memory c.args.write.now.at c.args.write.now.word (c.in-Some-Position.p ∷ [])) (place_tests c.args.header.now k ring.id c.args.given.now.command)
+    c.in-Some.refusal (sym c.in-Some.is ∙ c.position_refusal.ensures (k.ring ring.id) r (rw is at from)))
 
 pub returns-in_default-clause-first : goal.returns-in_default-clause-first
 returns-in_default-clause-first g c =
@@ -22,10 +16,9 @@ returns-in_default-clause-first g c =
     λ k f d fit r from.
     let ring = c.args.given.now.ring.now in
     let memory = g.M.WordMemory.words c.args.memory.now in
-    c.place_refusal.ensures.first k ring.shape f d fit r
+    rw is (c.place_refusal.ensures.first k ring.shape f d fit r
     ∙ none_fails (position_tests ring.shape (k.ring ring.id) memory c.args.write.now.at c.args.write.now.word (c.in-Some-Position.p ∷ [])) (place_tests c.args.header.now k ring.id c.args.given.now.command)
-    (sym c.in_default.is ∙ c.position_refusal.ensures (k.ring ring.id) r (rw is at from))
-    ∙ ap (λ (o : Option RingGiving). first_broken (given_tests c.args.header.now k ring memory c.args.write.now.at c.args.write.now.word o c.args.given.now.command)) (sym is)
+    (sym c.in_default.is ∙ c.position_refusal.ensures (k.ring ring.id) r (rw is at from)))
 
 pub returns-in-Some-Crossing-clause-first : goal.returns-in-Some-Crossing-clause-first
 returns-in-Some-Crossing-clause-first g c =
@@ -33,6 +26,5 @@ returns-in-Some-Crossing-clause-first g c =
     λ k f d fit r from.
     let ring = c.args.given.now.ring.now in
     let memory = g.M.WordMemory.words c.args.memory.now in
-    c.crossing_refusal.ensures
-    ∙ ap (λ b. first_broken (crossing_tests ring.shape memory c.args.write.now.at c.args.write.now.word b (c.in-Some-Crossing.q ∷ []))) (c.awaits_binding-awaits.ensures c.args.header.now k ring.shape memory f r)
-    ∙ ap (λ (o : Option RingGiving). first_broken (given_tests c.args.header.now k ring memory c.args.write.now.at c.args.write.now.word o c.args.given.now.command)) (sym is)
+    rw is (c.crossing_refusal.ensures
+    ∙ ap (λ b. first_broken (crossing_tests ring.shape memory c.args.write.now.at c.args.write.now.word b (c.in-Some-Crossing.q ∷ []))) (c.awaits_binding-awaits.ensures c.args.header.now k ring.shape memory f r))

@@ -1,6 +1,4 @@
-use Rattle.std.proofs.Common.{ap, sym, ◌∙◌}
-use Rattle.ownership_rules.specs.Refusal.{first_broken}
-use Rattle.driver_rows.specs.MemoryWrites.WriteTests.{place_tests}
+use Rattle.driver_rows.proofs.Words.{ap, sym, ◌∙◌, first_broken, place_tests}
 use Rattle.driver_rows.proofs.writes.checks.place_refusal.Goals as goal
 
 pub returns-in-None-clause-first : goal.returns-in-None-clause-first

@@ -1,8 +1,6 @@
-use Rattle.std.proofs.Common.{ap, sym, ◌∙◌}
-use Rattle.guest_memory.specs.Memory.{put}
-use Rattle.trb.specs.Block.{block_at}
-use Rattle.segments.proofs.DataPlaces.{link_aligned, link_ends}
-use Rattle.driver_rows.proofs.MemoryWrites.Given.{link_there, wrong_link, being_bound, interrupting, crossed_well}
+use Rattle.driver_rows.proofs.Words.{◌≡◌, refl, ap, sym, ◌∙◌, put, block_at, word, is_set, link_aligned, link_ends, is_wrong_link, leads_wrong, interrupts}
+use Rattle.driver_rows.proofs.MemoryWrites.Given.{link_there, wrong_is, interrupts_is}
+use Rattle.driver_rows.proofs.writes.crossings.crossing_refusal.Goals.{After-block_after-link}
 use Rattle.driver_rows.proofs.writes.crossings.crossing_refusal.Goals as goal
 
 pub block_after-link-requires-clause-aligned : goal.block_after-link-requires-clause-aligned
@@ -11,34 +9,31 @@ block_after-link-requires-clause-aligned g c = rw c.link.ensures (link_aligned c
 pub block_after-link-requires-clause-ends : goal.block_after-link-requires-clause-ends
 block_after-link-requires-clause-ends g c = rw c.link.ensures (link_ends c.args.shape.now c.requires.allowed c.link_crossed-segment.result c.link_crossed-segment.ensures.within)
 
+-- the tests ask the Link that the write leaves
+tests_are : (g : _) (c : After-block_after-link g) →
+    (leads_wrong c.args.shape.now (g.M.WordMemory.words c.args.memory.now) c.args.at c.args.word c.args.crossing ≡ is_wrong_link c.args.shape.now c.link_crossed-segment.result c.block_after-link.result)
+    × (interrupts c.args.shape.now (g.M.WordMemory.words c.args.memory.now) c.args.at c.args.word c.args.crossing ≡ is_set (word c.block_after-link.result 3) 5)
+tests_are g c =
+    let of = c.link_crossed-segment.ensures.value in
+    let is = c.block_after-link.ensures ∙ ap (λ b. block_at (put (g.M.WordMemory.words c.args.memory.now) c.args.at c.args.word) b) (c.link.ensures ∙ link_there c.args.shape.now c.args.crossing c.link_crossed-segment.result of) in
+    (wrong_is c.args.shape.now _ c.args.at c.args.word c.args.crossing _ c.block_after-link.result of is, interrupts_is c.args.shape.now _ c.args.at c.args.word c.args.crossing _ c.block_after-link.result of is)
+
 pub returns-then-is_wrong_link : goal.returns-then-is_wrong_link
 returns-then-is_wrong_link g c =
-    let memory = g.M.WordMemory.words c.args.memory.now in
-    let of = c.link_crossed-segment.ensures.value in
-    let is = c.block_after-link.ensures ∙ ap (λ b. block_at (put memory c.args.at c.args.word) b) (c.link.ensures ∙ link_there c.args.shape.now c.args.crossing c.link_crossed-segment.result of) in
-    sym (wrong_link c.args.shape.now memory c.args.at c.args.word c.args.crossing c.link_crossed-segment.result c.block_after-link.result of is c.args.awaits
-    (sym c.is_wrong_link.ensures ∙ c.if-is_wrong_link.true))
+    let is = tests_are g (goal.at.returns-then-is_wrong_link g c).After-block_after-link in
+    rw (is.0 ∙ sym c.is_wrong_link.ensures ∙ c.if-is_wrong_link.true) refl
 
 pub returns-then-awaits : goal.returns-then-awaits
 returns-then-awaits g c =
-    let memory = g.M.WordMemory.words c.args.memory.now in
-    let of = c.link_crossed-segment.ensures.value in
-    let is = c.block_after-link.ensures ∙ ap (λ b. block_at (put memory c.args.at c.args.word) b) (c.link.ensures ∙ link_there c.args.shape.now c.args.crossing c.link_crossed-segment.result of) in
-    sym (being_bound c.args.shape.now memory c.args.at c.args.word c.args.crossing c.link_crossed-segment.result c.block_after-link.result of is c.args.awaits
-    (sym c.is_wrong_link.ensures ∙ c.if-is_wrong_link.false) c.if-awaits.true)
+    let is = tests_are g (goal.at.returns-then-awaits g c).After-block_after-link in
+    rw (is.0 ∙ sym c.is_wrong_link.ensures ∙ c.if-is_wrong_link.false, c.if-awaits.true) refl
 
 pub returns-then-has_interrupt : goal.returns-then-has_interrupt
 returns-then-has_interrupt g c =
-    let memory = g.M.WordMemory.words c.args.memory.now in
-    let of = c.link_crossed-segment.ensures.value in
-    let is = c.block_after-link.ensures ∙ ap (λ b. block_at (put memory c.args.at c.args.word) b) (c.link.ensures ∙ link_there c.args.shape.now c.args.crossing c.link_crossed-segment.result of) in
-    sym (interrupting c.args.shape.now memory c.args.at c.args.word c.args.crossing c.link_crossed-segment.result c.block_after-link.result of is c.args.awaits
-    (sym c.is_wrong_link.ensures ∙ c.if-is_wrong_link.false) c.if-awaits.false (sym c.has_interrupt.ensures ∙ c.if-has_interrupt.true))
+    let is = tests_are g (goal.at.returns-then-has_interrupt g c).After-block_after-link in
+    rw (is.0 ∙ sym c.is_wrong_link.ensures ∙ c.if-is_wrong_link.false, c.if-awaits.false, is.1 ∙ sym c.has_interrupt.ensures ∙ c.if-has_interrupt.true) refl
 
 pub returns : goal.returns
 returns g c =
-    let memory = g.M.WordMemory.words c.args.memory.now in
-    let of = c.link_crossed-segment.ensures.value in
-    let is = c.block_after-link.ensures ∙ ap (λ b. block_at (put memory c.args.at c.args.word) b) (c.link.ensures ∙ link_there c.args.shape.now c.args.crossing c.link_crossed-segment.result of) in
-    sym (crossed_well c.args.shape.now memory c.args.at c.args.word c.args.crossing c.link_crossed-segment.result c.block_after-link.result of is c.args.awaits
-    (sym c.is_wrong_link.ensures ∙ c.if-is_wrong_link.false) c.if-awaits.false (sym c.has_interrupt.ensures ∙ c.if-has_interrupt.false))
+    let is = tests_are g (goal.at.returns g c).After-block_after-link in
+    rw (is.0 ∙ sym c.is_wrong_link.ensures ∙ c.if-is_wrong_link.false, c.if-awaits.false, is.1 ∙ sym c.has_interrupt.ensures ∙ c.if-has_interrupt.false) refl

@@ -1,6 +1,4 @@
-use Rattle.std.proofs.Common.{ap, ◌∙◌}
-use Rattle.std.specs.Prelude.{unwrap_or}
-use Rattle.segments.specs.Givings.{link_of}
+use Rattle.driver_rows.proofs.Words.{ap, ◌∙◌, unwrap_or, link_of}
 use Rattle.driver_rows.proofs.writes.crossings.link_crossed.Goals as goal
 
 pub returns-clause-value : goal.returns-clause-value

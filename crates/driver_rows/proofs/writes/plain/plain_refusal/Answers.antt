@@ -1,13 +1,4 @@
-use Rattle.std.proofs.Common.{◌≡◌, ◌∙◌, ℕ, Bool, true, false, None, Option, ap, sym, subst, refl, get_or}
-use Rattle.std.specs.Prelude.{not, if◌then◌else◌}
-use Rattle.segments.specs.Places.{touches}
-use Rattle.traces.specs.Header.{is_command_kind, is_driver_kind}
-use Rattle.trace_record.proofs.RingFinder.FoundRings.{ring_here, none_here}
-use Rattle.trace_record.proofs.RingFinder.RingsApart.{among_at}
-use Rattle.ring_knowledge.specs.RingRecords.{positions_of, crossings_of}
-use Rattle.trace_record.specs.RowPlaces.{IsGivenBy}
-use Rattle.driver_rows.proofs.MemoryWrites.RingWrites.{owned, owned_by_events}
-use Rattle.driver_rows.proofs.MemoryWrites.WriteSteps.{nowhere_allowed, IsTold, allowed}
+use Rattle.driver_rows.proofs.Laws.{◌≡◌, ◌∙◌, ℕ, Bool, true, false, None, Option, ap, sym, subst, refl, get_or, not, if◌then◌else◌, touches, is_command_kind, is_driver_kind, ring_here, none_here, among_at, positions_of, crossings_of, IsGivenBy, owned, owned_by_events, nowhere_allowed, IsTold, allowed}
 use Rattle.driver_rows.proofs.writes.plain.plain_refusal.Goals as goal
 
 same_either : {X : Type 0} (x : X) (b : Bool) → x ≡ (if b then x else x)

@@ -1,10 +1,6 @@
-use Rattle.std.proofs.Common.{ap, sym, ◌∙◌}
-use Rattle.std.specs.Prelude.{if◌then◌else◌}
-use Rattle.guest_memory.specs.Memory.{put}
-use Rattle.trb.specs.Block.{block_at, same_words, with_cycle}
-use Rattle.segments.proofs.Positions.{address_aligned, address_ends}
-use Rattle.driver_rows.proofs.MemoryWrites.Given.{not_declared, other_words, split, given_well, cycle_bit}
-use Rattle.trace_record.proofs.RingFinder.ListTests.{from_not}
+use Rattle.driver_rows.proofs.Words.{◌≡◌, ◌≤◌, refl, ap, sym, ◌∙◌, false, not, if◌then◌else◌, put, block_at, same_words, with_cycle, floor_number, RingView, FollowsRing, is_other_than_declared, is_not_declared, address_aligned, address_ends, from_not}
+use Rattle.driver_rows.proofs.MemoryWrites.Given.{not_declared, other_is, declared_there, cycle_bit}
+use Rattle.driver_rows.proofs.writes.positions.position_refusal.Goals.{After-have_same_words}
 use Rattle.driver_rows.proofs.writes.positions.position_refusal.Goals as goal
 
 pub returns-in_default : goal.returns-in_default
@@ -16,31 +12,29 @@ block_after-given-requires-clause-aligned g c = rw c.address.ensures (address_al
 pub block_after-given-requires-clause-ends : goal.block_after-given-requires-clause-ends
 block_after-given-requires-clause-ends g c = rw c.address.ensures (address_ends c.args.shape.now c.requires c.args.position)
 
+-- the first two tests ask the block that the write leaves
+tests_are : (g : _) (c : After-have_same_words g) (v : RingView) → FollowsRing c.args.shape.now v c.args.known.now → floor_number v ≤ c.args.position →
+    (is_other_than_declared c.args.shape.now v (g.M.WordMemory.words c.args.memory.now) c.args.at c.args.word c.args.position ≡ not c.have_same_words.result) × (is_not_declared v c.args.position ≡ false)
+tests_are g c v f from =
+    let there = sym (c.declared.ensures.value c.args.shape.now v f from) ∙ c.in-Some.is in
+    let is = c.block_after-given.ensures ∙ ap (λ b. block_at (put (g.M.WordMemory.words c.args.memory.now) c.args.at c.args.word) b) c.address.ensures in
+    let cycled = c.with_cycle.ensures.value ∙ ap (λ b. with_cycle c.in-Some.declared (if b then 1 else 0)) c.cycle.ensures ∙ ap (λ n. with_cycle c.in-Some.declared n) (cycle_bit c.args.shape.now c.args.position) in (
+      other_is c.args.shape.now v (g.M.WordMemory.words c.args.memory.now) c.args.at c.args.word c.args.position c.in-Some.declared c.block_after-given.result there is
+          ∙ ap not (ap (λ b. same_words c.block_after-given.result b) (sym cycled) ∙ sym c.have_same_words.ensures),
+      declared_there c.args.shape.now v (g.M.WordMemory.words c.args.memory.now) c.args.at c.args.word c.args.position c.in-Some.declared c.block_after-given.result there is,
+    )
+
 pub returns-then-not-have_same_words : goal.returns-then-not-have_same_words
 returns-then-not-have_same_words g c = λ v f from.
-    let memory = g.M.WordMemory.words c.args.memory.now in
-    let there = sym (c.declared.ensures.value c.args.shape.now v f from) ∙ c.in-Some.is in
-    let is = c.block_after-given.ensures ∙ ap (λ b. block_at (put memory c.args.at c.args.word) b) c.address.ensures in
-    let cycled = c.with_cycle.ensures.value ∙ ap (λ b. with_cycle c.in-Some.declared (if b then 1 else 0)) c.cycle.ensures ∙ ap (λ n. with_cycle c.in-Some.declared n) (cycle_bit c.args.shape.now c.args.position) in
-    sym (other_words c.args.shape.now v memory c.args.at c.args.word c.args.position c.in-Some.declared c.block_after-given.result there is
-    (ap (λ b. same_words c.block_after-given.result b) (sym cycled) ∙ sym c.have_same_words.ensures ∙ c.if-not-have_same_words.true))
+    let is = tests_are g (goal.at.returns-then-not-have_same_words g c).After-have_same_words v f from in
+    rw (is.0 ∙ ap not c.if-not-have_same_words.true) refl
 
 pub returns-then-not-is_whole : goal.returns-then-not-is_whole
 returns-then-not-is_whole g c = λ v f from.
-    let memory = g.M.WordMemory.words c.args.memory.now in
-    let there = sym (c.declared.ensures.value c.args.shape.now v f from) ∙ c.in-Some.is in
-    let is = c.block_after-given.ensures ∙ ap (λ b. block_at (put memory c.args.at c.args.word) b) c.address.ensures in
-    let cycled = c.with_cycle.ensures.value ∙ ap (λ b. with_cycle c.in-Some.declared (if b then 1 else 0)) c.cycle.ensures ∙ ap (λ n. with_cycle c.in-Some.declared n) (cycle_bit c.args.shape.now c.args.position) in
-    sym (split c.args.shape.now v memory c.args.at c.args.word c.args.position c.in-Some.declared c.block_after-given.result there is
-    (ap (λ b. same_words c.block_after-given.result b) (sym cycled) ∙ sym c.have_same_words.ensures ∙ c.if-not-have_same_words.false)
-    (from_not _ _ (sym (c.is_whole.ensures v f from) ∙ c.if-not-is_whole.true)))
+    let is = tests_are g (goal.at.returns-then-not-is_whole g c).After-have_same_words v f from in
+    rw (is.0 ∙ ap not c.if-not-have_same_words.false, is.1, from_not _ _ (sym (c.is_whole.ensures v f from) ∙ c.if-not-is_whole.true)) refl
 
 pub returns : goal.returns
 returns g c = λ v f from.
-    let memory = g.M.WordMemory.words c.args.memory.now in
-    let there = sym (c.declared.ensures.value c.args.shape.now v f from) ∙ c.in-Some.is in
-    let is = c.block_after-given.ensures ∙ ap (λ b. block_at (put memory c.args.at c.args.word) b) c.address.ensures in
-    let cycled = c.with_cycle.ensures.value ∙ ap (λ b. with_cycle c.in-Some.declared (if b then 1 else 0)) c.cycle.ensures ∙ ap (λ n. with_cycle c.in-Some.declared n) (cycle_bit c.args.shape.now c.args.position) in
-    sym (given_well c.args.shape.now v memory c.args.at c.args.word c.args.position c.in-Some.declared c.block_after-given.result there is
-    (ap (λ b. same_words c.block_after-given.result b) (sym cycled) ∙ sym c.have_same_words.ensures ∙ c.if-not-have_same_words.false)
-    (from_not _ _ (sym (c.is_whole.ensures v f from) ∙ c.if-not-is_whole.false)))
+    let is = tests_are g (goal.at.returns g c).After-have_same_words v f from in
+    rw (is.0 ∙ ap not c.if-not-have_same_words.false, is.1, from_not _ _ (sym (c.is_whole.ensures v f from) ∙ c.if-not-is_whole.false)) refl

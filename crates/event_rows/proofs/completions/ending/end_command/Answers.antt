@@ -1,6 +1,4 @@
-use Rattle.event_rows.proofs.CommandCompletions.Words.{subst, Known, FollowsPlaces, succeeded_if, stop_ended}
-use Rattle.event_rows.proofs.CommandCompletions.Finished.{ended_is, stop_keeps_rings}
-use Rattle.event_rows.proofs.CommandCompletions.Succeeded.{devices_only}
+use Rattle.event_rows.proofs.Laws.{subst, Known, FollowsPlaces, succeeded_if, stop_ended, ended_is, stop_keeps_rings, devices_only}
 use Rattle.event_rows.proofs.completions.ending.end_command.Goals as goal
 
 pub returns-clause-followed : goal.returns-clause-followed

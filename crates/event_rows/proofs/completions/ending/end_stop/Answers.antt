@@ -1,7 +1,4 @@
-use Rattle.std.proofs.Common.{subst}
-use Rattle.ring_knowledge.specs.Known.{Known}
-use Rattle.trace_record.specs.DeviceSlots.Devices.{FollowsDevices}
-use Rattle.event_rows.proofs.CommandCompletions.Finished.{stops_not}
+use Rattle.event_rows.proofs.Laws.{subst, Known, FollowsDevices, stops_not}
 use Rattle.event_rows.proofs.completions.ending.end_stop.Goals as goal
 
 pub returns-in_default : goal.returns-in_default

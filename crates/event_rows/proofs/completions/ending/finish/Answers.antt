@@ -1,13 +1,4 @@
-use Rattle.event_rows.proofs.CommandCompletions.Words.{◌≡◌, ◌∙◌, ◌∷◌, [], List, Some, ap, subst, sym, after, Reaches, device_context_bytes, input_context_bytes, Command, command_id, shape_of, Known, command_at, next_command, on_ring, unfinished, completed, FollowsUnfinished, HoldsAreas, TraceRecord, FollowsTrace, inputs_of, FollowsPlaces, device_contexts}
-use Rattle.trace_record.specs.FollowsTrace.{HoldsBound}
-use Rattle.trace_record.specs.declared.ring_set.RingSet.{RingSet}
-use Rattle.trace_record.specs.declared.range_words.areas.Areas.{Areas}
-use Rattle.trace_record.specs.declared.device_record.unfinished.UnfinishedCommands.{UnfinishedCommands}
-use Rattle.event_rows.proofs.CommandCompletions.BoundBehind.{bound_behind, ending_fits}
-use Rattle.event_rows.proofs.CommandCompletions.CommandRings.{set_up_commands}
-use Rattle.event_rows.proofs.CommandCompletions.Finished.{completed_is, done, done_given, has_next, has_room, may_change, slots_of, unfinished_is, was_started}
-use Rattle.event_rows.proofs.CommandCompletions.Followed.{followed_behind}
-use Rattle.event_rows.proofs.CommandCompletions.Rest.{ended_devices, finished_rest}
+use Rattle.event_rows.proofs.Laws.{◌≡◌, ◌∙◌, ◌∷◌, [], List, Some, ap, subst, sym, after, Reaches, device_context_bytes, input_context_bytes, Command, command_id, shape_of, Known, command_at, next_command, on_ring, unfinished, completed, FollowsUnfinished, HoldsAreas, TraceRecord, FollowsTrace, inputs_of, FollowsPlaces, device_contexts, HoldsBound, RingSet, Areas, UnfinishedCommands, bound_behind, ending_fits, set_up_commands, completed_is, done, done_given, has_next, has_room, may_change, slots_of, unfinished_is, was_started, followed_behind, ended_devices, finished_rest}
 use Rattle.event_rows.proofs.completions.ending.finish.Goals as goal
 
 pub returns-in_default-clause-followed : goal.returns-in_default-clause-followed

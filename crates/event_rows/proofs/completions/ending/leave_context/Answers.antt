@@ -1,6 +1,4 @@
-use Rattle.event_rows.proofs.CommandCompletions.Words.{◌∙◌, ℕ, Option, sym, subst, filter_map, slots, HoldsAreas}
-use Rattle.event_rows.proofs.CommandCompletions.Finished.{devices_disabled, devices_failed, devices_others}
-use Rattle.event_rows.proofs.CommandCompletions.Slots.{Among, among_slots, put_none}
+use Rattle.event_rows.proofs.Laws.{◌∙◌, ℕ, Option, sym, subst, filter_map, slots, HoldsAreas, devices_disabled, devices_failed, devices_others, Among, among_slots, put_none}
 use Rattle.event_rows.proofs.completions.ending.leave_context.Goals as goal
 
 pub returns-then-code-ne1 : goal.returns-then-code-ne1

@@ -1,6 +1,4 @@
-use Rattle.std.proofs.Common.{[], sym, subst, ◌∙◌}
-use Rattle.std.specs.List.{cons_option}
-use Rattle.trace_record.specs.RangeWords.Holding.{HoldsAreas}
+use Rattle.event_rows.proofs.Words.{[], sym, subst, ◌∙◌, cons_option, HoldsAreas}
 use Rattle.event_rows.proofs.completions.ending.leave_input.Goals as goal
 
 pub returns-in-Some : goal.returns-in-Some

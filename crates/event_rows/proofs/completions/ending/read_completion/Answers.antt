@@ -1,8 +1,4 @@
-use Rattle.event_rows.proofs.CommandCompletions.Words.{◌∙◌, ap, sym}
-use Rattle.std.specs.Prelude.{not}
-use Rattle.event_rows.proofs.CommandCompletions.CommandRings.{set_up_commands}
-use Rattle.event_rows.proofs.CommandCompletions.Ends.{said_well}
-use Rattle.event_rows.proofs.CommandCompletions.Finished.{was_started}
+use Rattle.event_rows.proofs.Laws.{◌∙◌, ap, sym, not, set_up_commands, said_well, was_started}
 use Rattle.event_rows.proofs.completions.ending.read_completion.Goals as goal
 
 pub finish-requires : goal.finish-requires
@@ -14,15 +10,13 @@ finish-requires g c = record {
 
 pub returns-then-is_impossible_completion-clause-possible : goal.returns-then-is_impossible_completion-clause-possible
 returns-then-is_impossible_completion-clause-possible g c = λ k f set_up on next.
-    let m = g.M.WordMemory.words c.args.memory.now in
     let named = c.command_said-command.ensures.same ∙ next (set_up_commands c.args.header.now k set_up on) in
-    sym (ap not (sym (c.is_impossible_completion.ensures k m f set_up on named) ∙ c.if-is_impossible_completion.true))
+    sym (ap not (sym (c.is_impossible_completion.ensures k _ f set_up on named) ∙ c.if-is_impossible_completion.true))
 
 pub returns-clause-possible : goal.returns-clause-possible
 returns-clause-possible g c = λ k f set_up on next.
-    let m = g.M.WordMemory.words c.args.memory.now in
     let named = c.command_said-command.ensures.same ∙ next (set_up_commands c.args.header.now k set_up on) in
-    sym (ap not (sym (c.is_impossible_completion.ensures k m f set_up on named) ∙ c.if-is_impossible_completion.false))
+    sym (ap not (sym (c.is_impossible_completion.ensures k _ f set_up on named) ∙ c.if-is_impossible_completion.false))
 
 pub returns-clause-followed : goal.returns-clause-followed
 returns-clause-followed g c = λ k f d set_up next possible.

@@ -1,10 +1,5 @@
-use Rattle.std.proofs.Common.{◌∙◌, ap, get_or, refl, sym}
-use Rattle.traces.specs.Header.{is_command_kind}
-use Rattle.trace_record.proofs.RingFinder.RingsApart.{among_at}
-use Rattle.trace_record.proofs.RingFinder.FoundRings.{command_found, no_command_ring, ring_here}
-use Rattle.trace_record.proofs.RingFinder.CommandRings.{driven, has_commands, read_at}
-use Rattle.trace_record.proofs.GivenCommands.{next_is}
-use Rattle.event_rows.proofs.CommandCompletions.CommandRings.{completion_is, set_up_commands}
+use Rattle.event_rows.proofs.Laws.{◌∙◌, ap, get_or, refl, sym, is_command_kind, among_at, command_found, no_command_ring, driven, has_commands, read_at, next_is, completion_is, set_up_commands}
+use Rattle.trace_record.proofs.RingFinder.FoundRings.{ring_here}
 use Rattle.event_rows.proofs.completions.impossible.is_impossible_completion.Goals as goal
 
 pub returns-in_default : goal.returns-in_default

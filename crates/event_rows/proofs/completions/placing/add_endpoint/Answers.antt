@@ -1,5 +1,4 @@
-use Rattle.event_rows.proofs.CommandCompletions.Words.{◌+◌, ◌∙◌, sym, subst, placed_by_context, places_from, adds_next, MayChangeAll}
-use Rattle.event_rows.proofs.CommandCompletions.Placed.{one_done}
+use Rattle.event_rows.proofs.Laws.{◌+◌, ◌∙◌, sym, subst, placed_by_context, places_from, adds_next, MayChangeAll, one_done}
 use Rattle.event_rows.proofs.completions.placing.add_endpoint.Goals as goal
 
 pub returns-then-adds-clause-followed : goal.returns-then-adds-clause-followed

@@ -1,5 +1,4 @@
-use Rattle.event_rows.proofs.CommandCompletions.Words.{arith, subst, places_from, adds_end, HasDone}
-use Rattle.event_rows.proofs.CommandCompletions.Placed.{all_done}
+use Rattle.event_rows.proofs.Laws.{arith, subst, places_from, adds_end, HasDone, all_done}
 use Rattle.event_rows.proofs.completions.placing.add_endpoints.Goals as goal
 
 pub returns-clause-followed : goal.returns-clause-followed

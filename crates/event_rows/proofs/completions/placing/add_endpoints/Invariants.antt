@@ -1,4 +1,4 @@
-use Rattle.event_rows.proofs.CommandCompletions.Words.{Command, places_from, Known, MayChangeAll, FollowsPlaces, HasDone, KeepsRest}
+use Rattle.event_rows.proofs.Words.{Command, places_from, Known, MayChangeAll, FollowsPlaces, HasDone, KeepsRest}
 use Rattle.event_rows.proofs.completions.placing.add_endpoints.Given as goal
 
 -- the endpoints below the index are placed

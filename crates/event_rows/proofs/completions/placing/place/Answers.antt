@@ -1,7 +1,4 @@
-use Rattle.event_rows.proofs.CommandCompletions.Words.{◌≡◌, ◌∙◌, ap, sym, subst, ring_having, moved, ring_placed, MayMoveTo}
-use Rattle.event_rows.proofs.CommandCompletions.OneRing.{rings_same}
-use Rattle.event_rows.proofs.CommandCompletions.Placed.{may_move, placed_rings, pointed_ring}
-use Rattle.ring_knowledge.specs.Completions.{pointed}
+use Rattle.event_rows.proofs.Laws.{◌≡◌, ◌∙◌, ap, sym, subst, ring_having, moved, ring_placed, MayMoveTo, pointed, rings_same, may_move, placed_rings, pointed_ring}
 use Rattle.event_rows.proofs.completions.placing.place.Goals as goal
 
 pub returns : goal.returns

@@ -1,4 +1,4 @@
-use Rattle.event_rows.proofs.CommandCompletions.Words.{◌≡◌, ◌∙◌, true, false, sym, cond-true, cond-false, is_off, is_off_of, on_is}
+use Rattle.event_rows.proofs.Words.{◌≡◌, ◌∙◌, true, false, sym, cond-true, cond-false, is_off, is_off_of, on_is}
 use Rattle.event_rows.proofs.completions.placing.ring_placed.Goals as goal
 
 pub returns-in-Disabled : goal.returns-in-Disabled

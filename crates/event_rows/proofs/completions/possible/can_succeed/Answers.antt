@@ -1,5 +1,4 @@
-use Rattle.event_rows.proofs.CommandCompletions.Words.{◌∙◌, ap, is_slot_enabled, register_or_zero, Config}
-use Rattle.event_rows.proofs.CommandCompletions.Ends.{succeeds_is}
+use Rattle.event_rows.proofs.Laws.{◌∙◌, ap, is_slot_enabled, register_or_zero, Config, succeeds_is}
 use Rattle.event_rows.proofs.completions.possible.can_succeed.Goals as goal
 
 pub returns : goal.returns

@@ -1,7 +1,4 @@
-use Rattle.std.proofs.Common.{ap, sym, ◌∙◌}
-use Rattle.std.specs.Prelude.{not}
-use Rattle.ownership_rules.specs.Events.{can_finish}
-use Rattle.event_rows.proofs.CommandCompletions.Ends.{none_finishes}
+use Rattle.event_rows.proofs.Laws.{ap, sym, ◌∙◌, not, can_finish, none_finishes}
 use Rattle.event_rows.proofs.completions.possible.cannot_finish.Goals as goal
 
 pub returns-in-None : goal.returns-in-None

@@ -1,5 +1,4 @@
-use Rattle.std.proofs.Common.{ap, sym, ◌∙◌}
-use Rattle.ownership_rules.specs.Events.{was_stop_seen}
+use Rattle.event_rows.proofs.Words.{ap, sym, ◌∙◌, was_stop_seen}
 use Rattle.event_rows.proofs.CommandCompletions.Ends.{no_stop}
 use Rattle.event_rows.proofs.completions.possible.was_stop_seen.Goals as goal
 

@@ -1,6 +1,4 @@
-use Rattle.std.proofs.Common.{arith, refl, sym, ◌∙◌}
-use Rattle.trace_record.proofs.RingFinder.CommandRings.{read_at}
-use Rattle.event_rows.proofs.CommandCompletions.Numbered.{held_with, held_without}
+use Rattle.event_rows.proofs.Laws.{arith, refl, sym, ◌∙◌, read_at, held_with, held_without}
 use Rattle.event_rows.proofs.completions.rings.hold_ring.Goals as goal
 
 pub returns-in_default : goal.returns-in_default

@@ -1,6 +1,4 @@
-use Rattle.std.proofs.Common.{ap, arith, length, refl, sym, ◌∙◌}
-use Rattle.trace_record.proofs.RingFinder.CommandRings.{read_at}
-use Rattle.event_rows.proofs.CommandCompletions.Numbered.{moved_with, moved_without}
+use Rattle.event_rows.proofs.Laws.{ap, arith, length, refl, sym, ◌∙◌, read_at, moved_with, moved_without}
 use Rattle.event_rows.proofs.completions.rings.move_ring.Goals as goal
 
 pub returns-in_default : goal.returns-in_default

@@ -1,4 +1,4 @@
-use Rattle.event_rows.proofs.CommandCompletions.Words.{◌∙◌, sym, subst, IsAhead, target_ahead, FollowsRing, set_on}
+use Rattle.event_rows.proofs.Words.{◌∙◌, sym, subst, IsAhead, target_ahead, FollowsRing, set_on}
 use Rattle.event_rows.proofs.completions.rings.move_to_target.Goals as goal
 
 pub returns-in-Some : goal.returns-in-Some

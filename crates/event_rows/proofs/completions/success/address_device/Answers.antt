@@ -1,5 +1,4 @@
-use Rattle.event_rows.proofs.CommandCompletions.Words.{ap, subst, sym, SlotGoesOn, placed_by_context, Known, changed_by, changed_by_all, MayChange, View, FollowsPlaces, addressed}
-use Rattle.event_rows.proofs.CommandCompletions.Succeeded.{devices_only, goes_on_rings}
+use Rattle.event_rows.proofs.Laws.{ap, subst, sym, SlotGoesOn, placed_by_context, Known, changed_by, changed_by_all, MayChange, View, FollowsPlaces, addressed, devices_only, goes_on_rings}
 use Rattle.event_rows.proofs.completions.success.address_device.Goals as goal
 
 pub returns-clause-followed : goal.returns-clause-followed

@@ -1,5 +1,4 @@
-use Rattle.event_rows.proofs.CommandCompletions.Words.{ap, subst, sym, is_dropped, View, Disables, SlotGoesOn, places_from, Known, changed_by, changed_by_all, Dropped, FollowsDevices, named_by, MayChangeAll, FollowsPlaces, configured}
-use Rattle.event_rows.proofs.CommandCompletions.Succeeded.{devices_only, disables_rings, goes_on_rings}
+use Rattle.event_rows.proofs.Laws.{ap, subst, sym, is_dropped, View, Disables, SlotGoesOn, places_from, Known, changed_by, changed_by_all, Dropped, FollowsDevices, named_by, MayChangeAll, FollowsPlaces, configured, devices_only, disables_rings, goes_on_rings}
 use Rattle.event_rows.proofs.completions.success.configure.Goals as goal
 
 pub returns-clause-followed : goal.returns-clause-followed

@@ -1,4 +1,4 @@
-use Rattle.event_rows.proofs.CommandCompletions.Words.{DeviceLeft, SlotGoesOn, Known, changed_by, changed_by_all}
+use Rattle.event_rows.proofs.Words.{DeviceLeft, SlotGoesOn, Known, changed_by, changed_by_all}
 use Rattle.event_rows.proofs.completions.success.disable_slot.Goals as goal
 
 pub returns : goal.returns

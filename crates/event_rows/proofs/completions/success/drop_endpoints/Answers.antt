@@ -1,5 +1,4 @@
-use Rattle.commands.specs.Changes.{SlotGoesOn}
-use Rattle.ring_knowledge.specs.Completions.{changed_by, changed_by_all}
+use Rattle.event_rows.proofs.Words.{SlotGoesOn, changed_by, changed_by_all}
 use Rattle.event_rows.proofs.completions.success.drop_endpoints.Goals as goal
 
 pub returns : goal.returns

@@ -1,6 +1,4 @@
-use Rattle.event_rows.proofs.CommandCompletions.Words.{subst, Stopped, Known, held_at_ceiling, in_state, FollowsRings}
-use Rattle.event_rows.proofs.CommandCompletions.OneRing.{rings_same}
-use Rattle.event_rows.proofs.CommandCompletions.Succeeded.{in_state_rings, stops_rings}
+use Rattle.event_rows.proofs.Laws.{subst, Stopped, Known, held_at_ceiling, in_state, FollowsRings, rings_same, in_state_rings, stops_rings}
 use Rattle.event_rows.proofs.completions.success.stop.Goals as goal
 
 pub returns : goal.returns

@@ -1,6 +1,4 @@
-use Rattle.std.proofs.Common.{sym, ◌∙◌, subst}
-use Rattle.trace_record.specs.FollowsTrace.{FollowsEvents}
-use Rattle.event_rows.proofs.TransferEvents.EventCounts.{early, later}
+use Rattle.event_rows.proofs.Laws.{sym, ◌∙◌, subst, FollowsEvents, early, later}
 use Rattle.event_rows.proofs.transfers.events.is_no_event.Goals as goal
 
 pub returns-then-not-is_started : goal.returns-then-not-is_started

@@ -1,8 +1,4 @@
-use Rattle.std.proofs.Common.{ap, sym, ◌∙◌}
-use Rattle.std.specs.Prelude.{◌&&◌, not}
-use Rattle.trb.specs.Block.{code}
-use Rattle.trb.specs.CompletionCode.{is_transfer_code}
-use Rattle.ownership_rules.specs.Events.{is_in_profile}
+use Rattle.event_rows.proofs.Words.{ap, sym, ◌∙◌, ◌&&◌, not, code, is_transfer_code, is_in_profile}
 use Rattle.event_rows.proofs.transfers.profile.is_in_profile.Goals as goal
 
 pub returns-then-not-has_event_data : goal.returns-then-not-has_event_data

@@ -1,12 +1,5 @@
-use Rattle.std.proofs.Common.{◌≡◌, get_or, ap, sym, ◌∙◌, subst}
-use Rattle.std.proofs.lemmas.Option.{get_or_from_slice_get}
-use Rattle.segments.specs.ShapeValue.{Shape}
-use Rattle.traces.specs.declared.ring.Ring.{Ring}
-use Rattle.ring_knowledge.specs.RingRecords.{FollowsRing}
-use Rattle.trace_record.proofs.RingFinder.RingsApart.{among_at}
-use Rattle.trace_record.proofs.RingFinder.HeaderRings.{shape_there}
-use Rattle.driver_rows.proofs.DoorbellRows.Followed.{read_at}
-use Rattle.event_rows.proofs.TransferEvents.Reports.{reported_at, driven}
+use Rattle.event_rows.proofs.Laws.{◌≡◌, get_or, ap, sym, ◌∙◌, subst, get_or_from_slice_get, Shape, Ring, FollowsRing, among_at, shape_there, read_at, reported_at}
+use Rattle.event_rows.proofs.TransferEvents.Reports.{driven}
 use Rattle.event_rows.proofs.transfers.reporting.can_report_at.Goals as goal
 
 pub returns : goal.returns

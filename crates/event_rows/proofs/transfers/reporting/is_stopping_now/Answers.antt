@@ -1,7 +1,5 @@
-use Rattle.std.proofs.Common.{sym, ◌∙◌}
-use Rattle.traces.specs.Header.{is_command_kind}
-use Rattle.driver_rows.proofs.DoorbellRows.Followed.{found_at, read_at}
-use Rattle.event_rows.proofs.TransferEvents.Reports.{no_stop, stop_on, commanded}
+use Rattle.event_rows.proofs.Laws.{sym, ◌∙◌, is_command_kind, found_at, read_at, stop_on, commanded}
+use Rattle.event_rows.proofs.TransferEvents.Reports.{no_stop}
 use Rattle.event_rows.proofs.transfers.reporting.is_stopping_now.Goals as goal
 
 pub returns-in_default : goal.returns-in_default

@@ -1,5 +1,4 @@
-use Rattle.std.proofs.Common.{arith, ap, ◌∙◌}
-use Rattle.trace_record.specs.RingCommands.{command_in}
+use Rattle.event_rows.proofs.Words.{arith, ap, ◌∙◌, command_in}
 use Rattle.event_rows.proofs.transfers.reporting.next_command.Goals as goal
 
 pub returns : goal.returns

@@ -1,15 +1,5 @@
-use Rattle.std.proofs.Common.{◌≡◌, ℕ, get_or, refl, ap, sym, ◌∙◌, subst}
-use Rattle.std.proofs.lemmas.Option.{get_or_from_slice_get}
-use Rattle.trb.specs.Block.{code, slot}
-use Rattle.segments.specs.ShapeValue.{Shape}
-use Rattle.traces.specs.declared.ring.Ring.{Ring}
-use Rattle.ring_knowledge.specs.RingRecords.{FollowsRing}
-use Rattle.ring_knowledge.specs.Transfers.{transferred}
-use Rattle.trace_record.specs.DeviceSlots.Devices.{FollowsDevices}
-use Rattle.event_rows.specs.TransferEvents.Reported.{IsWithRecord, MayReport, reported}
-use Rattle.driver_rows.proofs.DoorbellRows.Followed.{has_record}
+use Rattle.event_rows.proofs.Laws.{◌≡◌, ℕ, get_or, refl, ap, sym, ◌∙◌, subst, get_or_from_slice_get, code, slot, Shape, Ring, FollowsRing, transferred, FollowsDevices, IsWithRecord, MayReport, reported, has_record, may_report, follows_read}
 use Rattle.event_rows.proofs.TransferEvents.Reports.{driven}
-use Rattle.event_rows.proofs.TransferEvents.Noted.{may_report, follows_read}
 use Rattle.event_rows.proofs.transfers.reporting.note_at.Goals as goal
 
 pub returns-clause-followed : goal.returns-clause-followed

@@ -1,7 +1,4 @@
-use Rattle.std.proofs.Common.{refl, sym, ◌∙◌, subst, arith}
-use Rattle.std.proofs.lemmas.Option.{get_or_from_slice_get, slice_get_within}
-use Rattle.ring_knowledge.specs.declared.ring_record.RingRecord.{RingRecord}
-use Rattle.ring_knowledge.specs.RingRecords.{FollowsRing}
+use Rattle.event_rows.proofs.Words.{refl, sym, ◌∙◌, subst, arith, get_or_from_slice_get, slice_get_within, RingRecord, FollowsRing}
 use Rattle.event_rows.proofs.transfers.reporting.note_report.Goals as goal
 
 pub returns-in-Some : goal.returns-in-Some

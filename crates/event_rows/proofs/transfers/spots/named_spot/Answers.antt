@@ -1,9 +1,5 @@
-use Rattle.std.proofs.Common.{Some, get_or, ap, sym, ◌∙◌}
-use Rattle.std.proofs.lemmas.Option.{slice_get-get_or}
-use Rattle.trb.specs.Block.{slot, endpoint}
-use Rattle.driver_rows.specs.DoorbellRows.Numbers.{number_of}
-use Rattle.driver_rows.proofs.DoorbellRows.Followed.{read_at}
-use Rattle.event_rows.proofs.TransferEvents.Reports.{no_endpoint_ring, none_named, named_by, its_ring}
+use Rattle.event_rows.proofs.Laws.{Some, get_or, ap, sym, ◌∙◌, slice_get-get_or, slot, endpoint, number_of, read_at, no_endpoint_ring, none_named, its_ring}
+use Rattle.event_rows.proofs.TransferEvents.Reports.{named_by}
 use Rattle.event_rows.proofs.transfers.spots.named_spot.Goals as goal
 
 pub returns-in_default-clause-named : goal.returns-in_default-clause-named

@@ -1,4 +1,4 @@
-use Rattle.std.proofs.Common.{◌∙◌, sym, ap, slice_get}
+use Rattle.leases.proofs.Words.{◌∙◌, sym, ap, slice_get}
 use Rattle.leases.proofs.LeaseBooks.Ending.{at_some}
 use Rattle.leases.proofs.book.lease_book.end_at.Goals as goal
 

@@ -1,8 +1,4 @@
-use Rattle.std.proofs.Common.{◌<◌, ◌≤◌, ◌∷◌, ◌∙◌, ℕ, List, [], Result, Ok, Err, OnOk, arith, ap, refl, subst, sym}
-use Rattle.traces.specs.Header.{command_id}
-use Rattle.ownership_rules.specs.OpenLeases.{open_leases}
-use Rattle.leases.specs.LeaseBooks.Lents.{Lent, passed_on, with_begun}
-use Rattle.trace_record.proofs.RingFinder.HeaderRings.{shape_there}
+use Rattle.leases.proofs.Words.{◌<◌, ◌≤◌, ◌∷◌, ◌∙◌, ℕ, List, [], Result, Ok, Err, OnOk, arith, ap, refl, subst, sym, command_id, open_leases, Lent, passed_on, with_begun, shape_there}
 use Rattle.leases.proofs.RingLeases.MovingRings.{alone, alone_command, at_end, command_block, command_free, first_restored, freed_given, freed_later, in_rings, last_restored, opened_alone, opened_own, other, own_first, own_step, same_left}
 use Rattle.leases.proofs.rings.freeing.note_moving.Goals as goal
 

@@ -1,8 +1,4 @@
-use Rattle.std.proofs.Common.{◌≤◌, ◌∙◌, List, length, map, take, take_all, arith, ap, subst, sym}
-use Rattle.ownership_rules.specs.OpenLeases.{Block}
-use Rattle.leases.specs.LeaseBooks.Lents.{Lent, with_begun}
-use Rattle.trace_record.proofs.RingFinder.HeaderRings.{shape_there}
-use Rattle.leases.proofs.RingLeases.LentFree.{Restoring, among, next_begun, next_free, none_begun, restored_lent}
+use Rattle.leases.proofs.Words.{◌≤◌, ◌∙◌, List, length, map, take, take_all, arith, ap, subst, sym, Block, Lent, with_begun, shape_there, Restoring, among, next_begun, next_free, none_begun, restored_lent}
 use Rattle.leases.proofs.rings.freeing.note_restoring.Goals as goal
 
 pub loop-position-init : goal.loop-position-init

@@ -1,10 +1,4 @@
-use Rattle.std.proofs.Common.{List, map, take}
-use Rattle.traces.specs.declared.header.Header.{Header}
-use Rattle.ring_knowledge.specs.declared.lease.Lease.{Lease}
-use Rattle.ring_knowledge.specs.Known.{Known}
-use Rattle.ownership_rules.specs.OpenLeases.{Block}
-use Rattle.leases.specs.LeaseBooks.Lents.{Lent, with_begun}
-use Rattle.leases.proofs.RingLeases.LentFree.{Restoring}
+use Rattle.leases.proofs.Words.{List, map, take, Header, Lease, Known, Block, Lent, with_begun, Restoring}
 use Rattle.leases.proofs.rings.freeing.note_restoring.Given as goal
 
 -- the leases of the positions before the index have begun

@@ -1,7 +1,4 @@
-use Rattle.std.proofs.Common.{◌≡◌, ◌+◌, ◌≤◌, ◌∙◌, List, map, arith, ap, subst, sym}
-use Rattle.leases.specs.LeaseBooks.Lents.{Lent, ended_where}
-use Rattle.trace_record.proofs.RingFinder.HeaderRings.{shape_there}
-use Rattle.leases.proofs.RingLeases.LentFree.{among, ends_none, ends_one, is_between, withdrawn_lent}
+use Rattle.leases.proofs.Words.{◌≡◌, ◌+◌, ◌≤◌, ◌∙◌, List, map, arith, ap, subst, sym, Lent, ended_where, shape_there, among, ends_none, ends_one, is_between, withdrawn_lent}
 use Rattle.leases.proofs.rings.freeing.note_withdrawing.Goals as goal
 
 pub loop-number-init : goal.loop-number-init

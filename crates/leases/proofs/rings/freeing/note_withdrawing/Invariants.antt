@@ -1,9 +1,4 @@
-use Rattle.std.proofs.Common.{◌≡◌, List, map}
-use Rattle.traces.specs.declared.header.Header.{Header}
-use Rattle.traces.specs.Header.{shape_of}
-use Rattle.ring_knowledge.specs.declared.lease.Lease.{Lease}
-use Rattle.leases.specs.LeaseBooks.Lents.{Lent, ended_where}
-use Rattle.leases.proofs.RingLeases.LentFree.{is_between}
+use Rattle.leases.proofs.Words.{◌≡◌, List, map, Header, shape_of, Lease, Lent, ended_where, is_between}
 use Rattle.leases.proofs.rings.freeing.note_withdrawing.Given as goal
 
 abbrev pub invariant-loop-number : goal.invariant-loop-number

@@ -1,9 +1,4 @@
-use Rattle.std.proofs.Common.{◌≡◌, ◌+◌, ◌≤◌, ◌∙◌, true, ap, arith, subst}
-use Rattle.safety.proofs.Words.{floor_number, open_leases, place_count, shape_of}
-use Rattle.ownership_rules.specs.OpenLeases.{is_among}
-use Rattle.leases.specs.LeaseBooks.Lents.{is_passed}
-use Rattle.leases.proofs.LeaseBooks.Passing.{ended_alike}
-use Rattle.leases.specs.RingLeases.RingLents.{is_of_ring}
+use Rattle.leases.proofs.Words.{◌≡◌, ◌+◌, ◌≤◌, ◌∙◌, true, ap, arith, subst, floor_number, open_leases, place_count, shape_of, is_among, is_passed, ended_alike, is_of_ring}
 use Rattle.leases.proofs.RingLeases.WithinALap.{all_passed, are_shaped}
 use Rattle.leases.proofs.rings.going.note_going.Goals as goal
 

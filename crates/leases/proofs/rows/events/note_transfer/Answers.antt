@@ -1,7 +1,4 @@
-use Rattle.std.proofs.Common.{◌∙◌, ◌==◌, ℕ, get_or, refl, sym, ap, arith, eqb-true}
-use Rattle.leases.proofs.LeaseRows.Words.{code, endpoint, named, come_to, some_end, ring_here, shape_there, among_at}
-use Rattle.leases.proofs.LeaseRows.OtherRows.{held_still}
-use Rattle.leases.proofs.LeaseRows.RowWrites.{record_there}
+use Rattle.leases.proofs.Words.{◌∙◌, ◌==◌, ℕ, get_or, refl, sym, ap, arith, eqb-true, code, endpoint, named, come_to, some_end, ring_here, shape_there, among_at, held_still, record_there}
 use Rattle.leases.proofs.LeaseRows.TransferRows.{comes, driver_kind, keeps, other_lent, ring_keeps, ring_of_header, transfer_ends, unbound_lent, unnamed_lent}
 use Rattle.leases.proofs.rows.events.note_transfer.Goals as goal
 

@@ -1,4 +1,4 @@
-use Rattle.std.proofs.Common.{◌<◌, length, get_or, ap, sym, ◌∙◌, arith}
+use Rattle.leases.proofs.Words.{◌<◌, length, get_or, ap, sym, ◌∙◌, arith}
 use Rattle.leases.proofs.LeaseRows.EventSegments.{event_count, no_events}
 use Rattle.leases.proofs.rows.other_rows.event_segments.Goals as goal
 

@@ -1,6 +1,4 @@
-use Rattle.std.proofs.Common.{◌≡◌, ◌<◌, ℕ, false, get_or}
-use Rattle.traces.specs.declared.ring.Ring.{Ring}
-use Rattle.traces.specs.Header.{is_event_kind}
+use Rattle.leases.proofs.Words.{◌≡◌, ◌<◌, ℕ, false, get_or, Ring, is_event_kind}
 use Rattle.leases.proofs.rows.other_rows.event_segments.Given as goal
 
 -- no ring so far is an event ring

@@ -1,7 +1,4 @@
-use Rattle.std.proofs.Common.{sym, subst}
-use Rattle.traces.specs.declared.row.Row.{Row}
-use Rattle.leases.proofs.LeaseRows.Words.{HoldsAll, IsNextRow, IsOtherRow, grown}
-use Rattle.leases.proofs.LeaseRows.OtherRows.{on_more, other_held}
+use Rattle.leases.proofs.Words.{sym, subst, Row, HoldsAll, IsNextRow, IsOtherRow, grown, on_more, other_held}
 use Rattle.leases.proofs.rows.other_rows.note_other_row.Goals as goal
 
 pub returns-in-Reg : goal.returns-in-Reg

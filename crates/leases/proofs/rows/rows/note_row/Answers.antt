@@ -1,7 +1,5 @@
-use Rattle.std.proofs.Common.{sym, subst}
-use Rattle.leases.proofs.LeaseRows.Words.{Row, known, lents, grown, IsPlaced, HoldsAll, IsNextRow}
+use Rattle.leases.proofs.Words.{sym, subst, Row, known, lents, grown, IsPlaced, HoldsAll, IsNextRow, on_more, other_row}
 use Rattle.leases.proofs.LeaseRows.Histories.{behind_history, next_row}
-use Rattle.leases.proofs.LeaseRows.OtherRows.{on_more, other_row}
 use Rattle.leases.proofs.rows.rows.note_row.Goals as goal
 
 pub returns-in-Write-clause-step : goal.returns-in-Write-clause-step

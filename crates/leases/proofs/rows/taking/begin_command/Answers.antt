@@ -1,6 +1,4 @@
-use Rattle.ring_knowledge.specs.Writes.{taken_device}
-use Rattle.leases.proofs.LeaseRows.OtherRows.{on_more}
-use Rattle.leases.proofs.LeaseRows.TakenRanges.{all_more, still_free_slot}
+use Rattle.leases.proofs.Words.{taken_device, on_more, all_more, still_free_slot}
 use Rattle.leases.proofs.rows.taking.begin_command.Goals as goal
 
 pub returns : goal.returns

@@ -1,6 +1,4 @@
-use Rattle.std.proofs.Common.{sym, ◌∙◌}
-use Rattle.leases.proofs.LeaseRows.OtherRows.{on_both}
-use Rattle.leases.proofs.LeaseRows.TakenRanges.{no_context, none_more, one_context, same_more}
+use Rattle.leases.proofs.Words.{sym, ◌∙◌, on_both, no_context, none_more, one_context, same_more}
 use Rattle.leases.proofs.rows.taking.begin_context_of.Goals as goal
 
 pub returns-in-None : goal.returns-in-None

@@ -1,6 +1,4 @@
-use Rattle.std.proofs.Common.{◌∙◌, [], ap, length}
-use Rattle.std.proofs.lemmas.List.{length-map}
-use Rattle.leases.specs.LeaseBooks.Lents.{lease_of, lents}
+use Rattle.ownership_checker.proofs.Words.{◌∙◌, [], ap, length, length-map, lease_of, lents}
 use Rattle.leases.proofs.LeaseBooks.FirstBook.{first_list}
 use Rattle.ownership_checker.proofs.lease_count.LeaseCount.new.Goals as goal
 

@@ -1,5 +1,4 @@
-use Rattle.std.proofs.Common.{◌∙◌, ◌+◌, ap, sym}
-use Rattle.leases.proofs.LeaseRows.OtherRows.{on_more}
+use Rattle.ownership_checker.proofs.Words.{◌∙◌, ◌+◌, ap, sym, on_more}
 use Rattle.ownership_checker.proofs.Streams.{one_begun}
 use Rattle.ownership_checker.proofs.lease_count.LeaseCountLeaseLog.begin_range.Goals as goal
 

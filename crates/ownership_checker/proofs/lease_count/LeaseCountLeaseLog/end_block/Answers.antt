@@ -1,4 +1,4 @@
-use Rattle.std.proofs.Common.{◌∙◌, sym}
+use Rattle.ownership_checker.proofs.Words.{◌∙◌, sym}
 use Rattle.ownership_checker.proofs.Streams.{as_many_ended}
 use Rattle.ownership_checker.proofs.lease_count.LeaseCountLeaseLog.end_block.Goals as goal
 

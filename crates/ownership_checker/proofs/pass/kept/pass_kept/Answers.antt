@@ -1,6 +1,4 @@
-use Rattle.std.proofs.Common.{◌≡◌, Some, arith, subst, sym}
-use Rattle.ownership_rules.specs.declared.refusal.Refusal.{Refusal}
-use Rattle.ownership_checker.specs.RingPasses.Rules.{ring_verdict}
+use Rattle.ownership_checker.proofs.Words.{◌≡◌, Some, arith, subst, sym, Refusal, ring_verdict}
 use Rattle.ownership_checker.proofs.RingPasses.KeptRows.{begun, ended, few, refused, row_more}
 use Rattle.ownership_checker.proofs.pass.kept.pass_kept.Goals as goal
 

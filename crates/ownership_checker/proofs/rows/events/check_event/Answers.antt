@@ -1,4 +1,4 @@
-use Rattle.std.proofs.Common.{true, false, sym, ◌∙◌}
+use Rattle.ownership_checker.proofs.Words.{true, false, sym, ◌∙◌}
 use Rattle.ownership_checker.proofs.JudgedRows.Keeping.{set_up}
 use Rattle.ownership_checker.proofs.JudgedRows.EventRows.{by_kind, by_place, event_step, impossible, is_started, left_out, left_out_possible, not_negated, when_true}
 use Rattle.ownership_checker.proofs.rows.events.check_event.Goals as goal

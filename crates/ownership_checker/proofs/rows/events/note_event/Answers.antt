@@ -1,5 +1,4 @@
-use Rattle.std.proofs.Common.{ap, sym, ◌∙◌, refl}
-use Rattle.std.specs.Prelude.{not}
+use Rattle.ownership_checker.proofs.Words.{ap, sym, ◌∙◌, refl, not}
 use Rattle.ownership_checker.proofs.JudgedRows.EventRows.{noted_transfer, noted_completion, noted_other, of_completion, of_transfer, on_true, other_possible, within_profile}
 use Rattle.ownership_checker.proofs.rows.events.note_event.Goals as goal
 

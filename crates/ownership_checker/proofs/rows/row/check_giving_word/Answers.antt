@@ -1,4 +1,4 @@
-use Rattle.std.proofs.Common.{sym, ◌∙◌}
+use Rattle.ownership_checker.proofs.Words.{sym, ◌∙◌}
 use Rattle.ownership_checker.proofs.JudgedRows.CleanHistories.{lenient_row}
 use Rattle.ownership_checker.proofs.JudgedRows.Keeping.{contexts_fit}
 use Rattle.ownership_checker.proofs.rows.row.check_giving_word.Goals as goal

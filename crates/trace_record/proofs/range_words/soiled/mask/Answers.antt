@@ -1,5 +1,4 @@
-use Rattle.trace_record.proofs.RangeWords.Words.{◌<◌, ◌≤◌, ◌∙◌, arith, nat_tests}
-use Rattle.trace_record.proofs.RangeWords.BitTests.{run_of_ones}
+use Rattle.trace_record.proofs.Words.{◌<◌, ◌≤◌, ◌∙◌, arith, nat_tests, run_of_ones}
 use Rattle.trace_record.proofs.range_words.soiled.mask.Goals as goal
 
 pub returns : goal.returns

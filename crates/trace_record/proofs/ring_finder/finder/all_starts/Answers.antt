@@ -1,5 +1,4 @@
-use Rattle.trace_record.proofs.RingFinder.Words.{◌++◌, map, sym, ap, ◌∙◌, start_of}
-use Rattle.trace_record.proofs.RingFinder.Starts.{starts_push}
+use Rattle.trace_record.proofs.Words.{◌++◌, map, sym, ap, ◌∙◌, start_of, starts_push}
 use Rattle.trace_record.proofs.ring_finder.finder.all_starts.Goals as goal
 
 pub loop-number-preserved : goal.loop-number-preserved

@@ -1,4 +1,4 @@
-use Rattle.trace_record.proofs.RingFinder.Words.{get_or, get_or_default, Start}
+use Rattle.trace_record.proofs.Words.{get_or, get_or_default, Start}
 use Rattle.trace_record.proofs.RingFinder.Hints.{one_hint}
 use Rattle.trace_record.proofs.ring_finder.finder.note_hints.Goals as goal
 

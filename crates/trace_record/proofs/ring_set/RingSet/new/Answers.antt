@@ -1,5 +1,4 @@
-use Rattle.std.proofs.Common.{false}
-use Rattle.trace_record.proofs.DeviceSlots.NewRecord.{alike}
+use Rattle.trace_record.proofs.Words.{false, alike}
 use Rattle.trace_record.proofs.ring_set.RingSet.new.Goals as goal
 
 pub returns : goal.returns

@@ -1,6 +1,4 @@
-use Rattle.std.proofs.Common.{eq-eqb}
-use Rattle.trace_record.proofs.Words.{◌∙◌, ◌||◌, ap, sym, not}
-use Rattle.ownership_rules.specs.OpenLeases.{is_the_controllers}
+use Rattle.trace_record.proofs.Words.{eq-eqb, ◌∙◌, ◌||◌, ap, sym, not, is_the_controllers}
 use Rattle.trace_record.proofs.trace_record.TraceRecord.is_disturbed.Goals as goal
 
 pub returns-else-word : goal.returns-else-word

@@ -1,7 +1,4 @@
-use Rattle.trace_record.proofs.Words.{◌∙◌, ap, sym, arith}
-use Rattle.trace_record.specs.RingCommands.{command_in}
-use Rattle.trace_record.proofs.RingFinder.FoundRings.{no_command_ring}
-use Rattle.trace_record.proofs.RingFinder.CommandRings.{IsCommandNumber, command_number, has_commands, read_at}
+use Rattle.trace_record.proofs.Words.{◌∙◌, ap, sym, arith, command_in, no_command_ring, IsCommandNumber, command_number, has_commands, read_at}
 use Rattle.trace_record.proofs.GivenCommands.{next_is}
 use Rattle.trace_record.proofs.trace_record.TraceRecord.next_command.Goals as goal
 

@@ -1,6 +1,4 @@
-use Rattle.trace_record.proofs.Words.{◌≡◌, ◌∙◌, ℕ, ap, not, sym, subst, Bool, Header, Known, Row, Write, IsOwnedSo, IsPlaced, true, false}
-use Rattle.traces.specs.Versions.{is_three}
-use Rattle.ownership_rules.specs.Older.{writes_to_owned}
+use Rattle.trace_record.proofs.Words.{◌≡◌, ◌∙◌, ℕ, ap, not, sym, subst, Bool, Header, Known, Row, Write, IsOwnedSo, IsPlaced, true, false, is_three, writes_to_owned}
 use Rattle.trace_record.proofs.OpenAreas.{not_owned, owned_by_change, owned_by_version}
 use Rattle.trace_record.proofs.trace_record.TraceRecord.owns.Goals as goal
 

@@ -3,7 +3,7 @@ use Rattle.trace_record.proofs.PlacedRows.{placed_other}
 use Rattle.trace_record.proofs.trace_record.TraceRecord.place.Goals as goal
 
 pub returns-in-Write : goal.returns-in-Write
-returns-in-Write c = λ k memory f. subst (λ (row : Row). IsPlaced c.args.header.now k row c.word_place.result) (sym c.in-Write.is) (c.word_place.ensures k f.rings)
+returns-in-Write c = λ k memory f. subst (λ (row : Row). IsPlaced c.args.header.now k row c.write_place.result) (sym c.in-Write.is) (c.write_place.ensures k f.rings)
 
 pub returns-in-Read : goal.returns-in-Read
 returns-in-Read c = λ k memory f.

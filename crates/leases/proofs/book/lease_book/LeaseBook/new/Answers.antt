@@ -1,5 +1,4 @@
-use Rattle.std.proofs.Common.{◌∙◌}
-use Rattle.leases.proofs.LeaseBooks.FirstBook.{first_found, first_list}
+use Rattle.leases.proofs.Words.{◌∙◌, first_found, first_list}
 use Rattle.leases.proofs.book.lease_book.LeaseBook.new.Goals as goal
 
 pub returns : goal.returns

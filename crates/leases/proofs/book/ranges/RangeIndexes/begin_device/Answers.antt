@@ -1,5 +1,5 @@
-use Rattle.leases.proofs.LeaseBooks.Words.{sym, ap, ◌∙◌, DeviceContext, index_in}
-use Rattle.leases.proofs.LeaseBooks.RangePlaces.{always_ok, device_put, range_begins}
+use Rattle.leases.proofs.Words.{sym, ap, ◌∙◌, DeviceContext, index_in, always_ok, device_put}
+use Rattle.leases.proofs.LeaseBooks.RangePlaces.{range_begins}
 use Rattle.leases.proofs.book.ranges.RangeIndexes.begin_device.Goals as goal
 
 pub returns-clause-found : goal.returns-clause-found

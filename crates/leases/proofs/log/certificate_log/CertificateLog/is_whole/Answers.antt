@@ -1,4 +1,4 @@
-use Rattle.leases.proofs.CertificateLogs.CitedWords.{◌∙◌, sym, false≢true}
+use Rattle.leases.proofs.Words.{◌∙◌, sym, false≢true}
 use Rattle.leases.proofs.CertificateLogs.Listed.{tells_whole, whole_tells}
 use Rattle.leases.proofs.log.certificate_log.CertificateLog.is_whole.Goals as goal
 

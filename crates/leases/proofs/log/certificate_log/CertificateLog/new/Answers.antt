@@ -1,5 +1,4 @@
-use Rattle.leases.proofs.CertificateLogs.CitedWords.{◌∙◌, arith, first_list}
-use Rattle.leases.proofs.CertificateLogs.Beginning.{all_begun, next_begins, nothing_begun}
+use Rattle.leases.proofs.Words.{◌∙◌, arith, first_list, all_begun, next_begins, nothing_begun}
 use Rattle.leases.proofs.log.certificate_log.CertificateLog.new.Goals as goal
 
 pub loop-lease-init : goal.loop-lease-init

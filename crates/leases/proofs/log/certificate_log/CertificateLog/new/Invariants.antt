@@ -1,5 +1,4 @@
-use Rattle.std.proofs.Common.{ℕ}
-use Rattle.leases.proofs.CertificateLogs.Beginning.{HasBegun}
+use Rattle.leases.proofs.Words.{ℕ, HasBegun}
 use Rattle.leases.proofs.log.certificate_log.CertificateLog.new.Given as goal
 
 abbrev pub invariant-loop-lease : goal.invariant-loop-lease

@@ -1,7 +1,4 @@
-use Rattle.leases.proofs.CertificateLogs.CitedWords.{◌≡◌, ◌∙◌, ap, sym, refl, subst, unwrap_or, is_crossing, link_crossed, link_of, shape_of, Lease, Link, put_at, Begins}
-use Rattle.leases.proofs.CertificateLogs.Following.{goes_on}
-use Rattle.leases.proofs.CertificateLogs.Standing.{free_none}
-use Rattle.leases.proofs.CertificateLogs.Tables.{link_numbered}
+use Rattle.leases.proofs.Words.{◌≡◌, ◌∙◌, ap, sym, refl, subst, unwrap_or, is_crossing, link_crossed, link_of, shape_of, Lease, Link, put_at, Begins, goes_on, free_none, link_numbered}
 use Rattle.leases.proofs.log.certificate_log.CertificateLogLeaseLog.begin_link.Goals as goal
 
 pub returns : goal.returns

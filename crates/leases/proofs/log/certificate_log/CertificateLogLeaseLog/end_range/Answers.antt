@@ -1,8 +1,4 @@
-use Rattle.leases.proofs.CertificateLogs.CitedWords.{◌∙◌, map, sym, inl, inr, subst, cases_Bool, false≢true, Range, same_leased, ended_where, FollowedList, FollowsList}
-use Rattle.leases.proofs.CertificateLogs.EndingOne.{another_there, this_there}
-use Rattle.leases.proofs.CertificateLogs.Standing.{range_apart, stands_only}
-use Rattle.leases.proofs.CertificateLogs.Tables.{range_numbered}
-use Rattle.leases.proofs.CertificateLogs.Words.{range_words}
+use Rattle.leases.proofs.Words.{◌∙◌, map, sym, inl, inr, subst, cases_Bool, false≢true, Range, same_leased, ended_where, FollowedList, FollowsList, another_there, this_there, range_apart, stands_only, range_numbered, range_words}
 use Rattle.leases.proofs.log.certificate_log.CertificateLogLeaseLog.end_range.Goals as goal
 
 pub returns : goal.returns

@@ -1,5 +1,4 @@
-use Rattle.std.proofs.Common.{◌∙◌, sym}
-use Rattle.leases.proofs.LeaseRows.OtherRows.{on_more}
+use Rattle.ownership_checker.proofs.Words.{◌∙◌, sym, on_more}
 use Rattle.ownership_checker.proofs.RingPasses.Histories.{least_flips, least_unflipped}
 use Rattle.ownership_checker.proofs.RingPasses.Steps.{refused_too}
 use Rattle.ownership_checker.proofs.pass.ring_pass.RingPass.check_restored.Goals as goal

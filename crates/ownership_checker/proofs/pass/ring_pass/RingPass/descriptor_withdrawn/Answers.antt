@@ -1,16 +1,7 @@
-use Rattle.std.proofs.Common.{◌≡◌, ◌∙◌, ◌∷◌, false, length, refl, sym, subst}
-use Rattle.std.proofs.lemmas.Result.{err_from_is_err_and}
-use Rattle.trace_record.specs.Fresh.{IsWithin}
-use Rattle.traces.specs.declared.header.Header.{Header}
+use Rattle.ownership_checker.proofs.Words.{◌≡◌, ◌∙◌, ◌∷◌, false, length, refl, sym, subst, err_from_is_err_and, IsWithin, Header, on_ring, BadWithdraw, header_now, known_now, is_bad_withdraw, withdraws_badly, ring_lents}
 use Rattle.traces.specs.declared.trace_row.TraceRow.TheVariants.{Withdraws}
-use Rattle.ring_knowledge.specs.Rings.{on_ring}
 use Rattle.segments.specs.RingView.{Withdraws as WithdrawsAt}
 use Rattle.ownership_checker.proofs.JudgedRows.Keeping.{contexts_fit}
-use Rattle.ownership_rules.specs.declared.refusal.Refusal.TheVariants.{BadWithdraw}
-use Rattle.safety.specs.RingChanges.Histories.{header_now, known_now}
-use Rattle.safety.specs.RingChanges.Withdrawals.{is_bad_withdraw}
-use Rattle.driver_rows.specs.RingRows.Withdrawing.{withdraws_badly}
-use Rattle.leases.specs.RingLeases.RingLents.{ring_lents}
 use Rattle.leases.proofs.RingLeases.FreeRows.{withdrawn_now}
 use Rattle.ownership_checker.proofs.RingPasses.Broken.{least_stopped}
 use Rattle.ownership_checker.proofs.RingPasses.FreeLeases.{withdrawn_transfer}

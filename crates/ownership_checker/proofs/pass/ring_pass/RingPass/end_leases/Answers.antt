@@ -1,10 +1,6 @@
-use Rattle.std.proofs.Common.{◌≡◌, ◌∙◌, ◌==◌, ℕ, eqb-true, get_or, map, refl, sym, ap, subst}
-use Rattle.leases.specs.LeaseBooks.Lents.{ended_where}
+use Rattle.ownership_checker.proofs.Words.{◌≡◌, ◌∙◌, ◌==◌, ℕ, eqb-true, get_or, map, refl, sym, ap, subst, ended_where, shape_there, among_at, is_of_ring}
 use Rattle.leases.proofs.LeaseRows.RowWrites.{record_there}
 use Rattle.trace_record.proofs.RingFinder.FoundRings.{ring_here}
-use Rattle.trace_record.proofs.RingFinder.HeaderRings.{shape_there}
-use Rattle.trace_record.proofs.RingFinder.RingsApart.{among_at}
-use Rattle.leases.specs.RingLeases.RingLents.{is_of_ring}
 use Rattle.ownership_checker.proofs.RingPasses.Logged.{drives, none_drives}
 use Rattle.ownership_checker.proofs.pass.ring_pass.RingPass.end_leases.Goals as goal
 

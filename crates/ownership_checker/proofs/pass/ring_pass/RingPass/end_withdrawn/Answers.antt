@@ -1,14 +1,5 @@
-use Rattle.std.proofs.Common.{◌≤◌, ◌≡◌, ◌<◌, ◌^◌, ◌∙◌, Some, true, ap, arith, get_or, length, not, refl, subst, sym}
-use Rattle.std.proofs.lemmas.Option.{slice_get_read, slice_get_within}
-use Rattle.traces.specs.declared.ring.Ring.{Ring}
-use Rattle.traces.specs.Header.{is_transfer_kind, ring_with}
-use Rattle.segments.specs.Descriptors.{length_from}
-use Rattle.segments.specs.RingView.{Withdraws, floor_number}
-use Rattle.ring_knowledge.specs.Rings.{on_ring}
-use Rattle.ownership_rules.specs.OpenLeases.{open_leases}
-use Rattle.leases.specs.LeaseBooks.InStep.{AreOpen}
-use Rattle.leases.specs.LeaseBooks.Lents.{passed_on}
-use Rattle.driver_rows.proofs.RingRows.Lists.{read_there}
+use Rattle.ownership_checker.proofs.Words.{◌≤◌, ◌≡◌, ◌<◌, ◌^◌, ◌∙◌, Some, true, ap, arith, get_or, length, not, refl, subst, sym, slice_get_read, slice_get_within, Ring, is_transfer_kind, ring_with, length_from, floor_number, on_ring, open_leases, AreOpen, passed_on, read_there}
+use Rattle.segments.specs.RingView.{Withdraws}
 use Rattle.ownership_checker.proofs.RingPasses.FreeLeases.{count_is, found, no_room, none_high, withdrawn_held}
 use Rattle.ownership_checker.proofs.RingPasses.Logged.{transfer_drives}
 use Rattle.ownership_checker.proofs.pass.ring_pass.RingPass.end_withdrawn.Goals as goal

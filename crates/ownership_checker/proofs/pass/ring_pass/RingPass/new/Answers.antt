@@ -1,5 +1,4 @@
-use Rattle.std.proofs.Common.{subst}
-use Rattle.leases.specs.LeaseRows.CleanRows.{HoldsAll}
+use Rattle.ownership_checker.proofs.Words.{subst, HoldsAll}
 use Rattle.ownership_checker.proofs.RingPasses.Logged.{lents_first}
 use Rattle.ownership_checker.proofs.RingPasses.Steps.{before_rows}
 use Rattle.ownership_checker.proofs.pass.ring_pass.RingPass.new.Goals as goal

@@ -1,20 +1,4 @@
-use Rattle.std.proofs.Common.{◌≡◌, ◌<◌, ◌∙◌, ◌∷◌, [], false, Some, arith, ap, subst, sym}
-use Rattle.traces.specs.declared.header.Header.{Header}
-use Rattle.traces.specs.declared.row.Row.{Row}
-use Rattle.traces.specs.declared.trace_row.TraceRow.TheVariants.{Plain}
-use Rattle.segments.specs.RingView.{Restores}
-use Rattle.ring_knowledge.specs.Learned.{learned}
-use Rattle.ring_knowledge.specs.Rings.{on_ring}
-use Rattle.ownership_rules.specs.Leases.{without_end}
-use Rattle.ownership_rules.specs.OpenLeases.{open_leases}
-use Rattle.ownership_rules.specs.Rules.{lenient}
-use Rattle.leases.specs.LeaseBooks.Lents.{passed_on}
-use Rattle.leases.specs.LeaseRows.CleanRows.{HoldsAll}
-use Rattle.leases.proofs.LeaseRows.OtherRows.{on_more}
-use Rattle.trace_record.specs.RowPlaces.{IsPlaced}
-use Rattle.safety.specs.RingChanges.Histories.{header_now, known_now}
-use Rattle.safety.specs.RingChanges.Withdrawals.{restored, ring_restored}
-use Rattle.leases.specs.RingLeases.RingLents.{ring_lents}
+use Rattle.ownership_checker.proofs.Words.{◌≡◌, ◌<◌, ◌∙◌, ◌∷◌, [], false, Some, arith, ap, subst, sym, Header, Row, Plain, Restores, learned, on_ring, without_end, open_leases, lenient, passed_on, HoldsAll, on_more, IsPlaced, header_now, known_now, restored, ring_restored, ring_lents}
 use Rattle.leases.proofs.RingLeases.FreeRows.{plain_now}
 use Rattle.ownership_checker.proofs.RingPasses.FreeLeases.{none_restored, restored_transfer, runs_on}
 use Rattle.ownership_checker.proofs.RingPasses.Logged.{behind_logged, held_before, next_row, opened_before, plain_logged, rung_lents}

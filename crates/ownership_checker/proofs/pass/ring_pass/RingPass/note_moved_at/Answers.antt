@@ -1,12 +1,4 @@
-use Rattle.std.proofs.Common.{◌≡◌, ◌∙◌, ap, arith, get_or, length, lt-ltb, ltb, refl, subst, sym}
-use Rattle.std.proofs.lemmas.Bool.{false≢true}
-use Rattle.std.proofs.lemmas.Option.{slice_get_read, slice_get_within}
-use Rattle.traces.specs.declared.ring.Ring.{Ring}
-use Rattle.traces.specs.declared.row.Row.TheVariants.{Write}
-use Rattle.segments.specs.Givings.{unrestored}
-use Rattle.leases.proofs.LeaseRows.OtherRows.{on_more}
-use Rattle.driver_rows.proofs.RingRows.Lists.{read_there}
-use Rattle.leases.specs.RingLeases.Moving.{MovesRing}
+use Rattle.ownership_checker.proofs.Words.{◌≡◌, ◌∙◌, ap, arith, get_or, length, lt-ltb, ltb, refl, subst, sym, false≢true, slice_get_read, slice_get_within, Ring, Write, unrestored, on_more, read_there, MovesRing}
 use Rattle.leases.proofs.RingLeases.FoundFree.{found_moved}
 use Rattle.ownership_checker.proofs.RingPasses.FreeLeases.{moving, restored_transfer}
 use Rattle.ownership_checker.proofs.RingPasses.Logged.{transfer_drives}

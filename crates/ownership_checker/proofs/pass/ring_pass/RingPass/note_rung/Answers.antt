@@ -1,15 +1,4 @@
-use Rattle.std.proofs.Common.{◌≡◌, ◌∙◌, ℕ, Some, true, ap, arith, get_or, length, refl, subst}
-use Rattle.std.proofs.lemmas.Option.{slice_get_read, slice_get_within}
-use Rattle.traces.specs.declared.ring.Ring.{Ring}
-use Rattle.traces.specs.Header.{is_transfer_kind, ring_with}
-use Rattle.segments.specs.Givings.{unrestored}
-use Rattle.segments.specs.RingView.{Restores}
-use Rattle.ring_knowledge.specs.Rings.{on_ring}
-use Rattle.ownership_rules.specs.OpenLeases.{open_leases}
-use Rattle.leases.specs.LeaseBooks.InStep.{AreOpen}
-use Rattle.leases.specs.LeaseBooks.Lents.{passed_on}
-use Rattle.leases.proofs.LeaseRows.OtherRows.{on_more}
-use Rattle.driver_rows.proofs.RingRows.Lists.{read_there}
+use Rattle.ownership_checker.proofs.Words.{◌≡◌, ◌∙◌, ℕ, Some, true, ap, arith, get_or, length, refl, subst, slice_get_read, slice_get_within, Ring, is_transfer_kind, ring_with, unrestored, Restores, on_ring, open_leases, AreOpen, passed_on, on_more, read_there}
 use Rattle.ownership_checker.proofs.RingPasses.FreeLeases.{found, restored_held}
 use Rattle.ownership_checker.proofs.RingPasses.Logged.{transfer_drives}
 use Rattle.ownership_checker.proofs.pass.ring_pass.RingPass.note_rung.Goals as goal

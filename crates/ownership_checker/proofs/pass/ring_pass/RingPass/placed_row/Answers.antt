@@ -1,8 +1,4 @@
-use Rattle.std.proofs.Common.{length, refl}
-use Rattle.safety.specs.RingChanges.Histories.{known_now}
-use Rattle.safety.proofs.Lenient.{lenient_row}
-use Rattle.leases.proofs.LeaseRows.OtherRows.{on_both}
-use Rattle.leases.specs.RingLeases.RingLents.{ring_lents}
+use Rattle.ownership_checker.proofs.Words.{length, refl, known_now, lenient_row, on_both, ring_lents}
 use Rattle.ownership_checker.proofs.RingPasses.Logged.{held_before, next_row, plain_logged}
 use Rattle.ownership_checker.proofs.RingPasses.Histories.{known_plain}
 use Rattle.ownership_checker.proofs.RingPasses.Steps.{least_quiet, none_now, quiet_behind, refused_too}

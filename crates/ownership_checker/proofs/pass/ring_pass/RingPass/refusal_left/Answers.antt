@@ -1,8 +1,4 @@
-use Rattle.std.proofs.Common.{◌≡◌, [], subst}
-use Rattle.traces.specs.declared.header.Header.{Header}
-use Rattle.ownership_rules.specs.Rules.{broken}
-use Rattle.trace_record.specs.Steps.{IsLeast}
-use Rattle.safety.specs.RingChanges.Histories.{header_now, known_now}
+use Rattle.ownership_checker.proofs.Words.{◌≡◌, [], subst, Header, broken, IsLeast, header_now, known_now}
 use Rattle.ownership_checker.proofs.RingPasses.Histories.{least_left, only_left}
 use Rattle.ownership_checker.proofs.RingPasses.Steps.{told_of}
 use Rattle.ownership_checker.proofs.pass.ring_pass.RingPass.refusal_left.Goals as goal

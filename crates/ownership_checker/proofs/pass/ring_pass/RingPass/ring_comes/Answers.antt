@@ -1,14 +1,7 @@
-use Rattle.std.proofs.Common.{◌≡◌, ◌∙◌, false, length, refl, sym, subst}
-use Rattle.std.proofs.lemmas.Result.{err_from_is_err_and}
-use Rattle.trace_record.specs.Fresh.{IsWithin}
-use Rattle.safety.specs.RingChanges.Histories.{header_now, known_now}
-use Rattle.ownership_rules.specs.declared.refusal.Refusal.TheVariants.{BadRing}
+use Rattle.ownership_checker.proofs.Words.{◌≡◌, ◌∙◌, false, length, refl, sym, subst, err_from_is_err_and, IsWithin, header_now, known_now, BadRing, Header, IsHeader, is_bad_ring}
 use Rattle.ownership_checker.proofs.RingPasses.Broken.{least_stopped}
 use Rattle.ownership_checker.proofs.RingPasses.Steps.{comes_behind, comes_refused, coming_by_header}
 use Rattle.ownership_checker.proofs.RingPasses.Logged.{comes_logged}
-use Rattle.traces.specs.declared.header.Header.{Header}
-use Rattle.traces.specs.Header.{IsHeader}
-use Rattle.safety.specs.RingChanges.Changes.{is_bad_ring}
 use Rattle.ownership_checker.proofs.pass.ring_pass.RingPass.ring_comes.Goals as goal
 
 pub returns-then-is_stopped-clause-refused : goal.returns-then-is_stopped-clause-refused

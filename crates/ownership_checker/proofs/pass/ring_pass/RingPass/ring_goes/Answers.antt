@@ -1,18 +1,6 @@
-use Rattle.std.proofs.Common.{◌≡◌, ◌∙◌, ◌∷◌, false, arith, length, refl, sym, subst}
-use Rattle.std.proofs.lemmas.Result.{err_from_is_err_and}
-use Rattle.trace_record.specs.Fresh.{IsWithin}
-use Rattle.safety.specs.RingChanges.Histories.{header_now, known_now}
-use Rattle.ownership_rules.specs.declared.refusal.Refusal.TheVariants.{BadFree}
+use Rattle.ownership_checker.proofs.Words.{◌≡◌, ◌∙◌, ◌∷◌, false, arith, length, refl, sym, subst, err_from_is_err_and, IsWithin, header_now, known_now, BadFree, Header, Goes, AreOpen, RangeIndexes, HoldsAll, is_bad_free, without_ring, ring_lents, lent_open}
 use Rattle.ownership_checker.proofs.RingPasses.Broken.{least_stopped}
 use Rattle.ownership_checker.proofs.RingPasses.Steps.{goes_behind, goes_refused, same_still}
-use Rattle.traces.specs.declared.header.Header.{Header}
-use Rattle.traces.specs.declared.trace_row.TraceRow.TheVariants.{Goes}
-use Rattle.leases.specs.LeaseBooks.InStep.{AreOpen}
-use Rattle.leases.specs.declared.book.ranges.RangeIndexes.{RangeIndexes}
-use Rattle.leases.specs.LeaseRows.CleanRows.{HoldsAll}
-use Rattle.safety.specs.RingChanges.Changes.{is_bad_free, without_ring}
-use Rattle.leases.specs.RingLeases.RingLents.{ring_lents}
-use Rattle.leases.proofs.RingLeases.LentBehind.{lent_open}
 use Rattle.ownership_checker.proofs.RingPasses.Logged.{goes_logged, goes_transfer}
 use Rattle.ownership_checker.proofs.pass.ring_pass.RingPass.ring_goes.Goals as goal
 

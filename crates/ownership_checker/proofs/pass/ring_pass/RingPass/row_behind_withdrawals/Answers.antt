@@ -1,15 +1,4 @@
-use Rattle.std.proofs.Common.{◌≡◌, ◌∙◌, ℕ, true, false, Option, Some, length, ap, refl, subst, sym}
-use Rattle.std.proofs.lemmas.Bool.{false≢true}
-use Rattle.traces.specs.declared.header.Header.{Header}
-use Rattle.leases.proofs.LeaseRows.OtherRows.{on_both, on_more}
-use Rattle.ownership_rules.specs.Refusal.{first_of}
-use Rattle.safety.proofs.Lenient.{lenient_row}
-use Rattle.trace_record.specs.Fresh.{IsWithin}
-use Rattle.trace_record.specs.Steps.{IsRowStep}
-use Rattle.safety.specs.RingChanges.Histories.{header_now, known_now}
-use Rattle.safety.specs.RingChanges.Withdrawals.{is_left, restored, ring_restored, some_flips}
-use Rattle.driver_rows.specs.RingRows.Withdrawing.{NamesTransfer}
-use Rattle.ownership_checker.specs.RingPasses.Rules.{broken_restored}
+use Rattle.ownership_checker.proofs.Words.{◌≡◌, ◌∙◌, ℕ, true, false, Option, Some, length, ap, refl, subst, sym, false≢true, Header, on_both, on_more, first_of, lenient_row, IsWithin, IsRowStep, header_now, known_now, is_left, restored, ring_restored, some_flips, NamesTransfer, broken_restored}
 use Rattle.ownership_checker.proofs.RingPasses.FreeLeases.{names_transfer}
 use Rattle.ownership_checker.proofs.RingPasses.Histories.{least_off, least_restored}
 use Rattle.ownership_checker.proofs.RingPasses.Steps.{plain_behind, refused_too, restored_tracked, same_still, told_of}

@@ -1,6 +1,4 @@
-use Rattle.trace_record.proofs.DeviceSlots.Words.{◌+◌, ◌∙◌, ap, sym}
-use Rattle.trace_record.proofs.DeviceSlots.HolderPlaces.{passed_on, room_left, same_ring, sum_room_left}
-use Rattle.trace_record.specs.DeviceSlots.Holders.{count_of, one_of, place_of, sum_of}
+use Rattle.trace_record.proofs.Words.{◌+◌, ◌∙◌, ap, sym, passed_on, room_left, same_ring, sum_room_left, count_of, one_of, place_of, sum_of}
 use Rattle.trace_record.proofs.device_record.holders.Holders.pass_on.Goals as goal
 
 pub take-requires : goal.take-requires

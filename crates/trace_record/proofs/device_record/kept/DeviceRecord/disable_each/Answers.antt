@@ -1,6 +1,5 @@
-use Rattle.trace_record.proofs.DeviceSlots.Words.{◌≡◌, ◌==◌, ◌&&◌, arith, named_by}
-use Rattle.std.specs.Prelude.{nat_lt}
-use Rattle.trace_record.proofs.DeviceSlots.TurnedOff.{disabled_none, disabled_twice, disabled_all, one_more, none_below, all_below}
+use Rattle.trace_record.proofs.Words.{◌≡◌, ◌==◌, ◌&&◌, arith, named_by, nat_lt, disabled_none, disabled_twice, disabled_all, all_below}
+use Rattle.trace_record.proofs.DeviceSlots.TurnedOff.{one_more, none_below}
 use Rattle.trace_record.proofs.device_record.kept.DeviceRecord.disable_each.Goals as goal
 
 pub loop-index-init : goal.loop-index-init

@@ -1,5 +1,4 @@
-use Rattle.trace_record.proofs.DeviceSlots.Words.{◌≡◌, ◌∙◌, unwrap_or, ap, sym, SlotState, slot_success, changed_by, Slot}
-use Rattle.trace_record.proofs.DeviceSlots.Steps.{follows_slot_state}
+use Rattle.trace_record.proofs.Words.{◌≡◌, ◌∙◌, unwrap_or, ap, sym, SlotState, slot_success, changed_by, Slot, follows_slot_state}
 use Rattle.trace_record.proofs.device_record.kept.DeviceRecord.go_on.Goals as goal
 
 pub returns : goal.returns

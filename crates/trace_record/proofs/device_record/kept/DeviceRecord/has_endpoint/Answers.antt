@@ -1,6 +1,4 @@
-use Rattle.trace_record.proofs.DeviceSlots.Words.{◌∙◌, sym, lt-ltb, false≢true}
-use Rattle.std.proofs.Common.{ltb-true}
-use Rattle.trace_record.proofs.DeviceSlots.HolderCounts.{one_has, none_has}
+use Rattle.trace_record.proofs.Words.{◌∙◌, sym, lt-ltb, false≢true, ltb-true, one_has, none_has}
 use Rattle.trace_record.proofs.device_record.kept.DeviceRecord.has_endpoint.Goals as goal
 
 pub returns-clause-some : goal.returns-clause-some

@@ -1,7 +1,4 @@
-use Rattle.trace_record.proofs.DeviceSlots.Words.{◌≡◌, ◌∙◌, ap, sym, refl, arith, Some, eq-eqb, false≢true, Endpoint}
-use Rattle.std.specs.Prelude.{◌/◌, ◌%◌, nat_eq}
-use Rattle.std.specs.Option.{option_eq}
-use Rattle.trace_record.proofs.DeviceSlots.HolderPlaces.{its_number}
+use Rattle.trace_record.proofs.Words.{◌≡◌, ◌∙◌, ap, sym, refl, arith, Some, eq-eqb, false≢true, Endpoint, ◌/◌, ◌%◌, nat_eq, option_eq, its_number}
 use Rattle.trace_record.proofs.device_record.kept.DeviceRecord.holder.Goals as goal
 
 pub returns-then-number-clause-none : goal.returns-then-number-clause-none

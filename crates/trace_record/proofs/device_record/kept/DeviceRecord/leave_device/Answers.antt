@@ -1,5 +1,4 @@
-use Rattle.trace_record.proofs.DeviceSlots.Words.{ap, sym, changed_by, Slot}
-use Rattle.trace_record.proofs.DeviceSlots.Steps.{follows_device}
+use Rattle.trace_record.proofs.Words.{ap, sym, changed_by, Slot, follows_device}
 use Rattle.trace_record.proofs.device_record.kept.DeviceRecord.leave_device.Goals as goal
 
 pub returns : goal.returns

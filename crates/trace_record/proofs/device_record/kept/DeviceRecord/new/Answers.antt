@@ -1,9 +1,4 @@
-use Rattle.std.proofs.Common.{◌∙◌, ap, false, replicate, length, ◌*◌}
-use Rattle.std.proofs.lemmas.List.{length-replicate}
-use Rattle.trace_record.specs.DeviceSlots.Devices.{fresh_endpoint, fresh_slot}
-use Rattle.trace_record.proofs.DeviceSlots.NewRecord.{follows_nothing}
-use Rattle.trace_record.proofs.DeviceSlots.HolderCounts.{fresh_counted}
-use Rattle.trace_record.proofs.DeviceSlots.HolderPlaces.{fresh_summed}
+use Rattle.trace_record.proofs.Words.{◌∙◌, ap, false, replicate, length, ◌*◌, length-replicate, fresh_endpoint, fresh_slot, follows_nothing, fresh_counted, fresh_summed}
 use Rattle.trace_record.proofs.device_record.kept.DeviceRecord.new.Goals as goal
 
 pub returns : goal.returns

@@ -1,4 +1,4 @@
-use Rattle.trace_record.proofs.DeviceSlots.Words.{◌∙◌, ap, rung_endpoint}
+use Rattle.trace_record.proofs.Words.{◌∙◌, ap, rung_endpoint}
 use Rattle.trace_record.proofs.DeviceSlots.Bells.{follows_first, follows_beyond, follows_rung}
 use Rattle.trace_record.proofs.device_record.kept.DeviceRecord.ring_bell.Goals as goal
 

@@ -1,8 +1,4 @@
-use Rattle.trace_record.proofs.DeviceSlots.Words.{◌<◌, ◌∙◌, ◌+◌, ◌*◌, ap, sym, arith, length, Endpoint}
-use Rattle.std.proofs.Math.ListN.{length-set}
-use Rattle.trace_record.proofs.DeviceSlots.HolderCounts.{leaves, takes}
-use Rattle.trace_record.proofs.DeviceSlots.HolderPlaces.{counted_now, leaves_sum, summed_now, takes_sum}
-use Rattle.trace_record.specs.DeviceSlots.Holders.{count_of, one_of, place_of, sum_of}
+use Rattle.trace_record.proofs.Words.{◌<◌, ◌∙◌, ◌+◌, ◌*◌, ap, sym, arith, length, Endpoint, length-set, leaves, takes, counted_now, leaves_sum, summed_now, takes_sum, count_of, one_of, place_of, sum_of}
 use Rattle.trace_record.proofs.device_record.kept.DeviceRecord.set_endpoint.Goals as goal
 
 pub pass_on-requires : goal.pass_on-requires

@@ -1,5 +1,4 @@
-use Rattle.trace_record.proofs.DeviceSlots.Words.{Some, ap, sym, put, with_device, Slot}
-use Rattle.trace_record.proofs.DeviceSlots.Steps.{follows_beside, follows_device}
+use Rattle.trace_record.proofs.Words.{Some, ap, sym, put, with_device, Slot, follows_beside, follows_device}
 use Rattle.trace_record.proofs.device_record.kept.DeviceRecord.take_device.Goals as goal
 
 pub returns : goal.returns

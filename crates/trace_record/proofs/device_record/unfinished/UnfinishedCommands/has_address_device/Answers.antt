@@ -1,5 +1,4 @@
-use Rattle.std.proofs.Common.{◌∙◌, ap, nat_lt}
-use Rattle.trace_record.proofs.DeviceSlots.Addressing.{addressing_is}
+use Rattle.trace_record.proofs.Words.{◌∙◌, ap, nat_lt, addressing_is}
 use Rattle.trace_record.proofs.device_record.unfinished.UnfinishedCommands.has_address_device.Goals as goal
 
 pub returns : goal.returns

@@ -1,6 +1,4 @@
-use Rattle.trace_record.proofs.DeviceSlots.Words.{◌<◌, ◌∙◌, ap, arith, sym, is_some, nat_lt}
-use Rattle.trace_record.proofs.DeviceSlots.EndpointCounts.{read_count}
-use Rattle.trace_record.proofs.DeviceSlots.NamedCommands.{counts_named, some_named}
+use Rattle.trace_record.proofs.Words.{◌<◌, ◌∙◌, ap, arith, sym, is_some, nat_lt, read_count, counts_named, some_named}
 use Rattle.trace_record.proofs.device_record.unfinished.UnfinishedCommands.has_command.Goals as goal
 
 pub returns-then-is_some : goal.returns-then-is_some

@@ -1,6 +1,4 @@
-use Rattle.trace_record.proofs.DeviceSlots.Words.{◌<◌, ◌∙◌, ◌+◌, ◌-◌, ap, arith, kept_count}
-use Rattle.std.proofs.Math.ListN.{length-set}
-use Rattle.trace_record.proofs.DeviceSlots.EndpointCounts.{count_has, counts_set, few_counted, one_at_most, read_count, read_kept}
+use Rattle.trace_record.proofs.Words.{◌<◌, ◌∙◌, ◌+◌, ◌-◌, ap, arith, kept_count, length-set, count_has, counts_set, few_counted, one_at_most, read_count, read_kept}
 use Rattle.trace_record.proofs.device_record.unfinished.UnfinishedCommands.keep_of_endpoint.Goals as goal
 
 pub overflow_sub-index : goal.overflow_sub-index

@@ -1,5 +1,4 @@
-use Rattle.std.proofs.Common.{◌∙◌, sym}
-use Rattle.trace_record.proofs.DeviceSlots.NamedCommands.{none_shares, shared_by}
+use Rattle.trace_record.proofs.Words.{◌∙◌, sym, none_shares, shared_by}
 use Rattle.trace_record.proofs.device_record.unfinished.UnfinishedCommands.shares_slot.Goals as goal
 
 pub returns-in-None : goal.returns-in-None

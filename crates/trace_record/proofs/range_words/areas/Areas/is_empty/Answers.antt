@@ -1,5 +1,4 @@
-use Rattle.std.proofs.Common.{◌≡◌, ◌==◌, ◌∙◌, ℕ, List, [], ◌∷◌, sym, arith, length, refl, true, eqb-true}
-use Rattle.std.proofs.lemmas.List.Sorted.{length_permutation}
+use Rattle.trace_record.proofs.Words.{◌≡◌, ◌∙◌, ℕ, List, [], ◌∷◌, sym, arith, length, refl, eqb-true, length_permutation}
 use Rattle.trace_record.proofs.range_words.areas.Areas.is_empty.Goals as goal
 
 none : (xs : List ℕ) → length xs ≡ 0 → xs ≡ []

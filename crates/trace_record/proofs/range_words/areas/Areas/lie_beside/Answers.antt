@@ -1,5 +1,5 @@
-use Rattle.trace_record.proofs.RangeWords.Words.{◌≡◌, ◌-◌, ◌+◌, ◌∙◌, ◌==◌, ℕ, List, true, false, not, length, get_or, ap, sym, arith, nat_eq, nat_lt, nat_tests, list_any-IsPermutation, overlap}
-use Rattle.trace_record.proofs.RangeWords.AreaLists.{none_among, none_before, none_behind}
+use Rattle.trace_record.proofs.Words.{◌≡◌, ◌-◌, ◌+◌, ◌∙◌, ℕ, List, false, length, get_or, ap, sym, arith, nat_lt, nat_tests, list_any-IsPermutation, overlap, none_among, none_behind}
+use Rattle.trace_record.proofs.RangeWords.AreaLists.{none_before}
 use Rattle.trace_record.proofs.range_words.areas.Areas.lie_beside.Goals as goal
 
 pub returns-then-is_empty : goal.returns-then-is_empty

@@ -1,8 +1,5 @@
-use Rattle.trace_record.proofs.RangeWords.Words.{◌≡◌, ◌+◌, ◌-◌, ◌*◌, ◌/◌, ◌%◌, ◌^◌, ◌<◌, ◌≤◌, ◌&&◌, ◌∙◌, ℕ, true, refl, sym, ap, arith, rules, inl, inr, nat_le, nat_lt, cases_lt, bit_at, bits_of}
+use Rattle.trace_record.proofs.Words.{◌≡◌, ◌+◌, ◌-◌, ◌*◌, ◌/◌, ◌%◌, ◌^◌, ◌<◌, ◌≤◌, ◌&&◌, ◌∙◌, ℕ, true, refl, sym, ap, arith, rules, inl, inr, nat_le, nat_lt, cases_lt, bit_at, bits_of, none_common, some_common, marked_at, in_group, between, low_of, high_of, bit_at-zero}
 use Rattle.trace_record.proofs.RangeWords.WordTests.{any_below, none_below}
-use Rattle.trace_record.proofs.RangeWords.BitTests.{none_common, some_common}
-use Rattle.trace_record.proofs.RangeWords.MarkedWords.{marked_at, in_group, between, low_of, high_of}
-use Rattle.std.proofs.lemmas.Nat.Bits.{bit_at-zero}
 use Rattle.trace_record.proofs.range_words.soiled.SoiledWords.any_in.Goals as goal
 
 pub returns-then-is_clean : goal.returns-then-is_clean

@@ -1,5 +1,4 @@
-use Rattle.trace_record.proofs.RangeWords.Words.{◌/◌, ◌%◌, ◌∙◌, ℕ, sym, ap, not, nat_eq, nat_lt, bit_and, bit_at, bits_of}
-use Rattle.trace_record.proofs.RangeWords.BitTests.{tested_bit}
+use Rattle.trace_record.proofs.Words.{◌/◌, ◌%◌, ◌∙◌, ℕ, sym, ap, not, nat_eq, nat_lt, bit_and, bit_at, bits_of, tested_bit}
 use Rattle.trace_record.proofs.range_words.soiled.SoiledWords.is_soiled.Goals as goal
 
 pub returns : goal.returns

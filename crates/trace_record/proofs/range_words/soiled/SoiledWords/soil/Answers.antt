@@ -1,5 +1,4 @@
-use Rattle.trace_record.proofs.RangeWords.Words.{refl, bits_of}
-use Rattle.trace_record.proofs.RangeWords.MarkedWords.{soiled_more}
+use Rattle.trace_record.proofs.Words.{refl, bits_of, soiled_more}
 use Rattle.trace_record.proofs.range_words.soiled.SoiledWords.soil.Goals as goal
 
 pub loop-group-preserved : goal.loop-group-preserved

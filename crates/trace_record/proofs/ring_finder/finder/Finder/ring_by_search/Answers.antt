@@ -1,6 +1,4 @@
-use Rattle.trace_record.proofs.RingFinder.Words.{get_or, sym, ap, ◌∙◌, Ring}
-use Rattle.segments.specs.Places.{touches}
-use Rattle.trace_record.proofs.RingFinder.Starts.{nothing_before, ring_hit, ring_miss}
+use Rattle.trace_record.proofs.Words.{get_or, sym, ap, ◌∙◌, Ring, touches, nothing_before, ring_hit, ring_miss}
 use Rattle.trace_record.proofs.ring_finder.finder.Finder.ring_by_search.Goals as goal
 
 pub returns-in_default : goal.returns-in_default

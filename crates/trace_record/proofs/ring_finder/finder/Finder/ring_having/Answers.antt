@@ -1,4 +1,4 @@
-use Rattle.std.proofs.Common.{sym, ap, ◌∙◌, get_or}
+use Rattle.trace_record.proofs.Words.{sym, ap, ◌∙◌, get_or}
 use Rattle.trace_record.proofs.RingFinder.HavingRings.{elsewhere_had, here_had, nowhere_had}
 use Rattle.trace_record.proofs.ring_finder.finder.Finder.ring_having.Goals as goal
 

@@ -1,4 +1,4 @@
-use Rattle.trace_record.proofs.RingFinder.Words.{◌≡◌, ◌+◌, ◌-◌, ◌≤◌, ◌∙◌, ℕ, List, true, false, length, get_or, sym, subst, ap, arith, nat_lt, rules, IsNonDecreasingBy, IsPartitionPoint, IsPartitionPoint-from_clause, IsPartitionedBy-ltb, Start}
+use Rattle.trace_record.proofs.Words.{◌≡◌, ◌+◌, ◌-◌, ◌≤◌, ◌∙◌, ℕ, List, true, false, length, get_or, sym, subst, ap, arith, nat_lt, rules, IsNonDecreasingBy, IsPartitionPoint, IsPartitionPoint-from_clause, IsPartitionedBy-ltb, Start}
 use Rattle.trace_record.proofs.RingFinder.TouchedSegments.{no_bytes, none_before_end, last_before_end}
 use Rattle.trace_record.proofs.ring_finder.finder.Finder.touches.Goals as goal
 

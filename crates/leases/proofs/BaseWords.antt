@@ -1,0 +1,138 @@
+-- The words of std, of the crates below and of this crate's own definitions that its proofs cite, passed on by one file
+pub use Rattle.commands.specs.declared.state.EndpointState.TheVariants.{Error, Halted}
+pub use Rattle.contexts.specs.Contexts.{context_cycle, context_pointer, slot_entry}
+pub use Rattle.contexts.specs.declared.size.ContextSize.TheVariants.{Bytes32, Bytes64}
+pub use Rattle.controller_model.proofs.Words.{Data, result_ok}
+pub use Rattle.event_ring.specs.EventRing.{table_bytes}
+pub use Rattle.guest_memory.specs.Memory.{long_at}
+pub use Rattle.leases.specs.CertificateLogs.Agreement.{test_of}
+unfoldable pub use Rattle.leases.specs.CertificateLogs.Agreement.{agree, agrees, begins_as, has_words_of, is_endless}
+pub use Rattle.leases.specs.CertificateLogs.Following.{Begins, Ends, FollowsList, KnowsOpen}
+pub use Rattle.leases.specs.CertificateLogs.Logs.{FollowsCertificate}
+pub use Rattle.leases.specs.CertificateLogs.OpenPlaces.{BlockPlace, FindsPlaces, IsCrossed, IsOnly, IsOnlyAt, LinkPlace, RingPlace, has_place, is_open_of, number_at}
+pub use Rattle.leases.specs.LeaseBooks.Books.{AllUnended, HoldsLents, IsFound}
+unfoldable pub use Rattle.leases.specs.LeaseBooks.Coming.{come_to}
+unfoldable pub use Rattle.leases.specs.LeaseBooks.Endings.{ended_at, is_open_as}
+pub use Rattle.leases.specs.LeaseBooks.InStep.{AreOpen, FreeWasGiven, IsInStep}
+pub use Rattle.leases.specs.LeaseBooks.IndexTables.{index_at, index_in, index_of}
+pub use Rattle.leases.specs.LeaseBooks.Lents.{Lent, is_passed, newly_open, share_a_place}
+unfoldable pub use Rattle.leases.specs.LeaseBooks.Lents.{begun_at, ended_where, grown, in_turn, is_place_free, is_unended, lease_of, lents, passed_on, precedes, with_begun, with_leased}
+pub use Rattle.leases.specs.LeaseBooks.LettingGo.{devices_without, let_go, slot_disabled, slot_left, slot_ranges}
+unfoldable pub use Rattle.leases.specs.LeaseBooks.Opening.{segment_lease}
+pub use Rattle.leases.specs.LeaseBooks.OtherShapes.{AreShapedAlike, IsShapedAlike}
+pub use Rattle.leases.specs.LeaseBooks.Ranges.{FindsRanges, IsRangeFound, IsUseFound, StandsAt, command_place, share_a_use, shares_use}
+unfoldable pub use Rattle.leases.specs.LeaseBooks.Ranges.{is_lent, is_use_free}
+pub use Rattle.leases.specs.LeaseRows.CleanRows.{FollowsBook, HoldsAll, IsCleanRow, IsNextRow, IsOtherRow}
+pub use Rattle.leases.specs.LeaseRows.LeftBehind.{AreLent, EntriesFit, FloorsMove, IsMovedTo, IsOtherRing, MovesOn, is_behind, is_moved_past, moved_by, moved_on, moved_ring, moved_when, slot_let_go}
+pub use Rattle.leases.specs.LeaseRows.Taking.{EntryFits, SlotIsFree, command_taken, slot_taken}
+pub use Rattle.leases.specs.RingLeases.Moving.{MovesRing}
+pub use Rattle.leases.specs.RingLeases.RingLents.{is_freed, is_of_ring, is_withdrawn, open_now}
+unfoldable pub use Rattle.leases.specs.RingLeases.RingLents.{ring_lents}
+pub use Rattle.leases.specs.declared.book.indexes.IndexTables.{IndexTables}
+pub use Rattle.leases.specs.declared.book.indexes.Indexes.{Indexes}
+pub use Rattle.leases.specs.declared.book.lease_book.LeaseBook.{LeaseBook}
+pub use Rattle.leases.specs.declared.book.ranges.RangeIndexes.{RangeIndexes}
+pub use Rattle.leases.specs.declared.log.certificate_log.CertificateLog.{CertificateLog}
+pub use Rattle.leases.specs.declared.log.followed.FollowedList.{FollowedList}
+pub use Rattle.ownership_rules.proofs.Among.{among_is, both_ways, in_among, leased_is, leased_itself}
+pub use Rattle.ownership_rules.specs.Clean.{IsLenient}
+unfoldable pub use Rattle.ownership_rules.specs.Leases.{as_lease, begun, comes_before, end_from, in_order, leases, leases_from, with_ends, with_lease, without_end}
+unfoldable pub use Rattle.ownership_rules.specs.Moves.{binding_in, binds, has_repeats, ring_bound}
+unfoldable pub use Rattle.ownership_rules.specs.OnLiterals.{rules_on_literals}
+pub use Rattle.ownership_rules.specs.OpenLeases.{Block, DeviceContext, EventSegment, InputContext, Leased, Link, Range, SegmentTable, SlotEntry, Use, same_leased}
+unfoldable pub use Rattle.ownership_rules.specs.OpenLeases.{is_among}
+unfoldable pub use Rattle.ownership_rules.specs.Registers.{is_bad_register, is_written}
+unfoldable pub use Rattle.ownership_rules.specs.Rules.{lenient}
+pub use Rattle.ring_knowledge.proofs.DueNumbers.{link_of-crossed, same_due, same_due_crossing}
+pub use Rattle.ring_knowledge.proofs.Noted.{noted_past}
+pub use Rattle.ring_knowledge.proofs.Words.{Declares, FollowsRing, IsShape, Opens, Register, Segment, Usbcmd, and_from, and_parts, crossed_link, crosses, crossing_positive, crossings_of, is_crossing_due, length-map, link_address_is, link_crossed, nat_tests, new_ring, or_left, place_at-data, place_at-link, place_below, positions_of, reset_bit, run_bit, with_register}
+unfoldable pub use Rattle.ring_knowledge.proofs.Words.{register_written, valued}
+unfoldable pub use Rattle.ring_knowledge.specs.Learned.{event_read}
+pub use Rattle.ring_knowledge.specs.RingRecords.{least_crossing}
+pub use Rattle.ring_knowledge.specs.Rings.{Crossing, Given, Position}
+unfoldable pub use Rattle.ring_knowledge.specs.Rings.{spot_on}
+unfoldable pub use Rattle.ring_knowledge.specs.Transfers.{broken_off, passed, stopped_at, transfer_read, transferred, transferred_at}
+unfoldable pub use Rattle.ring_knowledge.specs.Writes.{device_named, no_device}
+pub use Rattle.ring_knowledge.specs.declared.lease.Lease.{Lease}
+pub use Rattle.ring_knowledge.specs.declared.ring_record.RingGiving.{RingGiving}
+pub use Rattle.safety.proofs.AreaFacts.{area_parts}
+pub use Rattle.safety.proofs.CleanRows.{EventFacts, event_facts, register_facts}
+pub use Rattle.safety.proofs.CommandRing.{due_has_ring}
+pub use Rattle.safety.proofs.DeviceFrames.{entry_same}
+pub use Rattle.safety.proofs.DevicesWritten.{and_then_parts, contains_first, written_devices}
+pub use Rattle.safety.proofs.DriverHistories.{driver_keeps}
+pub use Rattle.safety.proofs.DriverRings.{rings_of}
+pub use Rattle.safety.proofs.DriverRows.{ring_elsewhere}
+pub use Rattle.safety.proofs.EndpointPut.{at_number}
+pub use Rattle.safety.proofs.EventBehind.{event_behind}
+pub use Rattle.safety.proofs.FinishDequeue.{may_move}
+pub use Rattle.safety.proofs.FloorsGrow.{floors_grow, may_change}
+pub use Rattle.safety.proofs.Headers.{ring_shape, transfer_driver, transfer_not_command}
+pub use Rattle.safety.proofs.KeptClean.{taking}
+pub use Rattle.safety.proofs.KeptRegisters.{registered}
+pub use Rattle.safety.proofs.KeptRings.{CompletionFacts, completion_facts, next_at_floor, still_of}
+pub use Rattle.safety.proofs.NothingFree.{nothing_free}
+pub use Rattle.safety.proofs.OtherRingsWritten.{not_in_both}
+pub use Rattle.safety.proofs.Placings.{Ready, ReadyAt, address_ready, all_ready, dropped, map_map, ready_next, ring_at}
+pub use Rattle.safety.proofs.RingChanges.ListedRings.{none_found}
+pub use Rattle.safety.proofs.RingChanges.OtherRings.{OtherRings}
+pub use Rattle.safety.proofs.RingChanges.RingRuns.{bad_same, f_keeps, fresh, no_ring}
+pub use Rattle.safety.proofs.RingChanges.Squares.{cleared, cleared_apart}
+pub use Rattle.safety.proofs.RingIds.{having_transfer}
+pub use Rattle.safety.proofs.RowFrames.{bell_leaves, declaration_leaves, register_leaves, write_leaves}
+pub use Rattle.safety.proofs.SafeContext.{command_is_ring}
+pub use Rattle.safety.proofs.SameDriver.{SameDriver, event_same, view_after}
+pub use Rattle.safety.proofs.StandingTargets.{target_here, target_placed}
+pub use Rattle.safety.proofs.TestsPassed.{any_of_map, clean_tests, each_fails}
+pub use Rattle.safety.proofs.Words.{AddressDevice, All-head, All-tail, Bell, BlockKind, Change, Cmd, Command, CommandCompletion, Config, ConfigureEndpoint, ContextSize, DeviceLeft, DisableSlot, Disables, DriverKeeps, EnableSlot, EndpointState, Erstba, EvaluateContext, Evt, Header, Holds, IsDriverRing, IsHeader, IsIn, Known, MayChangeAll, NoOp, Places, Reaches, Read, Reg, ResetDevice, ResetEndpoint, Resets, Ring, RingChange, RingKind, RingSpot, RingView, Row, SetTrDequeue, Shape, SlotGoesOn, Spot, StopEndpoint, Stopped, Stops, Sub, TransferEvent, Write, Writes, Xfer, address_inside, address_of, after, cases_Bool, cases_eq, changed, code, command_of, cond-false, cond_both, device_context_bytes, drop_all, false≢true, flat_map, floor_number, from_filter, fun_ext, gives, gives_crossing, gives_crossing_is, gives_is, in_filter, input_context_bytes, is_above_control, is_command_completion, is_command_kind, is_crossing, is_driver_kind, is_dropped, is_inside, is_off, is_ring, is_stopping, is_success, is_transfer_event, is_transfer_kind, kind, link_address, link_address_inside, list_any, list_any-append, named_context, none-some, number, or_parts, place_count, placed_by_context, position_given_is, put, range_with_len, register_or_zero, ring_with, same_Some, shape_or, slice_get_within, slot, target_ahead}
+unfoldable pub use Rattle.safety.proofs.Words.{added_endpoints, bound_to, ceiling, changed_by, changed_by_all, changes, command_at, command_given, command_id, command_ring, completed, context_ranges, crossings_given, device_ranges, disabled, driver_rings, due_positions, entry_of, entry_ranges, event_at, finished, given_by, given_of, held_at_ceiling, in_state, known, learned, moved, moved_to, next_command, nothing, on_ring, open_leases, open_on, open_ranges, pointed, positions_given, range_of_command, range_of_context, range_of_device, range_of_entry, ring_having, segment_ranges, set_to, shape_of, slots, stop_ended, succeeded, table_range, taken_device, target, unfinished_positions, with_device, with_word, written}
+pub use Rattle.safety.proofs.WriteBeside.{rules_of}
+pub use Rattle.safety.proofs.WrittenKnown.{after_write, taken, written_device, written_device_none}
+pub use Rattle.safety.specs.Keeps.{IsTransferRing}
+pub use Rattle.safety.specs.Placings.{StillHolds}
+pub use Rattle.safety.specs.RingChanges.Changes.{IsComing}
+unfoldable pub use Rattle.safety.specs.RingChanges.Changes.{forgotten, is_bad_free, is_bad_ring, with_ring, without_ring}
+pub use Rattle.safety.specs.RingChanges.Histories.{header_now, known_now}
+pub use Rattle.safety.specs.RingChanges.Withdrawals.{restored}
+unfoldable pub use Rattle.safety.specs.RingChanges.Withdrawals.{restored_on, ring_moved, ring_restored}
+pub use Rattle.segments.proofs.Giving.{Gives, GivesCrossing, due_is}
+pub use Rattle.segments.proofs.InsideLemmas.{touches-word}
+pub use Rattle.segments.proofs.Named.{ceiling_within, named_ahead}
+pub use Rattle.segments.proofs.OneGiving.{gives_one}
+pub use Rattle.segments.proofs.PlaceAtLemmas.{is_inside-place_at}
+pub use Rattle.segments.proofs.ReachedSpots.{number-after}
+pub use Rattle.segments.proofs.Reaching.{floor_given, given_count_declared}
+pub use Rattle.segments.proofs.Search.{cases_option}
+pub use Rattle.segments.proofs.SpotOrder.{data_not_link}
+pub use Rattle.segments.proofs.Words.{IsRestored, Restores, RingKeeps, Withdraws, cycle_of, is_due, is_handed_over, is_in, not-true, option_map, or_cases, pointer, position_or_len, take_more, touches}
+unfoldable pub use Rattle.segments.proofs.Words.{due_crossings, leased_crossings, leased_positions, length_from, link_of, named, unrestored}
+pub use Rattle.std.proofs.Common.{All, Bool, Err, List, None, Ok, OnOk, Option, Result, Some, [], ap, append-nil, append_assoc, arith, cond, drop, drop-cons, eq-eqb, eqb-true, false, filter, get_or, if◌then◌else◌, inl, inr, insert, is_some, le-leb, leb-true, length, lt-ltb, ltb-false, ltb-true, map, max, nat_le, nat_lt, ne_eqb, not, option_and_then, refl, rules, reverse, slice_get, slice_set, subst, suc, sym, take, take_all, true, unwrap_or, vec_len, zero, ℕ, ◌%◌, ◌&&◌, ◌*◌, ◌++◌, ◌+◌, ◌-◌, ◌/◌, ◌<◌, ◌==◌, ◌^◌, ◌||◌, ◌↔◌, ◌∙◌, ◌∷◌, ◌≡◌, ◌≢◌, ◌≤◌, ◌⊎◌}
+pub use Rattle.std.proofs.lemmas.Bool.{eqb-false, or_from}
+pub use Rattle.std.proofs.lemmas.List.{get_or-map}
+pub use Rattle.std.proofs.lemmas.List.Elements.{filter-append}
+pub use Rattle.std.proofs.lemmas.Option.{slice_get_cases}
+pub use Rattle.std.specs.List.{position}
+pub use Rattle.std.specs.Option.{option_copied}
+pub use Rattle.std.specs.Result.{IfOk}
+pub use Rattle.trace_record.proofs.RingFinder.CommandRings.{command_id_is, commands_among, driven}
+pub use Rattle.trace_record.proofs.RingFinder.FoundRings.{command_found, no_command_ring, ring_here}
+pub use Rattle.trace_record.proofs.RingFinder.HeaderRings.{all_from_one, event_here, not_found, nothing_from, ring_found, shape_allowed}
+pub use Rattle.trace_record.proofs.RingFinder.ListTests.{and_false, and_left, and_right, any_append, false_unless, filter_nothing, or_false}
+pub use Rattle.trace_record.proofs.RingFinder.RingsApart.{each_among, same_number, same_or_apart}
+pub use Rattle.trace_record.proofs.Words.{Apart, FollowsTrace, IsAmong, RingRecord, among_at, find_some, none_here, shape_there, slice_get_read, together}
+pub use Rattle.trace_record.specs.Premises.{EndpointRings}
+pub use Rattle.trace_record.specs.RowPlaces.{IsGivenBy, IsPlaced, IsPlacedSo}
+pub use Rattle.trace_record.specs.declared.row_place.RowPlace.{RowPlace}
+pub use Rattle.trace_record.specs.declared.trace_record.TraceRecord.{TraceRecord}
+pub use Rattle.traces.specs.Header.{is_event_kind}
+unfoldable pub use Rattle.traces.specs.Header.{event_ring, event_shape}
+pub use Rattle.traces.specs.Register.{base_address}
+pub use Rattle.traces.specs.declared.register.Register.TheVariants.{Crcr, Dcbaap, Dnctrl, Erdp, Erstsz, Iman, Imod, Usbsts}
+pub use Rattle.traces.specs.declared.trace_row.TraceRow.{TraceRow}
+pub use Rattle.traces.specs.declared.trace_row.TraceRow.TheVariants.{Comes, Goes, Plain}
+pub use Rattle.traces.specs.declared.version.Version.TheVariants.{Three}
+pub use Rattle.trb.specs.Block.{endpoint}
+pub use Rattle.trb.specs.CompletionCode.{is_halting, is_trb_error}
+pub use Rattle.trb.specs.declared.block.Block.{Block as Trb}
+pub use Rattle.trb.specs.declared.fault.Fault.{Fault}
+pub use mathlib.Core.List.{reverse_aux}

@@ -1,0 +1,21 @@
+use Rattle.ownership_checker.proofs.Words.{known_now, on_more}
+use Rattle.ownership_checker.proofs.RingPasses.Steps.{refused_too}
+use Rattle.ownership_checker.proofs.pass.ring_pass.RingPass.completion_row.Goals as goal
+
+pub returns-clause-passed : goal.returns-clause-passed
+returns-clause-passed g c =
+    let words = g.M.WordMemory.words in
+    let before = c.args.self.now in
+    on_more c.placed_row.result (λ ok h past p. ok h past p (c.place-place.ensures (known_now h past) (words before.memory) p.tracked.follows)) c.placed_row.ensures.passed
+
+pub returns-clause-logged : goal.returns-clause-logged
+returns-clause-logged g c =
+    let words = g.M.WordMemory.words in
+    let before = c.args.self.now in
+    on_more c.placed_row.result (λ ok list h first past p. ok list h first past p (c.place-place.ensures (known_now h past) (words before.memory) p.tracked.follows)) c.placed_row.ensures.logged
+
+pub returns-clause-refused : goal.returns-clause-refused
+returns-clause-refused g c =
+    let words = g.M.WordMemory.words in
+    let before = c.args.self.now in
+    refused_too c.placed_row.result _ _ (λ r least h past p. least h past p (c.place-place.ensures (known_now h past) (words before.memory) p.tracked.follows)) c.placed_row.ensures.refused
