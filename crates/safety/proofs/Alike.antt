@@ -48,14 +48,10 @@ module _ (shape : Shape) (v w : RingView) (a : RingAlike v w) where
   below_more (Data p) below = lt-ltb p (ceiling shape w) (omega (arith, ltb-true p (ceiling shape v) below, ceiling_more))
   below_more (Link q) below = below
 
-  way_more : (q : ℕ) → is_way_given shape v q ≡ true → is_way_given shape w q ≡ true
-  unfolding is_way_given
-  way_more q given = search (rules, or_cases, or_left, or_right)
-
   pub stop_more : (t : Spot) → is_stop_spot shape v t ≡ true → is_stop_spot shape w t ≡ true
-  unfolding is_stop_spot
-  stop_more (Data p) stops = search (rules, or_cases, nat_lt, or_left, lt-ltb, ltb-true, count_more, and_parts, eqb-true, or_right, and_from, eq-eqb, way_more, le-leb, leb-true)
-  stop_more (Link q) stops = search (rules, or_cases, nat_lt, or_left, lt-ltb, ltb-true, count_more, and_parts, eqb-true, or_right, and_from, eq-eqb, way_more, le-leb, leb-true)
+  unfolding is_stop_spot is_way_given
+  stop_more (Data p) stops = search (rules, or_cases, nat_lt, or_left, lt-ltb, ltb-true, count_more, and_parts, eqb-true, or_right, and_from, eq-eqb, le-leb, leb-true)
+  stop_more (Link q) stops = search (rules, or_cases, nat_lt, or_left, lt-ltb, ltb-true, count_more, and_parts, eqb-true, or_right, and_from, eq-eqb, le-leb, leb-true)
 
   pub stopped_more : (t : Spot) → stopped_number shape v t ≤ stopped_number shape w t
   unfolding stopped_number
@@ -85,13 +81,10 @@ module _ (h : Header) (P : ℕ → Type 0) (k l : Known) (a : Alike P k l) where
             (subst (λ v. RingAlike (k.ring q) v) (sym (ring_elsewhere h l r q d other)) (a.rings q))
       ]
 
-  pub on_ring_alike : (r : ℕ) (c d : RingChange) → RingAlike (changed (shape_of h r) (k.ring r) c) (changed (shape_of h r) (l.ring r) d) →
-      Alike P (on_ring h k r c) (on_ring h l r d)
-  unfolding on_ring
-  on_ring_alike r c d here = search (rules, on_ring_rings)
-
   pub reached_alike : (r : ℕ) (t : Spot) → Alike P (on_ring h k r (Reaches t)) (on_ring h l r (Reaches t))
-  reached_alike r t = on_ring_alike r (Reaches t) (Reaches t) (reaches_alike (shape_of h r) (k.ring r) (l.ring r) (a.rings r) t)
+  unfolding on_ring
+  reached_alike r t = search (rules, on_ring_rings)
 
   pub held_alike : (r m n : ℕ) → m ≤ n → Alike P (on_ring h k r (Holds m)) (on_ring h l r (Holds n))
-  held_alike r m n more = on_ring_alike r (Holds m) (Holds n) (holds_alike (shape_of h r) (k.ring r) (l.ring r) (a.rings r) m n more)
+  unfolding on_ring
+  held_alike r m n more = search (rules, on_ring_rings)

@@ -1,5 +1,5 @@
 -- What the success of a command changes, at two knowledges that are alike: it leaves both alike
-use Rattle.safety.proofs.Words.{◌≡◌, ◌==◌, ◌&&◌, if◌then◌else◌, ◌∷◌, ℕ, Bool, true, false, List, [], Option, None, Some, arith, refl, sym, ap, subst, put, put_pair, Spot, number, Reaches, ceiling, target, Command, EndpointState, Off, Stopped, is_off, Change, SlotGoesOn, DeviceLeft, Disables, Places, Stops, Resets, slot_gone_on, Header, shape_of, ring_having, Known, on_ring, set_to, bound_to, moved_to, moved, pointed, disabled, in_state, held_at_ceiling, changed_by, changed_by_all}
+use Rattle.safety.proofs.Words.{[], ◌≡◌, if◌then◌else◌, ◌∷◌, ℕ, Bool, true, false, List, Option, None, Some, arith, refl, sym, subst, put, put_pair, Spot, number, Reaches, ceiling, target, Command, EndpointState, Stopped, is_off, Change, SlotGoesOn, DeviceLeft, Disables, Places, Stops, Resets, slot_gone_on, Header, shape_of, ring_having, Known, on_ring, set_to, bound_to, moved_to, moved, pointed, disabled, in_state, held_at_ceiling, changed_by, changed_by_all, rules}
 use Rattle.safety.proofs.Alike.{Alike, ceiling_more, reached_alike, held_alike}
 use Rattle.safety.proofs.AlikeTransfers.{state_put, move_put}
 
@@ -26,30 +26,15 @@ module _ (h : Header) where
   TargetsAre c k l (change ∷ rest) = TargetIs k l change × TargetsAre c (changed_by h c k change) (changed_by h c l change) rest
 
   module _ (P : ℕ → Type 0) where
-    set_alike : (k l : Known) → Alike P k l → (r : ℕ) (t : Spot) → Alike P (set_to h k r t) (set_to h l r t)
-    unfolding set_to
-    set_alike k l a r t =
-        held_alike h P (on_ring h k r (Reaches t)) (on_ring h l r (Reaches t)) (reached_alike h P k l a r t) r (number t) (number t) (omega arith)
-
     bound_with : (m n : Known) → Alike P m n → (s i r : ℕ) (f g : ℕ → ℕ → Option ℕ) (x y : ℕ → Bool) → g ≡ f → y ≡ x →
         Alike P (let u : Known = record m { ring_of = put_pair f s i (Some r); was_bound = put x r true } in u)
         (let v : Known = record n { ring_of = put_pair g s i (Some r); was_bound = put y r true } in v)
-    bound_with m n a s i r f g x y one two =
-        record {
-          rings = a.rings;
-          was_bound = ap (λ b. put b r true) two;
-          slot_state = a.slot_state;
-          endpoint_state = a.endpoint_state;
-          ring_of = ap (λ b. put_pair b s i (Some r)) one;
-          must_move = a.must_move;
-          stop_seen = a.stop_seen;
-          device = a.device;
-        }
+    bound_with m n a s i r f g x y one two = search (rules, put, put_pair)
 
     target_alike : (k l : Known) → Alike P k l → (r : ℕ) (o : Option Spot) → Alike P (moved_to h k r o) (moved_to h l r o)
-    unfolding moved_to
+    unfolding moved_to set_to
     target_alike k l a r None = a
-    target_alike k l a r (Some t) = set_alike k l a r t
+    target_alike k l a r (Some t) = held_alike h P (on_ring h k r (Reaches t)) (on_ring h l r (Reaches t)) (reached_alike h P k l a r t) r (number t) (number t) (omega arith)
 
     moved_alike : (k l : Known) → Alike P k l → (o : Option ℕ) (p : ℕ) (cycle : Bool) →
         ((r : ℕ) → o ≡ Some r → target (shape_of h r) (l.ring r) p cycle ≡ target (shape_of h r) (k.ring r) p cycle) → Alike P (moved h k o p cycle) (moved h l o p cycle)
@@ -84,39 +69,9 @@ module _ (h : Header) where
 
     pub change_alike : (c : Command) (k l : Known) → Alike P k l → (change : Change) → TargetIs k l change → Alike P (changed_by h c k change) (changed_by h c l change)
     unfolding changed_by disabled in_state
-    change_alike c k l a (SlotGoesOn s) same =
-        record {
-          rings = a.rings;
-          was_bound = a.was_bound;
-          slot_state = ap (λ f. slot_gone_on c f s) a.slot_state;
-          endpoint_state = a.endpoint_state;
-          ring_of = a.ring_of;
-          must_move = a.must_move;
-          stop_seen = a.stop_seen;
-          device = a.device;
-        }
-    change_alike c k l a (DeviceLeft s) same =
-        record {
-          rings = a.rings;
-          was_bound = a.was_bound;
-          slot_state = a.slot_state;
-          endpoint_state = a.endpoint_state;
-          ring_of = a.ring_of;
-          must_move = a.must_move;
-          stop_seen = a.stop_seen;
-          device = λ t p. ap (λ d. if t == s then None else d) (a.device t p);
-        }
-    change_alike c k l a (Disables s which) same =
-        record {
-          rings = a.rings;
-          was_bound = a.was_bound;
-          slot_state = a.slot_state;
-          endpoint_state = ap {B = ℕ → ℕ → EndpointState} (λ (f : ℕ → ℕ → EndpointState) (t i : ℕ). if t == s && which i then Off else f t i) a.endpoint_state;
-          ring_of = ap {B = ℕ → ℕ → Option ℕ} (λ (f : ℕ → ℕ → Option ℕ) (t i : ℕ). if t == s && which i then None else f t i) a.ring_of;
-          must_move = a.must_move;
-          stop_seen = a.stop_seen;
-          device = a.device;
-        }
+    change_alike c k l a (SlotGoesOn s) same = search (rules, slot_gone_on)
+    change_alike c k l a (DeviceLeft s) same = search rules
+    change_alike c k l a (Disables s which) same = search rules
     change_alike c k l a (Places s i p cycle state) same =
         let x : Known = pointed h k s i p cycle in
         let y : Known = pointed h l s i p cycle in

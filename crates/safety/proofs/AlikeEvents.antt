@@ -1,10 +1,74 @@
 -- An event that may be read at one of two knowledges that are alike: it may be read at the other, and leaves both alike
-use Rattle.safety.proofs.Words.{◌≡◌, ◌-◌, ◌≤◌, ◌==◌, ◌&&◌, ◌||◌, ◌∙◌, ℕ, false, not, [], Some, refl, ap, le-ltb, ltb-false, rules, or_parts, or_from, not-false, Block, BlockKind, TransferEvent, CommandCompletion, kind, cycle, is_event, is_transfer_event, Spot, cycle_of, named, Header, Read, Config, shape_of, event_shape, register_or_zero, Known, event_read, learned, is_in_profile, is_impossible_by_kind, is_past_room, is_impossible, event_tests, lenient_tests, lenient}
-use Rattle.safety.proofs.TestsPassed.{AllFail, clean_tests, tests_fail}
-use Rattle.safety.proofs.EventRead.{event_broken}
-use Rattle.safety.proofs.Alike.{Alike}
-use Rattle.safety.proofs.AlikeTransfers.{transfer_alike}
-use Rattle.safety.proofs.AlikeCompletions.{CommandAlike, stopping_alike, completion_alike}
+use Rattle.safety.proofs.Words.{[], ◌≡◌, ◌≤◌, ◌==◌, ◌&&◌, ℕ, false, not, Some, refl, ap, rules, or_parts, or_from, not-false, Block, BlockKind, TransferEvent, CommandCompletion, kind, is_transfer_event, Spot, named, Header, Read, Config, shape_of, register_or_zero, Known, event_read, learned, is_in_profile, is_impossible_by_kind, lenient, if◌then◌else◌, true, List, Option, None, arith, sym, subst, ltb-true, lt-ltb, false≢true, and_parts, and_from, not_from_true, code, slot, number, after, Reaches, ceiling, cases_option, Command, StopEndpoint, Change, changes, command_id, on_ring, command_at, next_command, changed_by_all, succeeded, stop_ended, finished, completed, was_stop_seen, can_finish, may_be_taken, is_stopping_now, is_impossible_completion}
+use Rattle.safety.proofs.LowerLaws.{EventFacts, event_facts, event_still, Alike, ceiling_more, reached_alike}
+use Rattle.safety.proofs.AlikeTransfers.{transfer_alike, both_sides, seen_put}
+use Rattle.safety.proofs.AlikeChanges.{TargetsAre, changes_alike}
+
+-- A Command Completion Event that is possible at one of two knowledges that are alike: it is possible at the other, and leaves both alike
+
+-- the next command, where it may be finished, is the same and does the same
+pub record CommandAlike (h : Header) (k l : Known) : Type 0 where
+  pub command : (c : Command) → may_be_taken h k ≡ true → command_at h k (next_command h k) ≡ Some c → command_at h l (next_command h k) ≡ Some c
+  pub does : (n : ℕ) (c : Command) → may_be_taken h k ≡ true → command_at h k (next_command h k) ≡ Some c →
+      changes h.context_size l.memory n c ≡ changes h.context_size k.memory n c
+  pub targets : (n : ℕ) (c : Command) → may_be_taken h k ≡ true → command_at h k (next_command h k) ≡ Some c → TargetsAre h c k l (changes h.context_size k.memory n c)
+
+module _ (h : Header) (P : ℕ → Type 0) (k l : Known) (a : Alike P k l) where
+  pub next_alike : next_command h l ≡ next_command h k
+  unfolding next_command
+  next_alike = ap number (a.rings (command_id h)).floor
+
+  pub taken_alike : may_be_taken h k ≡ true → may_be_taken h l ≡ true
+  unfolding may_be_taken
+  taken_alike may =
+      let r : ℕ = command_id h in
+      lt-ltb (next_command h l) (ceiling (shape_of h r) (l.ring r))
+      (omega (arith, next_alike, ltb-true (next_command h k) (ceiling (shape_of h r) (k.ring r)) may, ceiling_more (shape_of h r) (k.ring r) (l.ring r) (a.rings r)))
+
+  seen_alike : (c : Command) → was_stop_seen l c ≡ was_stop_seen k c
+  unfolding was_stop_seen
+  seen_alike (StopEndpoint s i) = ap (λ f. f s i) a.stop_seen
+  seen_alike _ = refl
+
+  stop_alike : (m n : Known) → Alike P m n → (c : Command) → Alike P (stop_ended h m c) (stop_ended h n c)
+  unfolding stop_ended
+  stop_alike m n b (StopEndpoint s i) = seen_put P m n s i false b
+  stop_alike m n b _ = b
+
+  module _ (same : CommandAlike h k l) where
+    pub stopping_alike : (s i : ℕ) → is_stopping_now h k s i ≡ true → is_stopping_now h l s i ≡ true
+    unfolding is_stopping_now
+    stopping_alike s i stopping = search (rules, and_parts, cases_option, false≢true, and_from, taken_alike, next_alike)
+
+    finish_alike : (b : Block) (c : Command) → may_be_taken h k ≡ true → command_at h k (next_command h k) ≡ Some c → Alike P (finished h k b (Some c)) (finished h l b (Some c))
+    unfolding finished succeeded
+    finish_alike b c may at =
+        let mine : List Change = changes h.context_size k.memory (slot b) c in
+        let theirs : List Change = changes h.context_size l.memory (slot b) c in
+        let success : Alike P (changed_by_all h c k mine) (changed_by_all h c l theirs) =
+        subst (λ x. Alike P (changed_by_all h c k mine) (changed_by_all h c l x)) (sym (same.does (slot b) c may at)) (changes_alike h P c k l a mine (same.targets (slot b) c may at)) in
+        stop_alike (if code b == 1 then changed_by_all h c k mine else k) (if code b == 1 then changed_by_all h c l theirs else l)
+        (both_sides (Alike P) (code b == 1) (changed_by_all h c k mine) k (changed_by_all h c l theirs) l success a) c
+
+    completed_alike : (b : Block) (c : Command) → may_be_taken h k ≡ true → command_at h k (next_command h k) ≡ Some c → Alike P (completed h k b) (completed h l b)
+    unfolding completed
+    completed_alike b c may at =
+        let r : ℕ = command_id h in
+        let after_is : ℕ → Spot = λ n. after (shape_of h r) n in
+        subst (λ n. Alike P (completed h k b) (on_ring h (finished h l b (command_at h l n)) r (Reaches (after_is n)))) (sym next_alike)
+        (subst (λ o. Alike P (completed h k b) (on_ring h (finished h l b o) r (Reaches (after_is (next_command h k))))) (sym (same.command c may at))
+        (subst (λ o. Alike P (on_ring h (finished h k b o) r (Reaches (after_is (next_command h k)))) (on_ring h (finished h l b (Some c)) r (Reaches (after_is (next_command h k))))) (sym at)
+        (reached_alike h P (finished h k b (Some c)) (finished h l b (Some c)) (finish_alike b c may at) r (after_is (next_command h k)))))
+
+    module _ (config : register_or_zero l.register Config ≡ register_or_zero k.register Config) where
+      can_alike : (b : Block) → (o : Option Command) → command_at h k (next_command h k) ≡ o → can_finish k b o ≡ true → (c : Command) × (command_at h k (next_command h k) ≡ Some c) × (can_finish l b (Some c) ≡ true)
+      unfolding can_finish
+      can_alike b None at can = absurd (false≢true can)
+      can_alike b (Some c) at can = (c, at, search (rules, and_parts, and_from, seen_alike))
+
+      pub completion_alike : (b : Block) → is_impossible_completion h k b ≡ false → (is_impossible_completion h l b ≡ false) × Alike P (completed h k b) (completed h l b)
+      unfolding is_impossible_completion
+      completion_alike b possible = search (rules, or_parts, not-false, can_alike, next_alike, or_from, not_from_true, taken_alike, completed_alike)
 
 -- what else an event reads is alike
 pub record EventAlike (h : Header) (k l : Known) : Type 0 where
@@ -28,35 +92,13 @@ module _ (h : Header) (P : ℕ → Type 0) (k l : Known) (a : Alike P k l) (x : 
   kind_alike b CommandCompletion possible inside = completion_alike h P k l a x.command x.config b possible
   kind_alike b _ possible inside = (refl, a)
 
-  room_alike : is_past_room h k ≡ false → is_past_room h l ≡ false
-  unfolding is_past_room
-  room_alike room = search (rules, ltb-false, le-ltb)
-
   pub read_alike : (e : Block) → lenient h k (Read e) ≡ [] → ReadAlike h P k l e
-  unfolding lenient_tests event_tests is_impossible learned
+  unfolding learned
   read_alike b clean =
-      let fails : AllFail (event_tests h k b) = tests_fail h k (Read b) clean in
-      let four = or_parts (not k.started || is_past_room h k || not (cycle b == cycle_of (event_shape h) k.reads) || not (is_event (kind b))) (is_impossible_by_kind h k (kind b) b) fails.0 in
-      let three = or_parts (not k.started || is_past_room h k || not (cycle b == cycle_of (event_shape h) k.reads)) (not (is_event (kind b))) four.0 in
-      let two = or_parts (not k.started || is_past_room h k) (not (cycle b == cycle_of (event_shape h) k.reads)) three.0 in
-      let one = or_parts (not k.started) (is_past_room h k) two.0 in
-      let here = kind_alike b (kind b) four.1 fails.1.0 in
+      let f : EventFacts h k b = event_facts h k b clean in
+      let here = kind_alike b (kind b) f.possible f.inside in
       let y = here.1 in
       record {
-        possible = event_broken h l b (x.stopped ∙ (clean_tests h k (Read b) clean).0)
-            (or_from (not l.started || is_past_room h l || not (cycle b == cycle_of (event_shape h) l.reads) || not (is_event (kind b))) (is_impossible_by_kind h l (kind b) b)
-            (or_from (not l.started || is_past_room h l || not (cycle b == cycle_of (event_shape h) l.reads)) (not (is_event (kind b)))
-            (or_from (not l.started || is_past_room h l) (not (cycle b == cycle_of (event_shape h) l.reads))
-            (or_from (not l.started) (is_past_room h l) (ap not x.started ∙ one.0) (room_alike one.1))
-            (ap (λ n. not (cycle b == cycle_of (event_shape h) n)) x.reads ∙ two.1)) three.1) here.0) fails.1.0;
-        after = record {
-          rings = y.rings;
-          was_bound = y.was_bound;
-          slot_state = y.slot_state;
-          endpoint_state = y.endpoint_state;
-          ring_of = y.ring_of;
-          must_move = y.must_move;
-          stop_seen = y.stop_seen;
-          device = y.device;
-        };
+        possible = event_still h k l b x.started x.stopped x.reads x.room clean here.0;
+        after = search (rules, y);
       }

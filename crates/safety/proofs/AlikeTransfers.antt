@@ -48,10 +48,6 @@ module _ (h : Header) (P : ℕ → Type 0) (k l : Known) (a : Alike P k l) where
       let held : Alike P x y = held_alike h P k l a r m n (stopped_more (shape_of h r) (k.ring r) (l.ring r) (a.rings r) t) in
       seen_put P (on_ring h x r (Reaches t)) (on_ring h y r (Reaches t)) s i true (reached_alike h P x y held r t)
 
-  pub transferred_alike : (c s i r : ℕ) (t : Spot) → Alike P (transferred h k c s i r t) (transferred h l c s i r t)
-  unfolding transferred
-  transferred_alike c s i r t = search (rules, both_sides, passed_alike, move_put, broken_alike, stopped_alike)
-
   -- ---- what is possible
 
   working_alike : (s i r : ℕ) → is_working k s i r ≡ true → is_working l s i r ≡ true
@@ -68,13 +64,13 @@ module _ (h : Header) (P : ℕ → Type 0) (k l : Known) (a : Alike P k l) where
 
     report_at : (b : Block) (o p : Option RingSpot) → ((at : RingSpot) → o ≡ Some at → p ≡ Some at) → can_report_at h k b o ≡ true →
         (can_report_at h l b p ≡ true) × Alike P (transferred_at h k b o) (transferred_at h l b p)
-    unfolding can_report_at transferred_at
+    unfolding can_report_at transferred_at transferred
     report_at b None p same can = absurd (false≢true can)
     report_at b (Some at) p same can =
         let e : p ≡ Some at = same at refl in (
           ap (λ x. can_report_at h l b x) e ∙ report_alike (code b) (slot b) (endpoint b) at.ring at.spot can,
           subst (λ x. Alike P (transferred h k (code b) (slot b) (endpoint b) at.ring at.spot) (transferred_at h l b x)) (sym e)
-              (transferred_alike (code b) (slot b) (endpoint b) at.ring at.spot),
+              (search (rules, both_sides, passed_alike, move_put, broken_alike, stopped_alike)),
         )
 
     -- each spot that is named on an endpoint's ring is so at the other too

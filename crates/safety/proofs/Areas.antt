@@ -32,8 +32,7 @@ bad_context_parts h k n none = search (rules, or_parts)
 pub bad_command_context : (h : Header) (k : Known) (c : Command) → is_bad_command h k c ≡ false → has_bad_context h k (named_context c) ≡ false
 unfolding is_bad_command
 bad_command_context h k c none =
-    let parts = or_parts _ _ none in
-    (or_parts _ _ parts.0).1
+    (or_parts _ _ (or_parts _ _ none).0).1
 
 pub context_lies : (h : Header) (k : Known) (d : DriverKeeps h k) (p n : ℕ) (c : Command) → IsUnfinished h k p c → named_context c ≡ Some n → ContextLies h k n
 context_lies h k d p n c u is =
@@ -42,5 +41,4 @@ context_lies h k d p n c u is =
 -- a soiled word is in no input context
 pub soiled_in_no_context : (h : Header) (k : Known) (d : DriverKeeps h k) (a : ℕ) → k.soiled a ≡ true → IsInNoContext h k a
 soiled_in_no_context h k d a soiled p n i c u is l same =
-    let lies = context_lies h k d p n c u is in
-    false≢true (sym (clean_word k n (input_context_bytes h.context_size) i lies.clean l) ∙ ap k.soiled same ∙ soiled)
+    false≢true (sym (clean_word k n (input_context_bytes h.context_size) i (context_lies h k d p n c u is).clean l) ∙ ap k.soiled same ∙ soiled)

@@ -1,5 +1,5 @@
 -- What a controller finds at its pointer's spot on a ring of a rule-keeping driver: a block or a Link that was given, or the other cycle
-use Rattle.safety.proofs.Words.{◌≡◌, ◌≢◌, ◌+◌, ◌-◌, ◌%◌, ◌<◌, ◌≤◌, ◌∙◌, ℕ, true, false, Some, slice_get, [], arith, refl, sym, ap, inl, inr, get_or, cases_lt, false≢true, and_from, slice_get-get_or, Block, block_at, cycle, kind, with_cycle, is_link, cycle-with_cycle, Spot, Data, Link, Shape, place_count, address_of, cycle_of, link_crossed, link_address, IsSpot, rank, number, IsShape, RingView, declared, floor_number, is_crossing_due, given_count, is_way_given, is_step_given, is_wrong_link, RingKeeps, cycle_of_bit, crossed_link, rank_least, rank_most, due_from, crossing_due_from, given_count_stops, given_count_near}
+use Rattle.safety.proofs.Words.{[], ◌≡◌, ◌≢◌, ◌+◌, ◌-◌, ◌%◌, ◌<◌, ◌≤◌, ◌∙◌, ℕ, true, false, Some, slice_get, arith, refl, sym, ap, inl, inr, get_or, cases_lt, false≢true, and_from, slice_get-get_or, Block, block_at, cycle, kind, with_cycle, is_link, cycle-with_cycle, Spot, Data, Link, Shape, place_count, address_of, cycle_of, link_crossed, link_address, IsSpot, rank, number, IsShape, RingView, declared, floor_number, is_crossing_due, given_count, is_way_given, is_step_given, is_wrong_link, RingKeeps, cycle_of_bit, crossed_link, rank_least, rank_most, due_from, crossing_due_from, given_count_stops, given_count_near}
 
 -- where the pointer of a controller may stand
 pub record MayStand (shape : Shape) (v : RingView) (t : Spot) : Type 0 where
@@ -61,8 +61,7 @@ module _ (shape : Shape) (is : IsShape shape) (memory : ℕ → ℕ) (v : RingVi
         below = elim (cases_lt q (given_count shape v)) [
           | inl below ↦ omega arith
           | inr top ↦
-              let here : given_count shape v ≡ q = omega (arith, at.below) in
-              absurd (false≢true (sym (given_count_stops shape v (given_count_near shape is memory v k)) ∙ ap (λ n. is_step_given shape v n) here
+              absurd (false≢true (sym (given_count_stops shape v (given_count_near shape is memory v k)) ∙ ap (λ n. is_step_given shape v n) (omega (arith, at.below))
               ∙ way_from shape v q given (at.way q refl)))
         ];
       }

@@ -1,18 +1,8 @@
 -- The command ring's first doorbell beneath an event that isn't read yet: the two may change places
-use Rattle.safety.proofs.Words.{◌≡◌, ◌-◌, ◌==◌, ◌&&◌, ◌||◌, if◌then◌else◌, ◌∙◌, ℕ, Bool, true, false, not, [], Some, is_none, nat_lt, arith, refl, sym, ap, subst, inl, ltb-true, eqb-true, rules, MayCome, none-some, false≢true, and_parts, or_parts, or_from, not-false, not_from_true, cond-true, cond-false, Block, BlockKind, TransferEvent, CommandCompletion, kind, cycle, is_event, is_transfer_event, is_command_completion, cycle_of, Opens, ceiling, is_open, ceiling_held, is_stop_of, Header, Bell, Read, IsHeader, shape_of, command_id, event_shape, event_size, Known, on_ring, command_at, next_command, endpoint_rung, rung, event_read, learned, is_in_profile, may_be_taken, is_stopping_now, is_past_room, is_impossible_by_kind, is_impossible, event_tests, is_bad_bell, is_bad_doorbell, doorbell_tests, lenient_tests, lenient, DriverKeeps, HeldMore, is_open_if, Square}
+use Rattle.safety.proofs.Words.{[], ◌≡◌, ◌==◌, ◌&&◌, if◌then◌else◌, ◌∙◌, ℕ, Bool, true, false, not, Some, is_none, arith, refl, sym, ap, subst, inl, ltb-true, eqb-true, rules, MayCome, none-some, false≢true, and_parts, or_from, not-false, not_from_true, cond-true, cond-false, Block, BlockKind, TransferEvent, CommandCompletion, kind, is_transfer_event, is_command_completion, Opens, ceiling, is_open, ceiling_held, is_stop_of, Header, Bell, Read, IsHeader, shape_of, command_id, Known, on_ring, command_at, next_command, endpoint_rung, rung, event_read, learned, is_in_profile, may_be_taken, is_stopping_now, is_impossible_by_kind, is_bad_bell, is_bad_doorbell, doorbell_tests, lenient_tests, lenient, DriverKeeps, HeldMore, is_open_if, Square}
 use Rattle.safety.proofs.DriverHistories.{kept_driver}
-use Rattle.safety.proofs.TestsPassed.{AllFail, clean_tests, tests_fail}
-use Rattle.safety.proofs.EventRead.{event_broken}
-use Rattle.safety.proofs.CleanRows.{EventFacts, event_facts, BellFacts, bell_facts}
-use Rattle.safety.proofs.KeptRings.{completion_facts}
-use Rattle.safety.proofs.DriverRings.{endpoints_of}
-use Rattle.safety.proofs.TransferFrames.{transfer_command}
-use Rattle.safety.proofs.DriverRows.{ring_here, ring_elsewhere}
-use Rattle.safety.proofs.SameDriver.{SameDriver, on_ring_same, both_drivers}
-use Rattle.safety.proofs.HeldFurther.{counted, read_same, read_both, flip_driver}
-use Rattle.safety.proofs.Woken.{Woken}
-use Rattle.safety.proofs.WokenTwice.{woken_more}
-use Rattle.safety.proofs.WokenTransfers.{transfer_woken}
+use Rattle.safety.proofs.LowerLaws.{clean_tests, event_still, EventFacts, event_facts, bell_facts, endpoints_of, transfer_command, ring_here, ring_elsewhere, SameDriver, on_ring_same, both_drivers, Woken}
+use Rattle.safety.proofs.MiddleLaws.{completion_facts, counted, read_same, read_both, flip_driver, woken_more, transfer_woken}
 
 -- the same events may be read, and leave the ring woken
 pub record ReadWoken (h : Header) (r : ℕ) (S : ℕ → ℕ → Bool) (k l : Known) (e : Block) : Type 0 where
@@ -23,34 +13,12 @@ module _ (h : Header) (r : ℕ) (S : ℕ → ℕ → Bool) where
   -- the event's own kind apart, it reads what the driver did
   pub read_woken : (k l : Known) (e : Block) → SameDriver k l → lenient h k (Read e) ≡ [] →
       (is_impossible_by_kind h l (kind e) e ≡ false) × Woken h r S (event_read h k (kind e) e) (event_read h l (kind e) e) → ReadWoken h r S k l e
-  unfolding lenient_tests event_tests is_impossible learned is_past_room
+  unfolding learned
   read_woken k l b d clean here =
-      let fails : AllFail (event_tests h k b) = tests_fail h k (Read b) clean in
-      let four = or_parts (not k.started || is_past_room h k || not (cycle b == cycle_of (event_shape h) k.reads) || not (is_event (kind b))) (is_impossible_by_kind h k (kind b) b) fails.0 in
-      let three = or_parts (not k.started || is_past_room h k || not (cycle b == cycle_of (event_shape h) k.reads)) (not (is_event (kind b))) four.0 in
-      let two = or_parts (not k.started || is_past_room h k) (not (cycle b == cycle_of (event_shape h) k.reads)) three.0 in
-      let one = or_parts (not k.started) (is_past_room h k) two.0 in
       let y = here.1 in
       record {
-        possible = event_broken h l b (d.stopped ∙ (clean_tests h k (Read b) clean).0)
-            (or_from (not l.started || is_past_room h l || not (cycle b == cycle_of (event_shape h) l.reads) || not (is_event (kind b))) (is_impossible_by_kind h l (kind b) b)
-            (or_from (not l.started || is_past_room h l || not (cycle b == cycle_of (event_shape h) l.reads)) (not (is_event (kind b)))
-            (or_from (not l.started || is_past_room h l) (not (cycle b == cycle_of (event_shape h) l.reads))
-            (or_from (not l.started) (is_past_room h l) (ap not d.started ∙ one.0)
-            (ap (λ n. nat_lt (event_size h - 2) (n - l.dequeue)) d.reads ∙ ap (λ n. nat_lt (event_size h - 2) (k.reads - n)) d.dequeue ∙ one.1))
-            (ap (λ n. not (cycle b == cycle_of (event_shape h) n)) d.reads ∙ two.1)) three.1) here.0) fails.1.0;
-        after = record {
-          own = y.own;
-          rings = y.rings;
-          awake = y.awake;
-          state = y.state;
-          was_bound = y.was_bound;
-          slot_state = y.slot_state;
-          ring_of = y.ring_of;
-          must_move = y.must_move;
-          stop_seen = y.stop_seen;
-          device = y.device;
-        };
+        possible = event_still h k l b d.started d.stopped d.reads (omega (arith, d.dequeue)) clean here.0;
+        after = search (rules, y);
       }
 
 module _ (h : Header) where
@@ -60,10 +28,6 @@ module _ (h : Header) where
 
   abbrev command_rung : Known → Known
   command_rung k = on_ring h k (command_id h) Opens
-
-  command_woken : (k : Known) → Woken h (command_id h) none_of k (command_rung k)
-  unfolding on_ring
-  command_woken k = search (rules, command_rung, ring_here, ring_elsewhere, false≢true)
 
   bell_command : (k : Known) (s t : ℕ) → (s == 0) ≡ true → learned h k (Bell s t) ≡ command_rung k
   unfolding learned rung
@@ -91,14 +55,14 @@ module _ (h : Header) where
 
     kind_woken : (e : Block) → lenient h k (Read e) ≡ [] → (n : BlockKind) → kind e ≡ n → is_impossible_by_kind h k n e ≡ false → (is_transfer_event n && not (is_in_profile e)) ≡ false →
         (is_impossible_by_kind h (command_rung k) n e ≡ false) × Woken h (command_id h) none_of (event_read h k n e) (event_read h (command_rung k) n e)
-    unfolding is_impossible_by_kind event_read
+    unfolding is_impossible_by_kind event_read on_ring
     kind_woken e may TransferEvent at possible inside =
-        transfer_woken h (command_id h) none_of k (command_rung k) (command_woken k) held_first
+        transfer_woken h (command_id h) none_of k (command_rung k) (search (rules, command_rung, ring_here, ring_elsewhere, false≢true)) held_first
         (omega (arith, ceiling_held (shape_of h (command_id h)) (k.ring (command_id h)) 0 first)) (λ s i in_it. absurd (false≢true in_it)) none_stops
         (on_ring_same h k (command_id h) Opens tt) e possible (not-false (is_in_profile e) inside)
     kind_woken e may CommandCompletion at possible inside =
         absurd (let below = (completion_facts h k e (ap is_command_completion at) (event_facts h k e may).possible).below in omega (arith, below, ceiling_held (shape_of h (command_id h)) (k.ring (command_id h)) 0 first))
-    kind_woken e may _ at possible inside = (refl, command_woken k)
+    kind_woken e may _ at possible inside = (refl, search (rules, command_rung, ring_here, ring_elsewhere, false≢true))
 
     -- an event leaves the command ring as it is
     ring_kind : (e : Block) → lenient h k (Read e) ≡ [] → (n : BlockKind) → kind e ≡ n → is_impossible_by_kind h k n e ≡ false → (event_read h k n e).ring (command_id h) ≡ k.ring (command_id h)
@@ -113,9 +77,9 @@ module _ (h : Header) where
     ring_still e may = ring_kind e may (kind e) refl (event_facts h k e may).possible
 
     pub command_square : (s t : ℕ) (e : Block) → (s == 0) ≡ true → MayCome h k (Bell s t) → lenient h k (Read e) ≡ [] → Square h k (Bell s t) e
+    unfolding on_ring
     command_square s t e slot clean may =
         let facts : EventFacts h k e = event_facts h k e may in
-        let bell : BellFacts h k s t = bell_facts h k s t clean.0 in
         let l : Known = command_rung k in
         let k_read : Known = learned h k (Read e) in
         let l_read : Known = learned h l (Read e) in
@@ -124,7 +88,7 @@ module _ (h : Header) where
         let read : ReadWoken h (command_id h) none_of k l e = read_woken h (command_id h) none_of k l e driver may (kind_woken e may (kind e) refl facts.possible facts.inside) in
         let read_keeps : DriverKeeps h k_read = kept_driver h is k (Read e) d (may, tt) (same.stopped ∙ (clean_tests h k (Read e) may).0) in
         let good : (if s == 0 then not (t == 0) else is_bad_bell h k_read s t) ≡ false =
-        cond-true (s == 0) (not (t == 0)) (is_bad_bell h k_read s t) slot ∙ sym (cond-true (s == 0) (not (t == 0)) (is_bad_bell h k s t) slot) ∙ bell.good in
+        cond-true (s == 0) (not (t == 0)) (is_bad_bell h k_read s t) slot ∙ sym (cond-true (s == 0) (not (t == 0)) (is_bad_bell h k s t) slot) ∙ (bell_facts h k s t clean.0).good in
         record {
           event = subst (λ x. lenient h x (Read e) ≡ []) (sym (bell_command k s t slot)) read.possible;
           row = (
@@ -133,7 +97,7 @@ module _ (h : Header) where
           );
           after = subst (λ x. HeldMore x (learned h (learned h k (Bell s t)) (Read e))) (sym (bell_command k_read s t slot))
               (subst (λ x. HeldMore (command_rung k_read) (learned h x (Read e))) (sym (bell_command k s t slot))
-              (woken_more h (command_id h) none_of k_read (command_rung k_read) l_read (command_woken k_read) read.after
+              (woken_more h (command_id h) none_of k_read (command_rung k_read) l_read (search (rules, command_rung, ring_here, ring_elsewhere, false≢true)) read.after
               (both_drivers (command_rung k_read) k_read l_read (flip_driver k_read (command_rung k_read) (on_ring_same h k_read (command_id h) Opens tt)) (read_both h k l e driver))));
           awake = cond-true (s == 0) (is_open (k_read.ring (command_id h))) (is_open_if k_read (k_read.ring_of s t)) slot ∙ ap is_open (ring_still e may) ∙ held_first;
         }

@@ -1,5 +1,5 @@
 -- A take with which an endpoint halts or goes to Error: what the event names, and the ring behind it
-use Rattle.safety.proofs.Words.{◌≡◌, ◌+◌, ◌-◌, ◌<◌, ◌≤◌, ◌∷◌, ◌∙◌, ℕ, true, false, List, [], length, drop, map, Some, arith, refl, sym, ap, get_or, length-drop, eqb-true, drop-drop, range_with_len, false≢true, get_or-map-range_with_len, Spot, Data, Shape, address_of, number, after, IsShape, RingView, floor_number, is_way_given, named, RingKeeps, Header, takes_of, is_last, RingState, RingMatches, Unreported}
+use Rattle.safety.proofs.Words.{[], ◌≡◌, ◌+◌, ◌-◌, ◌<◌, ◌≤◌, ◌∷◌, ◌∙◌, ℕ, true, false, List, length, drop, map, Some, arith, refl, sym, ap, get_or, length-drop, eqb-true, drop-drop, range_with_len, false≢true, get_or-map-range_with_len, Spot, Data, Shape, address_of, number, after, IsShape, RingView, floor_number, is_way_given, named, RingKeeps, Header, takes_of, is_last, RingState, RingMatches, Unreported}
 use Rattle.safety.proofs.NoWait.{ceiling_held}
 use Rattle.safety.proofs.RingGoesOn.{newest_still}
 use Rattle.safety.proofs.LookedRing.{number_after}
@@ -10,13 +10,10 @@ unfolding is_last
 last_at h a b [] at = eqb-true b a at
 last_at h a b (c ∷ rest) at = last_at h a c rest at
 
-none_last : (h : Header) (a : ℕ) → is_last h a [] ≡ true → ⊥
-unfolding is_last
-none_last h a at = false≢true at
-
 -- the last of a list, and its place
 pub last_is : (h : Header) (a : ℕ) (l : List ℕ) → is_last h a l ≡ true → (n : ℕ) × (length l ≡ n + 1) × (get_or l n 0 ≡ a)
-last_is h a [] at = absurd (none_last h a at)
+unfolding is_last
+last_is h a [] at = absurd (false≢true at)
 last_is h a (b ∷ xs) at = (length xs, omega arith, last_at h a b xs at)
 
 -- held behind position p

@@ -1,27 +1,86 @@
 -- A write that gives a command and an event that isn't read yet: the event stays possible, the command is unfinished behind it, and what
 -- is known is the same both ways but for the numbers at which rings are held
-use Rattle.safety.proofs.Words.{◌≡◌, ◌≢◌, ◌⊎◌, ◌∙◌, ℕ, Bool, false, true, [], Option, None, Some, option_and_then, slice_get, arith, refl, sym, ap, subst, inl, inr, rules, MayCome, or_right, none-some, same_Some, Block, is_inside, RingView, Writes, changed, is_due, gives, positions_given, cases_option, gives_is, address_inside, position_given_is, Command, AddressDevice, Header, Write, Read, IsHeader, shape_of, command_id, Known, command_at, with_device, with_word, written, taken_device, device_named, no_device, command_given, learned, lenient, IsHeldMore, HeldMore, IsDriverRing, IsUnfinished, CommandKeeps, DriverKeeps}
-use Rattle.safety.proofs.TestsPassed.{clean_tests}
-use Rattle.safety.proofs.CleanRows.{event_facts}
-use Rattle.safety.proofs.Headers.{ring_shape}
-use Rattle.safety.proofs.CommandRing.{due_has_ring}
-use Rattle.safety.proofs.EndpointPut.{at_number}
-use Rattle.safety.proofs.KeptClean.{taking}
-use Rattle.safety.proofs.DevicesWritten.{contains_first, and_then_parts}
-use Rattle.safety.proofs.WrittenKnown.{taken, written_ring, written_device}
+use Rattle.safety.proofs.Words.{[], ◌≡◌, ◌≢◌, ◌⊎◌, ◌∙◌, ℕ, Bool, false, true, Option, None, Some, option_and_then, slice_get, arith, refl, sym, ap, subst, inl, inr, rules, MayCome, or_right, none-some, same_Some, Block, is_inside, RingView, Writes, changed, is_due, gives, positions_given, cases_option, gives_is, address_inside, position_given_is, Command, AddressDevice, Header, Write, Read, IsHeader, shape_of, command_id, Known, command_at, with_device, with_word, written, taken_device, device_named, no_device, command_given, learned, lenient, IsHeldMore, HeldMore, IsDriverRing, IsUnfinished, CommandKeeps, DriverKeeps, ◌==◌, ◌∷◌, List, cond_both, BlockKind, TransferEvent, CommandCompletion, kind, Spot, target, StopEndpoint, Stopped, is_off, Change, DeviceLeft, Places, Stops, ring_having, RingSpot, on_ring, event_at, next_command, passed, broken_off, stopped_at, transferred, transferred_at, transfer_read, set_to, bound_to, moved_to, moved, pointed, disabled, in_state, held_at_ceiling, changed_by, changed_by_all, succeeded, stop_ended, finished, completed, event_read}
+use Rattle.safety.proofs.LowerLaws.{clean_tests, fewer, event_facts, ring_shape, due_has_ring, at_number, taken, written_ring, written_device, SameGiven, SameDriver, both_drivers, Alike, held_twice}
+use Rattle.safety.proofs.MiddleLaws.{taking, contains_first, and_then_parts, read_on, ReadAlike, EverySlot, SameStates, held_more, counted, read_same, command_same, event_behind, word_read, Untaken, device_read, device_driver, devices_same, beyond}
 use Rattle.safety.proofs.DriverHistories.{kept_driver}
-use Rattle.safety.proofs.RowBeneath.{read_on}
-use Rattle.safety.proofs.SameDriver.{SameGiven, SameDriver, both_drivers}
-use Rattle.safety.proofs.Alike.{Alike}
-use Rattle.safety.proofs.AlikeEvents.{ReadAlike}
-use Rattle.safety.proofs.HeldFurther.{EverySlot, SameStates, held_more, counted, read_same, command_same}
-use Rattle.safety.proofs.EventBehind.{event_behind}
-use Rattle.safety.proofs.DevicesLeft.{devices_left}
-use Rattle.safety.proofs.WriteEvents.{word_read}
 use Rattle.safety.proofs.WriteBehind.{command_behind}
 use Rattle.safety.proofs.WriteBeneath.{word_driver}
-use Rattle.safety.proofs.HeldTwice.{held_twice}
-use Rattle.safety.proofs.DeviceBeneath.{Untaken, device_read, device_driver, devices_same, beyond}
+
+-- An event takes no device context: where one is leased behind it, it was
+abbrev pub DevicesLeft : Known → Known → Type 0
+DevicesLeft k l = (s x : ℕ) → l.device s ≡ Some x → k.device s ≡ Some x
+
+none_left : (k : Known) → DevicesLeft k k
+none_left k s x at = at
+
+module _ (h : Header) where
+  -- ---- a Transfer Event
+
+  at_left : (k : Known) (b : Block) (o : Option RingSpot) → DevicesLeft k (transferred_at h k b o)
+  unfolding transferred_at transferred passed broken_off stopped_at on_ring
+  at_left k b None = none_left k
+  at_left k b (Some at) = search rules
+
+  -- ---- a completion
+
+  target_left : (k : Known) (r : ℕ) (o : Option Spot) → DevicesLeft k (moved_to h k r o)
+  unfolding moved_to set_to on_ring
+  target_left k r None = none_left k
+  target_left k r (Some t) = λ s x at. at
+
+  moved_left : (k : Known) (o : Option ℕ) (p : ℕ) (cycle : Bool) → DevicesLeft k (moved h k o p cycle)
+  unfolding moved
+  moved_left k None p cycle = none_left k
+  moved_left k (Some r) p cycle = target_left k r (target (shape_of h r) (k.ring r) p cycle)
+
+  bound_left : (k : Known) (s i : ℕ) (o : Option ℕ) (p : ℕ) (cycle : Bool) → DevicesLeft k (bound_to h k s i o p cycle)
+  unfolding bound_to
+  bound_left k s i None p cycle = none_left k
+  bound_left k s i (Some r) p cycle = moved_left k (Some r) p cycle
+
+  pointed_left : (k : Known) (s i p : ℕ) (cycle : Bool) → DevicesLeft k (pointed h k s i p cycle)
+  unfolding pointed
+  pointed_left k s i p cycle = search (rules, cond_both, is_off, bound_to, ring_having, moved, bound_left, moved_left)
+
+  held_left : (k : Known) (o : Option ℕ) → DevicesLeft k (held_at_ceiling h k o)
+  unfolding held_at_ceiling on_ring
+  held_left k None = none_left k
+  held_left k (Some r) = λ s x at. at
+
+  change_left : (c : Command) (k : Known) (change : Change) → DevicesLeft k (changed_by h c k change)
+  unfolding changed_by disabled in_state
+  change_left c k (DeviceLeft s) = λ t x at. fewer (t == s) (k.device t) x at
+  change_left c k (Places s i p cycle state) = pointed_left k s i p cycle
+  change_left c k (Stops s i) = held_left (in_state h k s i Stopped) (k.ring_of s i)
+  change_left c k _ = none_left k
+
+  changes_left : (c : Command) (k : Known) (all : List Change) → DevicesLeft k (changed_by_all h c k all)
+  unfolding changed_by_all
+  changes_left c k [] = none_left k
+  changes_left c k (change ∷ rest) = λ s x at. change_left c k change s x (changes_left c (changed_by h c k change) rest s x at)
+
+  stop_left : (k : Known) (c : Command) → DevicesLeft k (stop_ended h k c)
+  unfolding stop_ended
+  stop_left k (StopEndpoint s i) = none_left k
+  stop_left k _ = none_left k
+
+  finish_left : (k : Known) (b : Block) (o : Option Command) → DevicesLeft k (finished h k b o)
+  unfolding finished succeeded
+  finish_left k b None = search (rules, none_left)
+  finish_left k b (Some c) = search (rules, none_left, changes_left, stop_left)
+
+  -- ---- any event
+
+  kind_left : (k : Known) (b : Block) (n : BlockKind) → DevicesLeft k (event_read h k n b)
+  unfolding event_read transfer_read completed on_ring
+  kind_left k b TransferEvent = at_left k b (event_at h k b)
+  kind_left k b CommandCompletion = finish_left k b (command_at h k (next_command h k))
+  kind_left k b _ = none_left k
+
+  pub devices_left : (k : Known) (e : Block) → DevicesLeft k (learned h k (Read e))
+  unfolding learned
+  devices_left k e = kind_left k e (kind e)
 
 module _ (h : Header) (is : IsHeader h) (k : Known) (d : DriverKeeps h k) (a w : ℕ) (e : Block) (clean : MayCome h k (Write a w)) (may : lenient h k (Read e) ≡ []) where
   abbrev l : Known
@@ -59,10 +118,6 @@ module _ (h : Header) (is : IsHeader h) (k : Known) (d : DriverKeeps h k) (a w :
   pub floors_alike : (r : ℕ) → (beneath.ring r).floor ≡ (l.ring r).floor
   floors_alike r = (device_then.after.rings r).floor ∙ (word_first.after.rings r).floor
 
-  ring_after : (r : ℕ) → m.ring r ≡ word.ring r
-  unfolding with_word
-  ring_after r = written_ring h k a w r
-
   pub untaken_devices : (t : ℕ) → Untaken (taken h k a w) t → beneath.device t ≡ l.device t
   untaken_devices t apart = device_then.after.device t apart ∙ word_first.after.device t tt
 
@@ -72,7 +127,7 @@ module _ (h : Header) (is : IsHeader h) (k : Known) (d : DriverKeeps h k) (a w :
   -- a ring is given what the write gives of it behind the event
   pub rings_there : (r : ℕ) → SameGiven (changed (shape_of h r) (l.ring r) (Writes a w)) (beneath.ring r)
   unfolding with_word
-  rings_there r = search (rules, l, beneath, read_same, m, word_driver, word, ring_after)
+  rings_there r = search (rules, l, beneath, read_same, m, word_driver, word, written_ring)
 
   -- ---- the command that is given
 
@@ -97,7 +152,7 @@ module _ (h : Header) (is : IsHeader h) (k : Known) (d : DriverKeeps h k) (a w :
         let ring = due_has_ring h is (l.ring (command_id h)).floor first.0 writes.due in
         let both = word_driver h is k d a w e clean may in
         let read = read_same h m e in
-        let view : m.ring (command_id h) ≡ word.ring (command_id h) = ring_after (command_id h) in
+        let view : m.ring (command_id h) ≡ word.ring (command_id h) = written_ring h k a w (command_id h) in
         let given_word : (word.ring (command_id h)).given first.0 ≡ true =
         ap (λ f. f first.0) (both.rings (command_id h)).given
         ∙ or_right ((l.ring (command_id h)).given first.0) (gives (shape_of h (command_id h)) (l.ring (command_id h)).floor first.0 a w) gives_here.1 in
@@ -124,14 +179,12 @@ module _ (h : Header) (is : IsHeader h) (k : Known) (d : DriverKeeps h k) (a w :
     there_taken : (f : ℕ × ℕ) → taken h k a w ≡ Some f → beneath.device f.0 ≡ Some f.1
     there_taken f at =
         let t = taking h k a w f clean.0 at in
-        let same : c ≡ AddressDevice f.0 t.takes.bsr t.takes.context = same_Some c t.command (sym given ∙ t.given) ∙ t.takes.command in
         elim (cases_option (beneath.device f.0)) [
-          | inl none ↦ absurd (given_keeps.device f.0 t.takes.context t.takes.bsr same none)
+          | inl none ↦ absurd (given_keeps.device f.0 t.takes.context t.takes.bsr (same_Some c t.command (sym given ∙ t.given) ∙ t.takes.command) none)
           | inr some ↦
-              let was : m.device f.0 ≡ Some some.0 = devices_left h m e f.0 some.0 some.1 in
               let now : m.device f.0 ≡ Some f.1 =
               ap (λ g. g f.0) (written_device h k a w f at) ∙ at_number (λ (v : Option ℕ). v ≡ Some f.1) k.device f.0 (Some f.1) f.0 (λ here. refl) (λ other. absurd (other refl)) in
-              some.1 ∙ sym was ∙ now
+              some.1 ∙ sym (devices_left h m e f.0 some.0 some.1) ∙ now
         ]
 
     -- one that was there is there still
@@ -162,8 +215,7 @@ module _ (h : Header) (is : IsHeader h) (k : Known) (d : DriverKeeps h k) (a w :
     taken_by _ at = refl
 
     taken_same : taken h l a w ≡ taken h k a w
-    taken_same =
-        ap (λ o. option_and_then (taken_device l) o) behind_given ∙ taken_by c refl ∙ ap (λ o. option_and_then (taken_device k) o) (sym given)
+    taken_same = search (rules, option_and_then, taken_device, behind_given, taken_by)
 
     -- ---- what is known
 
@@ -185,15 +237,12 @@ module _ (h : Header) (is : IsHeader h) (k : Known) (d : DriverKeeps h k) (a w :
     states_by None x device s = search (rules, l)
     states_by (Some f) x device s = search (rules, l)
 
-    floor_is : (x : Known) (r : ℕ) → x.ring ≡ (with_word h l a w).ring → (x.ring r).floor ≡ (l.ring r).floor
-    unfolding with_word
-    floor_is x r same = ap (λ f. (f r).floor) same
-
     held_is : (x : Known) (r : ℕ) → x.ring ≡ (with_word h l a w).ring → (x.ring r).held ≡ (l.ring r).held
     unfolding with_word
     held_is x r same = ap (λ f. (f r).held) same
 
     command_held : HeldMore behind beneath
+    unfolding with_word
     command_held =
         let ring : behind.ring ≡ (with_word h l a w).ring = (beyond h (with_word h l a w) (taken h k a w)).ring in
         held_more behind beneath common
@@ -207,7 +256,7 @@ module _ (h : Header) (is : IsHeader h) (k : Known) (d : DriverKeeps h k) (a w :
           stop_seen = device_then.after.stop_seen ∙ word_first.after.stop_seen;
           device = refl;
         }))
-        (λ r. floors_alike r ∙ sym (floor_is behind r ring))
+        (λ r. floors_alike r ∙ sym (ap (λ f. (f r).floor) ring))
         (λ r. subst (λ o. IsHeldMore o (beneath.ring r).held) (sym (held_is behind r ring)) (held_twice (l.ring r).held ((learned h word (Read e)).ring r).held (beneath.ring r).held (word_first.after.rings r).held (device_then.after.rings r).held))
 
     -- the same both ways, but for where rings are held

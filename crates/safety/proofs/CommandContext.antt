@@ -1,10 +1,7 @@
 -- Behind an event that is read before it, a command that a write gives has the same input context, and may move the same rings
-use Rattle.safety.proofs.Words.{◌≡◌, ◌∙◌, ℕ, false, Bool, Option, Some, None, [], refl, ap, subst, MayCome, or_parts, or_from, Block, Command, SetTrDequeue, input_context_bytes, Header, Write, Read, IsHeader, Known, command_given, learned, is_bad_area, is_soiled, covers, device_ranges, is_bad_dequeue, is_bad_move, lenient, DriverKeeps, MovesIf}
-use Rattle.ownership_rules.specs.Commands as commands
+use Rattle.safety.proofs.Words.{[], ◌≡◌, ◌∙◌, ℕ, false, Bool, Option, Some, None, refl, ap, subst, MayCome, or_parts, or_from, Block, Command, SetTrDequeue, input_context_bytes, Header, Write, Read, IsHeader, Known, command_given, learned, is_bad_area, is_soiled, covers, device_ranges, is_bad_dequeue, is_bad_move, lenient, DriverKeeps, MovesIf, has_bad_context}
 use Rattle.safety.proofs.AreaFacts.{AreaParts, area_parts, area_from, clean_same}
-use Rattle.safety.proofs.WriteBeside.{context_parts, context_from}
-use Rattle.safety.proofs.LeasesBehind.{Behind, devices_fewer, none_fewer}
-use Rattle.safety.proofs.EventBehind.{event_behind}
+use Rattle.safety.proofs.MiddleLaws.{context_parts, context_from, Behind, devices_fewer, none_fewer, event_behind}
 use Rattle.safety.proofs.GivenBehind.{between, own_between}
 
 module _ (h : Header) (is : IsHeader h) (k : Known) (d : DriverKeeps h k) (e : Block) (may : lenient h k (Read e) ≡ []) where
@@ -23,7 +20,7 @@ module _ (h : Header) (is : IsHeader h) (k : Known) (d : DriverKeeps h k) (e : B
   pub clean_behind : (from len : ℕ) → is_soiled k from len ≡ false → is_soiled l from len ≡ false
   clean_behind from len good = clean_same k l from len b.driver.soiled ∙ good
 
-  pub context_behind : (n : ℕ) → commands.has_bad_context h k (Some n) ≡ false → commands.has_bad_context h l (Some n) ≡ false
+  pub context_behind : (n : ℕ) → has_bad_context h k (Some n) ≡ false → has_bad_context h l (Some n) ≡ false
   context_behind n good =
       let p = context_parts h k n good in
       context_from h l n (area_behind n (input_context_bytes h.context_size) p.area) (clean_behind n (input_context_bytes h.context_size) p.clean)

@@ -1,7 +1,6 @@
 -- Behind an event that is read before it, a command that a write gives names a slot and an endpoint that are there, and its contexts lie and
 -- say what they may
-use Rattle.safety.proofs.Words.{◌≡◌, ◌==◌, ◌&&◌, ◌||◌, ◌∙◌, ℕ, not, false, [], Option, None, Some, refl, MayCome, or_parts, or_from, Block, input_add_flag, Command, AddressDevice, ConfigureEndpoint, named_slot, named_endpoint, named_context, Header, Write, Read, IsHeader, Known, command_given, learned, lenient, DriverKeeps}
-use Rattle.ownership_rules.specs.Commands as commands
+use Rattle.safety.proofs.Words.{[], ◌≡◌, ◌==◌, ◌&&◌, ◌||◌, ◌∙◌, ℕ, not, false, Option, None, Some, refl, MayCome, or_parts, or_from, Block, input_add_flag, Command, AddressDevice, ConfigureEndpoint, named_slot, named_endpoint, named_context, Header, Write, Read, IsHeader, Known, command_given, learned, lenient, DriverKeeps, has_bad_content, has_bad_context, is_bad_added, is_bad_command, names_disabled_endpoint, names_disabled_slot, takes_bad_device, type_in}
 use Rattle.safety.proofs.GivenBehind.{between, own_between, facts}
 use Rattle.safety.proofs.CommandContext.{context_behind}
 use Rattle.safety.proofs.DeviceBehind.{device_behind}
@@ -15,44 +14,41 @@ module _ (h : Header) (is : IsHeader h) (k : Known) (d : DriverKeeps h k) (a w :
   x = between h is k d a w e clean may c given
 
   -- states of slots and endpoints are the same between and behind the event
-  slot_same : (o : Option ℕ) → commands.names_disabled_slot l o ≡ commands.names_disabled_slot x o
-  unfolding commands.names_disabled_slot
+  slot_same : (o : Option ℕ) → names_disabled_slot l o ≡ names_disabled_slot x o
+  unfolding names_disabled_slot
   slot_same None = refl
   slot_same (Some s) = refl
 
-  endpoint_same : (o : Option (ℕ × ℕ)) → commands.names_disabled_endpoint l o ≡ commands.names_disabled_endpoint x o
-  unfolding commands.names_disabled_endpoint
+  endpoint_same : (o : Option (ℕ × ℕ)) → names_disabled_endpoint l o ≡ names_disabled_endpoint x o
+  unfolding names_disabled_endpoint
   endpoint_same None = refl
   endpoint_same (Some f) = refl
 
-  context_of : (o : Option ℕ) → commands.has_bad_context h k o ≡ false → commands.has_bad_context h l o ≡ false
-  unfolding commands.has_bad_context
+  context_of : (o : Option ℕ) → has_bad_context h k o ≡ false → has_bad_context h l o ≡ false
+  unfolding has_bad_context
   context_of None good = refl
   context_of (Some n) good = context_behind h is k d e may n good
 
   -- so are the words of the input context; where a device context may lie is tested of what is leased, hence told apart
-  content_of : (f : Command) → c ≡ f → commands.has_bad_content h x f ≡ false → commands.has_bad_content h k f ≡ false → commands.has_bad_content h l f ≡ false
-  unfolding commands.has_bad_content commands.is_bad_added commands.type_in
+  content_of : (f : Command) → c ≡ f → has_bad_content h x f ≡ false → has_bad_content h k f ≡ false → has_bad_content h l f ≡ false
+  unfolding has_bad_content is_bad_added type_in
   content_of (AddressDevice s bsr n) at there before =
-      let read = or_parts (not (input_add_flag l.memory n 0 && input_add_flag l.memory n 1) || commands.type_in h l n 1 == 0) (commands.takes_bad_device h x s n) there in
-      let takes = or_parts (not (input_add_flag k.memory n 0 && input_add_flag k.memory n 1) || commands.type_in h k n 1 == 0) (commands.takes_bad_device h k s n) before in
-      or_from (not (input_add_flag l.memory n 0 && input_add_flag l.memory n 1) || commands.type_in h l n 1 == 0) (commands.takes_bad_device h l s n) read.0 (device_behind h is k d e may a w clean c given s n bsr at takes.1)
+      let read = or_parts (not (input_add_flag l.memory n 0 && input_add_flag l.memory n 1) || type_in h l n 1 == 0) (takes_bad_device h x s n) there in
+      let takes = or_parts (not (input_add_flag k.memory n 0 && input_add_flag k.memory n 1) || type_in h k n 1 == 0) (takes_bad_device h k s n) before in
+      or_from (not (input_add_flag l.memory n 0 && input_add_flag l.memory n 1) || type_in h l n 1 == 0) (takes_bad_device h l s n) read.0 (device_behind h is k d e may a w clean c given s n bsr at takes.1)
   content_of (ConfigureEndpoint s false n) at there before = there
   content_of _ at there before = refl
 
   -- the command breaks BadCommand behind the event no more than before it
-  pub good_behind : commands.is_bad_command h l c ≡ false
-  unfolding commands.is_bad_command
+  pub good_behind : is_bad_command h l c ≡ false
+  unfolding is_bad_command
   good_behind =
-      let own = own_between h is k d a w e clean may c given in
-      let before = facts h is k d a w e clean may c given in
-      let there_content = or_parts _ (commands.has_bad_content h x c) own.good in
-      let there_context = or_parts _ (commands.has_bad_context h x (named_context c)) there_content.0 in
-      let there_names = or_parts (commands.names_disabled_slot x (named_slot c)) (commands.names_disabled_endpoint x (named_endpoint c)) there_context.0 in
-      let content = or_parts _ (commands.has_bad_content h k c) before.own.good in
-      let context = or_parts _ (commands.has_bad_context h k (named_context c)) content.0 in
-      or_from _ (commands.has_bad_content h l c)
-      (or_from _ (commands.has_bad_context h l (named_context c))
-      (or_from (commands.names_disabled_slot l (named_slot c)) (commands.names_disabled_endpoint l (named_endpoint c)) (slot_same (named_slot c) ∙ there_names.0) (endpoint_same (named_endpoint c) ∙ there_names.1))
-      (context_of (named_context c) context.1))
+      let there_content = or_parts _ (has_bad_content h x c) (own_between h is k d a w e clean may c given).good in
+      let there_context = or_parts _ (has_bad_context h x (named_context c)) there_content.0 in
+      let there_names = or_parts (names_disabled_slot x (named_slot c)) (names_disabled_endpoint x (named_endpoint c)) there_context.0 in
+      let content = or_parts _ (has_bad_content h k c) (facts h is k d a w e clean may c given).own.good in
+      or_from _ (has_bad_content h l c)
+      (or_from _ (has_bad_context h l (named_context c))
+      (or_from (names_disabled_slot l (named_slot c)) (names_disabled_endpoint l (named_endpoint c)) (slot_same (named_slot c) ∙ there_names.0) (endpoint_same (named_endpoint c) ∙ there_names.1))
+      (context_of (named_context c) (or_parts _ (has_bad_context h k (named_context c)) content.0).1))
       (content_of c refl there_content.1 content.1)

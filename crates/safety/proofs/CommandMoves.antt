@@ -1,5 +1,5 @@
 -- Behind an event that is read before it, a command that a write gives may move its rings as before
-use Rattle.safety.proofs.Words.{◌≡◌, ◌==◌, ◌&&◌, ◌∙◌, ℕ, not, Bool, false, Some, [], refl, sym, ap, subst, inl, inr, eq-eqb, MayCome, or_from, and_parts, false≢true, false_from_ne_true, not_from_true, Block, declared, floor_number, is_move, cases_option, Command, AddressDevice, SetTrDequeue, is_off, context_pointer, context_cycle, Header, Write, Read, IsHeader, shape_of, Known, command_given, learned, binding_in, is_bad_stay, is_bad_move, lenient, DriverKeeps, StaysIf}
+use Rattle.safety.proofs.Words.{[], ◌≡◌, ◌==◌, ◌&&◌, ◌∙◌, ℕ, not, Bool, false, Some, refl, sym, ap, subst, inl, inr, eq-eqb, MayCome, or_from, and_parts, false≢true, false_from_ne_true, not_from_true, Block, declared, floor_number, is_move, cases_option, Command, AddressDevice, SetTrDequeue, is_off, context_pointer, context_cycle, Header, Write, Read, IsHeader, shape_of, Known, command_given, learned, binding_in, is_bad_stay, is_bad_move, lenient, DriverKeeps, StaysIf}
 use Rattle.safety.proofs.TestsPassed.{clean_tests}
 use Rattle.safety.proofs.DriverHistories.{kept_driver}
 use Rattle.safety.proofs.RowBeneath.{read_on}

@@ -11,12 +11,7 @@ module _ (h : Header) (is : IsHeader h) where
 
   due_by : (o : Option Ring) → find (λ q. is_command_kind q.shape.kind) h.rings ≡ o → (floor : Spot) (p : ℕ) → is_due (shape_of h (id_or_none o)) floor p ≡ true → IsDriverRing h (id_or_none o)
   due_by None none floor p due = let within = due_is (shape_of h 256) floor p due in absurd (omega (arith, within.0, within.1, no_places))
-  due_by (Some c) found floor p due =
-      record {
-        ring = c;
-        found = found_again (λ q. is_command_kind q.shape.kind) h.rings c (together h is) found;
-        kind = command_drives c.shape.kind (found_passes (λ q. is_command_kind q.shape.kind) h.rings c found);
-      }
+  due_by (Some c) found floor p due = search (rules, found_again, is_command_kind, together, command_drives, found_passes)
 
   -- a position of the command ring that is due is one of a ring
   pub due_has_ring : (floor : Spot) (p : ℕ) → is_due (shape_of h (command_id h)) floor p ≡ true → IsDriverRing h (command_id h)

@@ -1,12 +1,8 @@
 -- Behind an event that is read before it, a write that gives a command breaks no rule: what is tested of its bindings and its slot
-use Rattle.safety.proofs.Words.{◌≡◌, ◌||◌, ◌∷◌, ◌∙◌, ℕ, not, true, false, List, [], map, All, Some, refl, sym, ap, subst, inl, inr, eq-eqb, Option, None, rules, MayCome, list_any, or_from, not_from_true, false≢true, false_from_ne_true, All-head, All-tail, cases_option, Block, Command, NoOp, EnableSlot, DisableSlot, AddressDevice, ConfigureEndpoint, EvaluateContext, ResetEndpoint, StopEndpoint, SetTrDequeue, ResetDevice, Header, Write, Read, IsHeader, command_id, is_ring, Known, unfinished, command_given, learned, Binding, binding_in, binds, ring_bound, binds_ring, has_repeats, drops, is_kept, is_taken, is_placed, is_bad_place, is_being_bound, is_bad_binding, lenient, IsIn, some_of, any_of, IsUnfinished, CommandKeeps, DriverKeeps, exclude}
-use Rattle.ownership_rules.specs.Commands as commands
-use Rattle.safety.proofs.LeasesBehind.{none_fewer}
-use Rattle.safety.proofs.WriteBeside.{beside_old}
+use Rattle.safety.proofs.Words.{[], ◌≡◌, ◌||◌, ◌∷◌, ◌∙◌, ℕ, not, true, false, List, map, All, Some, refl, sym, ap, subst, inl, inr, eq-eqb, Option, None, rules, MayCome, list_any, or_from, not_from_true, false≢true, false_from_ne_true, All-head, All-tail, cases_option, Block, Command, NoOp, EnableSlot, DisableSlot, AddressDevice, ConfigureEndpoint, EvaluateContext, ResetEndpoint, StopEndpoint, SetTrDequeue, ResetDevice, Header, Write, Read, IsHeader, command_id, is_ring, Known, unfinished, command_given, learned, Binding, binding_in, binds, ring_bound, binds_ring, has_repeats, drops, is_kept, is_taken, is_placed, is_bad_place, is_being_bound, is_bad_binding, lenient, IsIn, some_of, any_of, IsUnfinished, CommandKeeps, DriverKeeps, exclude, adds_streams, is_busy, streams_in}
+use Rattle.safety.proofs.MiddleLaws.{none_fewer, beside_old, command_same, listed_unfinished, listed_before}
 use Rattle.safety.proofs.RingsKept.{none_kept}
 use Rattle.safety.proofs.CommandsBeside.{binds_ring_beside}
-use Rattle.safety.proofs.HeldFurther.{command_same}
-use Rattle.safety.proofs.UnfinishedBehind.{listed_unfinished, listed_before}
 use Rattle.safety.proofs.CommandBeneath.{rings_there, floors_alike, alike_there}
 use Rattle.safety.proofs.GivenBehind.{between, there, kept, keeps, facts, beside, beside_given, own_between}
 
@@ -26,15 +22,15 @@ module _ (h : Header) (is : IsHeader h) (k : Known) (d : DriverKeeps h k) (a w :
   x = between h is k d a w e clean may c given
 
   -- no unfinished command excludes it
-  pub idle_behind : commands.is_busy h l c ≡ false
-  unfolding commands.is_busy
+  pub idle_behind : is_busy h l c ≡ false
+  unfolding is_busy
   idle_behind = none_fewer (exclude c) (unfinished h k) (unfinished h l) (listed_before h is k d e may) (facts h is k d a w e clean may c given).busy
 
-  pub profile_behind : commands.adds_streams h l c ≡ false
-  unfolding commands.adds_streams commands.streams_in
+  pub profile_behind : adds_streams h l c ≡ false
+  unfolding adds_streams streams_in
   profile_behind = by c (own_between h is k d a w e clean may c given).in_profile
     where
-      by : (f : Command) → commands.adds_streams h x f ≡ false → commands.adds_streams h l f ≡ false
+      by : (f : Command) → adds_streams h x f ≡ false → adds_streams h l f ≡ false
       by (AddressDevice s bsr n) good = good
       by (ConfigureEndpoint s false n) good = good
       by (ConfigureEndpoint s true n) good = refl
@@ -53,30 +49,21 @@ module _ (h : Header) (is : IsHeader h) (k : Known) (d : DriverKeeps h k) (a w :
   binds_same (AddressDevice s bsr n) = refl
   binds_same _ = refl
 
-  binds_ring_same : (r : ℕ) (f : Command) → binds_ring h l r f ≡ binds_ring h x r f
-  unfolding binds_ring
-  binds_ring_same r f = ap (λ bs. list_any (λ b. is_ring r (ring_bound h b)) bs) (binds_same f)
-
-  -- what is unfinished behind the event is unfinished there
-  stays_there : (q : ℕ) (f : Command) → IsUnfinished h l q f → IsUnfinished h beneath q f
-  stays_there q f u = search (rules, l, beneath, floors_alike, alike_there, command_same, rings_there)
-
   -- no other command that is unfinished names a ring that this one binds
   unnamed : (r : ℕ) → binds_ring h x r c ≡ true → list_any (binds_ring h l r) (unfinished h l) ≡ false
+  unfolding binds_ring
   unnamed r bound =
       false_from_ne_true (list_any (binds_ring h l r) (unfinished h l)) (λ some.
       let found = some_of (binds_ring h l r) (unfinished h l) some in
-      let f : Command = found.0 in
       let now = listed_unfinished h l found.0 found.1 in
       let before = listed_unfinished h k found.0 (listed_before h is k d e may found.0 found.1) in
-      let u : IsUnfinished h beneath now.0 found.0 = stays_there now.0 found.0 now.1 in
-      let own : CommandKeeps h beneath (there h is k d a w e clean may c given).position c = kept h is k d a w e clean may c given in
+      let u : IsUnfinished h beneath now.0 found.0 = search (rules, l, beneath, floors_alike, alike_there, command_same, rings_there) in
       let old : CommandKeeps h beneath now.0 found.0 = (keeps h is k d a w e clean may c given).unfinished now.0 found.0 u in
       let beside_f = beside h is k d a w e clean may c given now.0 found.0 old (beside_old h is k d a w clean.0 before.0 found.0 before.1) in
       let apart : binds_ring h beneath r found.0 ≡ false =
-      own.unshared r now.0 found.0 (sym (binds_ring_beside h beneath x c (beside_given h is k d a w e clean may c given) r) ∙ bound) u
+      (kept h is k d a w e clean may c given).unshared r now.0 found.0 (sym (binds_ring_beside h beneath x c (beside_given h is k d a w e clean may c given) r) ∙ bound) u
       (λ same. false≢true (sym (there h is k d a w e clean may c given).fresh ∙ ap (λ p. (l.ring (command_id h)).given p) (sym same) ∙ now.1.given)) in
-      false≢true (sym apart ∙ sym (binds_ring_beside h beneath x found.0 beside_f r) ∙ sym (binds_ring_same r found.0) ∙ found.2))
+      false≢true (sym apart ∙ sym (binds_ring_beside h beneath x found.0 beside_f r) ∙ sym (ap (λ bs. list_any (λ b. is_ring r (ring_bound h b)) bs) (binds_same found.0)) ∙ found.2))
 
   drops_same : (f : Command) (s i : ℕ) → drops l f s i ≡ drops x f s i
   unfolding drops
@@ -87,20 +74,16 @@ module _ (h : Header) (is : IsHeader h) (k : Known) (d : DriverKeeps h k) (a w :
   unkept_behind : (r : ℕ) → binds_ring h x r c ≡ true → is_kept h l c r ≡ false
   unkept_behind r bound = none_kept h l c r (λ s i has. drops_same c s i ∙ (own_between h is k d a w e clean may c given).unkept r s i bound has)
 
-  free_behind : (b : Binding) → IsIn b (binds h x c) → is_taken h l c (ring_bound h b) ≡ false
-  unfolding binds_ring is_taken is_being_bound
-  free_behind b at = search (rules, x, l, cases_option, any_of, eq-eqb, or_from, unkept_behind, unnamed)
-
   placed_same : (o : Option ℕ) (b : Binding) → is_placed h l o b ≡ is_placed h x o b
   unfolding is_placed
   placed_same None b = refl
   placed_same (Some r) b = refl
 
   place_behind : (b : Binding) → IsIn b (binds h x c) → is_bad_place h l c b ≡ false
-  unfolding is_bad_place
+  unfolding is_bad_place binds_ring is_taken is_being_bound
   place_behind b at =
       let placed = each_in (λ b. is_placed h x (ring_bound h b) b ≡ true) (binds h x c) b (own_between h is k d a w e clean may c given).placed at in
-      or_from (is_taken h l c (ring_bound h b)) (not (is_placed h l (ring_bound h b) b)) (free_behind b at)
+      or_from (is_taken h l c (ring_bound h b)) (not (is_placed h l (ring_bound h b) b)) (search (rules, x, l, cases_option, any_of, eq-eqb, or_from, unkept_behind, unnamed))
       (not_from_true (is_placed h l (ring_bound h b) b) (placed_same (ring_bound h b) b ∙ placed))
 
   pub bindings_behind : is_bad_binding h l c ≡ false

@@ -1,9 +1,7 @@
 -- Behind an event that is read before it, a second Address Device that a write gives finds nothing left on its ring
-use Rattle.safety.proofs.Words.{◌≡◌, ◌∙◌, ℕ, Bool, length, Some, [], arith, refl, sym, ap, subst, inl, inr, MayCome, cases_lt, Block, RingView, declared, floor_number, Command, AddressDevice, Header, Write, Read, IsHeader, Known, command_given, learned, lenient, DriverKeeps}
+use Rattle.safety.proofs.Words.{[], ◌≡◌, ◌∙◌, ℕ, Bool, length, Some, arith, refl, sym, ap, subst, inl, inr, MayCome, cases_lt, Block, RingView, declared, floor_number, Command, AddressDevice, Header, Write, Read, IsHeader, Known, command_given, learned, lenient, DriverKeeps}
 use Rattle.safety.proofs.Concerned.{Concerns}
-use Rattle.safety.proofs.RowFrames.{write_leaves}
-use Rattle.safety.proofs.EventBehind.{event_behind}
-use Rattle.safety.proofs.UnfinishedBehind.{rings_behind}
+use Rattle.safety.proofs.MiddleLaws.{write_leaves, event_behind, rings_behind}
 use Rattle.safety.proofs.CommandBeneath.{written_keeps, command_event, alike_there}
 use Rattle.safety.proofs.GivenBehind.{there, facts}
 
@@ -23,20 +21,15 @@ module _ (h : Header) (is : IsHeader h) (k : Known) (d : DriverKeeps h k) (a w :
       ∙ rings_behind h is m (written_keeps h is k d a w e clean may) e (command_event h is k d a w e clean may) at.position c t i at.unfinished its
       ∙ ap (λ f. f t i) (write_leaves h k a w).slots.ring_of
 
-  -- nothing was left on the ring of a second Address Device
-  pub left_before : (s n r : ℕ) (bsr : Bool) → c ≡ AddressDevice s bsr n → l.ring_of s 1 ≡ Some r → declared (k.ring r) ≡ floor_number (k.ring r)
-  left_before s n r bsr same at = (facts h is k d a w e clean may c given).nothing_left s n r bsr same (sym (rings_concerned s 1 (subst (λ x. Concerns x s 1) (sym same) (refl, tt))) ∙ at)
-
   -- nor is anything behind the event
   pub left_behind : (s n r : ℕ) (bsr : Bool) → c ≡ AddressDevice s bsr n → l.ring_of s 1 ≡ Some r → declared (l.ring r) ≡ floor_number (l.ring r)
   left_behind s n r bsr same at =
-      let left = left_before s n r bsr same at in
+      let left = (facts h is k d a w e clean may c given).nothing_left s n r bsr same (sym (rings_concerned s 1 (subst (λ x. Concerns x s 1) (sym same) (refl, tt))) ∙ at) in
       elim ((event_behind h is k d e may).rings r) [
         | inl still ↦ ap (λ (v : RingView). declared v) still ∙ left ∙ sym (ap (λ (v : RingView). floor_number v) still)
         | inr on ↦
-            let queue : declared (l.ring r) ≡ declared (k.ring r) = ap (λ q. length q) on.1.same.queue in
             elim (cases_lt (declared (l.ring r)) (floor_number (l.ring r))) [
               | inl above ↦ let below = on.1.behind.given_declared (declared (l.ring r)) (on.1.behind.passed (declared (l.ring r)) above) in absurd (omega arith)
-              | inr low ↦ omega (arith, left, queue, low, on.1.on)
+              | inr low ↦ omega (arith, left, (ap (λ q. length q) on.1.same.queue), low, on.1.on)
             ]
       ]

@@ -1,6 +1,5 @@
 -- What the rules say of a command holds still where nothing that the command reads has changed
-use Rattle.safety.proofs.Words.{◌≡◌, ◌≢◌, ◌<◌, ◌==◌, ◌&&◌, ◌||◌, if◌then◌else◌, ◌∷◌, ◌∙◌, ℕ, not, Bool, false, [], map, Option, None, Some, is_none, nat_lt, arith, refl, ap, nat_le, rules, list_any, or_parts, or_from, and_left, Command, AddressDevice, ConfigureEndpoint, ResetEndpoint, StopEndpoint, SetTrDequeue, named_slot, named_endpoint, named_context, is_disabled, is_off, added_endpoints, input_add_flag, Header, is_ring, Known, binding_in, binds, ring_bound, binds_ring, drops}
-use Rattle.ownership_rules.specs.Commands as commands
+use Rattle.safety.proofs.Words.{[], ◌≡◌, ◌≢◌, ◌<◌, ◌==◌, ◌&&◌, ◌||◌, if◌then◌else◌, ◌∷◌, ◌∙◌, ℕ, not, Bool, false, map, Option, None, Some, is_none, nat_lt, arith, refl, ap, nat_le, rules, list_any, or_parts, or_from, and_left, Command, AddressDevice, ConfigureEndpoint, ResetEndpoint, StopEndpoint, SetTrDequeue, named_slot, named_endpoint, named_context, is_disabled, is_off, added_endpoints, input_add_flag, Header, is_ring, Known, binding_in, binds, ring_bound, binds_ring, drops, adds_streams, has_bad_content, has_bad_context, is_bad_added, is_bad_command, names_disabled_endpoint, names_disabled_slot, streams_in, takes_bad_device, type_in}
 use Rattle.safety.proofs.Concerned.{Concerns}
 use Rattle.safety.proofs.ContextReads.{AgreeIn, any_same, map_same, added_indices, added_same, add_flag_same, drop_flag_same, type_same, streams_same, pointer_same, cycle_same}
 
@@ -8,15 +7,11 @@ none_is : (o : Option ℕ) → o ≢ None → is_none o ≡ false
 none_is None some = absurd (some refl)
 none_is (Some d) some = refl
 
-no_context : (h : Header) (l : Known) → commands.has_bad_context h l None ≡ false
-unfolding commands.has_bad_context
-no_context h l = refl
-
 module _ (h : Header) where
   -- what is known at l is, as far as the command reads it, what was known at k
   pub record Beside (k l : Known) (c : Command) : Type 0 where
     pub memory : (n : ℕ) → named_context c ≡ Some n → AgreeIn h.context_size k.memory l.memory n
-    pub context : (n : ℕ) → named_context c ≡ Some n → commands.has_bad_context h l (Some n) ≡ false
+    pub context : (n : ℕ) → named_context c ≡ Some n → has_bad_context h l (Some n) ≡ false
     pub slot : (s : ℕ) → named_slot c ≡ Some s → is_disabled (k.slot_state s) ≡ false → is_disabled (l.slot_state s) ≡ false
     pub off : (s i : ℕ) → Concerns c s i → is_off (l.endpoint_state s i) ≡ is_off (k.endpoint_state s i)
     pub device : (s n : ℕ) (bsr : Bool) → c ≡ AddressDevice s bsr n → l.device s ≢ None
@@ -24,16 +19,9 @@ module _ (h : Header) where
   -- ---- single parts
 
   module _ (k l : Known) (n : ℕ) (same : AgreeIn h.context_size k.memory l.memory n) where
-    types : (i : ℕ) → i < 32 → commands.type_in h l n i ≡ commands.type_in h k n i
-    unfolding commands.type_in
-    types i low = type_same h.context_size k.memory l.memory n same i low
-
-    streams : (i : ℕ) → i < 32 → commands.streams_in h l n i ≡ commands.streams_in h k n i
-    unfolding commands.streams_in
-    streams i low = streams_same h.context_size k.memory l.memory n same i low
-
-    with_streams : (i : ℕ) → i < 32 → nat_lt 0 (commands.streams_in h l n i) ≡ nat_lt 0 (commands.streams_in h k n i)
-    with_streams i low = ap (nat_lt 0) (streams i low)
+    with_streams : (i : ℕ) → i < 32 → nat_lt 0 (streams_in h l n i) ≡ nat_lt 0 (streams_in h k n i)
+    unfolding streams_in
+    with_streams i low = ap (nat_lt 0) (streams_same h.context_size k.memory l.memory n same i low)
 
     binding : (i : ℕ) → i < 32 → binding_in h l n i ≡ binding_in h k n i
     unfolding binding_in
@@ -42,23 +30,23 @@ module _ (h : Header) where
         let c = cycle_same h.context_size k.memory l.memory n same i low in
         cc
 
-    bad_added : (s i : ℕ) → i < 32 → is_off (l.endpoint_state s i) ≡ is_off (k.endpoint_state s i) → commands.is_bad_added h l s n i ≡ commands.is_bad_added h k s n i
-    unfolding commands.is_bad_added
+    bad_added : (s i : ℕ) → i < 32 → is_off (l.endpoint_state s i) ≡ is_off (k.endpoint_state s i) → is_bad_added h l s n i ≡ is_bad_added h k s n i
+    unfolding is_bad_added type_in
     bad_added s i low off =
-        let t = types i low in
+        let t = type_same h.context_size k.memory l.memory n same i low in
         let d = drop_flag_same h.context_size k.memory l.memory n same i in
         cc
 
   -- ---- the rules
 
   module _ (k l : Known) where
-    profile_beside : (c : Command) → Beside k l c → commands.adds_streams h l c ≡ commands.adds_streams h k c
-    unfolding commands.adds_streams
+    profile_beside : (c : Command) → Beside k l c → adds_streams h l c ≡ adds_streams h k c
+    unfolding adds_streams
     profile_beside (AddressDevice s bsr n) b = with_streams k l n (b.memory n refl) 1 (omega arith)
     profile_beside (ConfigureEndpoint s false n) b =
         let same = b.memory n refl in
-        ap (λ xs. list_any (λ i. nat_lt 0 (commands.streams_in h l n i)) xs) (added_same h.context_size k.memory l.memory n same)
-        ∙ any_same (λ i. nat_lt 0 (commands.streams_in h l n i)) (λ i. nat_lt 0 (commands.streams_in h k n i)) (added_endpoints k.memory n) (added_indices k.memory n) (with_streams k l n same)
+        ap (λ xs. list_any (λ i. nat_lt 0 (streams_in h l n i)) xs) (added_same h.context_size k.memory l.memory n same)
+        ∙ any_same (λ i. nat_lt 0 (streams_in h l n i)) (λ i. nat_lt 0 (streams_in h k n i)) (added_endpoints k.memory n) (added_indices k.memory n) (with_streams k l n same)
     profile_beside _ b = refl
 
     pub binds_beside : (c : Command) → Beside k l c → binds h l c ≡ binds h k c
@@ -81,49 +69,42 @@ module _ (h : Header) where
     drops_beside (ConfigureEndpoint t false n) b s i = ap (λ x. s == t && (nat_le 2 i && x)) (drop_flag_same h.context_size k.memory l.memory n (b.memory n refl) i)
     drops_beside _ b s i = refl
 
-    slot_beside : (c : Command) → Beside k l c → commands.names_disabled_slot k (named_slot c) ≡ false → commands.names_disabled_slot l (named_slot c) ≡ false
-    unfolding commands.names_disabled_slot
-    slot_beside c b good = search rules
-
-    endpoint_beside : (c : Command) → Beside k l c → commands.names_disabled_endpoint l (named_endpoint c) ≡ commands.names_disabled_endpoint k (named_endpoint c)
-    unfolding commands.names_disabled_endpoint
+    endpoint_beside : (c : Command) → Beside k l c → names_disabled_endpoint l (named_endpoint c) ≡ names_disabled_endpoint k (named_endpoint c)
+    unfolding names_disabled_endpoint
     endpoint_beside (ResetEndpoint s i) b = ap (λ t. i == 0 || t) (b.off s i (refl, (refl, refl)))
     endpoint_beside (StopEndpoint s i) b = ap (λ t. i == 0 || t) (b.off s i (refl, (refl, refl)))
     endpoint_beside (SetTrDequeue s i p cycle) b = ap (λ t. i == 0 || t) (b.off s i (refl, (refl, refl)))
     endpoint_beside _ b = refl
 
-    context_beside : (c : Command) → Beside k l c → commands.has_bad_context h l (named_context c) ≡ false
-    context_beside c b = search (rules, no_context)
-
     -- a device context that is under lease isn't taken again
-    pub leased_device : (s n : ℕ) → l.device s ≢ None → commands.takes_bad_device h l s n ≡ false
-    unfolding commands.takes_bad_device
+    pub leased_device : (s n : ℕ) → l.device s ≢ None → takes_bad_device h l s n ≡ false
+    unfolding takes_bad_device
     leased_device s n some = and_left _ _ (none_is (l.device s) some)
 
-    content_beside : (c : Command) → Beside k l c → commands.has_bad_content h k c ≡ false → commands.has_bad_content h l c ≡ false
-    unfolding commands.has_bad_content
+    content_beside : (c : Command) → Beside k l c → has_bad_content h k c ≡ false → has_bad_content h l c ≡ false
+    unfolding has_bad_content type_in
     content_beside (AddressDevice s bsr n) b good =
         let same = b.memory n refl in
-        let parts = or_parts (not (input_add_flag k.memory n 0 && input_add_flag k.memory n 1) || commands.type_in h k n 1 == 0) (commands.takes_bad_device h k s n) good in
-        let a = or_parts (not (input_add_flag k.memory n 0 && input_add_flag k.memory n 1)) (commands.type_in h k n 1 == 0) parts.0 in
+        let parts = or_parts (not (input_add_flag k.memory n 0 && input_add_flag k.memory n 1) || type_in h k n 1 == 0) (takes_bad_device h k s n) good in
+        let a = or_parts (not (input_add_flag k.memory n 0 && input_add_flag k.memory n 1)) (type_in h k n 1 == 0) parts.0 in
         let zero_same = add_flag_same h.context_size k.memory l.memory n same 0 in
         let one_same = add_flag_same h.context_size k.memory l.memory n same 1 in
-        or_from (not (input_add_flag l.memory n 0 && input_add_flag l.memory n 1) || commands.type_in h l n 1 == 0) (commands.takes_bad_device h l s n)
-        (or_from (not (input_add_flag l.memory n 0 && input_add_flag l.memory n 1)) (commands.type_in h l n 1 == 0)
+        or_from (not (input_add_flag l.memory n 0 && input_add_flag l.memory n 1) || type_in h l n 1 == 0) (takes_bad_device h l s n)
+        (or_from (not (input_add_flag l.memory n 0 && input_add_flag l.memory n 1)) (type_in h l n 1 == 0)
         (ap (λ t. not (t && input_add_flag l.memory n 1)) zero_same ∙ ap (λ t. not (input_add_flag k.memory n 0 && t)) one_same ∙ a.0)
-        (ap (λ t. t == 0) (types k l n same 1 (omega arith)) ∙ a.1))
+        (ap (λ t. t == 0) (type_same h.context_size k.memory l.memory n same 1 (omega arith)) ∙ a.1))
         (leased_device s n (b.device s n bsr refl))
     content_beside (ConfigureEndpoint s false n) b good =
         let same = b.memory n refl in
-        ap (λ xs. list_any (commands.is_bad_added h l s n) xs) (added_same h.context_size k.memory l.memory n same)
-        ∙ any_same (commands.is_bad_added h l s n) (commands.is_bad_added h k s n) (added_endpoints k.memory n) (added_indices k.memory n)
+        ap (λ xs. list_any (is_bad_added h l s n) xs) (added_same h.context_size k.memory l.memory n same)
+        ∙ any_same (is_bad_added h l s n) (is_bad_added h k s n) (added_endpoints k.memory n) (added_indices k.memory n)
         (λ i low. bad_added k l n same s i low (b.off s i (refl, tt)))
         ∙ good
     content_beside _ b good = refl
 
-    pub good_beside : (c : Command) → Beside k l c → commands.is_bad_command h k c ≡ false → commands.is_bad_command h l c ≡ false
-    unfolding commands.is_bad_command
-    good_beside c b good = search (rules, or_parts, or_from, slot_beside, endpoint_beside, context_beside, content_beside)
+    pub good_beside : (c : Command) → Beside k l c → is_bad_command h k c ≡ false → is_bad_command h l c ≡ false
+    unfolding is_bad_command names_disabled_slot has_bad_context
+    good_beside c b good = search (rules, or_parts, or_from, endpoint_beside, content_beside)
 
-    pub in_profile_beside : (c : Command) → Beside k l c → commands.adds_streams h k c ≡ false → commands.adds_streams h l c ≡ false
+    pub in_profile_beside : (c : Command) → Beside k l c → adds_streams h k c ≡ false → adds_streams h l c ≡ false
     in_profile_beside c b good = profile_beside c b ∙ good

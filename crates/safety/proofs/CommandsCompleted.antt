@@ -1,15 +1,8 @@
 -- A completion keeps what is kept of the commands that stay unfinished
-use Rattle.safety.proofs.Words.{◌≡◌, ◌≢◌, ◌==◌, if◌then◌else◌, ◌∙◌, ℕ, not, true, false, nat_lt, Option, None, Some, is_some, arith, refl, sym, ap, subst, inl, inr, ltb-true, cases_Bool, cond-true, cond-false, or_parts, and_parts, not-false, false≢true, Block, code, slot, Spot, after, Reaches, ceiling, Command, NoOp, EnableSlot, DisableSlot, AddressDevice, ConfigureEndpoint, EvaluateContext, ResetEndpoint, StopEndpoint, SetTrDequeue, ResetDevice, exclude, SlotState, Disabled, named_slot, may_answer_slot, is_disabled, can_succeed, slot_success, Header, Config, IsHeader, shape_of, command_id, register_or_zero, Known, command_at, next_command, on_ring, succeeded, stop_ended, finished, completed, may_be_taken, can_finish, was_stop_seen, is_impossible_completion, IsDriverRing, IsUnfinished, DriverKeeps, CommandsKeep}
-use Rattle.ownership_rules.specs.Commands as commands
-use Rattle.safety.proofs.Headers.{ring_shape}
-use Rattle.safety.proofs.NoWait.{ceiling_given}
-use Rattle.safety.proofs.SafeContext.{AtFloor, at_floor, command_is_ring}
-use Rattle.safety.proofs.SameDriver.{completion_same}
+use Rattle.safety.proofs.Words.{◌≡◌, ◌≢◌, ◌==◌, if◌then◌else◌, ◌∙◌, ℕ, not, true, false, nat_lt, Option, None, Some, is_some, arith, refl, sym, ap, subst, inl, inr, ltb-true, cases_Bool, cond-true, cond-false, or_parts, and_parts, not-false, false≢true, Block, code, slot, Spot, after, Reaches, ceiling, Command, NoOp, EnableSlot, DisableSlot, AddressDevice, ConfigureEndpoint, EvaluateContext, ResetEndpoint, StopEndpoint, SetTrDequeue, ResetDevice, exclude, SlotState, Disabled, named_slot, may_answer_slot, is_disabled, can_succeed, slot_success, Header, Config, IsHeader, shape_of, command_id, register_or_zero, Known, command_at, next_command, on_ring, succeeded, stop_ended, finished, completed, may_be_taken, can_finish, was_stop_seen, is_impossible_completion, IsDriverRing, IsUnfinished, DriverKeeps, CommandsKeep, names_disabled_slot}
+use Rattle.safety.proofs.LowerLaws.{ring_shape, ceiling_given, AtFloor, at_floor, command_is_ring, completion_same, IsPart, OtherSlots, same_others, both_others, on_others, Concerns, not_both, own_keeps, pair_keeps, commands_stay}
 use Rattle.safety.proofs.TakenDevices.{slot_above, slot_named}
-use Rattle.safety.proofs.OtherSlots.{IsPart, OtherSlots, same_others, both_others, on_others}
 use Rattle.safety.proofs.SlotCommands.{changed_slot, changed_part, OfCommand, Commands, of_slot, success_others}
-use Rattle.safety.proofs.Concerned.{Concerns, not_both}
-use Rattle.safety.proofs.CommandsStay.{own_keeps, pair_keeps, commands_stay}
 use Rattle.safety.proofs.CommandsFinished.{beside_finished, rings_finished, unfinished_before}
 
 enabled_before : (s : SlotState) → is_some (slot_success EnableSlot s) ≡ true → is_disabled s ≡ true
@@ -20,10 +13,6 @@ enabled_before _ can = absurd (false≢true can)
 enabled_slot : (k : Known) (n : ℕ) → can_succeed k.slot_state k.endpoint_state (register_or_zero k.register Config) n EnableSlot ≡ true → is_disabled (k.slot_state n) ≡ true
 unfolding can_succeed
 enabled_slot k n can = enabled_before (k.slot_state n) (and_parts (is_some (slot_success EnableSlot (k.slot_state n))) _ (and_parts _ _ can).0).0
-
-named_on : (k : Known) (t : ℕ) → commands.names_disabled_slot k (Some t) ≡ false → is_disabled (k.slot_state t) ≡ false
-unfolding commands.names_disabled_slot
-named_on k t on = on
 
 stop_others : (h : Header) (k x : Known) (s : ℕ) (part : Option ℕ) (B : ℕ → Type 0) (e : Command) → OtherSlots k x s part B → OtherSlots k (stop_ended h x e) s part B
 unfolding stop_ended
@@ -51,17 +40,18 @@ module _ (h : Header) (is : IsHeader h) (k : Known) (d : DriverKeeps h k) (b : B
 
   -- ---- commands that concern nothing that changed
 
-  named_above : (p : ℕ) (c : Command) (t : ℕ) → IsUnfinished h k p c → named_slot c ≡ Some t → commands.names_disabled_slot k (Some t) ≡ false
-  named_above p c t u named = ap (λ o. commands.names_disabled_slot k o) (sym named) ∙ slot_named h k c (d.unfinished p c u).good
+  named_above : (p : ℕ) (c : Command) (t : ℕ) → IsUnfinished h k p c → named_slot c ≡ Some t → names_disabled_slot k (Some t) ≡ false
+  named_above p c t u named = ap (λ o. names_disabled_slot k o) (sym named) ∙ slot_named h k c (d.unfinished p c u).good
 
   not_zero : (p : ℕ) (c : Command) (t : ℕ) → IsUnfinished h k p c → named_slot c ≡ Some t → t ≢ 0
   not_zero p c t u named same = let above = slot_above h k d t (named_above p c t u named) in absurd (omega arith)
 
   not_concerned : (f : Command) (n p : ℕ) (c : Command) (t i : ℕ) → can_succeed k.slot_state k.endpoint_state (register_or_zero k.register Config) n f ≡ true → IsUnfinished h k p c →
       exclude f c ≡ false → Concerns c t i → t ≡ changed_slot f n → IsPart (changed_part f) i → ⊥
+  unfolding names_disabled_slot
   not_concerned NoOp n p c t i can u apart its same part = not_zero p c t u its.0 same
   not_concerned EnableSlot n p c t i can u apart its same part =
-      false≢true (sym (named_on k t (named_above p c t u its.0)) ∙ ap (λ x. is_disabled (k.slot_state x)) same ∙ enabled_slot k n can)
+      false≢true (sym ((named_above p c t u its.0)) ∙ ap (λ x. is_disabled (k.slot_state x)) same ∙ enabled_slot k n can)
   not_concerned (DisableSlot s) n p c t i can u apart its same part = not_both (DisableSlot s) c t i apart (ap (λ x. Some x) (sym same), tt) its
   not_concerned (AddressDevice s bsr x) n p c t i can u apart its same part = not_both (AddressDevice s bsr x) c t i apart (ap (λ x. Some x) (sym same), tt) its
   not_concerned (ConfigureEndpoint s dc x) n p c t i can u apart its same part = not_both (ConfigureEndpoint s dc x) c t i apart (ap (λ x. Some x) (sym same), tt) its

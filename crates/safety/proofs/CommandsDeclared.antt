@@ -1,11 +1,7 @@
 -- A declaration keeps what is kept of unfinished commands
 use Rattle.safety.proofs.Words.{◌≡◌, ◌<◌, ◌∙◌, ℕ, List, option_and_then, slice_get, arith, refl, sym, ap, subst, inl, inr, rules, cases_eq, Block, number, RingView, Declares, declared, is_due, slice_get-append, Command, command_of, Header, IsHeader, shape_of, command_id, Known, on_ring, command_at, IsUnfinished, CommandKeeps, DriverKeeps}
-use Rattle.safety.proofs.DriverRows.{ring_here, ring_elsewhere}
+use Rattle.safety.proofs.LowerLaws.{ring_here, ring_elsewhere, MovesStay, moves_declares, moves_stand, due_has_ring, Standing, still_restored, SameStates, RingsStay, same_stay}
 use Rattle.safety.proofs.NothingFree.{declared_free}
-use Rattle.safety.proofs.DeclaredMoves.{MovesStay, moves_declares, moves_stand}
-use Rattle.safety.proofs.CommandRing.{due_has_ring}
-use Rattle.safety.proofs.CommandsStay.{Standing, still_restored}
-use Rattle.safety.proofs.CommandsSame.{SameStates, RingsStay, same_stay}
 
 module _ (h : Header) (is : IsHeader h) (k : Known) (d : DriverKeeps h k) (r : ℕ) (blocks : List Block) where
   l : Known
@@ -21,18 +17,13 @@ module _ (h : Header) (is : IsHeader h) (k : Known) (d : DriverKeeps h k) (r : �
     pub given : w.given ≡ v.given
     pub queue : (p : ℕ) → p < declared v → slice_get w.queue p ≡ slice_get v.queue p
 
-  only : (q : ℕ) → OnlyDeclares (k.ring q) (l.ring q)
-  unfolding l
-  only q = search (rules, l, ring_here, slice_get-append, ring_elsewhere)
-
   before : (p : ℕ) (c : Command) → IsUnfinished h l p c → IsUnfinished h k p c
-  unfolding command_at
+  unfolding command_at l
   before p c u =
-      let o : OnlyDeclares (k.ring (command_id h)) (l.ring (command_id h)) = only (command_id h) in
+      let o : OnlyDeclares (k.ring (command_id h)) (l.ring (command_id h)) = search (rules, l, ring_here, slice_get-append, ring_elsewhere) in
       let due = ap (λ t. is_due (shape_of h (command_id h)) t p) (sym o.floor) ∙ u.due in
       let given = ap (λ f. f p) (sym o.given) ∙ u.given in
-      let ring = due_has_ring h is (k.ring (command_id h)).floor p due in
-      let low = (d.rings (command_id h) ring).given_declared p given in
+      let low = (d.rings (command_id h) (due_has_ring h is (k.ring (command_id h)).floor p due)).given_declared p given in
       record { due = due; given = given; command = ap (λ x. option_and_then command_of x) (sym (o.queue p low)) ∙ u.command }
 
   stays : (q : ℕ) → MovesStay (shape_of h q) (k.ring q) (l.ring q)
@@ -45,8 +36,9 @@ module _ (h : Header) (is : IsHeader h) (k : Known) (d : DriverKeeps h k) (r : �
       ]
 
   standing : (q : ℕ) → Standing (shape_of h q) (k.ring q) (l.ring q)
+  unfolding l
   standing q =
-      let o : OnlyDeclares (k.ring q) (l.ring q) = only q in
+      let o : OnlyDeclares (k.ring q) (l.ring q) = search (rules, l, ring_here, slice_get-append, ring_elsewhere) in
       record {
         here = (stays q).standing;
         nothing = λ none p low. ap (λ f. f p) o.given ∙ none p (omega (arith, low, ap (λ t. number t) o.floor));

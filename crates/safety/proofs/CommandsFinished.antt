@@ -1,23 +1,10 @@
 -- A completion keeps what is kept of the commands that stay unfinished
-use Rattle.safety.proofs.Words.{◌≡◌, ◌≢◌, ◌∙◌, ℕ, true, false, Some, option_and_then, slice_get, arith, refl, sym, ap, subst, Bool, Option, None, false≢true, Block, Spot, after, RingView, Reaches, changed, is_due, due_is, due_from, number-after, Command, command_of, named_slot, is_disabled, is_off, is_at_rest, Header, IsHeader, shape_of, command_id, Known, command_at, next_command, finished, completed, input_context_bytes, binds_ring, IsDriverRing, IsUnfinished, CommandKeeps, DriverKeeps, AddressDevice, SetTrDequeue}
-use Rattle.ownership_rules.specs.Commands as commands
+use Rattle.safety.proofs.Words.{◌≡◌, ◌≢◌, ◌∙◌, ℕ, true, false, Some, option_and_then, slice_get, arith, refl, sym, ap, subst, Bool, Option, None, false≢true, Block, Spot, after, RingView, Reaches, changed, is_due, due_is, due_from, number-after, Command, command_of, named_slot, is_disabled, is_off, is_at_rest, Header, IsHeader, shape_of, command_id, Known, command_at, next_command, finished, completed, input_context_bytes, binds_ring, IsDriverRing, IsUnfinished, CommandKeeps, DriverKeeps, AddressDevice, has_bad_context}
 use Rattle.safety.specs.EndpointsKeep as endpoints
-use Rattle.safety.proofs.RingIds.{command_not_transfer}
-use Rattle.safety.proofs.BoundRings.{bound_transfer, drops_concerns}
-use Rattle.safety.proofs.Headers.{transfer_not_command}
-use Rattle.safety.proofs.DriverRows.{ring_here}
-use Rattle.safety.proofs.DriverRings.{endpoints_of}
+use Rattle.safety.proofs.LowerLaws.{command_not_transfer, bound_transfer, drops_concerns, transfer_not_command, ring_here, endpoints_of, next_is, SameDriver, clean_same, area_parts, area_from, device_apart, devices_apart, IsPart, OtherSlots, Beside, Concerns, some_concerned, not_both, Standing, PlacesStay, MovesAhead, RingsBeside, still_restored, context_good}
 use Rattle.safety.proofs.EndpointHistories.{finish_elsewhere}
-use Rattle.safety.proofs.SafeContext.{next_is}
-use Rattle.safety.proofs.SameDriver.{SameDriver}
-use Rattle.safety.proofs.AreaFacts.{clean_same, area_parts, area_from, device_apart, devices_apart}
 use Rattle.safety.proofs.WriteBeside.{ContextParts, context_parts, context_from}
-use Rattle.safety.proofs.OtherSlots.{IsPart, OtherSlots}
 use Rattle.safety.proofs.SlotCommands.{OfCommand, Has, Binds, Commands}
-use Rattle.safety.proofs.CommandsBeside.{Beside}
-use Rattle.safety.proofs.Concerned.{Concerns, some_concerned, not_both}
-use Rattle.safety.proofs.CommandsStay.{Standing, PlacesStay, MovesAhead, RingsBeside, still_restored}
-use Rattle.safety.proofs.CommandsSame.{context_good}
 
 -- ---- a command that concerns nothing that changed: it is of another slot, or of another endpoint of the slot
 
@@ -32,9 +19,6 @@ module _ (h : Header) (is : IsHeader h) (k : Known) (d : DriverKeeps h k) (q : �
   other_slot t named same whole =
       let one = some_concerned c t named in
       apart t one.0 one.1 same (subst (λ x. IsPart x one.0) (sym whole) tt)
-
-  moves_endpoint : (t i x : ℕ) (cycle : Bool) → c ≡ SetTrDequeue t i x cycle → Concerns c t i
-  moves_endpoint t i x cycle at = subst (λ z. Concerns z t i) (sym at) (refl, (refl, refl))
 
   addresses_first : (t n : ℕ) (bsr : Bool) → c ≡ AddressDevice t bsr n → Concerns c t 1
   addresses_first t n bsr at = subst (λ z. Concerns z t 1) (sym at) (refl, tt)
@@ -60,9 +44,9 @@ module _ (h : Header) (is : IsHeader h) (k : Known) (d : DriverKeeps h k) (q : �
   pub rings_finished : RingsBeside h k l c
   rings_finished = record {
     ring_of = λ t i its. o.ring_of t i (apart t i its);
-    rest = λ t i x cycle at rests. ap is_at_rest (o.states t i (apart t i (moves_endpoint t i x cycle at))) ∙ rests;
+    rest = λ t i x cycle at rests. ap is_at_rest (o.states t i (apart t i (subst (λ z. Concerns z t i) (sym at) (refl, (refl, refl))))) ∙ rests;
     ahead = λ t i x r cycle at has rests.
-        subst (λ v. MovesAhead (shape_of h r) (k.ring r) v) (sym (ring_same t i r (moves_endpoint t i x cycle at) has)) (λ a b moves. moves);
+        subst (λ v. MovesAhead (shape_of h r) (k.ring r) v) (sym (ring_same t i r (subst (λ z. Concerns z t i) (sym at) (refl, (refl, refl))) has)) (λ a b moves. moves);
     standing = λ t n r bsr at has.
         subst (λ v. Standing (shape_of h r) (k.ring r) v) (sym (ring_same t 1 r (addresses_first t n bsr at) has)) (record { here = λ a b moves. moves; nothing = λ none. none });
     still = λ r bound. subst (λ v. PlacesStay (shape_of h r) (k.ring r) v) (sym (o.rings r (not_bound_by_it r bound))) (λ a b placed. placed);
@@ -71,7 +55,7 @@ module _ (h : Header) (is : IsHeader h) (k : Known) (d : DriverKeeps h k) (q : �
     moved = still_restored k l c (λ t i its. o.ring_of t i (apart t i its)) (λ r. (driver.rings r).free);
   }
 
-  context_finished : (n : ℕ) → commands.has_bad_context h k (Some n) ≡ false → commands.has_bad_context h l (Some n) ≡ false
+  context_finished : (n : ℕ) → has_bad_context h k (Some n) ≡ false → has_bad_context h l (Some n) ≡ false
   context_finished n good =
       let parts : ContextParts h k n = context_parts h k n good in
       let areas = area_parts h k n (input_context_bytes h.context_size) parts.area in
@@ -88,7 +72,7 @@ module _ (h : Header) (is : IsHeader h) (k : Known) (d : DriverKeeps h k) (q : �
   pub beside_finished : Beside h k l c
   beside_finished = record {
     memory = λ n at x low high. ap (λ f. f x) driver.memory;
-    context = λ n at. context_finished n (ap (λ x. commands.has_bad_context h k x) (sym at) ∙ context_good h k c keeps.good);
+    context = λ n at. context_finished n (ap (λ x. has_bad_context h k x) (sym at) ∙ context_good h k c keeps.good);
     slot = λ t named on. ap is_disabled (o.slot_state t (other_slot t named)) ∙ on;
     off = λ t i its. ap is_off (o.states t i (apart t i its));
     device = λ t n bsr at none. keeps.device t n bsr at (sym (o.device t (other_slot t (ap named_slot at))) ∙ none);
@@ -116,14 +100,12 @@ module _ (h : Header) (is : IsHeader h) (k : Known) (d : DriverKeeps h k) (b : B
   pub unfinished_before : IsDriverRing h (command_id h) → (p : ℕ) (c : Command) → IsUnfinished h l p c → IsUnfinished h k p c × (p ≢ next_command h k)
   unfolding command_at
   unfinished_before ring p c u =
-      let shape = shape_of h (command_id h) in
       let given : (k.ring (command_id h)).given p ≡ true = ap (λ (v : RingView). v.given p) (sym command_view) ∙ u.given in
       let due = due_is (shape_of h (command_id h)) beyond p (ap (λ (v : RingView). is_due (shape_of h (command_id h)) v.floor p) (sym command_view) ∙ u.due) in
-      let within = (d.rings (command_id h) ring).given_within p given in
       let high = number-after (shape_of h (command_id h)) (next_command h k) in
       let low = next_is h k in (
         record {
-          due = due_from (shape_of h (command_id h)) (k.ring (command_id h)).floor p (omega (arith, due.0, high, low)) within;
+          due = due_from (shape_of h (command_id h)) (k.ring (command_id h)).floor p (omega (arith, due.0, high, low)) ((d.rings (command_id h) ring).given_within p given);
           given = given;
           command = ap (λ (v : RingView). option_and_then command_of (slice_get v.queue p)) (sym command_view) ∙ u.command;
         },

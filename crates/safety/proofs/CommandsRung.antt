@@ -1,12 +1,12 @@
 -- A doorbell keeps what is kept of unfinished commands: none of them touches the endpoint
-use Rattle.safety.proofs.Words.{◌≡◌, ◌≢◌, ◌==◌, ◌&&◌, if◌then◌else◌, ◌∙◌, ℕ, not, Bool, true, false, [], Option, None, Some, refl, sym, ap, subst, eq-eqb, rules, cond_both, cond-false, or_parts, or_left, and_from, false≢true, put_pair, Opens, number, Command, ConfigureEndpoint, SetTrDequeue, EndpointState, Off, Running, is_off, is_stopped, is_at_rest, changes, Header, Bell, IsHeader, shape_of, command_id, Known, on_ring, endpoint_rung, rung, touches_endpoint, is_touched, is_bad_bell, is_bad_doorbell, doorbell_tests, lenient_tests, lenient, IsUnfinished, CommandKeeps, DriverKeeps, drops, is_dropped}
-use Rattle.safety.proofs.TestsPassed.{AllFail, tests_fail}
+use Rattle.safety.proofs.Words.{[], ◌≡◌, ◌≢◌, ◌==◌, ◌&&◌, if◌then◌else◌, ◌∙◌, ℕ, not, Bool, true, false, Option, None, Some, refl, sym, ap, subst, eq-eqb, rules, cond_both, cond-false, or_parts, or_left, and_from, false≢true, put_pair, Opens, number, Command, ConfigureEndpoint, SetTrDequeue, EndpointState, Off, Running, is_off, is_stopped, is_at_rest, changes, Header, Bell, IsHeader, shape_of, command_id, Known, on_ring, endpoint_rung, rung, touches_endpoint, is_touched, is_bad_bell, is_bad_doorbell, doorbell_tests, lenient_tests, lenient, IsUnfinished, CommandKeeps, DriverKeeps, drops, is_dropped}
+use Rattle.safety.proofs.TestsPassed.{tests_fail}
 use Rattle.safety.proofs.DriverRows.{ring_here, ring_elsewhere}
 use Rattle.safety.proofs.Headers.{transfer_not_command}
 use Rattle.safety.specs.EndpointsKeep.{IsTransferRing as IsTransferTest}
 use Rattle.safety.proofs.RingIds.{command_not_transfer}
 use Rattle.safety.proofs.BoundRings.{bound_transfer}
-use Rattle.safety.proofs.SameDriver.{SameGiven, SameDriver, on_ring_same}
+use Rattle.safety.proofs.SameDriver.{SameGiven, on_ring_same}
 use Rattle.safety.proofs.EndpointPut.{at_pair}
 use Rattle.safety.proofs.NothingFree.{opened_free}
 use Rattle.safety.proofs.UnfinishedLists.{unfinished_fails}
@@ -22,10 +22,6 @@ opened_states : (h : Header) (k : Known) (r : ℕ) → SameStates k (on_ring h k
 unfolding on_ring
 opened_states h k r = record { memory = refl; soiled = refl; device = refl; slot_state = refl; off = λ s i. refl; ring_of = refl; was_bound = refl }
 
-opened_endpoints : (h : Header) (k : Known) (r : ℕ) → (on_ring h k r Opens).endpoint_state ≡ k.endpoint_state
-unfolding on_ring
-opened_endpoints h k r = refl
-
 module _ (h : Header) (is : IsHeader h) (k : Known) (d : DriverKeeps h k) where
   -- a ring of the driver whose pointer doesn't change
   opened_floor : (r q : ℕ) → ((on_ring h k r Opens).ring q).floor ≡ (k.ring q).floor
@@ -34,12 +30,12 @@ module _ (h : Header) (is : IsHeader h) (k : Known) (d : DriverKeeps h k) where
   -- ---- the command ring's
 
   commands_rung : (p : ℕ) (c : Command) → IsUnfinished h (on_ring h k (command_id h) Opens) p c → CommandKeeps h (on_ring h k (command_id h) Opens) p c
+  unfolding on_ring
   commands_rung =
       let l : Known = on_ring h k (command_id h) Opens in
-      let driver : SameDriver k l = on_ring_same h k (command_id h) Opens tt in
       same_stay h k l (opened_states h k (command_id h)) d.unfinished
-      (unfinished_view h k l (driver.rings (command_id h)) (opened_floor (command_id h) (command_id h)))
-      (λ p c u. ring_stays h k l c (opened_endpoints h k (command_id h)) (opened_states h k (command_id h)).ring_of (λ s i r at.
+      (unfinished_view h k l ((on_ring_same h k (command_id h) Opens tt).rings (command_id h)) (opened_floor (command_id h) (command_id h)))
+      (λ p c u. ring_stays h k l c (refl) (opened_states h k (command_id h)).ring_of (λ s i r at.
       ring_elsewhere h k (command_id h) r Opens (λ same. transfer_not_command h is r (d.states.transfer s i r at) same))
       (λ r bound. ring_elsewhere h k (command_id h) r Opens (λ same. command_not_transfer h is (subst (λ x. IsTransferTest h x) same (bound_transfer h is k r c bound)))) (opened_free h k (command_id h)))
 
@@ -87,10 +83,6 @@ module _ (h : Header) (is : IsHeader h) (k : Known) (d : DriverKeeps h k) where
     unfolding opened
     given_same q = subst (λ f. SameGiven (k.ring q) (f q)) (sym ring_is) ((on_ring_same h k r Opens tt).rings q)
 
-    floor_same : (q : ℕ) → (l.ring q).floor ≡ (k.ring q).floor
-    unfolding opened
-    floor_same q = ap (λ f. (f q).floor) ring_is ∙ opened_floor r q
-
     rung_stay : (u : ℕ) (c : Command) → IsUnfinished h k u c → RingsStay h k l c
     unfolding opened
     rung_stay u c unfinished_at =
@@ -102,7 +94,7 @@ module _ (h : Header) (is : IsHeader h) (k : Known) (d : DriverKeeps h k) where
               let one = d.states.one_endpoint q i s t r (there ∙ ap (λ n. Some n) same) has in
               set_touches s t i p q cycle u untouched (subst (λ x. IsUnfinished h k u x) at unfinished_at) one.0 one.1 in
               subst (λ v. MovesAhead (shape_of h x) (k.ring x) v) (sym (ap (λ f. f x) ring_is ∙ ring_elsewhere h k r x Opens other)) (λ a b moves. moves);
-          standing = λ q n x bsr at there. standing_same (shape_of h x) (k.ring x) (l.ring x) (given_same x) (ap (λ f. number f) (floor_same x));
+          standing = λ q n x bsr at there. standing_same (shape_of h x) (k.ring x) (l.ring x) (given_same x) (ap (λ f. number f) (ap (λ f. (f x).floor) ring_is ∙ opened_floor r x));
           still = λ x bound.
               let other : x ≢ r = λ same.
               none_drops s t u c untouched unfinished_at ((d.unfinished u c unfinished_at).unkept x s t bound (has ∙ ap (λ n. Some n) (sym same))) in
@@ -111,8 +103,9 @@ module _ (h : Header) (is : IsHeader h) (k : Known) (d : DriverKeeps h k) where
         }
 
     endpoint_commands : (p : ℕ) (c : Command) → IsUnfinished h l p c → CommandKeeps h l p c
+    unfolding opened
     endpoint_commands =
-        let before = unfinished_view h k l (given_same (command_id h)) (floor_same (command_id h)) in
+        let before = unfinished_view h k l (given_same (command_id h)) (ap (λ f. (f (command_id h)).floor) ring_is ∙ opened_floor r (command_id h)) in
         same_stay h k l rung_states d.unfinished before (λ p c u. rung_stay p c (before p c u))
 
   by_ring : (s t : ℕ) (o : Option ℕ) → k.ring_of s t ≡ o → is_touched h k s t ≡ false → (p : ℕ) (c : Command) → IsUnfinished h (endpoint_rung h k s t o) p c →
@@ -124,8 +117,7 @@ module _ (h : Header) (is : IsHeader h) (k : Known) (d : DriverKeeps h k) where
   pub rung_commands : (s t : ℕ) → lenient h k (Bell s t) ≡ [] → (p : ℕ) (c : Command) → IsUnfinished h (rung h k s t) p c → CommandKeeps h (rung h k s t) p c
   unfolding rung lenient_tests doorbell_tests is_bad_doorbell is_bad_bell
   rung_commands s t clean =
-      let fails : AllFail (doorbell_tests h k s t) = tests_fail h k (Bell s t) clean in
-      let rule : (if s == 0 then not (t == 0) else is_bad_bell h k s t) ≡ false = (or_parts (not k.started) _ fails.0).1 in
+      let rule : (if s == 0 then not (t == 0) else is_bad_bell h k s t) ≡ false = (or_parts (not k.started) _ (tests_fail h k (Bell s t) clean).0).1 in
       cond_both (s == 0) (on_ring h k (command_id h) Opens) (endpoint_rung h k s t (k.ring_of s t)) (λ l. (p : ℕ) (c : Command) → IsUnfinished h l p c → CommandKeeps h l p c)
       (λ zero. commands_rung)
       (λ slot. by_ring s t (k.ring_of s t) refl (or_parts _ (is_touched h k s t) (sym (cond-false (s == 0) (not (t == 0)) (is_bad_bell h k s t) slot) ∙ rule)).1)

@@ -1,6 +1,5 @@
 -- What is kept of unfinished commands is kept where slots, endpoints, contexts and device contexts are as they were
-use Rattle.safety.proofs.Words.{◌≡◌, ◌∙◌, ℕ, Bool, true, false, Option, None, Some, refl, sym, ap, rules, MovesRestored, or_parts, Command, AddressDevice, SetTrDequeue, named_context, is_disabled, is_off, is_at_rest, Header, shape_of, Known, device_ranges, is_bad_area, is_soiled, IsUnfinished, CommandKeeps, binds_ring}
-use Rattle.ownership_rules.specs.Commands as commands
+use Rattle.safety.proofs.Words.{◌≡◌, ◌∙◌, ℕ, Bool, true, false, Option, None, Some, refl, sym, ap, rules, MovesRestored, or_parts, Command, AddressDevice, SetTrDequeue, named_context, is_disabled, is_off, is_at_rest, Header, shape_of, Known, device_ranges, is_bad_area, is_soiled, IsUnfinished, CommandKeeps, binds_ring, has_bad_content, has_bad_context, is_bad_command}
 use Rattle.safety.proofs.CommandsBeside.{Beside}
 use Rattle.safety.proofs.CommandsStay.{Standing, PlacesStay, MovesAhead, RingsBeside, own_keeps, pair_keeps, commands_stay, still_restored}
 
@@ -22,21 +21,21 @@ module _ (h : Header) where
     pub still : (r : ℕ) → binds_ring h k r c ≡ true → PlacesStay (shape_of h r) (k.ring r) (l.ring r)
     pub moved : MovesRestored k c → MovesRestored l c
 
-  pub context_same : (k l : Known) (o : Option ℕ) → l.device ≡ k.device → l.soiled ≡ k.soiled → commands.has_bad_context h l o ≡ commands.has_bad_context h k o
-  unfolding commands.has_bad_context is_soiled is_bad_area device_ranges
+  pub context_same : (k l : Known) (o : Option ℕ) → l.device ≡ k.device → l.soiled ≡ k.soiled → has_bad_context h l o ≡ has_bad_context h k o
+  unfolding has_bad_context is_soiled is_bad_area device_ranges
   context_same k l None device soiled = refl
   context_same k l (Some n) device soiled = rw device (rw soiled refl)
 
-  pub context_good : (k : Known) (c : Command) → commands.is_bad_command h k c ≡ false → commands.has_bad_context h k (named_context c) ≡ false
-  unfolding commands.is_bad_command
-  context_good k c good = (or_parts _ (commands.has_bad_context h k (named_context c)) (or_parts _ (commands.has_bad_content h k c) good).0).1
+  pub context_good : (k : Known) (c : Command) → is_bad_command h k c ≡ false → has_bad_context h k (named_context c) ≡ false
+  unfolding is_bad_command
+  context_good k c good = (or_parts _ (has_bad_context h k (named_context c)) (or_parts _ (has_bad_content h k c) good).0).1
 
   module _ (k l : Known) (same : SameStates k l) where
     beside_same : (p : ℕ) (c : Command) → CommandKeeps h k p c → Beside h k l c
     beside_same p c keeps =
         record {
           memory = λ n at x low high. ap (λ f. f x) same.memory;
-          context = λ n at. ap (λ o. commands.has_bad_context h l o) (sym at) ∙ context_same k l (named_context c) same.device same.soiled ∙ context_good k c keeps.good;
+          context = λ n at. ap (λ o. has_bad_context h l o) (sym at) ∙ context_same k l (named_context c) same.device same.soiled ∙ context_good k c keeps.good;
           slot = λ s at on. ap (λ f. is_disabled (f s)) same.slot_state ∙ on;
           off = λ s i at. same.off s i;
           device = λ s n bsr at none. keeps.device s n bsr at (ap (λ f. f s) (sym same.device) ∙ none);

@@ -1,6 +1,5 @@
 -- What is kept of unfinished commands is kept where nothing that they read has changed
-use Rattle.safety.proofs.Words.{◌≡◌, ◌≢◌, ◌≤◌, ◌∙◌, ℕ, not, Bool, true, false, map, All, Option, None, Some, arith, refl, sym, ap, subst, List, get_or, eq-eqb, rules, MovesRestored, or_parts, or_from, not-false, not_from_true, Shape, RingView, declared, floor_number, ceiling, is_move, Command, AddressDevice, SetTrDequeue, is_at_rest, context_pointer, context_cycle, Header, shape_of, Known, binds, ring_bound, binds_ring, has_repeats, is_bad_dequeue, is_bad_move, IsUnfinished, Stays, StaysIf, MovesIf, CommandKeeps, is_placed, is_placement, drops, Binding, list_any, is_ring, Any-from_list_any, All-get_or, cases_option, list_any_at, false≢true, placement_still, exclude}
-use Rattle.ownership_rules.specs.Commands as commands
+use Rattle.safety.proofs.Words.{◌≡◌, ◌≢◌, ◌≤◌, ◌∙◌, ℕ, not, Bool, true, false, map, All, Option, None, Some, arith, refl, sym, ap, subst, List, get_or, eq-eqb, rules, MovesRestored, or_parts, or_from, not-false, not_from_true, Shape, RingView, declared, floor_number, ceiling, is_move, Command, AddressDevice, SetTrDequeue, is_at_rest, context_pointer, context_cycle, Header, shape_of, Known, binds, ring_bound, binds_ring, has_repeats, is_bad_dequeue, is_bad_move, IsUnfinished, Stays, StaysIf, MovesIf, CommandKeeps, is_placed, is_placement, drops, Binding, list_any, is_ring, Any-from_list_any, All-get_or, cases_option, list_any_at, false≢true, placement_still, exclude, adds_streams, is_bad_command}
 use Rattle.safety.proofs.Concerned.{Concerns}
 use Rattle.safety.proofs.ContextReads.{pointer_same, cycle_same}
 use Rattle.safety.proofs.BoundRings.{ring_is}
@@ -27,8 +26,8 @@ MovesAhead shape v w = (p : ℕ) (cycle : Bool) → is_move shape v p cycle (cei
 module _ (h : Header) where
   -- what is kept of one command, but for its device context
   pub record OwnKeeps (k : Known) (c : Command) : Type 0 where
-    pub good : commands.is_bad_command h k c ≡ false
-    pub in_profile : commands.adds_streams h k c ≡ false
+    pub good : is_bad_command h k c ≡ false
+    pub in_profile : adds_streams h k c ≡ false
     pub placed : All (λ b. is_placed h k (ring_bound h b) b ≡ true) (binds h k c)
     pub repeats : has_repeats (map (ring_bound h) (binds h k c)) ≡ false
     pub unkept : (r s i : ℕ) → binds_ring h k r c ≡ true → k.ring_of s i ≡ Some r → drops k c s i ≡ true
@@ -120,17 +119,14 @@ module _ (h : Header) where
     unfolding is_placed
     placed_beside bs still all x d inside = search (rules, get_or, cases_option, false≢true, list_any_at, eq-eqb)
 
-    still_placed : (c : Command) → RingsBeside k l c → All (λ b. is_placed h k (ring_bound h b) b ≡ true) (binds h k c) → All (λ b. is_placed h l (ring_bound h b) b ≡ true) (binds h k c)
-    unfolding binds_ring
-    still_placed c b all = placed_beside (binds h k c) b.still all
-
     pub own_beside : (c : Command) → Beside h k l c → RingsBeside k l c → OwnKeeps k c → OwnKeeps l c
+    unfolding binds_ring
     own_beside c m b own =
         let one : binds h l c ≡ binds h k c = binds_beside h k l c m in
         record {
           good = good_beside h k l c m own.good;
           in_profile = in_profile_beside h k l c m own.in_profile;
-          placed = subst (λ bs. All (λ b. is_placed h l (ring_bound h b) b ≡ true) bs) (sym one) (still_placed c b own.placed);
+          placed = subst (λ bs. All (λ b. is_placed h l (ring_bound h b) b ≡ true) bs) (sym one) (placed_beside (binds h k c) b.still own.placed);
           repeats = ap (λ bs. has_repeats (map (ring_bound h) bs)) one ∙ own.repeats;
           unkept = λ r s i bound has.
               let before = sym (binds_ring_beside h k l c m r) ∙ bound in

@@ -20,9 +20,6 @@ rest_not_running Stopped rests = refl
 rest_not_running Error rests = refl
 rest_not_running _ rests = absurd (false≢true rests)
 
-address_not_stop : (s t i n : ℕ) (bsr : Bool) → ◌≡◌ {A = Option Command} (Some (AddressDevice s bsr n)) (Some (StopEndpoint t i)) → ⊥
-address_not_stop s t i n bsr same = search (rules, false≢true)
-
 module _ (h : Header) (is : IsHeader h) (k : Known) (d : DriverKeeps h k) where
   -- the command that stops an endpoint now is unfinished
   stopping_unfinished : (u : ℕ) (c : Command) (s i : ℕ) → IsUnfinished h k u c → is_stopping_now h k s i ≡ true → IsUnfinished h k (next_command h k) (StopEndpoint s i)
@@ -55,7 +52,7 @@ module _ (h : Header) (is : IsHeader h) (k : Known) (d : DriverKeeps h k) where
     none_stops stopping =
         let other = stopping_unfinished u (AddressDevice s bsr n) s 1 unfinished_at stopping in
         elim (cases_eq (next_command h k) u) [
-          | inl same ↦ address_not_stop s s 1 n bsr (sym unfinished_at.command ∙ ap (λ p. command_at h k p) (sym same) ∙ other.command)
+          | inl same ↦ search (rules, false≢true)
           | inr apart ↦
               false≢true (sym ((d.unfinished u (AddressDevice s bsr n) unfinished_at).alone (next_command h k) (StopEndpoint s 1) other apart) ∙ and_from (s == s) true (eq-eqb s s refl) refl)
         ]
@@ -90,49 +87,19 @@ module _ (h : Header) (is : IsHeader h) (k : Known) (d : DriverKeeps h k) where
   module _ (c s i r : ℕ) (t : Spot) (has : k.ring_of s i ≡ Some r) (on : is_off (k.endpoint_state s i) ≡ false) (ahead : IsAhead (shape_of h r) (k.ring r) t)
       (can : can_report h k c s i r t ≡ true) (l : Known) (driver : SameDriver k l) (leaves : TransferLeaves k l s i r) where
     states : SameStates k l
-    states = record {
-      memory = driver.memory;
-      soiled = driver.soiled;
-      device = leaves.device;
-      slot_state = leaves.slot_state;
-      off = λ q j.
-          elim (cases_eq q s) [
-            | inl same ↦ elim (cases_eq j i) [
-              | inl here ↦
-                  let now = leaves.on on in
-                  ap (λ a. is_off (l.endpoint_state a j)) same ∙ ap (λ b. is_off (l.endpoint_state s b)) here ∙ now ∙ sym on ∙ ap (λ b. is_off (k.endpoint_state s b)) (sym here)
-                  ∙ ap (λ a. is_off (k.endpoint_state a j)) (sym same)
-              | inr other ↦ ap is_off (leaves.states q j (λ a b. other b))
-            ]
-            | inr other ↦ ap is_off (leaves.states q j (λ a b. other a))
-          ];
-      ring_of = leaves.ring_of;
-      was_bound = leaves.was_bound;
-    }
-
-    -- the endpoint of a ring
-    same_endpoint : (q j x : ℕ) → k.ring_of q j ≡ Some x → x ≡ r → (q ≡ s) × (j ≡ i)
-    same_endpoint q j x there same = d.states.one_endpoint q j s i r (there ∙ ap (λ n. Some n) same) has
-
-    rest_stays : (q j : ℕ) → is_at_rest (k.endpoint_state q j) ≡ true → is_at_rest (l.endpoint_state q j) ≡ true
-    rest_stays q j rests = search (rules, rest_not_running, states)
+    states = search (rules, is_off)
 
     -- the ring of an endpoint at rest is held, and held where it was
     ahead_at_rest : is_at_rest (k.endpoint_state s i) ≡ true → MovesAhead (shape_of h r) (k.ring r) (l.ring r)
-    ahead_at_rest rests =
-        let idle = rest_not_running (k.endpoint_state s i) rests in
-        elim (cases_option (k.ring r).held) [
-          | inl none ↦ absurd (false≢true (sym idle ∙ ap is_running (d.states.open_runs s i r has none)))
-          | inr held ↦ ahead_held (shape_of h r) (k.ring r) (l.ring r) (driver.rings r) held.0 held.1 ((leaves.rests idle).1 ∙ held.1)
-        ]
+    ahead_at_rest rests = search (rules, rest_not_running, cases_option, false≢true, is_running, states, ahead_held, shape_of)
 
     stay : (u : ℕ) (e : Command) → IsUnfinished h k u e → RingsStay h k l e
     stay u e unfinished_at = record {
-      rest = λ q j p cycle at rests. rest_stays q j rests;
+      rest = λ q j p cycle at rests. search (rules, rest_not_running, states);
       ahead = λ q j p x cycle at there rests.
           elim (cases_eq x r) [
             | inl same ↦
-                let one = same_endpoint q j x there same in
+                let one = d.states.one_endpoint q j s i r (there ∙ ap (λ n. Some n) same) has in
                 subst (λ y. MovesAhead (shape_of h y) (k.ring y) (l.ring y)) (sym same)
                 (ahead_at_rest (ap (λ a. is_at_rest (k.endpoint_state a i)) (sym one.0) ∙ ap (λ b. is_at_rest (k.endpoint_state q b)) (sym one.1) ∙ rests))
             | inr other ↦ subst (λ v. MovesAhead (shape_of h x) (k.ring x) v) (sym (leaves.others x other)) (λ a b moves. moves)
@@ -140,7 +107,7 @@ module _ (h : Header) (is : IsHeader h) (k : Known) (d : DriverKeeps h k) where
       standing = λ q n x bsr at there.
           elim (cases_eq x r) [
             | inl same ↦
-                let one = same_endpoint q 1 x there same in
+                let one = d.states.one_endpoint q 1 s i r (there ∙ ap (λ n. Some n) same) has in
                 let mine : k.ring_of s 1 ≡ Some r = ap (λ b. k.ring_of s b) one.1 ∙ has in
                 let here = subst (λ a. IsUnfinished h k u (AddressDevice a bsr n)) one.0 (subst (λ y. IsUnfinished h k u y) at unfinished_at) in
                 absurd (no_report u s n r bsr here mine t ahead c (ap (λ b. can_report h k c s b r t) one.1 ∙ can))

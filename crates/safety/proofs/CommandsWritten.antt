@@ -1,6 +1,5 @@
 -- A write keeps what is kept of unfinished commands, and of the command that it gives holds what was tested
-use Rattle.safety.proofs.Words.{◌≡◌, ◌≢◌, ◌<◌, ◌∙◌, ℕ, not, Bool, true, false, [], None, Some, arith, refl, sym, ap, subst, inl, inr, eq-eqb, ◌||◌, ◌≤◌, ◌⊎◌, rules, MovesRestored, command_given, list_any, or_parts, or_from, and_from, not_from_false, false≢true, false_from_ne_true, All-contains, Shape, RingView, Writes, changed, declared, floor_number, gives, positions_given, ceiling, is_not_declared, cases_option, gives_is, position_given, gives_one, move-writes, ceiling_held, Command, AddressDevice, is_off, is_at_rest, is_running, Header, Write, IsHeader, shape_of, command_id, is_ring, Known, unfinished, binds_ring, awaits_binding, is_being_bound, moves_ring, is_being_moved, crossings_given, crossing_given, gives_crossing, given_count, given_count_grows, step_more, GivesMore, is_placement, is_open, is_inside, address_inside, IsTransferRing, cases_Bool, or_cases, write_tests, lenient_tests, lenient, IsDriverRing, IsUnfinished, DriverKeeps, CommandsKeep, exclude}
-use Rattle.ownership_rules.specs.Commands as commands
+use Rattle.safety.proofs.Words.{[], ◌≡◌, ◌≢◌, ◌<◌, ◌∙◌, ℕ, not, Bool, true, false, None, Some, arith, refl, sym, ap, subst, inl, inr, eq-eqb, ◌||◌, ◌≤◌, ◌⊎◌, rules, MovesRestored, command_given, list_any, or_parts, or_from, and_from, not_from_false, false≢true, false_from_ne_true, All-contains, Shape, RingView, Writes, changed, declared, floor_number, gives, positions_given, ceiling, is_not_declared, cases_option, gives_is, position_given, gives_one, move-writes, ceiling_held, Command, AddressDevice, is_off, is_at_rest, is_running, Header, Write, IsHeader, shape_of, command_id, is_ring, Known, unfinished, binds_ring, awaits_binding, is_being_bound, moves_ring, is_being_moved, crossings_given, crossing_given, gives_crossing, given_count, given_count_grows, step_more, GivesMore, is_placement, is_open, is_inside, address_inside, IsTransferRing, cases_Bool, or_cases, write_tests, lenient_tests, lenient, IsDriverRing, IsUnfinished, DriverKeeps, CommandsKeep, exclude, is_busy}
 use Rattle.safety.proofs.TestsPassed.{AllFail, tests_fail}
 use Rattle.safety.proofs.RingsOfHeader.{has_ring}
 use Rattle.safety.proofs.Headers.{ring_shape, transfer_driver, transfer_not_command}
@@ -23,9 +22,6 @@ use Rattle.safety.proofs.StatesPlaced.{on_is}
 
 -- ---- one ring
 
-standing_written : (shape : Shape) (v : RingView) (a w : ℕ) → ((p : ℕ) → v.given p ≡ false → gives shape v.floor p a w ≡ true → ⊥) → Standing shape v (changed shape v (Writes a w))
-standing_written shape v a w none = search (rules, move-writes, or_from, false_from_ne_true)
-
 ahead_written : (shape : Shape) (v : RingView) (a w m : ℕ) → v.held ≡ Some m → MovesAhead shape v (changed shape v (Writes a w))
 ahead_written shape v a w m at p cycle moves =
     move-writes shape v p cycle (ceiling shape v) (declared v) (ceiling shape (changed shape v (Writes a w))) (declared v)
@@ -34,8 +30,7 @@ ahead_written shape v a w m at p cycle moves =
 -- where nothing more is given a ring stands still where it did
 placing_written : (shape : Shape) (v : RingView) (a w : ℕ) → ceiling shape (changed shape v (Writes a w)) ≤ ceiling shape v → PlacesStay shape v (changed shape v (Writes a w))
 unfolding is_placement
-placing_written shape v a w less p cycle placed =
-    move-writes shape v p cycle (ceiling shape v) (floor_number v) (ceiling shape (changed shape v (Writes a w))) (floor_number v) less (omega arith) placed a w
+placing_written shape v a w less p cycle placed = search (rules, move-writes)
 
 ceiling_written : (shape : Shape) (v : RingView) (a w : ℕ) → GivesMore (changed shape v (Writes a w)) v → ceiling shape (changed shape v (Writes a w)) ≤ ceiling shape v
 ceiling_written shape v a w back = by (cases_option v.held)
@@ -81,8 +76,7 @@ module _ (h : Header) (is : IsHeader h) (k : Known) (d : DriverKeeps h k) (a w :
       gives (shape_of h r) (k.ring r).floor p a w ≡ true → ⊥
   unfolding is_being_moved moves_ring
   none_moved u s n r bsr at has p fresh now =
-      let idle : is_being_moved h k r ≡ false = (none_waits r (transfer_driver h r (d.states.transfer s 1 r has)) p fresh now).0 in
-      let none = unfinished_fails h k (moves_ring h k r) u (AddressDevice s bsr n) idle at in
+      let none = unfinished_fails h k (moves_ring h k r) u (AddressDevice s bsr n) ((none_waits r (transfer_driver h r (d.states.transfer s 1 r has)) p fresh now).0) at in
       false≢true (sym none ∙ and_from (not (is_off (k.endpoint_state s 1))) (is_ring r (k.ring_of s 1)) (not_from_false (is_off (k.endpoint_state s 1)) (on_is (k.endpoint_state s 1) (d.states.on s 1 r has)))
       (ap (λ o. is_ring r o) has ∙ eq-eqb r r refl))
 
@@ -106,8 +100,7 @@ module _ (h : Header) (is : IsHeader h) (k : Known) (d : DriverKeeps h k) (a w :
     no_link : (q : ℕ) → (k.ring r).crossed q ≡ false → gives_crossing (shape_of h r) (k.ring r).floor q a w ≡ true → ⊥
     unfolding lenient_tests write_tests
     no_link q fresh now =
-        let fails : AllFail (write_tests h k a w) = tests_fail h k (Write a w) clean in
-        let each = none_crossed h k a w r (has_ring h r (driver_test h r driver)) (λ r q. awaits_binding h k r) (or_parts _ _ fails.1.1.1.1.1.1.0).1 in
+        let each = none_crossed h k a w r (has_ring h r (driver_test h r driver)) (λ r q. awaits_binding h k r) (or_parts _ _ (tests_fail h k (Write a w) clean).1.1.1.1.1.1.0).1 in
         let idle : awaits_binding h k r ≡ false =
         All-contains (λ q. awaits_binding h k r ≡ false) (crossings_given (shape_of h r) (k.ring r) a w) q each (crossing_given (shape_of h r) (k.ring r) a w q fresh now) in
         false≢true (sym idle ∙ waits)
@@ -160,17 +153,11 @@ module _ (h : Header) (is : IsHeader h) (k : Known) (d : DriverKeeps h k) (a w :
               | inr held ↦ subst (λ v. MovesAhead (shape_of h r) (k.ring r) v) (sym (written_ring h k a w r)) (ahead_written (shape_of h r) (k.ring r) a w held.0 held.1)
             ];
         standing = λ s n r bsr at has.
-            subst (λ v. Standing (shape_of h r) (k.ring r) v) (sym (written_ring h k a w r)) (standing_written (shape_of h r) (k.ring r) a w (none s n r bsr at has));
+            subst (λ v. Standing (shape_of h r) (k.ring r) v) (sym (written_ring h k a w r)) (search (rules, move-writes, or_from, false_from_ne_true));
         still = still;
         kept = λ r s i bound has. ap (λ f. f s i) (sym leaves.slots.ring_of) ∙ has;
         moved = still_restored k l c (λ s i at. ap (λ f. f s i) leaves.slots.ring_of) (λ r. ap (λ v. v.free) (written_ring h k a w r));
       }
-
-  rings_old : (u : ℕ) (c : Command) → IsUnfinished h k u c → RingsBeside h k l c
-  rings_old u c at = rings_with c (λ s n r bsr same has. none_moved u s n r bsr (subst (λ x. IsUnfinished h k u x) same at) has) (still_old u c at)
-
-  rings_new : (p : ℕ) (c : Command) → GivesCommand h k a w p c → GivenFacts h k c → RingsBeside h k l c
-  rings_new p c g facts = rings_with c (λ s n r bsr same has. none_declared s r has (facts.nothing_left s n r bsr same has)) (still_new p c g)
 
   -- ---- one command, and two
 
@@ -186,7 +173,7 @@ module _ (h : Header) (is : IsHeader h) (k : Known) (d : DriverKeeps h k) (a w :
 
   -- a command that is given isn't excluded by an unfinished one
   not_busy : (p q : ℕ) (c e : Command) → GivesCommand h k a w p c → IsUnfinished h k q e → exclude c e ≡ false
-  unfolding commands.is_busy
+  unfolding is_busy
   not_busy p q c e g u = unfinished_fails h k (exclude c) q e (facts_of p c g).busy u
 
   not_bound : (p q r : ℕ) (c e : Command) → GivesCommand h k a w p c → IsUnfinished h k q e → binds_ring h k r c ≡ true → binds_ring h k r e ≡ false
@@ -223,8 +210,8 @@ module _ (h : Header) (is : IsHeader h) (k : Known) (d : DriverKeeps h k) (a w :
   rings : (p : ℕ) (c : Command) → IsUnfinished h l p c → RingsBeside h k l c
   rings p c u =
       elim (unfinished_written h k a w is p c u) [
-        | inl old ↦ rings_old p c old
-        | inr new ↦ rings_new p c new (facts_of p c new)
+        | inl old ↦ rings_with c (λ s n r bsr same has. none_moved p s n r bsr (subst (λ x. IsUnfinished h k p x) same old) has) (still_old p c old)
+        | inr new ↦ rings_with c (λ s n r bsr same has. none_declared s r has ((facts_of p c new).nothing_left s n r bsr same has)) (still_new p c new)
       ]
 
   -- where of a ring that the given command moves nothing is free

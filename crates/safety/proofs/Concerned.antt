@@ -16,9 +16,6 @@ some_concerned (StopEndpoint t i) s named = (i, (named, (same_Some t s named, re
 some_concerned (SetTrDequeue t i p cycle) s named = (i, (named, (same_Some t s named, refl)))
 some_concerned _ s named = (0, (named, tt))
 
-same_named : (x y : Option ℕ) (s : ℕ) → x ≡ Some s → y ≡ Some s → same_slot x y ≡ true
-same_named x y s a b = ap (λ o. same_slot o y) a ∙ ap (λ o. same_slot (Some s) o) b ∙ eq-eqb s s refl
-
 one_endpoint : (a b : Option (ℕ × ℕ)) (s i : ℕ) → IsEndpoint a s i → IsEndpoint b s i → other_endpoint a b ≡ false
 one_endpoint None b s i here there = refl
 one_endpoint (Some e) None s i here there = refl
@@ -29,7 +26,7 @@ pub not_both : (c d : Command) (s i : ℕ) → exclude c d ≡ false → Concern
 not_both c d s i apart here there =
     false≢true (sym apart
     ∙ and_from (same_slot (named_slot c) (named_slot d)) (not (other_endpoint (named_endpoint c) (named_endpoint d)))
-    (same_named (named_slot c) (named_slot d) s here.0 there.0)
+    (ap (λ o. same_slot o (named_slot d)) here.0 ∙ ap (λ o. same_slot (Some s) o) there.0 ∙ eq-eqb s s refl)
     (ap (λ b. not b) (one_endpoint (named_endpoint c) (named_endpoint d) s i here.1 there.1)))
 
 -- ---- neither excludes the other

@@ -1,5 +1,5 @@
 -- What is read of an input context is the same where its words are
-use Rattle.safety.proofs.Words.{◌≡◌, ◌+◌, ◌<◌, ◌≤◌, ◌||◌, ◌∷◌, ◌∙◌, ℕ, suc, zero, Bool, List, [], map, filter, arith, refl, ap, rules, list_any, range_with_len, cond_both, ContextSize, Bytes32, Bytes64, input_context_bytes, input_endpoint, input_add_flag, input_drop_flag, has_flag, added_endpoints, endpoint_type, endpoint_streams, context_pointer, context_cycle}
+use Rattle.safety.proofs.Words.{[], ◌≡◌, ◌+◌, ◌<◌, ◌≤◌, ◌||◌, ◌∷◌, ◌∙◌, ℕ, suc, zero, Bool, List, map, filter, arith, refl, ap, rules, list_any, range_with_len, cond_both, ContextSize, Bytes32, Bytes64, input_context_bytes, input_endpoint, input_add_flag, input_drop_flag, has_flag, added_endpoints, endpoint_type, endpoint_streams, context_pointer, context_cycle}
 
 -- each is the index of an endpoint
 abbrev pub AreIndices : List ℕ → Type 0
@@ -10,8 +10,7 @@ indices_filter : (test : ℕ → Bool) (a n : ℕ) → a + n ≤ 32 → AreIndic
 indices_filter test a zero high = tt
 indices_filter test a (suc n) high =
     let rest : AreIndices (filter test (range_with_len (a + 1) n)) = indices_filter test (a + 1) n (omega arith) in
-    let low : a < 32 = omega arith in
-    cond_both (test a) (a ∷ filter test (range_with_len (a + 1) n)) (filter test (range_with_len (a + 1) n)) AreIndices (λ kept. (rest, low)) (λ dropped. rest)
+    cond_both (test a) (a ∷ filter test (range_with_len (a + 1) n)) (filter test (range_with_len (a + 1) n)) AreIndices (λ kept. (rest, (omega arith))) (λ dropped. rest)
 
 pub added_indices : (memory : ℕ → ℕ) (n : ℕ) → AreIndices (added_endpoints memory n)
 unfolding added_endpoints

@@ -1,5 +1,5 @@
 -- A position inside a descriptor: where the descriptor begins
-use Rattle.safety.proofs.Words.{◌≡◌, ◌+◌, ◌<◌, ◌≤◌, ◌==◌, ◌∷◌, ◌∙◌, ℕ, suc, false, List, [], All, sum, arith, refl, sym, inl, inr, eq-eqb, ne_eqb, cases_lt, cases_eq, false≢true, eqb-false, or_parts, cond-true, cond-false, sum_by-cons, is_border, length_from}
+use Rattle.safety.proofs.Words.{[], ◌≡◌, ◌+◌, ◌<◌, ◌≤◌, ◌==◌, ◌∷◌, ◌∙◌, ℕ, suc, false, List, All, sum, arith, refl, sym, inl, inr, eq-eqb, ne_eqb, cases_lt, cases_eq, false≢true, eqb-false, or_parts, cond-true, cond-false, sum_by-cons, is_border, length_from, rules}
 
 -- a descriptor begins before position t and ends behind it; the first one begins at start
 pub record Surrounds (lengths : List ℕ) (start t : ℕ) : Type 0 where
@@ -7,10 +7,6 @@ pub record Surrounds (lengths : List ℕ) (start t : ℕ) : Type 0 where
   pub from : start ≤ begin
   pub before : begin < t
   pub behind : t < begin + length_from lengths start begin
-
-no_border-none : (start t : ℕ) → is_border [] start t ≡ false → start ≡ t → ⊥
-unfolding is_border
-no_border-none start t none same = false≢true (sym none ∙ eq-eqb start t same)
 
 no_border-parts : (n : ℕ) (rest : List ℕ) (start t : ℕ) → is_border (n ∷ rest) start t ≡ false → (start ≡ t → ⊥) × (is_border rest (start + n) t ≡ false)
 unfolding is_border
@@ -29,7 +25,8 @@ length_later n rest start p other = cond-false (start == p) n (length_from rest 
 -- a position that is declared, or the first that isn't, and no border is inside a descriptor
 pub surrounded : (lengths : List ℕ) (start t : ℕ) → All (λ n. 0 < n) lengths → start ≤ t → t ≤ start + sum lengths → is_border lengths start t ≡ false →
     Surrounds lengths start t
-surrounded [] start t all low high none = absurd (no_border-none start t none (omega arith))
+unfolding is_border
+surrounded [] start t all low high none = absurd (false≢true (sym none ∙ eq-eqb start t (omega arith)))
 surrounded (n ∷ rest) start t all low high none =
     let parts = no_border-parts n rest start t none in
     let positive : 0 < n = all 0 0 (omega arith) in
@@ -40,10 +37,5 @@ surrounded (n ∷ rest) start t all low high none =
       | inl here ↦ record { begin = start; from = omega arith; before = more; behind = omega (arith, length_here n rest start) }
       | inr later ↦
           let inner : Surrounds rest (start + n) t = surrounded rest (start + n) t others later (omega arith) parts.1 in
-          record {
-            begin = inner.begin;
-            from = omega (arith, inner.from);
-            before = inner.before;
-            behind = omega (arith, length_later n rest start inner.begin (λ same. absurd (omega (arith, inner.from))), inner.behind);
-          }
+          search (rules, length_later)
     ]

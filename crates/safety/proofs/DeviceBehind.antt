@@ -1,8 +1,6 @@
 -- Behind an event that is read before it, an Address Device that a write gives takes its device context where it may still
-use Rattle.safety.proofs.Words.{◌≡◌, ◌||◌, ℕ, Bool, false, [], Some, is_none, rules, MayCome, and_cases, and_right, or_parts, or_from, false≢true, Block, Command, AddressDevice, Header, Dcbaap, Write, Read, IsHeader, Known, command_given, device_named, learned, is_in_range_lease, covers, open_ranges, lenient, DriverKeeps}
-use Rattle.ownership_rules.specs.Commands as commands
-use Rattle.safety.proofs.LeasesBehind.{Behind, entry_stays, none_fewer, ranges_fewer}
-use Rattle.safety.proofs.EventBehind.{event_behind}
+use Rattle.safety.proofs.Words.{[], ◌≡◌, ◌||◌, ℕ, Bool, false, Some, is_none, rules, MayCome, and_cases, and_right, or_parts, or_from, false≢true, Block, Command, AddressDevice, Header, Dcbaap, Write, Read, IsHeader, Known, command_given, device_named, learned, is_in_range_lease, covers, open_ranges, lenient, DriverKeeps, has_bad_entry, is_bad_device, takes_bad_device}
+use Rattle.safety.proofs.MiddleLaws.{Behind, entry_stays, none_fewer, ranges_fewer, event_behind}
 use Rattle.safety.proofs.CommandsBeside.{leased_device}
 use Rattle.safety.proofs.CommandContext.{area_behind, clean_behind}
 use Rattle.safety.proofs.CommandBeneath.{device_alike, names_same}
@@ -14,24 +12,21 @@ module _ (h : Header) (is : IsHeader h) (k : Known) (d : DriverKeeps h k) (e : B
   b : Behind h k l
   b = event_behind h is k d e may
 
-  entry_behind : (s : ℕ) → commands.has_bad_entry h k s ≡ false → commands.has_bad_entry h l s ≡ false
-  unfolding commands.has_bad_entry
-  entry_behind s good = search (rules, l, or_parts, entry_stays, b, or_from, area_behind, clean_behind)
-
   range_behind : (from len : ℕ) → is_in_range_lease h k from len ≡ false → is_in_range_lease h l from len ≡ false
   unfolding is_in_range_lease
   range_behind from len free = none_fewer (covers h from len) (open_ranges h k) (open_ranges h l) (ranges_fewer h is k l b) free
 
-  place_behind : (s n x : ℕ) → commands.is_bad_device h k s n x ≡ false → commands.is_bad_device h l s n x ≡ false
-  unfolding commands.is_bad_device
+  place_behind : (s n x : ℕ) → is_bad_device h k s n x ≡ false → is_bad_device h l s n x ≡ false
+  unfolding is_bad_device
   place_behind s n x good = search (rules, l, or_parts, or_from, area_behind, range_behind, entry_stays, b)
 
   module _ (a w : ℕ) (clean : MayCome h k (Write a w)) (c : Command) (given : command_given h k a w ≡ Some c) where
-    new_behind : (s n : ℕ) → (is_none (k.register Dcbaap) || commands.has_bad_entry h k s || commands.is_bad_device h k s n (device_named k s)) ≡ false →
-        (is_none (l.register Dcbaap) || commands.has_bad_entry h l s || commands.is_bad_device h l s n (device_named l s)) ≡ false
-    new_behind s n good = search (rules, is_none, l, or_parts, or_from, b, entry_behind, names_same, place_behind)
+    new_behind : (s n : ℕ) → (is_none (k.register Dcbaap) || has_bad_entry h k s || is_bad_device h k s n (device_named k s)) ≡ false →
+        (is_none (l.register Dcbaap) || has_bad_entry h l s || is_bad_device h l s n (device_named l s)) ≡ false
+    unfolding has_bad_entry
+    new_behind s n good = search (rules, is_none, l, or_parts, or_from, b, entry_stays, area_behind, clean_behind, names_same, place_behind)
 
     -- the device context of an Address Device lies behind the event where it may, if it did before
-    pub device_behind : (s n : ℕ) (bsr : Bool) → c ≡ AddressDevice s bsr n → commands.takes_bad_device h k s n ≡ false → commands.takes_bad_device h l s n ≡ false
-    unfolding commands.takes_bad_device
+    pub device_behind : (s n : ℕ) (bsr : Bool) → c ≡ AddressDevice s bsr n → takes_bad_device h k s n ≡ false → takes_bad_device h l s n ≡ false
+    unfolding takes_bad_device
     device_behind s n bsr same good = search (rules, l, device_alike, and_cases, is_none, false≢true, and_right, new_behind, leased_device)

@@ -1,5 +1,5 @@
 -- What is kept of device contexts under lease is kept where none is added, and no word and no base address changes
-use Rattle.safety.proofs.Words.{◌≡◌, ◌∙◌, ℕ, Some, is_some, refl, sym, ap, overlap, device_context_bytes, Header, Dcbaap, Erstba, touches_ring, Known, device_named, entry_of, is_soiled, DeviceKeeps, DevicesKeep}
+use Rattle.safety.proofs.Words.{◌≡◌, ℕ, Some, is_some, refl, overlap, device_context_bytes, Header, Dcbaap, Erstba, touches_ring, Known, device_named, entry_of, is_soiled, DeviceKeeps, DevicesKeep, rules}
 use Rattle.safety.proofs.AreaFacts.{clean_same}
 
 pub record SameForDevices (k l : Known) : Type 0 where
@@ -22,17 +22,4 @@ module _ (h : Header) (k l : Known) (same : SameForDevices k l) where
   devices_same keeps s d at =
       let was : DeviceKeeps h k s d = keeps s d (same.fewer s d at) in
       let entry : (t : ℕ) → entry_of l t ≡ entry_of k t = λ t. entry_same k l t same.dcbaap in
-      record {
-        slot = was.slot;
-        aligned = was.aligned;
-        ends = was.ends;
-        rings = was.rings;
-        soiled = λ a inside. ap (λ f. f a) same.soiled ∙ was.soiled a inside;
-        written = ap is_some same.dcbaap ∙ was.written;
-        entry = named_same k l s same.dcbaap same.memory ∙ was.entry;
-        entry_clean = ap (λ e. is_soiled l e 8) (entry s) ∙ clean_same k l (entry_of k s) 8 same.soiled ∙ was.entry_clean;
-        entry_rings = ap (λ e. touches_ring h e 8) (entry s) ∙ was.entry_rings;
-        others = λ t e there other. was.others t e (same.fewer t e there) other;
-        entries = λ t e there. ap (λ x. overlap d (device_context_bytes h.context_size) x 8) (entry t) ∙ was.entries t e (same.fewer t e there);
-        table = λ v there. was.table v (sym same.erstba ∙ there);
-      }
+      search (rules, is_some, named_same, is_soiled, clean_same, entry_of, touches_ring, overlap, device_context_bytes)

@@ -1,16 +1,9 @@
 -- A write keeps what is kept of device contexts under lease, and of the one that it takes holds what was tested
-use Rattle.safety.proofs.Words.{◌≡◌, ◌≢◌, ◌+◌, ◌*◌, ◌^◌, ◌<◌, ◌≤◌, ◌==◌, ◌&&◌, ◌⊎◌, ◌∙◌, ℕ, not, true, false, List, [], Contains, nat_le, nat_lt, Option, Some, None, is_some, option_and_then, slice_get, unwrap_or, arith, refl, sym, ap, subst, inl, inr, lt-ltb, le-leb, ne_eqb, rules, is_in-parts, cases_lt, and_left, and_from, or_from, or_left, or_right, false≢true, not_from_false, none-some, same_Some, slice_get_within, get_or_from_slice_get, Block, is_in, is_inside, overlap, positions_given, cases_option, address_inside, gives_is, position_given_is, put_elsewhere, Command, command_of, named_slot, device_context_bytes, Header, Dcbaap, Erstba, Write, IsHeader, shape_of, command_id, touches_ring, Known, command_at, device_named, entry_of, command_given, is_soiled, lenient, IsDriverRing, DeviceKeeps, DriverKeeps, DevicesKeep}
-use Rattle.safety.proofs.Headers.{ring_shape}
-use Rattle.safety.proofs.CommandRing.{due_has_ring}
-use Rattle.safety.proofs.Areas.{clean_word}
-use Rattle.safety.proofs.AreaFacts.{area_parts, not_in_other, overlap_turned, word_elsewhere, is_soiled_from, device_apart, device_free, entry_free, table_free, lease_free, word_free, not_in_device}
-use Rattle.safety.proofs.EndpointPut.{at_number}
+use Rattle.safety.proofs.Words.{[], ◌≡◌, ◌≢◌, ◌+◌, ◌*◌, ◌^◌, ◌<◌, ◌≤◌, ◌==◌, ◌&&◌, ◌⊎◌, ◌∙◌, ℕ, not, true, false, List, Contains, nat_le, nat_lt, Option, Some, None, is_some, option_and_then, slice_get, unwrap_or, arith, refl, sym, ap, subst, inl, inr, lt-ltb, le-leb, ne_eqb, rules, is_in-parts, cases_lt, and_left, and_from, or_from, or_left, or_right, false≢true, not_from_false, none-some, same_Some, slice_get_within, get_or_from_slice_get, Block, is_in, is_inside, overlap, positions_given, cases_option, address_inside, gives_is, position_given_is, put_elsewhere, Command, command_of, named_slot, device_context_bytes, Header, Dcbaap, Erstba, Write, IsHeader, shape_of, command_id, touches_ring, Known, command_at, device_named, entry_of, command_given, is_soiled, lenient, IsDriverRing, DeviceKeeps, DriverKeeps, DevicesKeep}
+use Rattle.safety.proofs.LowerLaws.{ring_shape, due_has_ring, clean_word, area_parts, not_in_other, overlap_turned, word_elsewhere, is_soiled_from, device_apart, device_free, entry_free, table_free, lease_free, word_free, not_in_device, at_number, command_slot_low, after_write, taken, written_memory, written_device, written_device_none, written_soiled, written_soiled_none, not_the_controllers, entry_same}
 use Rattle.safety.proofs.KeptClean.{taking, not_in_area}
 use Rattle.safety.proofs.RowFrames.{write_leaves}
-use Rattle.safety.proofs.WrittenKnown.{command_slot_low, after_write, taken, written_memory, written_device, written_device_none, written_soiled, written_soiled_none}
-use Rattle.safety.proofs.Writing.{not_the_controllers}
 use Rattle.safety.proofs.WriteBeside.{rules_of, word_stays}
-use Rattle.safety.proofs.DeviceFrames.{entry_same}
 
 named_from : (k l : Known) (s : ℕ) → l.register Dcbaap ≡ k.register Dcbaap → ((x : ℕ) → entry_of k s ≤ x → x < entry_of k s + 8 → l.memory x ≡ k.memory x) → device_named l s ≡ device_named k s
 unfolding device_named entry_of
@@ -36,9 +29,6 @@ module _ (h : Header) (is : IsHeader h) (k : Known) (d : DriverKeeps h k) (a w :
   entry_is : (s : ℕ) → entry_of l s ≡ entry_of k s
   entry_is s = entry_same k l s dcbaap
 
-  word_same : (x : ℕ) → x ≢ a → l.memory x ≡ k.memory x
-  word_same x other = ap (λ f. f x) (written_memory h k a w) ∙ put_elsewhere k.memory a w x other
-
   -- a clean area that the device context that is taken leaves free
   clean_after : (from len : ℕ) → is_soiled k from len ≡ false → ((e : ℕ × ℕ) → taken h k a w ≡ Some e → overlap e.1 (device_context_bytes h.context_size) from len ≡ false) → is_soiled l from len ≡ false
   clean_after from len none apart =
@@ -54,14 +44,7 @@ module _ (h : Header) (is : IsHeader h) (k : Known) (d : DriverKeeps h k) (a w :
 
   -- device contexts behind the write: the one that is taken, or one from before
   device_before : (s c : ℕ) → l.device s ≡ Some c → ((e : ℕ × ℕ) × (taken h k a w ≡ Some e) × (s ≡ e.0) × (c ≡ e.1)) ⊎ (k.device s ≡ Some c)
-  device_before s c at =
-      elim (cases_option (taken h k a w)) [
-        | inl none ↦ inr (ap (λ f. f s) (sym (written_device_none h k a w none)) ∙ at)
-        | inr some ↦
-            let e : ℕ × ℕ = some.0 in
-            at_number (λ (o : Option ℕ). o ≡ Some c → ((e : ℕ × ℕ) × (taken h k a w ≡ Some e) × (s ≡ e.0) × (c ≡ e.1)) ⊎ (k.device s ≡ Some c)) k.device e.0 (Some e.1) s
-            (λ same here. inl (e, some.1, same, sym (same_Some e.1 c here))) (λ other before. inr before) (ap (λ g. g s) (sym (written_device h k a w e some.1)) ∙ at)
-      ]
+  device_before s c at = search (rules, cases_option, taken, written_device_none, at_number, same_Some, written_device)
 
   -- ---- one from before
 
@@ -109,10 +92,9 @@ module _ (h : Header) (is : IsHeader h) (k : Known) (d : DriverKeeps h k) (a w :
             ap (λ x. overlap c (device_context_bytes h.context_size) x 8) (entry_is t)
             ∙ elim (device_before t e there) [
               | inl now ↦
-                  let rules = rules_of h is k d a w clean now.0 now.1 in
                   ap (λ n. overlap c (device_context_bytes h.context_size) (entry_of k n) 8) now.2
                   ∙ overlap_turned (entry_of k now.0.0) 8 c (device_context_bytes h.context_size)
-                  (device_apart h k (entry_of k now.0.0) 8 s c (area_parts h k (entry_of k now.0.0) 8 rules.entry_area) was.slot.0 was.slot.1 at)
+                  (device_apart h k (entry_of k now.0.0) 8 s c (area_parts h k (entry_of k now.0.0) 8 (rules_of h is k d a w clean now.0 now.1).entry_area) was.slot.0 was.slot.1 at)
               | inr before ↦ was.entries t e before
             ];
         table = λ v there. was.table v (ap (λ f. f Erstba) (sym (write_leaves h k a w).registers.register) ∙ there);
@@ -160,7 +142,7 @@ module _ (h : Header) (is : IsHeader h) (k : Known) (d : DriverKeeps h k) (a w :
         rings = area.rings;
         soiled = λ x inside. written_soiled h k a w e at x ∙ or_left (is_in x e.1 (device_context_bytes h.context_size)) (k.soiled x && not (x == a)) inside;
         written = ap is_some dcbaap ∙ rules.written;
-        entry = named_from k l e.0 dcbaap (λ x low high. word_same x (word x low high)) ∙ t.takes.named;
+        entry = named_from k l e.0 dcbaap (λ x low high. ap (λ f. f x) (written_memory h k a w) ∙ put_elsewhere k.memory a w x (word x low high)) ∙ t.takes.named;
         entry_clean = ap (λ y. is_soiled l y 8) (entry_is e.0)
             ∙ clean_after (entry_of k e.0) 8 rules.entry_clean (λ f some. ap (λ (x : ℕ × ℕ). overlap x.1 (device_context_bytes h.context_size) (entry_of k e.0) 8) (same_Some f e (sym some ∙ at)) ∙ rules.entry_apart);
         entry_rings = ap (λ y. touches_ring h y 8) (entry_is e.0) ∙ entry.rings;

@@ -1,7 +1,6 @@
 -- The change of endpoints that are disabled: they have no ring, and what ring they had is inactive
-use Rattle.safety.proofs.Words.{◌≡◌, ◌⊎◌, ◌==◌, ◌&&◌, if◌then◌else◌, ◌∙◌, ℕ, Bool, true, false, not, Option, Some, None, arith, refl, sym, ap, subst, inl, inr, eq-eqb, eqb-true, ne_eqb, rules, any_in_range, cases_Bool, false≢true, and_from, and_left, and_right, and_parts, cond-false, none-some, same_Some, Command, Off, Disables, Header, is_ring, shape_of, command_id, World, Known, RingState, state_of, BoundRing, FreeRing, EndpointRing, rank_least, rank_most}
+use Rattle.safety.proofs.Words.{◌≡◌, ◌⊎◌, ◌==◌, ◌&&◌, if◌then◌else◌, ◌∙◌, ℕ, Bool, true, false, not, Option, Some, None, arith, refl, sym, ap, subst, inl, inr, eq-eqb, eqb-true, ne_eqb, rules, any_in_range, cases_Bool, false≢true, and_from, and_left, and_right, and_parts, cond-false, none-some, same_Some, Command, Off, Disables, Header, is_ring, shape_of, command_id, World, Known, RingState, state_of, BoundRing, FreeRing, EndpointRing, rank_least, rank_most, changed_by, disabled}
 use Rattle.controller_model.specs.Bindings as bindings
-use Rattle.ring_knowledge.specs.Completions as completions
 use Rattle.safety.proofs.SafeContext.{none_in_range}
 use Rattle.safety.proofs.LookKinds.{cond_is}
 use Rattle.safety.proofs.FinishChanges.{StatesMatch, ChangeKeeps}
@@ -43,25 +42,16 @@ module _ (h : Header) (c : Command) (k : Known) (w : World) (m : StatesMatch h k
   abbrev behind : ℕ → RingState
   behind r = record (state_of w r) { active = goes_inactive r }
 
-  free_behind : (r : ℕ) → FreeRing (shape_of h r) k.ring_of (k.ring r) (state_of w r) r → FreeRing (shape_of h r) left (k.ring r) (behind r) r
-  free_behind r f = search (rules, behind, left_had, and_left)
-
-  let_go_behind : (r : ℕ) (b : BoundRing (shape_of h r) k.ring_of (k.ring r) (state_of w r) r) → names b.slot b.index ≡ true → FreeRing (shape_of h r) left (k.ring r) (behind r) r
-  let_go_behind r b named = search (rules, behind, and_parts, eqb-true, left_had, false≢true, and_right, lets_go, rank_least, rank_most)
-
-  still_bound : (r : ℕ) (b : BoundRing (shape_of h r) k.ring_of (k.ring r) (state_of w r) r) → names b.slot b.index ≡ false → BoundRing (shape_of h r) left (k.ring r) (behind r) r
-  still_bound r b other = search (rules, behind, cond-false, and_parts)
-
   ring_behind : (r : ℕ) → EndpointRing h k w r → BoundRing (shape_of h r) left (k.ring r) (behind r) r ⊎ FreeRing (shape_of h r) left (k.ring r) (behind r) r
-  ring_behind r (inr free) = inr (free_behind r free)
+  ring_behind r (inr free) = inr (search (rules, behind, left_had, and_left))
   ring_behind r (inl bound) =
       elim (cases_Bool (names bound.slot bound.index)) [
-        | inl named ↦ inr (let_go_behind r bound named)
-        | inr other ↦ inl (still_bound r bound other)
+        | inl named ↦ inr (search (rules, behind, and_parts, eqb-true, left_had, false≢true, and_right, lets_go, rank_least, rank_most))
+        | inr other ↦ inl (search (rules, behind, cond-false, and_parts))
       ]
 
-  disable_made : ChangeKeeps h k (completions.disabled h k s which) w (bindings.disabled w s which)
-  unfolding completions.disabled bindings.disabled
+  disable_made : ChangeKeeps h k (disabled h k s which) w (bindings.disabled w s which)
+  unfolding disabled bindings.disabled
   disable_made = record {
     states = record {
       slots = m.slots;
@@ -90,6 +80,6 @@ module _ (h : Header) (c : Command) (k : Known) (w : World) (m : StatesMatch h k
           with_true true = refl
           with_true false = refl
 
-  pub disable_keeps : (v : World) → bindings.changed_by h c w (Disables s which) ≡ Some v → ChangeKeeps h k (completions.changed_by h c k (Disables s which)) w v
-  unfolding bindings.changed_by completions.changed_by
-  disable_keeps v at = subst (λ x. ChangeKeeps h k (completions.disabled h k s which) w x) (same_Some _ v at) disable_made
+  pub disable_keeps : (v : World) → bindings.changed_by h c w (Disables s which) ≡ Some v → ChangeKeeps h k (changed_by h c k (Disables s which)) w v
+  unfolding bindings.changed_by changed_by
+  disable_keeps v at = subst (λ x. ChangeKeeps h k (disabled h k s which) w x) (same_Some _ v at) disable_made

@@ -1,18 +1,131 @@
 -- A clean history keeps what a driver keeps
-use Rattle.safety.proofs.Words.{◌≡◌, ◌∷◌, ◌∙◌, false, List, [], ap, Block, kind, Header, Row, IsHeader, Read, World, Known, learned, known, IsLenient, DriverKeeps, KeptByRestoring, command_id, lenient, ArePossible, Runs, all_read}
-use Rattle.safety.proofs.SameDriver.{event_same}
-use Rattle.safety.proofs.TestsPassed.{clean_tests}
-use Rattle.safety.proofs.KeptCommandRing.{kept_crcr, kept_crcr_written, kept_sized, kept_erstsz_written}
-use Rattle.safety.proofs.KeptCounts.{kept_dequeued, kept_read_room, kept_unstarted}
-use Rattle.safety.proofs.KeptClean.{kept_clean}
-use Rattle.safety.proofs.KeptRings.{kept_rings}
-use Rattle.safety.proofs.KeptCommands.{kept_command_ring}
-use Rattle.safety.proofs.NumberedHistories.{row_numbered}
-use Rattle.safety.proofs.KeptStates.{kept_states}
+use Rattle.safety.proofs.Words.{[], ◌≡◌, ◌∷◌, ◌∙◌, false, List, ap, Block, kind, Header, Row, IsHeader, Read, World, Known, learned, known, IsLenient, DriverKeeps, KeptByRestoring, command_id, lenient, ArePossible, Runs, all_read, ◌&&◌, not, true, subst, sym, not-false, BlockKind, TransferEvent, CommandCompletion, is_transfer_event, Sub, Write, Reg, Bell, event_read, is_in_profile, is_impossible_by_kind, CommandsKeep, ℕ, refl, rules, Command, Register, IsUnfinished, Option, None, Some, option_and_then, none-some, command_of, on_ring, command_at, transfer_read, succeeded, finished, completed, Declares, written, register_written, rung, is_command_completion, StatesKeep, KeptByRows}
+use Rattle.safety.proofs.LowerLaws.{event_same, SameGiven, clean_tests, learned_read, EventFacts, event_facts, with_reads, SameStates, ring_stays, same_stay, AreNumbered, IsNumbered, command_numbered, changes_numbered, same_numbered, all_numbered, endpoints_of, endpoints_part, slots_part, seen_part, from_parts, endpoints_same, slots_same, seen_same}
+use Rattle.safety.proofs.MiddleLaws.{kept_crcr, kept_crcr_written, kept_sized, kept_erstsz_written, kept_dequeued, kept_read_room, kept_unstarted, kept_clean, kept_rings, CompletionFacts, completion_facts, kept_command_ring, free_same, may_come, nothing_kept, rung_commands, register_leaves, states_rung, PartsStand, transfer_stands, completion_stands}
 use Rattle.safety.proofs.KeptDevices.{kept_devices}
-use Rattle.safety.proofs.KeptUnfinished.{kept_unfinished}
-use Rattle.safety.proofs.NothingFree.{free_same, may_come}
-use Rattle.safety.proofs.NothingKept.{nothing_kept}
+use Rattle.safety.proofs.CommandsDeclared.{declared_commands}
+use Rattle.safety.proofs.CommandsWritten.{written_commands}
+use Rattle.safety.proofs.CommandsTransfer.{transfer_commands}
+use Rattle.safety.proofs.CommandsCompleted.{completion_commands}
+use Rattle.safety.proofs.MovesSame.{unfinished_view}
+use Rattle.safety.proofs.SameRings.{written_same, register_same, rung_same, transfer_same, stop_same}
+use Rattle.safety.proofs.EndpointHistories.{row_keeps}
+use Rattle.safety.proofs.StatesDriver.{view_same, stops_on, states_declared, states_written, states_registered}
+
+-- Each row keeps what is known of states
+module _ (h : Header) where
+  event_parts : IsHeader h → (k : Known) → DriverKeeps h k → (b : Block) (n : BlockKind) → k.started ≡ true → is_impossible_by_kind h k n b ≡ false →
+      (is_transfer_event n && not (is_in_profile b)) ≡ false → (is_command_completion n ≡ true → CompletionFacts h k b) → PartsStand h (event_read h k n b)
+  unfolding event_read is_impossible_by_kind
+  event_parts is k d b TransferEvent started possible inside facts = transfer_stands h is k d b possible (not-false (is_in_profile b) inside)
+  event_parts is k d b CommandCompletion started possible inside facts = completion_stands h is k d b started (facts refl)
+  event_parts is k d b _ started possible inside facts = record { endpoints = endpoints_part h k d.states; slots = slots_part h k d.states; seen = seen_part h k d.states }
+
+  -- counted as read
+  counted_parts : (k : Known) (b : Block) → PartsStand h (event_read h k (kind b) b) → PartsStand h (learned h k (Read b))
+  unfolding learned
+  counted_parts k b parts = search (rules, endpoints_same, slots_same, seen_same, stops_on, view_same)
+
+  states_read : IsHeader h → (k : Known) (b : Block) → DriverKeeps h k → EventFacts h k b → StatesKeep h (learned h k (Read b))
+  states_read is k b d facts =
+      let parts : PartsStand h (learned h k (Read b)) =
+      counted_parts k b (event_parts is k d b (kind b) facts.started facts.possible facts.inside (λ completion. completion_facts h k b completion facts.possible)) in
+      from_parts h (learned h k (Read b)) (row_keeps h is k (Read b) (endpoints_of h k d.states)) parts.endpoints parts.slots parts.seen
+
+  -- the states of slots and endpoints after one more row
+  pub kept_states : KeptByRows h (StatesKeep h)
+  kept_states is k (Sub r blocks) d clean on = states_declared h is k r blocks d
+  kept_states is k (Write a w) d clean on = states_written h is k a w d clean
+  kept_states is k (Reg r x) d clean on = states_registered h is k r x d
+  kept_states is k (Bell s t) d clean on = states_rung h is k d s t clean
+  kept_states is k (Read b) d clean on = states_read is k b d (event_facts h k b clean)
+
+-- In any history the endpoints that have rings have numbers of slots and endpoints
+module _ (h : Header) where
+  declared_command : (o : Option Block) (c : Command) → option_and_then command_of o ≡ Some c → IsNumbered c
+  declared_command None c at = absurd (none-some c at)
+  declared_command (Some d) c at = command_numbered d c at
+
+  finished_numbered : (k : Known) (b : Block) (o : Option Command) → ((c : Command) → o ≡ Some c → IsNumbered c) → AreNumbered k → AreNumbered (finished h k b o)
+  unfolding finished succeeded
+  finished_numbered k b None fits all = search rules
+  finished_numbered k b (Some c) fits all = search (rules, same_numbered, stop_same, all_numbered, changes_numbered)
+
+  completed_numbered : (k : Known) (b : Block) → AreNumbered k → AreNumbered (completed h k b)
+  unfolding completed on_ring command_at
+  completed_numbered k b all = search (rules, same_numbered, finished_numbered, declared_command)
+
+  -- ---- histories
+
+  event_numbered : (k : Known) (b : Block) (n : BlockKind) → AreNumbered k → AreNumbered (event_read h k n b)
+  unfolding event_read
+  event_numbered k b TransferEvent all = same_numbered h k (transfer_read h k b) (transfer_same h k b) all
+  event_numbered k b CommandCompletion all = completed_numbered k b all
+  event_numbered k b _ all = all
+
+  pub row_numbered : (k : Known) (row : Row) → AreNumbered k → AreNumbered (learned h k row)
+  unfolding learned on_ring
+  row_numbered k (Sub r blocks) all = same_numbered h k (on_ring h k r (Declares blocks)) refl all
+  row_numbered k (Write a w) all = same_numbered h k (written h k a w) (written_same h k a w) all
+  row_numbered k (Reg r x) all = same_numbered h k (register_written h k r x) (register_same h k r x) all
+  row_numbered k (Bell s t) all = same_numbered h k (rung h k s t) (rung_same h k s t) all
+  row_numbered k (Read b) all = same_numbered h (event_read h k (kind b) b) (learned h k (Read b)) refl (event_numbered k b (kind b) all)
+
+-- A register write keeps what is kept of unfinished commands
+
+-- all that is read of unfinished commands is as it was
+pub record SameForCommands (k l : Known) : Type 0 where
+  pub memory : l.memory ≡ k.memory
+  pub soiled : l.soiled ≡ k.soiled
+  pub device : l.device ≡ k.device
+  pub slot_state : l.slot_state ≡ k.slot_state
+  pub endpoint_state : l.endpoint_state ≡ k.endpoint_state
+  pub ring_of : l.ring_of ≡ k.ring_of
+  pub was_bound : l.was_bound ≡ k.was_bound
+  pub ring : l.ring ≡ k.ring
+
+module _ (h : Header) (k l : Known) (same : SameForCommands k l) where
+  states : SameStates k l
+  states = search rules
+
+  given : SameGiven (k.ring (command_id h)) (l.ring (command_id h))
+  given = subst (λ f. SameGiven (k.ring (command_id h)) (f (command_id h))) (sym same.ring) (record { queue = refl; lengths = refl; given = refl; crossed = refl; withdrawn = refl; free = refl })
+
+  pub same_before : (p : ℕ) (c : Command) → IsUnfinished h l p c → IsUnfinished h k p c
+  same_before = unfinished_view h k l given (ap (λ f. (f (command_id h)).floor) same.ring)
+
+  pub same_commands : CommandsKeep h k → CommandsKeep h l
+  same_commands keeps = same_stay h k l states keeps same_before (λ p c u. ring_stays h k l c same.endpoint_state same.ring_of (λ s i r at. ap (λ f. f r) same.ring) (λ r bound. ap (λ f. f r) same.ring) (λ r. ap (λ f. (f r).free) same.ring))
+
+pub register_commands : (h : Header) (k : Known) (r : Register) (x : ℕ) → CommandsKeep h k → CommandsKeep h (learned h k (Reg r x))
+register_commands h k r x keeps =
+    let leaves = register_leaves h k r x in
+    same_commands h k (learned h k (Reg r x))
+    (search rules) keeps
+
+-- one event more was read
+pub reads_commands : (h : Header) (k : Known) (n : ℕ) → CommandsKeep h k → CommandsKeep h (with_reads k n)
+reads_commands h k n keeps = search (rules, same_commands)
+
+-- What is kept of unfinished commands is kept by each row
+module _ (h : Header) where
+  event_commands : IsHeader h → (k : Known) (b : Block) (n : BlockKind) → DriverKeeps h k → k.started ≡ true → is_impossible_by_kind h k n b ≡ false →
+      (is_transfer_event n && not (is_in_profile b)) ≡ false → CommandsKeep h (event_read h k n b)
+  unfolding event_read is_impossible_by_kind
+  event_commands is k b TransferEvent d on possible inside = transfer_commands h is k d b possible (not-false (is_in_profile b) inside)
+  event_commands is k b CommandCompletion d on possible inside = completion_commands h is k d b on possible
+  event_commands is k b _ d on possible inside = d.unfinished
+
+  pub kept_unfinished : KeptByRestoring h (CommandsKeep h)
+  unfolding learned
+  kept_unfinished is k (Sub r blocks) d may on = declared_commands h is k d r blocks
+  kept_unfinished is k (Write a w) d may on = written_commands h is k d a w may.0 may.1.1
+  kept_unfinished is k (Reg r x) d may on = register_commands h k r x d.unfinished
+  kept_unfinished is k (Bell s t) d may on = rung_commands h is k d s t may.0
+  kept_unfinished is k (Read b) d may on =
+      let facts : EventFacts h k b = event_facts h k b may.0 in
+      subst (CommandsKeep h) (sym (learned_read h k b))
+      (reads_commands h (event_read h k (kind b) b) _ (event_commands is k b (kind b) d facts.started facts.possible facts.inside))
 
 module _ (h : Header) where
   pub kept_driver : KeptByRestoring h (DriverKeeps h)
@@ -43,8 +156,7 @@ module _ (h : Header) where
   unfolding known
   driver_keeps is [] clean on = nothing_kept h is
   driver_keeps is (row ∷ past) clean on =
-      let before : (known h past).stopped ≡ false = (clean_tests h (known h past) row clean.1).0 in
-      kept_history is past row (driver_keeps is past clean.0 before) clean.1 on
+      kept_history is past row (driver_keeps is past clean.0 ((clean_tests h (known h past) row clean.1).0)) clean.1 on
 
   -- ---- in a run, of what is known when the unread events are read too
 

@@ -1,6 +1,5 @@
 -- The rings and endpoints of what a driver keeps, as the laws of rings take them
-use Rattle.safety.proofs.Words.{◌≡◌, ◌∙◌, ℕ, true, Option, Some, None, refl, ap, false≢true, Header, Ring, ring_with, is_transfer_kind, Known, is_driver_ring}
-use Rattle.safety.specs.Keeps as keeps
+use Rattle.safety.proofs.Words.{◌≡◌, ◌∙◌, ℕ, true, Option, Some, None, refl, ap, false≢true, Header, Ring, ring_with, is_transfer_kind, Known, is_driver_ring, DriverKeeps, IsDriverRing, IsTransferRing, StatesKeep}
 use Rattle.safety.specs.RingsKeep as rings
 use Rattle.safety.specs.EndpointsKeep as endpoints
 use Rattle.safety.proofs.RingsOfHeader.{driver_is}
@@ -10,23 +9,20 @@ transfer_found None h = absurd (false≢true h)
 transfer_found (Some r) h = (r, refl, h)
 
 module _ (h : Header) where
-  pub driver_test : (r : ℕ) → keeps.IsDriverRing h r → rings.IsDriverRing h r
+  pub driver_test : (r : ℕ) → IsDriverRing h r → rings.IsDriverRing h r
   unfolding is_driver_ring
   driver_test r ring = ap is_driver_ring ring.found ∙ ring.kind
 
-  pub driver_ring : (r : ℕ) → rings.IsDriverRing h r → keeps.IsDriverRing h r
+  pub driver_ring : (r : ℕ) → rings.IsDriverRing h r → IsDriverRing h r
   driver_ring r is = let found = driver_is (ring_with h r) is in record { ring = found.0; found = found.1; kind = found.2 }
 
-  pub transfer_test : (r : ℕ) → keeps.IsTransferRing h r → endpoints.IsTransferRing h r
-  transfer_test r ring = ap endpoints.is_transfer_ring ring.found ∙ ring.kind
-
-  pub transfer_ring : (r : ℕ) → endpoints.IsTransferRing h r → keeps.IsTransferRing h r
+  pub transfer_ring : (r : ℕ) → endpoints.IsTransferRing h r → IsTransferRing h r
   transfer_ring r is = let found = transfer_found (ring_with h r) is in record { ring = found.0; found = found.1; kind = found.2 }
 
-  pub rings_of : (k : Known) → keeps.DriverKeeps h k → rings.RingsKeep h k
+  pub rings_of : (k : Known) → DriverKeeps h k → rings.RingsKeep h k
   rings_of k d r is = d.rings r (driver_ring r is)
 
-  pub endpoints_of : (k : Known) → keeps.StatesKeep h k → endpoints.EndpointsKeep h k
+  pub endpoints_of : (k : Known) → StatesKeep h k → endpoints.EndpointsKeep h k
   endpoints_of k s = record {
-    transfer = λ t i r at. transfer_test r (s.transfer t i r at);
+    transfer = λ t i r at. ap endpoints.is_transfer_ring (s.transfer t i r at).found ∙ (s.transfer t i r at).kind;
   }

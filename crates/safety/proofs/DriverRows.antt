@@ -1,5 +1,5 @@
 -- Declarations, writes, register writes and doorbells keep what the rules keep of each ring
-use Rattle.safety.proofs.Words.{◌≡◌, ◌≢◌, ◌==◌, ◌∙◌, ℕ, List, [], Option, None, Some, option_and_then, refl, sym, ap, subst, inl, inr, eq-eqb, ne_eqb, rules, cases_eq, cond-true, cond-false, cond_both, Block, RingView, RingChange, Declares, Opens, Writes, EndpointRestored, IsRestored, MayCome, RingKept, RingsKept, changed, new_ring_keeps, declares_keeps, writes_keeps, opens_keeps, Header, Register, Erdp, Usbcmd, Sub, Write, IsHeader, shape_of, command_id, Known, nothing, on_ring, with_device, with_word, written, command_given, taken_device, run_or_stop, valued, register_written, endpoint_rung, rung, lenient, RingsKeep}
+use Rattle.safety.proofs.Words.{[], ◌≡◌, ◌≢◌, ◌==◌, ◌∙◌, ℕ, List, Option, None, Some, option_and_then, refl, sym, ap, subst, inl, inr, eq-eqb, ne_eqb, rules, cases_eq, cond-true, cond-false, cond_both, Block, RingView, RingChange, Declares, Opens, Writes, EndpointRestored, IsRestored, MayCome, RingKept, RingsKept, changed, new_ring_keeps, declares_keeps, writes_keeps, opens_keeps, Header, Register, Erdp, Usbcmd, Sub, Write, IsHeader, shape_of, command_id, Known, nothing, on_ring, with_device, with_word, written, command_given, taken_device, run_or_stop, valued, register_written, endpoint_rung, rung, lenient, RingsKeep}
 use Rattle.safety.specs.RingsKeep.{IsDriverRing}
 use Rattle.safety.proofs.RingsOfHeader.{shape_allowed}
 use Rattle.safety.proofs.Declaring.{may_declare}
@@ -100,18 +100,11 @@ module _ (h : Header) (k : Known) (keeps : RingsKeep h k) where
   unfolding written
   written_keeps a w may = device_keeps (with_word h k a w) (option_and_then (taken_device k) (command_given h k a w)) (word_keeps a w may)
 
-  same_stands : (l : Known) → k.memory ≡ l.memory → k.ring ≡ l.ring → RingsKept h k l
-  same_stands l memory rings = same_keeps h k k l memory rings stands
-
-  run_keeps : (l : Known) (x : ℕ) → RingsKept h k l → RingsKept h k (run_or_stop l x)
-  unfolding run_or_stop
-  run_keeps l x kept = search (rules, same_keeps)
-
   pub register_keeps : (r : Register) (x : ℕ) → RingsKept h k (register_written h k r x)
-  unfolding register_written valued
-  register_keeps Usbcmd x = run_keeps (valued k Usbcmd x) x (same_stands (valued k Usbcmd x) refl refl)
-  register_keeps Erdp x = same_stands (register_written h k Erdp x) refl refl
-  register_keeps r x = same_stands (valued k r x) refl refl
+  unfolding register_written valued run_or_stop
+  register_keeps Usbcmd x = search (rules, same_keeps)
+  register_keeps Erdp x = same_keeps h k k (register_written h k Erdp x) refl refl stands
+  register_keeps r x = same_keeps h k k (valued k r x) refl refl stands
 
   open_keeps : IsHeader h → (r : ℕ) → IsRestored (k.ring r) → RingsKept h k (on_ring h k r Opens)
   open_keeps is r restored = search (rules, on_ring_keeps, stands, opens_keeps, shape_allowed, passes_restored)

@@ -1,8 +1,12 @@
 -- Any history keeps endpoints on transfer rings
-use Rattle.safety.proofs.Words.{◌≡◌, ◌≢◌, ◌==◌, ◌&&◌, if◌then◌else◌, ◌∷◌, ◌∙◌, ℕ, Bool, true, false, List, [], Option, None, Some, refl, sym, ap, subst, rules, cond_both, none-some, same_Some, Spot, number, Reaches, Holds, ceiling, target, Command, Stopped, is_off, Change, SlotGoesOn, DeviceLeft, Disables, Places, Stops, Resets, Header, IsHeader, shape_of, ring_having, Known, on_ring, set_to, bound_to, moved_to, moved, pointed, disabled, in_state, held_at_ceiling, changed_by, changed_by_all, EndpointsKeep}
+use Rattle.safety.proofs.Words.{[], ◌≡◌, ◌≢◌, ◌==◌, ◌&&◌, if◌then◌else◌, ◌∷◌, ◌∙◌, ℕ, Bool, true, false, List, Option, None, Some, refl, sym, ap, subst, rules, cond_both, none-some, same_Some, Spot, number, Reaches, Holds, ceiling, target, Command, Stopped, is_off, Change, SlotGoesOn, DeviceLeft, Disables, Places, Stops, Resets, Header, IsHeader, shape_of, ring_having, Known, on_ring, set_to, bound_to, moved_to, moved, pointed, disabled, in_state, held_at_ceiling, changed_by, changed_by_all, EndpointsKeep}
 use Rattle.safety.specs.EndpointsKeep.{IsTransferRing}
 use Rattle.safety.proofs.RingIds.{having_transfer}
 use Rattle.safety.proofs.DriverRows.{ring_elsewhere}
+
+pub fewer : (b : Bool) (o : Option ℕ) (r : ℕ) → (if b then None else o) ≡ Some r → o ≡ Some r
+fewer true o r at = absurd (none-some r at)
+fewer false o r at = at
 
 module _ (h : Header) where
   -- where no endpoint has another ring than before
@@ -13,12 +17,12 @@ module _ (h : Header) where
   pub same_keeps : (k l : Known) → l.ring_of ≡ k.ring_of → EndpointsKeep h k → EndpointsKeep h l
   same_keeps k l endpoints keeps = leaves_keeps k l keeps (λ s i r at. ap (λ (f : ℕ → ℕ → Option ℕ). f s i) (sym endpoints) ∙ at)
 
-  moved_rings : (k : Known) (o : Option ℕ) (p : ℕ) (cycle : Bool) → (moved h k o p cycle).ring_of ≡ k.ring_of
+  pub moved_rings : (k : Known) (o : Option ℕ) (p : ℕ) (cycle : Bool) → (moved h k o p cycle).ring_of ≡ k.ring_of
   unfolding moved moved_to set_to on_ring
   moved_rings k None p cycle = search rules
   moved_rings k (Some r) p cycle = search rules
 
-  held_rings : (k : Known) (o : Option ℕ) → (held_at_ceiling h k o).ring_of ≡ k.ring_of
+  pub held_rings : (k : Known) (o : Option ℕ) → (held_at_ceiling h k o).ring_of ≡ k.ring_of
   unfolding held_at_ceiling on_ring
   held_rings k None = refl
   held_rings k (Some r) = refl
@@ -43,14 +47,6 @@ module _ (h : Header) where
 
   -- ---- the success of a command
 
-  fewer : (b : Bool) (o : Option ℕ) (r : ℕ) → (if b then None else o) ≡ Some r → o ≡ Some r
-  fewer true o r at = absurd (none-some r at)
-  fewer false o r at = at
-
-  state_keeps : (k : Known) → EndpointsKeep h k → (s i : ℕ) → EndpointsKeep h (in_state h k s i Stopped)
-  unfolding in_state
-  state_keeps k keeps s i = same_keeps k (in_state h k s i Stopped) refl keeps
-
   pub change_keeps : IsHeader h → (c : Command) (k : Known) (change : Change) → EndpointsKeep h k → EndpointsKeep h (changed_by h c k change)
   unfolding changed_by disabled in_state
   change_keeps is c k (SlotGoesOn s) keeps = same_keeps k (changed_by h c k (SlotGoesOn s)) refl keeps
@@ -59,8 +55,8 @@ module _ (h : Header) where
   change_keeps is c k (Places s i p cycle state) keeps = same_keeps (pointed h k s i p cycle) (changed_by h c k (Places s i p cycle state)) refl (pointed_keeps is k keeps s i p cycle)
   change_keeps is c k (Stops s i) keeps =
       let l : Known = in_state h k s i Stopped in
-      same_keeps l (held_at_ceiling h l (k.ring_of s i)) (held_rings l (k.ring_of s i)) (state_keeps k keeps s i)
-  change_keeps is c k (Resets s i) keeps = state_keeps k keeps s i
+      same_keeps l (held_at_ceiling h l (k.ring_of s i)) (held_rings l (k.ring_of s i)) (same_keeps k (in_state h k s i Stopped) refl keeps)
+  change_keeps is c k (Resets s i) keeps = same_keeps k (in_state h k s i Stopped) refl keeps
 
   pub changes_keep : IsHeader h → (c : Command) (k : Known) (all : List Change) → EndpointsKeep h k → EndpointsKeep h (changed_by_all h c k all)
   unfolding changed_by_all
@@ -102,7 +98,7 @@ module _ (h : Header) where
     change_elsewhere : (c : Command) (k : Known) (change : Change) → EndpointsKeep h k → (changed_by h c k change).ring q ≡ k.ring q
     unfolding changed_by disabled in_state
     change_elsewhere c k (Places s i p cycle state) keeps = pointed_elsewhere k keeps s i p cycle
-    change_elsewhere c k (Stops s i) keeps = held_elsewhere (in_state h k s i Stopped) (state_keeps k keeps s i) s i (k.ring_of s i) refl
+    change_elsewhere c k (Stops s i) keeps = held_elsewhere (in_state h k s i Stopped) (same_keeps k (in_state h k s i Stopped) refl keeps) s i (k.ring_of s i) refl
     change_elsewhere c k _ keeps = refl
 
     -- stays as it is

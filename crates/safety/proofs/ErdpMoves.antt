@@ -1,5 +1,5 @@
 -- How far a written ERDP takes the dequeue pointer
-use Rattle.safety.proofs.Words.{◌≡◌, ◌+◌, ◌%◌, ◌<◌, ◌∷◌, List, [], length, slice_index, mod-lt, ◌≤◌, ◌==◌, ◌⊎◌, ◌∙◌, ℕ, suc, zero, Bool, true, false, nat_lt, Option, Some, find, unwrap_or, is_some, arith, sym, ap, inl, inr, rules, and_cases, not-false, not-true, erdp_address, Header, Erdp, event_shape, Known, is_bad_erdp, may_pass, names_no_place, or_left, or_right, data_places, is_event_place, list_any, range_with_len, cases_Bool, cond-true, cond-false, and_parts, or_cases, false≢true, none-some, same_Some, Shape, place_count, address_of, cases_option, position_from, is_reached_within}
+use Rattle.safety.proofs.Words.{[], ◌≡◌, ◌+◌, ◌%◌, ◌<◌, ◌∷◌, List, length, slice_index, mod-lt, ◌≤◌, ◌==◌, ◌⊎◌, ◌∙◌, ℕ, suc, zero, Bool, true, false, nat_lt, Some, find, unwrap_or, is_some, arith, sym, ap, inl, inr, rules, and_cases, not-false, not-true, erdp_address, Header, Erdp, event_shape, Known, is_bad_erdp, may_pass, names_no_place, or_left, or_right, data_places, is_event_place, list_any, range_with_len, cases_Bool, cond-true, cond-false, and_parts, or_cases, false≢true, none-some, same_Some, Shape, place_count, address_of, cases_option, position_from, is_reached_within}
 
 -- what is found in a range lies in it
 found_from : (test : ℕ → Bool) (a n q : ℕ) → find test (range_with_len a n) ≡ Some q → (a ≤ q) × (q < a + n)
@@ -54,12 +54,9 @@ module _ (shape : Shape) (p more address : ℕ) (reached : is_reached_within sha
   some : list_any (λ q. address_of shape q == address) (range_with_len p (more + 1)) ≡ true
   some = (and_parts (nat_lt 0 (place_count shape)) (list_any (λ q. address_of shape q == address) (range_with_len p (more + 1))) reached).1
 
-  position_is : (o : Option ℕ) → find (λ q. address_of shape q == address) (range_with_len p (place_count shape)) ≡ o → position_from shape p address ≡ unwrap_or o p
-  position_is o at = ap (λ x. unwrap_or x p) at
-
   -- no further back, and at most that much further
   pub position_within : (p ≤ position_from shape p address) × (position_from shape p address ≤ p + more)
-  position_within = search (rules, cases_option, find, position_is, found_from, found_below, some)
+  position_within = search (rules, cases_option, find, found_from, found_below, some)
 
 -- a good ERDP names a place up to what may be passed or, before the start, no event place
 pub erdp_says : (h : Header) (k : Known) (v : ℕ) → is_bad_erdp h k Erdp v ≡ false →

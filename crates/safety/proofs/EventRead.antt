@@ -1,7 +1,7 @@
 -- When a posted event is possible where it will be read, and what reading it adds
-use Rattle.safety.proofs.Words.{◌≡◌, ◌+◌, ◌-◌, ◌≤◌, ◌==◌, ◌&&◌, ◌∷◌, ◌++◌, ◌∙◌, Bool, true, false, not, List, [], All, arith, refl, sym, ap, subst, le-ltb, eq-eqb, cond-false, or_from, not_from_true, Block, All-append, All-cons, All-nil, IsBlock, cycle, kind, is_event, is_transfer_event, cycle_of, Header, Read, event_shape, event_size, World, Known, event_read, learned, broken_of, AfterStop, ImpossibleEvent, NotInProfile, lenient, is_in_profile, is_impossible_by_kind, is_past_room, is_impossible, Stands, ArePossible, all_read}
-use Rattle.ownership_rules.specs.Rules as of_rules
-use Rattle.ownership_rules.specs.Events as of_events
+use Rattle.safety.proofs.Words.{[], ◌≡◌, ◌+◌, ◌-◌, ◌≤◌, ◌==◌, ◌&&◌, ◌∷◌, ◌++◌, ◌∙◌, Bool, true, false, not, List, All, arith, refl, sym, ap, le-ltb, ltb-false, eq-eqb, cond-false, or_from, not_from_true, Block, All-append, All-cons, All-nil, IsBlock, cycle, kind, is_event, is_transfer_event, cycle_of, Header, Read, event_shape, event_size, World, Known, event_read, learned, broken_of, AfterStop, ImpossibleEvent, NotInProfile, lenient, is_in_profile, is_impossible_by_kind, is_past_room, is_impossible, Stands, ArePossible, all_read, lenient_tests, event_tests}
+use Rattle.safety.proofs.TestsPassed.{clean_tests}
+use Rattle.safety.proofs.CleanRows.{EventFacts, event_facts}
 use Rattle.safety.proofs.Posting.{CanPost}
 use Rattle.safety.proofs.WithReads.{with_reads}
 
@@ -25,10 +25,21 @@ not_impossible h k b on room same event possible =
     (not_from_true (is_event (kind b)) event)) possible
 
 pub event_broken : (h : Header) (k : Known) (b : Block) → k.stopped ≡ false → is_impossible h k b ≡ false → (is_transfer_event (kind b) && not (is_in_profile b)) ≡ false → lenient h k (Read b) ≡ []
-unfolding lenient of_rules.lenient_tests of_events.event_tests
+unfolding lenient lenient_tests event_tests
 event_broken h k b on possible in_profile =
     cond-false k.stopped (AfterStop ∷ []) (broken_of ((ImpossibleEvent, is_impossible h k b) ∷ (NotInProfile, is_transfer_event (kind b) && not (is_in_profile b)) ∷ [])) on
     ∙ none_broken (is_impossible h k b) (is_transfer_event (kind b) && not (is_in_profile b)) possible in_profile
+
+-- an event of a possible kind that breaks no rule breaks none where what it reads is the same and the dequeue pointer has gone on
+pub event_still : (h : Header) (k l : Known) (b : Block) → l.started ≡ k.started → l.stopped ≡ k.stopped → l.reads ≡ k.reads → k.dequeue ≤ l.dequeue → lenient h k (Read b) ≡ [] →
+    is_impossible_by_kind h l (kind b) b ≡ false → lenient h l (Read b) ≡ []
+unfolding is_impossible is_past_room
+event_still h k l b on off same more clean possible =
+    let f : EventFacts h k b = event_facts h k b clean in
+    event_broken h l b (off ∙ (clean_tests h k (Read b) clean).0)
+    (or_from _ _ (or_from _ _ (or_from _ _ (or_from _ _ (not_from_true l.started (on ∙ f.started))
+    (le-ltb (event_size h - 2) (l.reads - l.dequeue) (let room = ltb-false (event_size h - 2) (k.reads - k.dequeue) f.room in omega arith)))
+    (ap (λ n. not (cycle b == cycle_of (event_shape h) n)) same ∙ f.turn)) f.event) possible) f.inside
 
 -- a posted event of a possible kind breaks no rule where it will be read
 pub event_clean : (h : Header) (k : Known) (w : World) (b : Block) → Stands h k w → w.posted ≡ k.reads → w.stopped ≡ false → CanPost h w b → w.posted + 2 ≤ w.dequeue + event_size h →

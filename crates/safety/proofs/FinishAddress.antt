@@ -1,19 +1,11 @@
 -- The controller finishes an Address Device with success: the run goes on
-use Rattle.safety.proofs.Words.{◌≡◌, ◌<◌, ◌≤◌, ◌==◌, ◌∷◌, ◌∙◌, ℕ, Bool, true, false, [], Some, arith, refl, sym, ap, subst, inl, inr, rules, cases_Bool, cases_lt, false≢true, Block, IsBlock, code, slot, Shape, IsShape, RingView, floor_number, given_count, RingKeeps, cases_option, given_below, step_is, floor_given, given_count_declared, ceiling_within, Command, AddressDevice, Running, command_of, SlotGoesOn, Places, changes, is_off, context_pointer, context_cycle, Header, IsHeader, shape_of, World, UnderWay, counted, Known, next_command, DriverKeeps, CommandKeeps, Stays, Stands, Runs, all_read}
+use Rattle.safety.proofs.Words.{[], ◌≡◌, ◌<◌, ◌≤◌, ◌==◌, ◌∷◌, ◌∙◌, ℕ, Bool, true, false, Some, arith, refl, sym, ap, subst, inl, inr, rules, cases_Bool, cases_lt, false≢true, Block, IsBlock, code, slot, Shape, IsShape, RingView, floor_number, given_count, RingKeeps, cases_option, given_below, step_is, floor_given, given_count_declared, ceiling_within, Command, AddressDevice, Running, command_of, SlotGoesOn, Places, changes, is_off, context_pointer, context_cycle, Header, IsHeader, shape_of, World, UnderWay, counted, Known, next_command, DriverKeeps, CommandKeeps, Stays, Stands, Runs, all_read, changed_by, changed_by_all, succeeded}
 use Rattle.controller_model.specs.Bindings as bindings
 use Rattle.controller_model.specs.Finishes as finishes
-use Rattle.ring_knowledge.specs.Completions as completions
-use Rattle.safety.proofs.Headers.{ring_shape, transfer_driver}
-use Rattle.safety.proofs.Areas.{bad_context_parts, bad_command_context}
+use Rattle.safety.proofs.LowerLaws.{ring_shape, transfer_driver, bad_context_parts, bad_command_context, slot_above, off_none, rings_of, address_ready, slot_keeps, command_numbered, StatesMatch, ChangeKeeps, states_match}
 use Rattle.safety.proofs.ContextWords.{same_context, address_same}
-use Rattle.safety.proofs.EndpointsOff.{slot_above, off_none}
-use Rattle.safety.proofs.DriverRings.{rings_of}
 use Rattle.safety.proofs.KeptRings.{command_holds}
-use Rattle.safety.proofs.Placings.{address_ready}
 use Rattle.safety.proofs.PlaceKeeps.{MayBind, MayMove, bind_keeps, move_keeps}
-use Rattle.safety.proofs.SlotChanges.{slot_keeps}
-use Rattle.safety.proofs.NumberedChanges.{command_numbered}
-use Rattle.safety.proofs.FinishChanges.{StatesMatch, ChangeKeeps, states_match}
 use Rattle.safety.proofs.FinishSuccess.{EffectKeeps}
 use Rattle.safety.proofs.FinishGiven.{ListKeeps, nothing_keeps, change_then, finish_given_runs}
 
@@ -73,20 +65,20 @@ module _ (h : Header) (is : IsHeader h) (k : Known) (d : DriverKeeps h k) (s n :
   abbrev pub c : Command
   c = AddressDevice s bsr n
 
-  pub slot_binds : MayBind h k s 1 p cycle → MayBind h (completions.changed_by h c k (SlotGoesOn s)) s 1 p cycle
-  unfolding completions.changed_by
+  pub slot_binds : MayBind h k s 1 p cycle → MayBind h (changed_by h c k (SlotGoesOn s)) s 1 p cycle
+  unfolding changed_by
   slot_binds b =
       let e = b.ready in
       record { memory = b.memory; ready = record { off = e.off; ring = e.ring; named = e.named; free = e.free; keeps = e.keeps; placed = e.placed }; none = b.none }
 
-  pub slot_moves : MayMove h k s 1 p cycle → MayMove h (completions.changed_by h c k (SlotGoesOn s)) s 1 p cycle
-  unfolding completions.changed_by
+  pub slot_moves : MayMove h k s 1 p cycle → MayMove h (changed_by h c k (SlotGoesOn s)) s 1 p cycle
+  unfolding changed_by
   slot_moves m = search rules
 
-  place_keeps : (u v : World) → StatesMatch h (completions.changed_by h c k (SlotGoesOn s)) u → s < 256 → bindings.changed_by h c u (Places s 1 p cycle Running) ≡ Some v →
-      ChangeKeeps h (completions.changed_by h c k (SlotGoesOn s)) (completions.changed_by h c (completions.changed_by h c k (SlotGoesOn s)) (Places s 1 p cycle Running)) u v
+  place_keeps : (u v : World) → StatesMatch h (changed_by h c k (SlotGoesOn s)) u → s < 256 → bindings.changed_by h c u (Places s 1 p cycle Running) ≡ Some v →
+      ChangeKeeps h (changed_by h c k (SlotGoesOn s)) (changed_by h c (changed_by h c k (SlotGoesOn s)) (Places s 1 p cycle Running)) u v
   place_keeps u v m low at =
-      let l : Known = completions.changed_by h c k (SlotGoesOn s) in
+      let l : Known = changed_by h c k (SlotGoesOn s) in
       let numbered : (0 < s) × (s < 256) × (0 < 1) × (1 < 32) = (slot_above h k d c s given.good refl, low, omega arith, omega arith) in
       elim (cases_Bool (is_off (k.endpoint_state s 1))) [
         | inl off ↦ bind_keeps h is c l u v s 1 p cycle Running m numbered at (slot_binds (first_binds off))
@@ -101,12 +93,11 @@ module _ (h : Header) (is : IsHeader h) (k : Known) (d : DriverKeeps h k) (s n :
   address_changes m = refl
 
   pub address_keeps : (w : World) (m : ℕ) → Stands h k w → StatesMatch h k w → s < 256 → EffectKeeps h k w m c
-  unfolding bindings.effect completions.succeeded
+  unfolding bindings.effect succeeded
   address_keeps w m stands states low x at =
-      let lies = bad_context_parts h k n (bad_command_context h k c given.good) in
       let world_list : changes h.context_size w.memory m c ≡ SlotGoesOn s ∷ Places s 1 p cycle Running ∷ [] =
-      address_same h.context_size w.memory k.memory m s n bsr (same_context h is k w n stands lies) ∙ address_changes m in
-      subst (λ list. ChangeKeeps h k (completions.changed_by_all h c k list) w x) (sym (address_changes m))
+      address_same h.context_size w.memory k.memory m s n bsr (same_context h is k w n stands (bad_context_parts h k n (bad_command_context h k c given.good))) ∙ address_changes m in
+      subst (λ list. ChangeKeeps h k (changed_by_all h c k list) w x) (sym (address_changes m))
       (list_keeps w states low x (ap (λ list. bindings.changed_by_all h c w list) (sym world_list) ∙ at))
 
 -- the run goes on behind the success of an Address Device

@@ -1,5 +1,5 @@
 -- What the changes of a command's success keep: that states, endpoints and their rings are known as they are in the world
-use Rattle.safety.proofs.Words.{◌≡◌, ◌≢◌, ◌<◌, ◌∙◌, ℕ, true, Some, None, arith, refl, sym, ap, inl, inr, none-some, Header, IsHeader, command_id, World, Known, DriverKeeps, state_of, EndpointRing, Matches}
+use Rattle.safety.proofs.Words.{◌≡◌, ◌≢◌, ◌<◌, ◌∙◌, ℕ, true, Some, None, arith, sym, ap, inl, inr, none-some, Header, IsHeader, command_id, World, Known, DriverKeeps, state_of, EndpointRing, Matches, rules}
 use Rattle.safety.proofs.Headers.{transfer_not_command}
 
 -- the endpoints that have rings have numbers of slots and endpoints: 8 and 5 bits
@@ -58,10 +58,7 @@ module _ (h : Header) where
 
   -- no change, and one after the other
   pub none_keeps : (k : Known) (w : World) → StatesMatch k w → ChangeKeeps k k w w
-  none_keeps k w s = record {
-    states = s;
-    rest = record { known = refl; world = refl; queues = λ r. refl; lengths = λ r. refl; command_known = refl; command_world = refl };
-  }
+  none_keeps k w s = search rules
 
   pub both_keep : (k l m : Known) (w u v : World) → LeavesRest k l w u → ChangeKeeps l m u v → ChangeKeeps k m w v
   both_keep k l m w u v one two =

@@ -1,20 +1,12 @@
 -- The controller finishes a Configure Endpoint with success: the run goes on
-use Rattle.safety.proofs.Words.{◌≡◌, ◌<◌, ◌≤◌, ◌==◌, ◌&&◌, ◌||◌, if◌then◌else◌, ◌∷◌, ◌∙◌, ℕ, true, false, List, map, All, Some, None, arith, refl, sym, ap, subst, get_or, eq-eqb, leb-true, rules, and_from, and_right, cond-true, cond-false, false≢true, Block, IsBlock, code, Command, ConfigureEndpoint, command_of, Change, SlotGoesOn, Disables, changes, placed_by_context, is_off, added_endpoints, is_dropped, Header, IsHeader, World, UnderWay, counted, Known, next_command, binding_in, binds, ring_bound, has_repeats, DriverKeeps, CommandKeeps, StillHolds, Stands, Runs, all_read}
+use Rattle.safety.proofs.Words.{◌≡◌, ◌<◌, ◌≤◌, ◌==◌, ◌&&◌, ◌||◌, if◌then◌else◌, ◌∷◌, ◌∙◌, ℕ, true, false, List, map, All, Some, None, arith, refl, sym, ap, subst, get_or, eq-eqb, leb-true, rules, and_from, and_right, cond-true, cond-false, false≢true, Block, IsBlock, code, Command, ConfigureEndpoint, command_of, Change, SlotGoesOn, Disables, changes, placed_by_context, is_off, added_endpoints, is_dropped, Header, IsHeader, World, UnderWay, counted, Known, next_command, binding_in, binds, ring_bound, has_repeats, DriverKeeps, CommandKeeps, StillHolds, Stands, Runs, all_read, changed_by, changed_by_all, disabled, succeeded}
 use Rattle.controller_model.specs.Bindings as bindings
 use Rattle.controller_model.specs.Finishes as finishes
-use Rattle.ring_knowledge.specs.Completions as completions
-use Rattle.safety.proofs.Areas.{bad_context_parts, bad_command_context}
-use Rattle.safety.proofs.GivenCommands.{added_above}
-use Rattle.safety.proofs.Placings.{ReadyAt, map_map, dropped, all_ready}
+use Rattle.safety.proofs.LowerLaws.{bad_context_parts, bad_command_context, added_above, ReadyAt, map_map, dropped, all_ready, slot_above, off_none, slot_keeps, rings_of, command_numbered, StatesMatch, ChangeKeeps, states_match}
 use Rattle.safety.proofs.ContextWords.{same_context, added_below, configure_same}
-use Rattle.safety.proofs.EndpointsOff.{slot_above, off_none}
-use Rattle.safety.proofs.SlotChanges.{slot_keeps}
 use Rattle.safety.proofs.DisableChange.{disable_keeps}
-use Rattle.safety.proofs.DriverRings.{rings_of}
 use Rattle.safety.proofs.KeptRings.{command_holds}
 use Rattle.safety.proofs.PlaceEach.{each_keeps}
-use Rattle.safety.proofs.NumberedChanges.{command_numbered}
-use Rattle.safety.proofs.FinishChanges.{StatesMatch, ChangeKeeps, states_match}
 use Rattle.safety.proofs.FinishSuccess.{EffectKeeps}
 use Rattle.safety.proofs.FinishGiven.{ListKeeps, change_then, finish_given_runs}
 
@@ -30,7 +22,7 @@ module _ (h : Header) (is : IsHeader h) (k : Known) (d : DriverKeeps h k) (s a :
   l = dropped h is c k s a
 
   dropped_ring : (z j : ℕ) → l.ring_of z j ≡ (if z == s && is_dropped k.memory a j then None else k.ring_of z j)
-  unfolding completions.changed_by completions.disabled
+  unfolding changed_by disabled
   dropped_ring z j = refl
 
   -- what is added was dropped or off, so it has no ring
@@ -68,11 +60,11 @@ module _ (h : Header) (is : IsHeader h) (k : Known) (d : DriverKeeps h k) (s a :
   configure_changes n = refl
 
   pub configure_keeps : (w : World) (n : ℕ) → Stands h k w → StatesMatch h k w → s < 256 → EffectKeeps h k w n c
-  unfolding bindings.effect completions.succeeded
+  unfolding bindings.effect succeeded
   configure_keeps w n stands states low x at =
       let lies = bad_context_parts h k a (bad_command_context h k c given.good) in
       let world_list : changes h.context_size w.memory n c ≡ all = configure_same h.context_size w.memory k.memory n s a (same_context h is k w a stands lies) ∙ configure_changes n in
-      subst (λ list. ChangeKeeps h k (completions.changed_by_all h c k list) w x) (sym (configure_changes n))
+      subst (λ list. ChangeKeeps h k (changed_by_all h c k list) w x) (sym (configure_changes n))
       (list_keeps w states low x (ap (λ list. bindings.changed_by_all h c w list) (sym world_list) ∙ at))
 
 -- the run goes on behind the success of a Configure Endpoint; of one that deconfigures the law of commands that place nothing says it

@@ -1,9 +1,6 @@
 -- The controller finishes a Set TR Dequeue with success: the run goes on
-use Rattle.safety.proofs.Words.{◌≡◌, ◌==◌, ℕ, not, Bool, true, false, List, [], Option, Some, None, arith, refl, sym, or_parts, not-false, false≢true, Block, IsBlock, code, slot, ceiling, is_move, ceiling_within, Command, SetTrDequeue, EndpointState, Off, Stopped, command_of, Places, changes, is_off, is_at_rest, Header, IsHeader, shape_of, World, UnderWay, counted, Known, next_command, is_bad_dequeue, is_bad_move, DriverKeeps, CommandKeeps, Runs, all_read}
-use Rattle.segments.specs.RingView.{declared}
-use Rattle.controller_model.specs.Bindings as bindings
+use Rattle.safety.proofs.Words.{[], ◌≡◌, ◌==◌, ℕ, not, Bool, true, false, Option, Some, None, arith, refl, sym, or_parts, not-false, false≢true, Block, IsBlock, code, slot, ceiling, is_move, ceiling_within, Command, SetTrDequeue, EndpointState, Off, Stopped, command_of, Places, changes, is_off, is_at_rest, Header, IsHeader, shape_of, World, UnderWay, counted, Known, next_command, is_bad_dequeue, is_bad_move, DriverKeeps, CommandKeeps, Runs, all_read, effect, changed_by, succeeded, declared}
 use Rattle.controller_model.specs.Finishes as finishes
-use Rattle.ring_knowledge.specs.Completions as completions
 use Rattle.safety.proofs.Headers.{ring_shape, transfer_driver}
 use Rattle.safety.proofs.PlaceKeeps.{MayMove, move_keeps}
 use Rattle.safety.proofs.FinishChanges.{StatesMatch, states_match}
@@ -43,12 +40,12 @@ module _ (h : Header) (is : IsHeader h) (k : Known) (d : DriverKeeps h k) (s i p
       moves_of (k.ring_of s i) refl parts.1 (rest_on (k.endpoint_state s i) (not-false (is_at_rest (k.endpoint_state s i)) parts.0))
 
   pub dequeue_keeps : (w : World) (n : ℕ) → StatesMatch h k w → CommandKeeps h k (next_command h k) (SetTrDequeue s i p cycle) → EffectKeeps h k w n (SetTrDequeue s i p cycle)
-  unfolding bindings.effect completions.succeeded changes
+  unfolding effect succeeded changes
   dequeue_keeps w n m given =
       let c : Command = SetTrDequeue s i p cycle in
       let may : MayMove h k s i p cycle = may_move given.moves_on in
       change_then h c k w (Places s i p cycle Stopped) [] (λ v at. move_keeps h is c k w v s i p cycle Stopped m (m.within s i may.ring may.had) at may)
-      (λ v at states. nothing_keeps h c (completions.changed_by h c k (Places s i p cycle Stopped)) v states)
+      (λ v at states. nothing_keeps h c (changed_by h c k (Places s i p cycle Stopped)) v states)
 
 -- the run goes on behind the success of a Set TR Dequeue
 pub finish_dequeue_runs : (h : Header) → IsHeader h → (now : Known) (w v : World) (b : Block) → IsBlock b → w.stopped ≡ false → (run : Runs h now w) →

@@ -1,6 +1,5 @@
 -- The controller finishes the command under way with another code than success: the run goes on
-use Rattle.safety.proofs.Words.{◌≡◌, ◌+◌, ◌<◌, ◌==◌, ◌∷◌, ◌++◌, ◌∙◌, ℕ, Bool, true, false, not, List, [], Option, Some, None, is_some, arith, refl, sym, ap, subst, lt-ltb, eq-eqb, false≢true, and_from, and_left, or_from, or_left, or_right, cond-true, cond-false, not_from_true, not_from_false, Block, BlockKind, IsBlock, code, kind, pointer, slot, is_transfer_event, is_command_completion, address_of, ceiling, cycle_of_bit, Command, command_of, may_answer_slot, can_succeed, Header, Read, Config, IsHeader, shape_of, command_id, register_or_zero, World, posted, counted, Known, event_read, learned, command_at, next_command, is_in_profile, is_impossible_by_kind, is_impossible_completion, may_be_taken, can_finish, was_stop_seen, DriverKeeps, CommandMatches, UnderWayMatches, Agrees, Runs, all_read}
-use Rattle.world_state.specs.World as of_world
+use Rattle.safety.proofs.Words.{[], ◌≡◌, ◌+◌, ◌<◌, ◌==◌, ◌∷◌, ◌++◌, ◌∙◌, ℕ, Bool, true, false, not, List, Option, Some, None, is_some, arith, refl, sym, ap, subst, lt-ltb, eq-eqb, false≢true, and_from, and_left, or_from, or_left, or_right, cond-true, cond-false, not_from_true, not_from_false, Block, BlockKind, IsBlock, code, kind, pointer, slot, is_transfer_event, is_command_completion, address_of, ceiling, cycle_of_bit, Command, command_of, may_answer_slot, can_succeed, Header, Config, IsHeader, shape_of, command_id, register_or_zero, World, posted, counted, Known, event_read, command_at, next_command, is_in_profile, is_impossible_by_kind, is_impossible_completion, may_be_taken, can_finish, was_stop_seen, DriverKeeps, CommandMatches, UnderWayMatches, Agrees, Runs, all_read, stored, stored_block}
 use Rattle.controller_model.specs.Finishes as finishes
 use Rattle.safety.proofs.Headers.{ring_shape}
 use Rattle.safety.proofs.SameCommand.{command_of-with_cycle}
@@ -9,13 +8,13 @@ use Rattle.safety.proofs.SafeContext.{AtFloor, at_floor, command_is_ring, comman
 use Rattle.safety.proofs.Counted.{agrees_counted}
 use Rattle.safety.proofs.WithReads.{with_reads}
 use Rattle.safety.proofs.Posted.{PostKeeps, post_keeps}
-use Rattle.safety.proofs.EventRead.{learned_read, event_clean, blocks_more, possible_more, read_more}
-use Rattle.safety.proofs.ReportSuccess.{ReportKeeps}
+use Rattle.safety.proofs.EventRead.{learned_read, event_clean}
+use Rattle.safety.proofs.ReportSuccess.{runs_more, ReportKeeps}
 use Rattle.safety.proofs.FinishKinds.{IsFinish, finish_is, failure_is, completion_kind, let_go, seen_after, next_known, failed_read, none_waits, none_after}
 use Rattle.safety.proofs.FinishNext.{stands_next, events_next, matches_next}
 
 pub posted_under_way : (h : Header) (w : World) (b : Block) → (posted h w b).under_way ≡ w.under_way
-unfolding posted of_world.stored_block of_world.stored
+unfolding posted stored_block stored
 posted_under_way h w b = refl
 
 some_command : (o : Option Command) → is_some o ≡ true → (c : Command) × (o ≡ Some c)
@@ -93,7 +92,6 @@ module _ (h : Header) (is : IsHeader h) (k : Known) (unread : List Block) (w v :
       with_reads (event_read h k (kind b) b) (k.reads + 1) ≡ next_known h k (seen_after k e) (k.reads + 1) → let_go (posted h w b) ≡ v → ReportKeeps h k unread w v b
   idle_at e is_e fresh may read ends =
       let here = here_is e is_e in
-      let none = none_after k e (none_waits h k d e here fresh) in
       let seen : ℕ → ℕ → Bool = seen_after k e in
       let n : ℕ = k.reads + 1 in
       let m : Known = next_known h k seen n in
@@ -102,14 +100,13 @@ module _ (h : Header) (is : IsHeader h) (k : Known) (unread : List Block) (w v :
       let under_now : UnderWayMatches h k now.spot (Some f.taken) = subst (λ o. UnderWayMatches h k now.spot o) (posted_under_way h w b ∙ f.under_way) now.under_way in
       let after_post : Agrees h m (unread ++ b ∷ []) (counted h (let_go u)) =
       agrees_counted h m (unread ++ b ∷ []) (let_go u) (stands_next h is k d on seen n u p.stands) (events_next h is k d on seen n u (unread ++ b ∷ []) p.events)
-      (matches_next h is k d on seen n u p.matches now.spot now.ring under_now.0 none) p.posted_is p.late in
-      let learned_is : learned h k (Read b) ≡ m = learned_read h k b ∙ read in
+      (matches_next h is k d on seen n u p.matches now.spot now.ring under_now.0 (none_after k e (none_waits h k d e here fresh))) p.posted_is p.late in
       record {
         clean = event_clean h k w b g.stands g.read running p.can p.room
             (or_left _ _ (or_right _ _ f.completion))
             (completion_possible h k b f.completion (taken_now h k below) (f.named ∙ under.1.address) f.some_code (ap (λ o. can_finish k b o) here ∙ may))
             (and_left (is_transfer_event (kind b)) (not (is_in_profile b)) (no_transfer (kind b) f.completion));
-        agrees = subst (λ x. Agrees h x (unread ++ b ∷ []) (counted h v)) (sym learned_is) (subst (λ y. Agrees h m (unread ++ b ∷ []) (counted h y)) ends after_post);
+        agrees = subst (λ x. Agrees h x (unread ++ b ∷ []) (counted h v)) (sym (learned_read h k b ∙ read)) (subst (λ y. Agrees h m (unread ++ b ∷ []) (counted h y)) ends after_post);
       }
 
   -- another code than success
@@ -125,13 +122,4 @@ module _ (h : Header) (is : IsHeader h) (k : Known) (unread : List Block) (w v :
 -- the run goes on behind the completion of a command that fails
 pub finish_failure_runs : (h : Header) → IsHeader h → (now : Known) (w v : World) (b : Block) → IsBlock b → w.stopped ≡ false → (run : Runs h now w) →
     DriverKeeps h (all_read h now run.unread) → (code b == 1) ≡ false → finishes.finished h w b ≡ Some v → Runs h now (counted h v)
-finish_failure_runs h is now w v b block running run d fails at =
-    let k : Known = all_read h now run.unread in
-    let keeps = failure_keeps h is k run.unread w v b block running d run.agrees (finish_is h w v b at) fails in
-    record {
-      unread = run.unread ++ b ∷ [];
-      possible = possible_more h run.unread now b run.possible keeps.clean;
-      blocks = blocks_more run.unread b run.blocks block;
-      on = run.on;
-      agrees = subst (λ m. Agrees h m (run.unread ++ b ∷ []) (counted h v)) (sym (read_more h run.unread now b)) keeps.agrees;
-    }
+finish_failure_runs h is now w v b block running run d fails at = runs_more h now w v b block run (failure_keeps h is (all_read h now run.unread) run.unread w v b block running d run.agrees (finish_is h w v b at) fails)

@@ -1,8 +1,6 @@
 -- What a finish is, and what is known behind the completion of a command that had no effect
-use Rattle.safety.proofs.Words.{◌≡◌, ◌==◌, ◌∙◌, ℕ, Bool, true, false, Option, Some, None, refl, sym, ap, eqb-true, rules, false≢true, and_parts, cond-false, not-true, false_from_ne_true, none-some, same_Some, put, put_pair, Block, BlockKind, code, kind, pointer, slot, is_command_completion, after, Reaches, Command, StopEndpoint, command_of, is_stop_of, may_answer_slot, Header, shape_of, command_id, World, UnderWay, can_post, posted, Known, event_read, command_at, next_command, on_ring, is_stopping_now, may_be_taken, was_stop_seen, DriverKeeps}
-use Rattle.trb.specs.declared.kind.BlockKind.TheVariants as kinds
+use Rattle.safety.proofs.Words.{◌≡◌, ◌==◌, ◌∙◌, ℕ, Bool, true, false, Option, Some, None, refl, sym, ap, eqb-true, rules, false≢true, and_parts, cond-false, not-true, false_from_ne_true, none-some, same_Some, put, put_pair, Block, BlockKind, code, kind, pointer, slot, is_command_completion, after, Reaches, Command, StopEndpoint, command_of, is_stop_of, may_answer_slot, Header, shape_of, command_id, World, UnderWay, can_post, posted, Known, event_read, command_at, next_command, on_ring, is_stopping_now, may_be_taken, was_stop_seen, DriverKeeps, CommandCompletion, completed, finished, stop_ended}
 use Rattle.controller_model.specs.Finishes as finishes
-use Rattle.ring_knowledge.specs.Completions as completions
 use Rattle.safety.proofs.WithReads.{with_reads}
 use Rattle.safety.proofs.LookKinds.{cond_is}
 use Rattle.safety.proofs.FloorMoves.{floor_behind}
@@ -37,8 +35,8 @@ pub failure_is : (h : Header) (w v : World) (b : Block) (u : UnderWay) → (code
 unfolding finishes.ended_with finishes.ended
 failure_is h w v b u fails at = search (rules, cond_is, cond-false, none-some, same_Some)
 
-pub completion_kind : (t : BlockKind) → is_command_completion t ≡ true → t ≡ kinds.CommandCompletion
-completion_kind kinds.CommandCompletion h = refl
+pub completion_kind : (t : BlockKind) → is_command_completion t ≡ true → t ≡ CommandCompletion
+completion_kind CommandCompletion h = refl
 completion_kind _ h = absurd (false≢true h)
 
 -- ---- what is known behind it
@@ -51,8 +49,8 @@ seen_after k _ = k.stop_seen
 abbrev pub next_known : Header → Known → (ℕ → ℕ → Bool) → ℕ → Known
 next_known h k seen n = record k { ring = put k.ring (command_id h) (floor_behind (shape_of h (command_id h)) (k.ring (command_id h)) (next_command h k)); stop_seen = seen; reads = n }
 
-pub stop_ended_is : (h : Header) (k : Known) (c : Command) → completions.stop_ended h k c ≡ (let m : Known = record k { stop_seen = seen_after k c } in m)
-unfolding completions.stop_ended
+pub stop_ended_is : (h : Header) (k : Known) (c : Command) → stop_ended h k c ≡ (let m : Known = record k { stop_seen = seen_after k c } in m)
+unfolding stop_ended
 stop_ended_is h k (StopEndpoint s i) = refl
 stop_ended_is h k _ = refl
 
@@ -63,11 +61,11 @@ reached_is h k seen n = refl
 
 pub failed_read : (h : Header) (k : Known) (b : Block) (c : Command) (n : ℕ) → is_command_completion (kind b) ≡ true → command_at h k (next_command h k) ≡ Some c → (code b == 1) ≡ false →
     with_reads (event_read h k (kind b) b) n ≡ next_known h k (seen_after k c) n
-unfolding event_read completions.completed completions.finished
+unfolding event_read completed finished
 failed_read h k b c n completion at fails =
     ap (λ t. with_reads (event_read h k t b) n) (completion_kind (kind b) completion)
-    ∙ ap (λ o. with_reads (on_ring h (completions.finished h k b o) (command_id h) (Reaches (after (shape_of h (command_id h)) (next_command h k)))) n) at
-    ∙ ap (λ m. with_reads (on_ring h (completions.stop_ended h m c) (command_id h) (Reaches (after (shape_of h (command_id h)) (next_command h k)))) n) (cond-false (code b == 1) _ k fails)
+    ∙ ap (λ o. with_reads (on_ring h (finished h k b o) (command_id h) (Reaches (after (shape_of h (command_id h)) (next_command h k)))) n) at
+    ∙ ap (λ m. with_reads (on_ring h (stop_ended h m c) (command_id h) (Reaches (after (shape_of h (command_id h)) (next_command h k)))) n) (cond-false (code b == 1) _ k fails)
     ∙ ap (λ m. with_reads (on_ring h m (command_id h) (Reaches (after (shape_of h (command_id h)) (next_command h k)))) n) (stop_ended_is h k c)
     ∙ reached_is h k (seen_after k c) n
 
@@ -87,8 +85,7 @@ stopping_of h k s i at = (and_parts (may_be_taken h k) (is_stop_of s i (command_
 pub none_waits : (h : Header) (k : Known) (d : DriverKeeps h k) (c : Command) → command_at h k (next_command h k) ≡ Some c → was_stop_seen k c ≡ false → (s i : ℕ) → k.stop_seen s i ≡ false
 none_waits h k d c at fresh s i =
     false_from_ne_true (k.stop_seen s i) (λ seen.
-    let stop : is_stop_of s i (Some c) ≡ true = ap (λ o. is_stop_of s i o) (sym at) ∙ stopping_of h k s i (d.states.seen_command s i seen) in
-    false≢true (sym fresh ∙ stop_of_is k s i c stop ∙ seen))
+    false≢true (sym fresh ∙ stop_of_is k s i c (ap (λ o. is_stop_of s i o) (sym at) ∙ stopping_of h k s i (d.states.seen_command s i seen)) ∙ seen))
 
 pub put_false : (f : ℕ → ℕ → Bool) (a b s i : ℕ) → f s i ≡ false → put_pair f a b false s i ≡ false
 put_false f a b s i none = search rules

@@ -1,5 +1,5 @@
 -- However the controller finishes the command under way, the run goes on
-use Rattle.std.proofs.Common.{◌≡◌, ◌==◌, ◌∙◌, true, false, List, Option, None, Some, option_map, refl, sym, ap, inl, inr}
+use Rattle.std.proofs.Common.{◌≡◌, ◌==◌, ◌∙◌, true, false, Option, None, Some, option_map, refl, sym, ap, inl, inr}
 use Rattle.safety.proofs.Words.{cases_Bool, cond-true, none-some, Block, IsBlock, code, slot, Command, NoOp, EnableSlot, DisableSlot, AddressDevice, ConfigureEndpoint, EvaluateContext, ResetEndpoint, StopEndpoint, SetTrDequeue, ResetDevice, command_of, Header, IsHeader, World, UnderWay, counted, DriverKeeps, Runs, all_read, Known}
 use Rattle.controller_model.specs.Finishes as finishes
 use Rattle.safety.proofs.FinishKinds.{IsFinish, finish_is}

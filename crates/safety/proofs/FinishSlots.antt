@@ -1,8 +1,7 @@
 -- The controller finishes with success a command that places no endpoint on a ring: the run goes on
-use Rattle.safety.proofs.Words.{◌≡◌, ◌==◌, ◌∷◌, ◌∙◌, ℕ, true, false, List, [], Option, Some, None, option_and_then, refl, ap, subst, none-some, same_Some, Block, IsBlock, code, slot, Command, NoOp, EnableSlot, DisableSlot, AddressDevice, ConfigureEndpoint, EvaluateContext, ResetEndpoint, StopEndpoint, SetTrDequeue, ResetDevice, command_of, Change, SlotGoesOn, DeviceLeft, Disables, Places, Stops, Resets, changes, ContextSize, Header, IsHeader, World, UnderWay, counted, Known, DriverKeeps, Runs, all_read}
+use Rattle.safety.proofs.Words.{[], ◌≡◌, ◌==◌, ◌∷◌, ◌∙◌, ℕ, true, false, List, Option, Some, None, option_and_then, refl, ap, subst, none-some, same_Some, Block, IsBlock, code, slot, Command, NoOp, EnableSlot, DisableSlot, AddressDevice, ConfigureEndpoint, EvaluateContext, ResetEndpoint, StopEndpoint, SetTrDequeue, ResetDevice, command_of, Change, SlotGoesOn, DeviceLeft, Disables, Places, Stops, Resets, changes, ContextSize, Header, IsHeader, World, UnderWay, counted, Known, DriverKeeps, Runs, all_read, changed_by, changed_by_all, succeeded}
 use Rattle.controller_model.specs.Bindings as bindings
 use Rattle.controller_model.specs.Finishes as finishes
-use Rattle.ring_knowledge.specs.Completions as completions
 use Rattle.safety.proofs.FinishChanges.{StatesMatch, ChangeKeeps, none_keeps, both_keep, states_match}
 use Rattle.safety.proofs.FinishSuccess.{EffectKeeps, finish_success_runs}
 use Rattle.safety.proofs.SlotChanges.{slot_keeps, device_keeps, reset_keeps}
@@ -24,7 +23,7 @@ some_then f None y at = absurd (none-some y at)
 some_then f (Some x) y at = (x, refl, at)
 
 module _ (h : Header) (c : Command) where
-  pub change_keeps : (change : Change) → IsNoPlacing change → (k : Known) (w v : World) → StatesMatch h k w → bindings.changed_by h c w change ≡ Some v → ChangeKeeps h k (completions.changed_by h c k change) w v
+  pub change_keeps : (change : Change) → IsNoPlacing change → (k : Known) (w v : World) → StatesMatch h k w → bindings.changed_by h c w change ≡ Some v → ChangeKeeps h k (changed_by h c k change) w v
   change_keeps (SlotGoesOn s) none k w v m at = slot_keeps h c k w m s v at
   change_keeps (DeviceLeft s) none k w v m at = device_keeps h c k w m s v at
   change_keeps (Disables s which) none k w v m at = disable_keeps h c k w m s which v at
@@ -32,14 +31,14 @@ module _ (h : Header) (c : Command) where
   change_keeps (Stops s i) none k w v m at = stop_keeps h c k w m s i v at
   change_keeps (Resets s i) none k w v m at = reset_keeps h c k w m s i v at
 
-  pub changes_keep : (l : List Change) → AreNoPlacings l → (k : Known) (w v : World) → StatesMatch h k w → bindings.changed_by_all h c w l ≡ Some v → ChangeKeeps h k (completions.changed_by_all h c k l) w v
-  unfolding bindings.changed_by_all completions.changed_by_all
+  pub changes_keep : (l : List Change) → AreNoPlacings l → (k : Known) (w v : World) → StatesMatch h k w → bindings.changed_by_all h c w l ≡ Some v → ChangeKeeps h k (changed_by_all h c k l) w v
+  unfolding bindings.changed_by_all changed_by_all
   changes_keep [] none k w v m at = subst (λ x. ChangeKeeps h k k w x) (same_Some w v at) (none_keeps h k w m)
   changes_keep (change ∷ rest) none k w v m at =
       let u = some_then (λ x. bindings.changed_by_all h c x rest) (bindings.changed_by h c w change) v at in
       let one = change_keeps change none.0 k w u.0 m u.1 in
-      both_keep h k (completions.changed_by h c k change) (completions.changed_by_all h c (completions.changed_by h c k change) rest) w u.0 v one.rest
-      (changes_keep rest none.1 (completions.changed_by h c k change) u.0 v one.states u.2)
+      both_keep h k (changed_by h c k change) (changed_by_all h c (changed_by h c k change) rest) w u.0 v one.rest
+      (changes_keep rest none.1 (changed_by h c k change) u.0 v one.states u.2)
 
 -- ---- commands whose success places nothing
 
@@ -75,7 +74,7 @@ same_changes size f g n (ResetDevice s) none = refl
 same_changes size f g n _ none = absurd none
 
 effect_keeps : (h : Header) (k : Known) (w : World) (n : ℕ) (e : Command) → PlacesNone e → StatesMatch h k w → EffectKeeps h k w n e
-unfolding bindings.effect completions.succeeded
+unfolding bindings.effect succeeded
 effect_keeps h k w n e none m x at =
     changes_keep h e (changes h.context_size k.memory n e) (no_placings h.context_size k.memory n e none) k w x m
     (ap (λ l. bindings.changed_by_all h e w l) (same_changes h.context_size k.memory w.memory n e none) ∙ at)
@@ -87,5 +86,4 @@ pub finish_slots_runs : (h : Header) → IsHeader h → (now : Known) (w v : Wor
     finishes.finished h w b ≡ Some v → Runs h now (counted h v)
 finish_slots_runs h is now w v b block running run d u at_u e is_u none one at =
     let k : Known = all_read h now run.unread in
-    let states = states_match h is k w d (d.numbered) run.agrees.matches in
-    finish_success_runs h is now w v b block running run d u at_u e is_u one (effect_keeps h k w (slot b) e none states) at
+    finish_success_runs h is now w v b block running run d u at_u e is_u one (effect_keeps h k w (slot b) e none (states_match h is k w d (d.numbered) run.agrees.matches)) at

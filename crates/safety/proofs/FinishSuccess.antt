@@ -1,22 +1,82 @@
 -- The controller finishes the command under way with success: where its changes keep that states agree, the run goes on
-use Rattle.std.proofs.Common.{◌≡◌, ◌+◌, ◌<◌, ◌⊎◌, ◌==◌, ◌&&◌, ◌||◌, ◌∷◌, ◌++◌, ◌∙◌, ℕ, Bool, true, false, not, List, [], Option, Some, None, is_some, option_map, unwrap_or, arith, refl, sym, ap, subst, inl, inr}
-use Rattle.safety.proofs.Words.{cases_Bool, and_left, or_left, or_right, or_parts, cond-true, not-false, none-some, same_Some, Block, IsBlock, code, kind, slot, is_transfer_event, is_command_completion, Reaches, floor_number, after, ceiling, Command, StopEndpoint, EndpointState, command_of, is_stop_of, named_slot, named_endpoint, named_context, can_succeed, slot_success, endpoint_success, slot_meant, endpoint_meant, is_slot_enabled, Header, Read, Config, IsHeader, shape_of, command_id, register_or_zero, World, UnderWay, posted, counted, Known, event_read, learned, command_at, next_command, on_ring, is_in_profile, can_finish, was_stop_seen, DriverKeeps, state_of, UnderWayMatches, Agrees, Runs, all_read}
-use Rattle.world_state.specs.World as of_world
+use Rattle.std.proofs.Common.{[], ◌≡◌, ◌+◌, ◌⊎◌, ◌==◌, ◌&&◌, ◌∷◌, ◌++◌, ◌∙◌, ℕ, Bool, true, false, not, List, Option, Some, None, is_some, option_map, unwrap_or, arith, refl, sym, ap, subst, inl, inr}
+use Rattle.safety.proofs.Words.{cases_Bool, and_left, or_left, or_right, or_parts, cond-true, not-false, none-some, same_Some, Block, IsBlock, code, kind, slot, is_transfer_event, is_command_completion, Reaches, floor_number, after, Command, StopEndpoint, EndpointState, command_of, is_stop_of, named_slot, named_endpoint, named_context, can_succeed, slot_success, endpoint_success, slot_meant, endpoint_meant, is_slot_enabled, Header, Read, Config, IsHeader, shape_of, command_id, register_or_zero, World, UnderWay, posted, counted, Known, event_read, learned, command_at, next_command, on_ring, is_in_profile, can_finish, was_stop_seen, DriverKeeps, state_of, UnderWayMatches, Agrees, Runs, all_read, stored, stored_block, completed, finished, stop_ended, succeeded, ◌≢◌, option_and_then, slice_get, rules, false≢true, IsUnfinished, Stands, EventsStand, RingMatches, BoundRing, FreeRing, EndpointRing, Matches}
 use Rattle.controller_model.specs.Bindings as bindings
 use Rattle.controller_model.specs.Finishes as finishes
-use Rattle.ring_knowledge.specs.Completions as completions
 use Rattle.safety.proofs.SafeContext.{next_is}
 use Rattle.safety.proofs.Counted.{agrees_counted}
 use Rattle.safety.proofs.WithReads.{with_reads}
 use Rattle.safety.proofs.Posted.{post_keeps}
-use Rattle.safety.proofs.EventRead.{learned_read, event_clean, blocks_more, possible_more, read_more}
-use Rattle.safety.proofs.ReportSuccess.{ReportKeeps, mapped}
-use Rattle.safety.proofs.LookKinds.{cond_is}
+use Rattle.safety.proofs.EventRead.{learned_read, event_clean}
+use Rattle.safety.proofs.ReportSuccess.{runs_more, ReportKeeps, mapped}
+use Rattle.safety.proofs.LookKinds.{cond_is, put_at, put_off}
 use Rattle.safety.proofs.FinishKinds.{IsFinish, finish_is, completion_kind, let_go, seen_after, next_known, stop_ended_is, reached_is, stopping_of, put_false, none_waits, none_after}
 use Rattle.safety.proofs.FinishNext.{stands_next, events_next, matches_next}
 use Rattle.safety.proofs.FinishFails.{no_transfer, posted_under_way, taken_now, can_end, completion_possible, floor, of_block, here_is, taken_is, answers_is}
 use Rattle.safety.proofs.FinishChanges.{known_changed, world_changed, LeavesRest, ChangeKeeps}
-use Rattle.safety.proofs.FinishBehind.{stands_changed, events_changed, matches_changed}
+use Rattle.world_state.specs.World as of_world
+use Rattle.safety.proofs.FloorMoves.{floor_behind}
+
+-- Behind the success of a command: its changes are made, the event is posted, and the command ring's floor moves on
+
+-- k and w are as before the changes, u is w with the event posted
+module _ (h : Header) (k m : Known) (w v : World) (c : ChangeKeeps h k m w v) (seen : ℕ → ℕ → Bool) (n : ℕ) where
+  abbrev later : Known
+  later = next_known h (known_changed k m) seen n
+
+  abbrev before : Known
+  before = next_known h k seen n
+
+  floors_same : floor_behind (shape_of h (command_id h)) (m.ring (command_id h)) (next_command h (known_changed k m)) ≡ floor_behind (shape_of h (command_id h)) (k.ring (command_id h)) (next_command h k)
+  floors_same = search (rules, floor_behind, shape_of, command_id, next_is, known_changed, floor_number, next_command)
+
+  command_ring : later.ring (command_id h) ≡ before.ring (command_id h)
+  command_ring = search (rules, put_at, command_id, floors_same)
+
+  ring_same : (q : ℕ) → q ≢ command_id h → later.ring q ≡ m.ring q
+  ring_same q other = put_off m.ring (command_id h) _ q other
+
+  queue_before : (q : ℕ) → (before.ring q).queue ≡ (later.ring q).queue
+  queue_before q = search (rules, before, later, command_ring, put_off, ring_same)
+
+  lengths_before : (q : ℕ) → (before.ring q).lengths ≡ (later.ring q).lengths
+  lengths_before q = search (rules, before, later, command_ring, put_off, ring_same)
+
+  pub stands_changed : (u : World) → Stands h before (let_go u) → Stands h later (let_go (world_changed u v))
+  stands_changed u s = search (rules, before, let_go, later, world_changed, queue_before, lengths_before)
+
+  pub events_changed : (u : World) (unread : List Block) → EventsStand h (let_go u) unread → EventsStand h (let_go (world_changed u v)) unread
+  unfolding of_world.event_at
+  events_changed u unread e = record { order = e.order; count = e.count; places = e.places; started = e.started; ring = e.ring }
+
+  command_kept : (p : ℕ) → command_at h later p ≡ command_at h before p
+  unfolding command_at
+  command_kept p = ap (λ x. option_and_then command_of (slice_get x.queue p)) command_ring
+
+  unfinished_before : (p : ℕ) (e : Command) → IsUnfinished h later p e → IsUnfinished h before p e
+  unfinished_before p e u = search (rules, later, before, command_ring, command_kept)
+
+  endpoint_ring : (u : World) (q : ℕ) → q ≢ command_id h → EndpointRing h m v q → EndpointRing h later (let_go (world_changed u v)) q
+  endpoint_ring u q other (inl bound) = inl (subst (λ x. BoundRing (shape_of h q) m.ring_of x (state_of v q) q) (sym (ring_same q other)) bound)
+  endpoint_ring u q other (inr free) = inr (subst (λ x. FreeRing (shape_of h q) m.ring_of x (state_of v q) q) (sym (ring_same q other)) free)
+
+  pub matches_changed : (u : World) → k.started ≡ true → state_of u (command_id h) ≡ state_of w (command_id h) → Matches h before (let_go u) → Matches h later (let_go (world_changed u v))
+  matches_changed u on same y = record {
+    slots = c.states.slots;
+    endpoints = c.states.endpoints;
+    ring_of = c.states.ring_of;
+    rings = λ q other. endpoint_ring u q other (c.states.rings q other);
+    before = λ off. absurd (false≢true (sym off ∙ on));
+    command = λ started. let x = y.command on in record {
+      spot = x.spot;
+      ring = subst (λ s. RingMatches (shape_of h (command_id h)) (later.ring (command_id h)) s x.spot) (same ∙ sym c.rest.command_world)
+          (subst (λ r. RingMatches (shape_of h (command_id h)) r (state_of u (command_id h)) x.spot) (sym command_ring) x.ring);
+      under_way = (x.under_way.0 ∙ next_is h before ∙ ap (λ r. floor_number r) (sym command_ring) ∙ sym (next_is h later), x.under_way.1);
+    };
+    scribbles = c.states.scribbles;
+    contexts = λ p e f. y.contexts p e (unfinished_before p e f);
+    inside = y.inside;
+  }
 
 -- ---- in the world
 
@@ -30,21 +90,14 @@ pub record IsSuccess (h : Header) (w v : World) (b : Block) (e : Command) : Type
 success_is : (h : Header) (w v : World) (b : Block) (u : UnderWay) (e : Command) → command_of u.block ≡ Some e → (code b == 1) ≡ true → finishes.ended_with h w b u ≡ Some v → IsSuccess h w v b e
 unfolding finishes.ended_with finishes.ended finishes.succeeded
 success_is h w v b u e is one at =
-    let x = mapped (λ y. finishes.ended h y b) (finishes.succeeded h w (slot b) (Some e)) v
-    (ap (λ o. option_map (λ y. finishes.ended h y b) (finishes.succeeded h w (slot b) o)) (sym is) ∙ sym (cond-true (code b == 1) _ _ one) ∙ at) in
-    elim (cond_is (finishes.passes_end h (named_context e) || not (can_succeed w.slot_state w.endpoint_state (register_or_zero w.register Config) (slot b) e)) None (bindings.effect h w (slot b) e) (Some x.0) x.1) [
-      | inl stuck ↦ absurd (none-some x.0 stuck.1)
-      | inr goes ↦
-          let parts = or_parts (finishes.passes_end h (named_context e)) (not (can_succeed w.slot_state w.endpoint_state (register_or_zero w.register Config) (slot b) e)) goes.0 in
-          record { can = not-false (can_succeed w.slot_state w.endpoint_state (register_or_zero w.register Config) (slot b) e) parts.1; ends_low = parts.0; made = x.0; effect_is = goes.1; ends = x.2 }
-    ]
+    search (rules, mapped, succeeded, slot, option_map, cond-true, code, cond_is, named_context, not, can_succeed, register_or_zero, none-some, or_parts, not-false)
 
 posted_changed : (h : Header) (w x : World) (b : Block) → posted h (world_changed w x) b ≡ world_changed (posted h w b) x
-unfolding posted of_world.stored_block of_world.stored
+unfolding posted stored_block stored
 posted_changed h w x b = refl
 
 posted_ring : (h : Header) (w : World) (b : Block) (r : ℕ) → state_of (posted h w b) r ≡ state_of w r
-unfolding posted of_world.stored_block of_world.stored
+unfolding posted stored_block stored
 posted_ring h w b r = refl
 
 -- ---- in what is known
@@ -54,18 +107,17 @@ same_seen k m (StopEndpoint s i) = refl
 same_seen k m _ = refl
 
 success_read : (h : Header) (k : Known) (w x : World) (b : Block) (e : Command) (n : ℕ) → is_command_completion (kind b) ≡ true → command_at h k (next_command h k) ≡ Some e → (code b == 1) ≡ true →
-    LeavesRest h k (completions.succeeded h k (slot b) e) w x →
-    with_reads (event_read h k (kind b) b) n ≡ next_known h (known_changed k (completions.succeeded h k (slot b) e)) (seen_after k e) n
-unfolding event_read completions.completed completions.finished
+    LeavesRest h k (succeeded h k (slot b) e) w x →
+    with_reads (event_read h k (kind b) b) n ≡ next_known h (known_changed k (succeeded h k (slot b) e)) (seen_after k e) n
+unfolding event_read completed finished
 success_read h k w x b e n completion at one rest =
-    let m : Known = completions.succeeded h k (slot b) e in
+    let m : Known = succeeded h k (slot b) e in
     let same : next_command h k ≡ next_command h m = next_is h k ∙ ap (λ r. floor_number r) (sym rest.command_known) ∙ sym (next_is h m) in
-    let ended : Known = record m { stop_seen = seen_after m e } in
     ap (λ t. with_reads (event_read h k t b) n) (completion_kind (kind b) completion)
-    ∙ ap (λ o. with_reads (on_ring h (completions.finished h k b o) (command_id h) (Reaches (after (shape_of h (command_id h)) (next_command h k)))) n) at
-    ∙ ap (λ y. with_reads (on_ring h (completions.stop_ended h y e) (command_id h) (Reaches (after (shape_of h (command_id h)) (next_command h k)))) n) (cond-true (code b == 1) m k one)
+    ∙ ap (λ o. with_reads (on_ring h (finished h k b o) (command_id h) (Reaches (after (shape_of h (command_id h)) (next_command h k)))) n) at
+    ∙ ap (λ y. with_reads (on_ring h (stop_ended h y e) (command_id h) (Reaches (after (shape_of h (command_id h)) (next_command h k)))) n) (cond-true (code b == 1) m k one)
     ∙ ap (λ y. with_reads (on_ring h y (command_id h) (Reaches (after (shape_of h (command_id h)) (next_command h k)))) n) (stop_ended_is h m e)
-    ∙ ap (λ p. with_reads (on_ring h ended (command_id h) (Reaches (after (shape_of h (command_id h)) p))) n) same
+    ∙ ap (λ p. with_reads (on_ring h (record m { stop_seen = seen_after m e }) (command_id h) (Reaches (after (shape_of h (command_id h)) p))) n) same
     ∙ reached_is h m (seen_after m e) n
     ∙ ap (λ y. next_known h y (seen_after y e) n) rest.known
     ∙ ap (λ seen. next_known h (known_changed k m) seen n) (same_seen k m e)
@@ -99,14 +151,11 @@ same_meant f g (Some at) same = same at.0 at.1
 same_success : (k : Known) (w : World) (n x y : ℕ) (e : Command) → ((s : ℕ) → w.slot_state s ≡ k.slot_state s) → ((s i : ℕ) → w.endpoint_state s i ≡ k.endpoint_state s i) → x ≡ y →
     can_succeed w.slot_state w.endpoint_state x n e ≡ can_succeed k.slot_state k.endpoint_state y n e
 unfolding can_succeed
-same_success k w n x y e slots endpoints config =
-    ap (λ z. is_some (slot_success e z) && is_some (endpoint_success e (endpoint_meant w.endpoint_state (named_endpoint e))) && is_slot_enabled x n e) (slots (slot_meant n (named_slot e)))
-    ∙ ap (λ z. is_some (slot_success e (k.slot_state (slot_meant n (named_slot e)))) && is_some (endpoint_success e z) && is_slot_enabled x n e) (same_meant w.endpoint_state k.endpoint_state (named_endpoint e) endpoints)
-    ∙ ap (λ z. is_some (slot_success e (k.slot_state (slot_meant n (named_slot e)))) && is_some (endpoint_success e (endpoint_meant k.endpoint_state (named_endpoint e))) && is_slot_enabled z n e) config
+same_success k w n x y e slots endpoints config = search (rules, is_some, slot_success, endpoint_success, endpoint_meant, named_endpoint, is_slot_enabled, slot_meant, named_slot, same_meant)
 
 -- the changes of the success of e keep that states agree
 abbrev pub EffectKeeps : Header → Known → World → ℕ → Command → Type 0
-EffectKeeps h k w n e = (x : World) → bindings.effect h w n e ≡ Some x → ChangeKeeps h k (completions.succeeded h k n e) w x
+EffectKeeps h k w n e = (x : World) → bindings.effect h w n e ≡ Some x → ChangeKeeps h k (succeeded h k n e) w x
 
 module _ (h : Header) (is : IsHeader h) (k : Known) (unread : List Block) (w v : World) (b : Block) (block : IsBlock b) (running : w.stopped ≡ false) (d : DriverKeeps h k) (g : Agrees h k unread w)
     (f : IsFinish h w v b) (one : (code b == 1) ≡ true) (e : Command) (is_e : command_of (floor h is k unread w v b block running d g f).block ≡ Some e) where
@@ -117,13 +166,12 @@ module _ (h : Header) (is : IsHeader h) (k : Known) (unread : List Block) (w v :
       let here = here_is h is k unread w v b block running d g f e is_e in
       let s = success_is h w v b f.taken e (taken_is h is k unread w v b block running d g f e is_e) one f.ends in
       let c = keeps s.made s.effect_is in
-      let m : Known = completions.succeeded h k (slot b) e in
+      let m : Known = succeeded h k (slot b) e in
       let seen : ℕ → ℕ → Bool = seen_after k e in
       let n : ℕ = k.reads + 1 in
       let u : World = posted h w b in
       let now = p.matches.command on in
       let under : UnderWayMatches h k now.spot (Some f.taken) = subst (λ o. UnderWayMatches h k now.spot o) (posted_under_way h w b ∙ f.under_way) now.under_way in
-      let below : next_command h k < ceiling (shape_of h (command_id h)) (k.ring (command_id h)) = omega (arith, under.0, now.ring.below) in
       let next = matches_next h is k d on seen n u p.matches now.spot now.ring under.0 (none_left h k d e here) in
       let l : Known = next_known h (known_changed k m) seen n in
       let y : World = let_go (world_changed u s.made) in
@@ -138,7 +186,7 @@ module _ (h : Header) (is : IsHeader h) (k : Known) (unread : List Block) (w v :
       record {
         clean = event_clean h k w b g.stands g.read running p.can p.room
             (or_left _ _ (or_right _ _ f.completion))
-            (completion_possible h k b f.completion (taken_now h k below) (f.named ∙ under.1.address) f.some_code
+            (completion_possible h k b f.completion (taken_now h k (omega (arith, under.0, now.ring.below))) (f.named ∙ under.1.address) f.some_code
             (ap (λ o. can_finish k b o) here ∙ can_end k b e (answers_is h is k unread w v b block running d g f e is_e) one may))
             (and_left (is_transfer_event (kind b)) (not (is_in_profile b)) (no_transfer (kind b) f.completion));
         agrees = subst (λ z. Agrees h z (unread ++ b ∷ []) (counted h v)) (sym learned_is) (subst (λ z. Agrees h l (unread ++ b ∷ []) (counted h z)) ends after_post);
@@ -151,13 +199,5 @@ pub finish_success_runs : (h : Header) → IsHeader h → (now : Known) (w v : W
 finish_success_runs h is now w v b block running run d u at_u e is_u one effect at =
     let k : Known = all_read h now run.unread in
     let f = finish_is h w v b at in
-    let same : f.taken ≡ u = same_Some f.taken u (sym f.under_way ∙ at_u) in
-    let is_e = sym (of_block h is k run.unread w v b block running d run.agrees f) ∙ ap (λ (x : UnderWay). command_of x.block) same ∙ is_u in
-    let keeps = success_keeps h is k run.unread w v b block running d run.agrees f one e is_e effect in
-    record {
-      unread = run.unread ++ b ∷ [];
-      possible = possible_more h run.unread now b run.possible keeps.clean;
-      blocks = blocks_more run.unread b run.blocks block;
-      on = run.on;
-      agrees = subst (λ m. Agrees h m (run.unread ++ b ∷ []) (counted h v)) (sym (read_more h run.unread now b)) keeps.agrees;
-    }
+    let is_e = sym (of_block h is k run.unread w v b block running d run.agrees f) ∙ ap (λ (x : UnderWay). command_of x.block) (same_Some f.taken u (sym f.under_way ∙ at_u)) ∙ is_u in
+    runs_more h now w v b block run (success_keeps h is k run.unread w v b block running d run.agrees f one e is_e effect)

@@ -1,12 +1,8 @@
 -- An event that may be read moves no floor back
-use Rattle.safety.proofs.Words.{◌≡◌, ◌+◌, ◌≤◌, ◌∷◌, ℕ, Bool, true, List, [], Option, None, Some, arith, refl, ap, eqb-true, rules, cond_both, none-some, same_Some, cases_option, Block, BlockKind, TransferEvent, CommandCompletion, kind, code, slot, endpoint, pointer, is_command_completion, Spot, number, after, Reaches, Holds, floor_number, ceiling, named, stopped_number, target, number-after, IsAhead, named_ahead, target_ahead, Command, StopEndpoint, EndpointState, Stopped, is_off, Change, Places, Stops, changes, Header, Read, IsHeader, shape_of, command_id, ring_having, Known, RingSpot, on_ring, spot_on, event_at, command_at, next_command, passed, broken_off, stopped_at, transferred, transferred_at, transfer_read, set_to, bound_to, moved_to, moved, pointed, disabled, in_state, held_at_ceiling, changed_by, changed_by_all, succeeded, stop_ended, finished, completed, event_read, learned, lenient, DriverKeeps, EndpointsKeep, MayChange, MayChangeAll}
-use Rattle.safety.proofs.Headers.{transfer_driver}
-use Rattle.safety.proofs.DriverRings.{rings_of, endpoints_of}
+use Rattle.safety.proofs.Words.{[], ◌≡◌, ◌+◌, ◌≤◌, ◌∷◌, ℕ, Bool, true, List, Option, None, Some, arith, refl, ap, eqb-true, rules, cond_both, none-some, same_Some, cases_option, Block, BlockKind, TransferEvent, CommandCompletion, kind, code, slot, endpoint, pointer, is_command_completion, Spot, number, after, Reaches, Holds, floor_number, ceiling, named, stopped_number, target, number-after, named_ahead, target_ahead, Command, StopEndpoint, EndpointState, Stopped, is_off, Change, Places, Stops, changes, Header, Read, IsHeader, shape_of, ring_having, Known, RingSpot, on_ring, spot_on, event_at, command_at, next_command, passed, broken_off, stopped_at, transferred, transferred_at, transfer_read, set_to, bound_to, moved_to, moved, pointed, disabled, in_state, held_at_ceiling, changed_by, changed_by_all, succeeded, stop_ended, finished, completed, event_read, learned, lenient, DriverKeeps, EndpointsKeep, MayChange, MayChangeAll}
+use Rattle.safety.proofs.LowerLaws.{transfer_driver, rings_of, endpoints_of, view_after, still_places, EventFacts, event_facts}
 use Rattle.safety.proofs.EndpointHistories.{finish_elsewhere}
-use Rattle.safety.proofs.SameDriver.{view_after}
-use Rattle.safety.proofs.Placings.{still_places}
-use Rattle.safety.proofs.CleanRows.{EventFacts, event_facts}
-use Rattle.safety.proofs.KeptRings.{CompletionFacts, completion_facts, next_unfinished, command_holds}
+use Rattle.safety.proofs.KeptRings.{completion_facts, next_unfinished, command_holds}
 
 abbrev pub FloorsGrow : Known → Known → Type 0
 FloorsGrow k l = (r : ℕ) → floor_number (k.ring r) ≤ floor_number (l.ring r)
@@ -64,8 +60,7 @@ module _ (h : Header) where
   at_grows k d b (Some at) found =
       let is = found_on k (pointer b) (k.ring_of (slot b) (endpoint b)) at found in
       let ring = d.rings at.ring (transfer_driver h at.ring (d.states.transfer (slot b) (endpoint b) at.ring is.0)) in
-      let ahead : IsAhead (shape_of h at.ring) (k.ring at.ring) at.spot = named_ahead (shape_of h at.ring) k.memory (k.ring at.ring) ring (pointer b) at.spot is.1 in
-      transferred_grows k at.ring at.spot ahead.from (code b) (slot b) (endpoint b)
+      transferred_grows k at.ring at.spot (named_ahead (shape_of h at.ring) k.memory (k.ring at.ring) ring (pointer b) at.spot is.1).from (code b) (slot b) (endpoint b)
 
   -- ---- a completion
 
@@ -123,14 +118,10 @@ module _ (h : Header) where
   finish_grows k b None may = search (rules, grow_none)
   finish_grows k b (Some c) may = search (rules, grow_none, grow_twice, changes_grow, eqb-true, stop_grows)
 
-  floor_next : (k : Known) → next_command h k ≡ floor_number (k.ring (command_id h))
-  unfolding next_command
-  floor_next k = refl
-
   completion_grows : (k : Known) (b : Block) → EndpointsKeep h k → IsHeader h →
       ((c : Command) → command_at h k (next_command h k) ≡ Some c → code b ≡ 1 → MayChangeAll h c k (changes h.context_size k.memory (slot b) c)) → FloorsGrow k (completed h k b)
-  unfolding completed
-  completion_grows k b endpoints is may = search (rules, finish_elsewhere, grow_twice, finish_grows, reach_grows, number-after, floor_next)
+  unfolding completed next_command
+  completion_grows k b endpoints is may = search (rules, finish_elsewhere, grow_twice, finish_grows, reach_grows, number-after)
 
   -- ---- any event
 
@@ -146,9 +137,8 @@ module _ (h : Header) where
       (c : Command) → command_at h k (next_command h k) ≡ Some c → MayChangeAll h c k (changes h.context_size k.memory (slot b) c)
   may_change is k d b clean completion c at =
       let facts : EventFacts h k b = event_facts h k b clean in
-      let finish : CompletionFacts h k b = completion_facts h k b completion facts.possible in
       still_places h is k (rings_of h k d) (endpoints_of h k d.states) (slot b) c
-      (command_holds h k (next_command h k) c (d.unfinished (next_command h k) c (next_unfinished h is k d facts.started finish.below c at)))
+      (command_holds h k (next_command h k) c (d.unfinished (next_command h k) c (next_unfinished h is k d facts.started (completion_facts h k b completion facts.possible).below c at)))
 
   pub floors_grow : IsHeader h → (k : Known) (d : DriverKeeps h k) (e : Block) → lenient h k (Read e) ≡ [] → FloorsGrow k (learned h k (Read e))
   unfolding learned

@@ -1,22 +1,8 @@
 -- What is kept of a command that a write gives holds behind an event that is read before the write, but for its device context
-use Rattle.safety.proofs.Words.{◌≡◌, ◌∙◌, ℕ, true, [], length, Some, slice_get, arith, refl, sym, ap, MayCome, MovesRestored, false≢true, false_from_ne_true, Block, number, declared, floor_number, positions_given, ceiling, is_border, is_placement, GivesMore, move_more, gives_is, position_given_is, Command, named_context, is_disabled, is_off, is_at_rest, Header, Write, Read, IsHeader, shape_of, command_id, Known, command_at, command_given, learned, lenient, IsTransferRing, CommandKeeps, DriverKeeps}
-use Rattle.ownership_rules.specs.Commands as commands
-use Rattle.safety.proofs.Headers.{transfer_driver, transfer_not_command}
-use Rattle.safety.proofs.CommandRing.{due_has_ring}
-use Rattle.safety.proofs.ContextReads.{AgreeIn}
-use Rattle.safety.proofs.DevicesWritten.{contains_first, and_then_parts}
-use Rattle.safety.proofs.WrittenKnown.{GivesCommand, taken}
-use Rattle.safety.proofs.WriteBeside.{beside_new}
+use Rattle.safety.proofs.Words.{[], ◌≡◌, ◌∙◌, ℕ, true, length, Some, slice_get, arith, refl, sym, ap, MayCome, MovesRestored, false≢true, false_from_ne_true, Block, number, declared, floor_number, positions_given, ceiling, is_border, is_placement, GivesMore, move_more, gives_is, position_given_is, Command, named_context, is_disabled, is_off, is_at_rest, Header, Write, Read, IsHeader, shape_of, command_id, Known, command_at, command_given, learned, lenient, IsTransferRing, CommandKeeps, DriverKeeps, has_bad_context}
+use Rattle.safety.proofs.LowerLaws.{transfer_driver, transfer_not_command, due_has_ring, AgreeIn, GivesCommand, taken, transfer_ring, bound_transfer, Beside, context_good, context_same, OwnKeeps, PlacesStay, RingsBeside, own_keeps, own_beside, still_restored, Alike, ceiling_more}
+use Rattle.safety.proofs.MiddleLaws.{contains_first, and_then_parts, beside_new, read_same, event_behind, Untaken}
 use Rattle.safety.proofs.GivenRules.{GivenFacts, given_facts}
-use Rattle.safety.proofs.DriverRings.{transfer_ring}
-use Rattle.safety.proofs.BoundRings.{bound_transfer}
-use Rattle.safety.proofs.CommandsBeside.{Beside}
-use Rattle.safety.proofs.CommandsSame.{context_good, context_same}
-use Rattle.safety.proofs.CommandsStay.{OwnKeeps, PlacesStay, RingsBeside, own_keeps, own_beside, still_restored}
-use Rattle.safety.proofs.Alike.{Alike, ceiling_more}
-use Rattle.safety.proofs.HeldFurther.{read_same}
-use Rattle.safety.proofs.EventBehind.{event_behind}
-use Rattle.safety.proofs.DeviceBeneath.{Untaken}
 use Rattle.safety.proofs.OtherRingsWritten.{written_elsewhere}
 use Rattle.safety.proofs.CommandBeneath.{beneath_keeps, alike_there, rings_there, GivenThere, given_there, given_keeps}
 
@@ -66,7 +52,7 @@ module _ (h : Header) (is : IsHeader h) (k : Known) (d : DriverKeeps h k) (a w :
   pub beside : (q : ℕ) (f : Command) → CommandKeeps h beneath q f → Beside h k m f → Beside h beneath between f
   beside q f was b = record {
     memory = agrees f b;
-    context = λ n at. ap (λ o. commands.has_bad_context h between o) (sym at) ∙ context_same h beneath between (named_context f) refl refl ∙ context_good h beneath f was.good;
+    context = λ n at. ap (λ o. has_bad_context h between o) (sym at) ∙ context_same h beneath between (named_context f) refl refl ∙ context_good h beneath f was.good;
     slot = λ s at on. ap (λ g. is_disabled (g s)) (sym alike.slot_state) ∙ on;
     off = λ s i at. ap (λ g. is_off (g s i)) (sym alike.endpoint_state);
     device = was.device;

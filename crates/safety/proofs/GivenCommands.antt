@@ -1,6 +1,5 @@
 -- What the rules test of a command that a write gives: its bindings and its moves may be made
-use Rattle.safety.proofs.Words.{◌≡◌, ◌≤◌, ◌||◌, ◌+◌, ◌∙◌, ℕ, Bool, true, false, map, nat_le, All, Option, Some, suc, zero, arith, sym, ap, subst, get_or, eqb-true, le-leb, rules, range_with_len, or_parts, and_from, or_cases, or_left, or_right, not-false, All-nil, All-cons, All-filter, All-get_or, Any-from_list_any, floor_number, is_move, input_add_flag, added_endpoints, is_dropped, Command, ConfigureEndpoint, named_slot, named_endpoint, named_context, is_off, Header, shape_of, is_ring, Known, Binding, binds, ring_bound, binds_ring, is_placed, is_taken, is_kept, is_being_bound, is_bad_place, has_repeats, is_bad_binding, is_bad_stay, holds_of, AreFree}
-use Rattle.ownership_rules.specs.Commands as commands
+use Rattle.safety.proofs.Words.{◌≡◌, ◌≤◌, ◌||◌, ◌+◌, ◌∙◌, ℕ, Bool, true, false, map, nat_le, All, Option, Some, suc, zero, arith, sym, ap, subst, get_or, eqb-true, le-leb, rules, range_with_len, or_parts, and_from, or_cases, or_left, or_right, not-false, All-nil, All-cons, All-filter, All-get_or, Any-from_list_any, floor_number, is_move, input_add_flag, added_endpoints, is_dropped, Command, ConfigureEndpoint, named_slot, named_endpoint, named_context, is_off, Header, shape_of, is_ring, Known, Binding, binds, ring_bound, binds_ring, is_placed, is_taken, is_kept, is_being_bound, is_bad_place, has_repeats, is_bad_binding, is_bad_stay, holds_of, AreFree, has_bad_content, has_bad_context, is_bad_added, is_bad_command, names_disabled_endpoint, names_disabled_slot}
 use Rattle.safety.proofs.TestsPassed.{each_fails}
 use Rattle.safety.proofs.BoundRings.{ring_is}
 
@@ -36,20 +35,20 @@ module _ (h : Header) (k : Known) where
       (parts.0, parts.1)
 
   -- what Configure Endpoint adds
-  free_by : (s n i : ℕ) → commands.is_bad_added h k s n i ≡ false → nat_le 2 i ≡ true → (is_off (k.endpoint_state s i) || is_dropped k.memory n i) ≡ true
-  unfolding commands.is_bad_added
+  free_by : (s n i : ℕ) → is_bad_added h k s n i ≡ false → nat_le 2 i ≡ true → (is_off (k.endpoint_state s i) || is_dropped k.memory n i) ≡ true
+  unfolding is_bad_added
   free_by s n i good above = search (rules, nat_le, not-false, or_parts, or_cases, or_left, or_right, and_from)
 
-  pub content_good : (c : Command) → commands.is_bad_command h k c ≡ false → commands.has_bad_content h k c ≡ false
-  unfolding commands.is_bad_command
+  pub content_good : (c : Command) → is_bad_command h k c ≡ false → has_bad_content h k c ≡ false
+  unfolding is_bad_command
   content_good c good =
-      (or_parts (commands.names_disabled_slot k (named_slot c) || commands.names_disabled_endpoint k (named_endpoint c) || commands.has_bad_context h k (named_context c))
-      (commands.has_bad_content h k c) good).1
+      (or_parts (names_disabled_slot k (named_slot c) || names_disabled_endpoint k (named_endpoint c) || has_bad_context h k (named_context c))
+      (has_bad_content h k c) good).1
 
-  pub are_free : (c : Command) → commands.has_bad_content h k c ≡ false → AreFree h k c
-  unfolding commands.has_bad_content
+  pub are_free : (c : Command) → has_bad_content h k c ≡ false → AreFree h k c
+  unfolding has_bad_content
   are_free (ConfigureEndpoint s false n) good =
-      let each = each_fails (commands.is_bad_added h k s n) (added_endpoints k.memory n) good in
+      let each = each_fails (is_bad_added h k s n) (added_endpoints k.memory n) good in
       λ x d inside. free_by s n (get_or (added_endpoints k.memory n) x d) (each x d inside) (added_above k.memory n x d inside)
   are_free _ good = tt
 

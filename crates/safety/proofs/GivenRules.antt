@@ -1,6 +1,5 @@
 -- What the rules say of a command that a write gives
-use Rattle.safety.proofs.Words.{◌≡◌, ◌==◌, ◌||◌, ◌∙◌, ℕ, not, Bool, true, false, [], Some, arith, refl, sym, ap, inl, inr, eqb-true, ◌≢◌, ◌<◌, and_cases, or_parts, not-false, false_from_ne_true, declared, floor_number, is_move, Command, AddressDevice, is_off, Header, Write, IsHeader, shape_of, Known, command_given, binding_in, binds_ring, drops, is_being_bound, is_bad_binding, is_bad_stay, is_bad_move, some_command, write_tests, lenient_tests, lenient, StaysIf, MovesIf, DriverKeeps, none-some}
-use Rattle.ownership_rules.specs.Commands as commands
+use Rattle.safety.proofs.Words.{[], ◌≡◌, ◌==◌, ◌||◌, ◌∙◌, ℕ, not, Bool, true, false, Some, arith, refl, sym, ap, inl, inr, eqb-true, ◌≢◌, ◌<◌, and_cases, or_parts, not-false, false_from_ne_true, declared, floor_number, is_move, Command, AddressDevice, is_off, Header, Write, IsHeader, shape_of, Known, command_given, binding_in, binds_ring, drops, is_being_bound, is_bad_binding, is_bad_stay, is_bad_move, some_command, write_tests, lenient_tests, lenient, StaysIf, MovesIf, DriverKeeps, none-some, adds_streams, has_bad_content, is_bad_command, is_busy}
 use Rattle.safety.proofs.TestsPassed.{AllFail, tests_fail}
 use Rattle.safety.proofs.Headers.{transfer_driver}
 use Rattle.safety.proofs.GivenCommands.{GoodBindings, good_bindings, bound_free, content_good, stays, fails_of}
@@ -11,8 +10,8 @@ use Rattle.safety.proofs.EndpointsOff.{off_is}
 module _ (h : Header) (k : Known) where
   pub record GivenFacts (c : Command) : Type 0 where
     pub own : OwnKeeps h k c
-    pub content : commands.has_bad_content h k c ≡ false
-    pub busy : commands.is_busy h k c ≡ false
+    pub content : has_bad_content h k c ≡ false
+    pub busy : is_busy h k c ≡ false
     pub unshared : (r : ℕ) → binds_ring h k r c ≡ true → is_being_bound h k r ≡ false
     -- nothing waits on the ring of a second Address Device
     pub nothing_left : (s n r : ℕ) (bsr : Bool) → c ≡ AddressDevice s bsr n → k.ring_of s 1 ≡ Some r → declared (k.ring r) ≡ floor_number (k.ring r)
@@ -67,16 +66,15 @@ module _ (h : Header) (k : Known) where
     unfolding lenient_tests write_tests some_command
     given_facts a w c clean given =
         let fails : AllFail (write_tests h k a w) = tests_fail h k (Write a w) clean in
-        let good = fails_of h k (commands.is_bad_command h k) (command_given h k a w) c fails.1.1.1.1.1.0 given in
-        let busy = fails_of h k (commands.is_busy h k) (command_given h k a w) c (or_parts _ _ (or_parts _ _ fails.1.1.1.1.1.1.0).0).0 given in
-        let inside = fails_of h k (commands.adds_streams h k) (command_given h k a w) c (or_parts _ _ fails.1.1.1.1.1.1.1.0).0 given in
+        let good = fails_of h k (is_bad_command h k) (command_given h k a w) c fails.1.1.1.1.1.0 given in
+        let busy = fails_of h k (is_busy h k) (command_given h k a w) c (or_parts _ _ (or_parts _ _ fails.1.1.1.1.1.1.0).0).0 given in
         let places = fails_of h k (λ c. is_bad_binding h k c || is_bad_move h k c) (command_given h k a w) c fails.1.1.1.1.1.1.1.1.0 given in
         let parts = or_parts (is_bad_binding h k c) (is_bad_move h k c) places in
         let bindings : GoodBindings h k c = good_bindings h k c parts.0 in
         record {
           own = record {
             good = good;
-            in_profile = inside;
+            in_profile = fails_of h k (adds_streams h k) (command_given h k a w) c (or_parts _ _ fails.1.1.1.1.1.1.1.0).0 given;
             placed = bindings.placed;
             repeats = bindings.repeats;
             unkept = unkept_if c bindings;

@@ -64,7 +64,6 @@ module _ (shape : Shape) (memory : ℕ → ℕ) (v u : RingView) (b : RingBehind
           | inr far ↦ elim (cases_eq q (place_count shape)) [
             | inl first ↦ inr (first, omega arith)
             | inr more ↦
-                let below : q < floor_number u + place_count shape = elim due.within [ inl below ↦ below | inr end ↦ absurd (more end.0) ] in
                 let some : 0 < q - place_count shape = omega arith in
                 let lap : q - place_count shape + place_count shape ≡ q = omega arith in
                 let crossing : is_crossing shape (q - place_count shape) ≡ true =
@@ -73,10 +72,8 @@ module _ (shape : Shape) (memory : ℕ → ℕ) (v u : RingView) (b : RingBehind
                 ap (λ n. link_address shape n) (sym lap) ∙ link_address-lap shape (q - place_count shape) some in
                 let given : v.crossed (q - place_count shape) ≡ true =
                 crossed_there (q - place_count shape) (b.behind.passed_links (q - place_count shape) crossing (omega (arith, rank_least u.floor))) in
-                let was_due = crossed_due shape b.is memory v b.before (q - place_count shape) (omega arith) given in
-                let before = keeps.links (q - place_count shape) was_due given (omega arith) in
-                let one : q - place_count shape - 1 + place_count shape ≡ q - 1 = omega arith in
-                absurd (cycle_of_flips shape b.is (q - place_count shape - 1) (ap (λ n. cycle_of shape n) one ∙ sym cycle ∙ before))
+                let before = keeps.links (q - place_count shape) (crossed_due shape b.is memory v b.before (q - place_count shape) (omega arith) given) given (omega arith) in
+                absurd (cycle_of_flips shape b.is (q - place_count shape - 1) (ap (λ n. cycle_of shape n) (omega arith) ∙ sym cycle ∙ before))
           ]
         ]
 

@@ -1,5 +1,5 @@
 -- The rings of a header: allowed, and apart from the event ring
-use Rattle.safety.proofs.Words.{◌≡◌, ◌==◌, ◌%◌, ◌<◌, ◌≤◌, ◌&&◌, ◌⊎◌, ◌∷◌, ◌∙◌, ℕ, Bool, true, false, not, List, [], nat_lt, Option, Some, None, find, arith, refl, sym, ap, subst, inl, inr, eq-eqb, eqb-true, ltb-true, rules, list_all, list_any, cases_Bool, false≢true, cond-true, cond-false, and_parts, or_parts, not-true, not_from_true, false_from_ne_true, none-some, same_Some, RingKind, Evt, Xfer, Shape, is_inside, place_count, IsShape, is_shape, shape_facts, cases_option, rings_apart, touches-word, Header, Ring, IsHeader, may_stand_together, clash, ring_with, shape_of, shape_or, event_ring, event_shape, event_size, command_ring, command_id, id_or_none, is_command_kind, is_event_kind, is_driver_kind, is_transfer_kind, IsIn, any_of, IsDriverRing, IsTransferRing}
+use Rattle.safety.proofs.Words.{[], ◌≡◌, ◌==◌, ◌%◌, ◌<◌, ◌≤◌, ◌&&◌, ◌⊎◌, ◌∷◌, ◌∙◌, ℕ, Bool, true, false, not, List, nat_lt, Option, Some, None, find, arith, refl, sym, ap, subst, inl, inr, eq-eqb, eqb-true, ltb-true, rules, list_all, list_any, cases_Bool, false≢true, cond-true, cond-false, and_parts, or_parts, not-true, not_from_true, false_from_ne_true, none-some, same_Some, RingKind, Evt, Xfer, Shape, is_inside, place_count, IsShape, is_shape, shape_facts, cases_option, rings_apart, touches-word, Header, Ring, IsHeader, may_stand_together, clash, ring_with, shape_of, shape_or, event_ring, event_shape, event_size, command_ring, command_id, id_or_none, is_command_kind, is_event_kind, is_driver_kind, is_transfer_kind, IsIn, any_of, IsDriverRing, IsTransferRing}
 use Rattle.segments.specs.Places.{touches}
 
 -- what a search finds passes, and is one of the list
@@ -82,9 +82,7 @@ module _ (h : Header) where
 
     -- a command or transfer ring has an allowed shape with Links
     pub ring_shape : (r : ℕ) → IsDriverRing h r → IsAllowed (shape_of h r)
-    ring_shape r d =
-        let found = found_in (λ q. q.id == r) h.rings d.ring d.found in
-        subst (λ s. IsAllowed s) (sym (shape_is r d.ring d.found)) (record { is = ring_allowed d.ring found.0; other = driver_not_event d.ring.shape.kind d.kind })
+    ring_shape r d = search (rules, found_in, shape_is, ring_allowed, driver_not_event)
 
     events_of : (e : Option Ring) → event_ring h ≡ e → event_shape h ≡ shape_or Evt e
     unfolding event_shape
@@ -117,7 +115,6 @@ module _ (h : Header) where
     -- no word of a ring belongs to the event ring
     pub ring_not_event : (r a : ℕ) → IsDriverRing h r → a % 4 ≡ 0 → is_inside (shape_of h r) a ≡ true → touches (event_shape h) a 4 ≡ false
     ring_not_event r a d word inside =
-        let mine = found_in (λ q. q.id == r) h.rings d.ring d.found in
         let here : is_inside d.ring.shape a ≡ true = ap (λ s. is_inside s a) (sym (shape_is r d.ring d.found)) ∙ inside in
         elim (cases_option (event_ring h)) [
           | inl none ↦ ap (λ s. touches s a 4) (events_of None none)
@@ -127,7 +124,7 @@ module _ (h : Header) where
               ap (λ s. touches s a 4) (events_of (Some e) some.1)
               ∙ touches-word e.shape (ring_allowed e found.0) a word
               ∙ false_from_ne_true (is_inside e.shape a) (λ there.
-              elim (together h.rings d.ring e header_parts.1 mine.0 found.0) [
+              elim (together h.rings d.ring e header_parts.1 (found_in (λ q. q.id == r) h.rings d.ring d.found).0 found.0) [
                 | inl same ↦ both_kinds d.ring e d.kind found.1 same
                 | inr apart ↦ elim apart [
                   | inl one ↦ clash_apart d.ring e a one here there
@@ -143,10 +140,8 @@ module _ (h : Header) where
           | inl none ↦ ap (λ s. touches s a 4) (events_of None none)
           | inr found ↦
               let e : Ring = found.0 in
-              let at = event_found e found.1 in
-              let shape = events_of (Some e) found.1 in
-              let several = (shape_facts e.shape (ring_allowed e at.0)).several in
-              let same : place_count (event_shape h) ≡ place_count e.shape = ap (λ s. place_count s) shape in
+              let several = (shape_facts e.shape (ring_allowed e (event_found e found.1).0)).several in
+              let same : place_count (event_shape h) ≡ place_count e.shape = ap (λ s. place_count s) (events_of (Some e) found.1) in
               absurd (omega (arith, size_is))
         ]
 

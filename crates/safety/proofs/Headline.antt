@@ -1,5 +1,5 @@
 -- The headline: a clean trace is harmless beside every run of the controller model
-use Rattle.safety.proofs.Words.{Header, IsHeader, Headline}
+use Rattle.safety.proofs.Words.{Header, Headline}
 use Rattle.safety.proofs.DriverHistories.{kept_driver}
 use Rattle.safety.proofs.HeadlineFrom.{headline_from}
 use Rattle.safety.proofs.HeldFurther.{more_law}

@@ -1,27 +1,87 @@
 -- The headline, from a law for the driver's rows: each world of a run beside clean rows is safe
-use Rattle.safety.proofs.Words.{◌≡◌, ◌∷◌, ◌++◌, ◌∙◌, false, List, [], Option, Some, All, reverse, refl, sym, ap, subst, inl, inr, append_assoc, append-nil, rules, cases_Bool, cond-false, cond-true, false≢true, reverse-append, All-head, All-tail, none-some, same_Some, Block, Header, Row, Sub, Write, Reg, Bell, Read, Step, NextRow, Look, Report, Finish, Other, Scribble, IsHeader, IsRow, IsStep, World, opening, IsSafe, Known, learned, known, MayCome, IsLenient, IsHarmless, DriverKeeps, IsDriverRow, Agrees, Runs, all_read}
+use Rattle.safety.proofs.Words.{[], ◌≡◌, ◌∷◌, ◌++◌, ◌∙◌, false, List, Option, Some, All, reverse, refl, sym, ap, subst, inl, inr, append_assoc, append-nil, rules, cases_Bool, cond-false, cond-true, false≢true, reverse-append, All-head, All-tail, none-some, same_Some, Block, Header, Row, Sub, Write, Reg, Bell, Read, Step, NextRow, Look, Report, Finish, Other, Scribble, IsHeader, IsRow, IsStep, World, opening, IsSafe, Known, learned, known, MayCome, IsLenient, IsHarmless, DriverKeeps, IsDriverRow, Agrees, Runs, all_read, ◌||◌, if◌then◌else◌, ℕ, Bool, true, not, kind, Register, Usbcmd, run_bit, reset_bit, counted, Ended, harm_of, harms, has_changed_context, is_changed_since, is_context_changed, waits, register_written, run_or_stop, valued}
 use Rattle.world_state.specs.World as of_world
 use Rattle.controller_model.specs.DriverRows as driver
-use Rattle.controller_model.specs.Looks as looks
-use Rattle.controller_model.specs.Posts as posts
-use Rattle.controller_model.specs.Finishes as finishes
 use Rattle.controller_model.specs.Steps as steps
 use Rattle.safety.specs.Invariant.{Holds}
 use Rattle.safety.proofs.DriverHistories.{driver_keeps, run_keeps}
-use Rattle.safety.proofs.NothingFree.{may_come}
-use Rattle.safety.proofs.FinishRuns.{finish_runs}
-use Rattle.safety.proofs.LookRuns.{look_runs}
-use Rattle.safety.proofs.Opens.{opens}
-use Rattle.safety.proofs.Other.{other_runs}
-use Rattle.safety.proofs.ReadRow.{read_runs}
-use Rattle.safety.proofs.ReportRuns.{report_runs}
-use Rattle.safety.proofs.RowsLeft.{RowsLeft, looked_left, other_left, reported_left, finished_left, scribbled_left, row_left}
-use Rattle.safety.proofs.Safe.{safe}
-use Rattle.safety.proofs.Scribble.{scribble_runs}
-use Rattle.safety.proofs.StopRow.{stop_ends}
-use Rattle.safety.proofs.TestsPassed.{clean_tests}
-use Rattle.safety.proofs.ReportSuccess.{mapped}
-use Rattle.safety.proofs.FinishSlots.{some_then}
+use Rattle.safety.proofs.MiddleLaws.{may_come, finish_runs, look_runs, other_runs, report_runs, mapped, some_then, declaration_leaves, write_leaves, bell_leaves}
+use Rattle.safety.proofs.LowerLaws.{opens, safe, scribble_runs, clean_tests, learned_read, event_same}
+use Rattle.safety.proofs.ReadRow.{read_runs, read_on}
+use Rattle.safety.proofs.RowsLeft.{looked_left, other_left, reported_left, finished_left, scribbled_left, row_left}
+
+-- The driver stops the controller: the run has ended, and its world is safe
+
+-- the value stops a controller that runs
+abbrev is_stop : ℕ → Bool
+is_stop x = not (run_bit x) || reset_bit x
+
+-- how a row can have stopped the controller
+record IsStopRow (k : Known) (row : Row) : Type 0 where
+  value : ℕ
+  row_is : row ≡ Reg Usbcmd value
+  started : k.started ≡ true
+  stop : is_stop value ≡ true
+
+module _ (h : Header) where
+  stopped_world : World → ℕ → World
+  stopped_world w x = record (driver.valued w Usbcmd x) { stopped = true }
+
+  world_stops : (w v : World) (x : ℕ) → w.started ≡ true → is_stop x ≡ true → driver.row_done h w (Reg Usbcmd x) ≡ Some v → stopped_world w x ≡ v
+  unfolding driver.row_done driver.register_row driver.run_or_stop driver.valued stopped_world
+  world_stops w v x on stop at = search rules
+
+  -- nothing that harms are told of changes
+  safe_stopped : (w : World) (x : ℕ) → IsSafe h w → IsSafe h (counted h (stopped_world w x))
+  unfolding harm_of harms waits has_changed_context is_context_changed is_changed_since counted driver.valued stopped_world
+  safe_stopped w x is = is
+
+  neither : (b : Bool) (p q : Known) → p.stopped ≡ false → q.stopped ≡ false → (if b then p else q).stopped ≡ false
+  neither true p q one two = one
+  neither false p q one two = two
+
+  run_stops : (k : Known) (x : ℕ) → k.stopped ≡ false → (run_or_stop (valued k Usbcmd x) x).stopped ≡ true → (k.started ≡ true) × (is_stop x ≡ true)
+  unfolding run_or_stop valued
+  run_stops k x on stopped = search (rules, cond-false, false≢true, cond-true, neither)
+
+  register_stop : (k : Known) (r : Register) (x : ℕ) → k.stopped ≡ false → (register_written h k r x).stopped ≡ true → IsStopRow k (Reg r x)
+  unfolding register_written valued
+  register_stop k Usbcmd x on stopped = let s = run_stops k x on stopped in record { value = x; row_is = refl; started = s.0; stop = s.1 }
+  register_stop k _ x on stopped = absurd (false≢true (sym on ∙ stopped))
+
+  stop_row : (k : Known) (row : Row) → k.stopped ≡ false → (learned h k row).stopped ≡ true → IsStopRow k row
+  unfolding learned
+  stop_row k (Sub r blocks) on stopped = absurd (false≢true (sym ((declaration_leaves h k r blocks).registers.stopped ∙ on) ∙ stopped))
+  stop_row k (Write a x) on stopped = absurd (false≢true (sym ((write_leaves h k a x).registers.stopped ∙ on) ∙ stopped))
+  stop_row k (Bell s t) on stopped = absurd (false≢true (sym ((bell_leaves h k s t).registers.stopped ∙ on) ∙ stopped))
+  stop_row k (Read e) on stopped = absurd (false≢true (sym (read_on h k e on) ∙ stopped))
+  stop_row k (Reg r x) on stopped = register_stop k r x on stopped
+
+  -- reading events starts nothing
+  read_started : (unread : List Block) (k : Known) → (all_read h k unread).started ≡ k.started
+  read_started [] k = refl
+  read_started (e ∷ unread) k =
+      read_started unread (learned h k (Read e))
+      ∙ ap (λ m. m.started) (learned_read h k e)
+      ∙ (event_same h k (kind e) e).started
+
+  stops : (w : World) (x : ℕ) → (stopped_world w x).stopped ≡ true
+  unfolding stopped_world
+  stops w x = refl
+
+  -- the run has ended behind the row that stops the controller
+  pub stop_ends : IsHeader h → (now : Known) (row : Row) (w v : World) → (run : Runs h now w) → DriverKeeps h (all_read h now run.unread) → (learned h now row).stopped ≡ true →
+      driver.row_done h w row ≡ Some v → Ended h (learned h now row) (counted h v)
+  unfolding counted
+  stop_ends is now row w v run d stopped at =
+      let s = stop_row now row run.on stopped in
+      let on : w.started ≡ true = run.agrees.stands.started ∙ read_started run.unread now ∙ s.started in
+      let world : stopped_world w s.value ≡ v = world_stops w v s.value on s.stop (ap (λ x. driver.row_done h w x) (sym s.row_is) ∙ at) in
+      record {
+        stopped = stopped;
+        also = sym (ap (λ x. x.stopped) world) ∙ stops w s.value;
+        safe = subst (λ x. IsSafe h (counted h x)) world (safe_stopped w s.value (safe h is now w run d));
+      }
 
 -- ---- what is owed
 
@@ -44,8 +104,7 @@ module _ (h : Header) where
   agrees_rest k unread w rest g = search rules
 
   pub runs_rest : (now : Known) (w : World) (rest : List Row) → Runs h now w → Runs h now (record w { rows = rest })
-  runs_rest now w rest run =
-      record { unread = run.unread; possible = run.possible; blocks = run.blocks; on = run.on; agrees = agrees_rest (all_read h now run.unread) run.unread w rest run.agrees }
+  runs_rest now w rest run = search (rules, agrees_rest)
 
   -- a run has come to world w, with `past` the rows that were made, the newest first
   record CameTo (past : List Row) (w : World) : Type 0 where
@@ -56,6 +115,37 @@ module _ (h : Header) where
   -- the same with one row more
   pub one_more : (row : Row) (rest past : List Row) → reverse (row ∷ rest) ++ past ≡ reverse rest ++ (row ∷ past)
   one_more row rest past = ap (λ l. l ++ past) (reverse-append (row ∷ []) rest) ∙ append_assoc (reverse rest) (row ∷ []) past
+
+  -- ---- a step of the controller
+
+  pub running_is : (w u : World) (o : Option World) → steps.while_running h w o ≡ Some u → (w.stopped ≡ false) × (o ≡ Some u)
+  unfolding steps.while_running
+  running_is w u o at = search (rules, none-some, cond-true, cond-false)
+
+  -- a step of the controller is made before a stop alone
+  pub runs_on : (w u : World) (s : Step) → steps.made h w s ≡ Some u → (s ≡ NextRow → ⊥) → w.stopped ≡ false
+  unfolding steps.made
+  runs_on w u NextRow at other = absurd (other refl)
+  runs_on w u s at other = (running_is w u _ at).0
+
+  -- and the run goes on
+  pub step_goes : IsHeader h → (k : Known) → DriverKeeps h k → (w u : World) (s : Step) → IsStep s → steps.made h w s ≡ Some u → (s ≡ NextRow → ⊥) → Runs h k w → Runs h k (steps.counted h u)
+  unfolding steps.made
+  step_goes is k keeps w u NextRow is_step at other run = absurd (other refl)
+  step_goes is k keeps w u (Look r) is_step at other run = look_runs h is k w u r run (run_keeps h is k w keeps run) (running_is w u _ at).1
+  step_goes is k keeps w u (Report b) is_step at other run = report_runs h is k w u b is_step (running_is w u _ at).0 run (run_keeps h is k w keeps run) (running_is w u _ at).1
+  step_goes is k keeps w u (Finish b) is_step at other run = finish_runs h is k w u b is_step (running_is w u _ at).0 run (run_keeps h is k w keeps run) (running_is w u _ at).1
+  step_goes is k keeps w u (Other b) is_step at other run = other_runs h is k w u b is_step (running_is w u _ at).0 run (run_keeps h is k w keeps run) (running_is w u _ at).1
+  step_goes is k keeps w u (Scribble a x) is_step at other run = scribble_runs h is k w u a x run (run_keeps h is k w keeps run) (running_is w u _ at).1
+
+  made_left : (w u : World) (s : Step) → steps.made h w s ≡ Some u → (s ≡ NextRow → ⊥) → u.rows ≡ w.rows
+  unfolding steps.made
+  made_left w u NextRow at other = absurd (other refl)
+  made_left w u (Look r) at other = (looked_left h w r).left u (running_is w u _ at).1
+  made_left w u (Report b) at other = (reported_left h w b).left u (running_is w u _ at).1
+  made_left w u (Finish b) at other = (finished_left h w b).left u (running_is w u _ at).1
+  made_left w u (Other b) at other = (other_left h w b).left u (running_is w u _ at).1
+  made_left w u (Scribble a x) at other = (scribbled_left h w a x).left u (running_is w u _ at).1
 
   module _ (is : IsHeader h) (row_law : RowLaw h) where
     now_keeps : (past : List Row) (w : World) → CameTo past w → Runs h (known h past) w → DriverKeeps h (known h past)
@@ -83,13 +173,6 @@ module _ (h : Header) where
     row_holds now (Reg r x) w v is_row keeps run possible at = driver_row now (Reg r x) w v is_row tt keeps run possible at
     row_holds now (Bell s t) w v is_row keeps run possible at = driver_row now (Bell s t) w v is_row tt keeps run possible at
 
-    -- ---- a controller's step: the same rows stay
-
-    stays : (past : List Row) (w u : World) (o : Option World) → CameTo past w → o ≡ Some u → RowsLeft w o → (Runs h (known h past) w → Runs h (known h past) (steps.counted h u)) → w.stopped ≡ false →
-        CameTo past (steps.counted h u)
-    unfolding steps.counted
-    stays past w u o c at left goes running = search (rules, reverse, false≢true)
-
     -- ---- a row
 
     next : (past : List Row) (w u : World) (rows : List Row) → w.rows ≡ rows → CameTo past w → driver.next_row h w rows ≡ Some u →
@@ -113,28 +196,15 @@ module _ (h : Header) where
           },
         )
 
-    pub running_is : (w u : World) (o : Option World) → steps.while_running h w o ≡ Some u → (w.stopped ≡ false) × (o ≡ Some u)
-    unfolding steps.while_running
-    running_is w u o at = search (rules, none-some, cond-true, cond-false)
+    -- a controller's step: the same rows stay
+    stays : (past : List Row) (w u : World) (s : Step) → IsStep s → CameTo past w → steps.made h w s ≡ Some u → (s ≡ NextRow → ⊥) → CameTo past (steps.counted h u)
+    unfolding steps.counted
+    stays past w u s is_step c at other = search (rules, made_left, reverse, step_goes, known, now_keeps, false≢true, runs_on)
 
     step_made : (past : List Row) (w u : World) (s : Step) → IsStep s → CameTo past w → steps.made h w s ≡ Some u → (later : List Row) × CameTo later (steps.counted h u)
     unfolding steps.made
     step_made past w u NextRow is_step c at = let n = next past w u w.rows refl c at in (n.0 ∷ past, n.1)
-    step_made past w u (Look r) is_step c at =
-        let g = running_is w u (looks.looked h w r) at in
-        (past, stays past w u (looks.looked h w r) c g.1 (looked_left h w r) (λ run. look_runs h is (known h past) w u r run (later_keeps past w c run) g.1) g.0)
-    step_made past w u (Report b) is_step c at =
-        let g = running_is w u (posts.reported h w b) at in
-        (past, stays past w u (posts.reported h w b) c g.1 (reported_left h w b) (λ run. report_runs h is (known h past) w u b is_step g.0 run (later_keeps past w c run) g.1) g.0)
-    step_made past w u (Finish b) is_step c at =
-        let g = running_is w u (finishes.finished h w b) at in
-        (past, stays past w u (finishes.finished h w b) c g.1 (finished_left h w b) (λ run. finish_runs h is (known h past) w u b is_step g.0 run (later_keeps past w c run) g.1) g.0)
-    step_made past w u (Other b) is_step c at =
-        let g = running_is w u (posts.other_posted h w b) at in
-        (past, stays past w u (posts.other_posted h w b) c g.1 (other_left h w b) (λ run. other_runs h is (known h past) w u b is_step g.0 run (later_keeps past w c run) g.1) g.0)
-    step_made past w u (Scribble a x) is_step c at =
-        let g = running_is w u (steps.scribbled h w a x) at in
-        (past, stays past w u (steps.scribbled h w a x) c g.1 (scribbled_left h w a x) (λ run. scribble_runs h is (known h past) w u a x run (later_keeps past w c run) g.1) g.0)
+    step_made past w u s is_step c at = (past, stays past w u s is_step c at (λ e. cc))
 
     -- ---- whole runs
 

@@ -1,14 +1,9 @@
 -- An event leaves an endpoint whose ring is held, where no unfinished command touches it: its doorbell stays one that may be rung
-use Rattle.safety.proofs.Words.{◌≡◌, ◌==◌, ◌&&◌, ◌∙◌, ℕ, not, nat_lt, true, false, [], is_none, Option, None, Some, refl, sym, ap, subst, inl, inr, eqb-true, eq-eqb, rules, cases_Bool, cond-true, and_parts, and_from, or_parts, or_from, not-false, false≢true, same_Some, Block, BlockKind, TransferEvent, CommandCompletion, kind, code, slot, endpoint, is_transfer_event, is_command_completion, is_success, Spot, is_open, Header, Read, IsHeader, Known, RingSpot, event_at, transferred, transferred_at, transfer_read, event_read, learned, is_touched, is_bad_bell, is_in_profile, is_working, can_report, can_report_at, is_impossible_by_kind, lenient, DriverKeeps}
-use Rattle.safety.proofs.CleanRows.{EventFacts, event_facts}
-use Rattle.safety.proofs.KeptRings.{completion_facts}
-use Rattle.safety.proofs.StatesTransfer.{reported}
+use Rattle.safety.proofs.Words.{[], ◌≡◌, ◌==◌, ◌&&◌, ◌∙◌, ℕ, not, nat_lt, true, false, is_none, Option, None, Some, refl, sym, ap, subst, inl, inr, eqb-true, eq-eqb, rules, cases_Bool, cond-true, and_parts, and_from, or_parts, or_from, not-false, false≢true, same_Some, Block, BlockKind, TransferEvent, CommandCompletion, kind, code, slot, endpoint, is_transfer_event, is_command_completion, is_success, Spot, is_open, Header, Read, IsHeader, Known, RingSpot, event_at, transferred, transferred_at, transfer_read, event_read, learned, is_touched, is_bad_bell, is_in_profile, is_working, can_report, can_report_at, is_impossible_by_kind, lenient, DriverKeeps}
+use Rattle.safety.proofs.LowerLaws.{EventFacts, event_facts, event_ring_of}
+use Rattle.safety.proofs.MiddleLaws.{completion_facts, reported, transferred_leaves, EndpointHolds, same_holds, works_there}
 use Rattle.safety.proofs.StillRings.{passed_holds, other_holds, untouched_behind}
-use Rattle.safety.proofs.TransferFrames.{event_ring_of}
-use Rattle.safety.proofs.TransferLeaves.{transferred_leaves}
-use Rattle.safety.proofs.UntouchedHeld.{EndpointHolds, same_holds}
 use Rattle.safety.proofs.UntouchedCompletion.{completion_holds}
-use Rattle.safety.proofs.WokenTransfers.{works_there}
 
 module _ (h : Header) (k : Known) (s i r : ℕ) (held : is_open (k.ring r) ≡ false) where
   -- only blocks that were finished before are reported of a ring that is held

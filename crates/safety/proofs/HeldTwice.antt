@@ -1,5 +1,5 @@
 -- Held at greater numbers, and again at greater ones
-use Rattle.safety.proofs.Words.{◌∙◌, ℕ, Option, None, Some, arith, refl, ap, RingView, Known, IsHeldMore, RingHeldMore, HeldMore}
+use Rattle.safety.proofs.Words.{ℕ, Option, None, Some, arith, refl, RingView, Known, IsHeldMore, RingHeldMore, HeldMore, rules}
 
 pub held_same : (o : Option ℕ) → IsHeldMore o o
 held_same None = tt
@@ -17,13 +17,7 @@ pub held_more_same : (k : Known) → HeldMore k k
 held_more_same k = record { rest = refl; rings = λ r. record { rest = refl; held = held_same (k.ring r).held } }
 
 ring_twice : (u v w : RingView) → RingHeldMore u v → RingHeldMore v w → RingHeldMore u w
-ring_twice u v w x y = record { rest = ap (λ z. with_held z w.held) x.rest ∙ y.rest; held = held_twice u.held v.held w.held x.held y.held }
-  where
-    with_held : RingView → Option ℕ → RingView
-    with_held z o = record z { held = o }
+ring_twice u v w x y = search (rules, held_twice)
 
 pub held_more_twice : (k l m : Known) → HeldMore k l → HeldMore l m → HeldMore k m
-held_more_twice k l m x y = record { rest = ap (λ z. with_rings z m.ring) x.rest ∙ y.rest; rings = λ r. ring_twice (k.ring r) (l.ring r) (m.ring r) (x.rings r) (y.rings r) }
-  where
-    with_rings : Known → (ℕ → RingView) → Known
-    with_rings z f = record z { ring = f }
+held_more_twice k l m x y = search (rules, ring_twice)

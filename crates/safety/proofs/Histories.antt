@@ -1,6 +1,6 @@
 -- A clean history keeps what the rules keep of each ring
-use Rattle.safety.proofs.Words.{◌≡◌, ◌&&◌, ◌||◌, ◌==◌, ◌∷◌, not, true, false, List, [], refl, or_parts, not-false, Block, BlockKind, TransferEvent, CommandCompletion, kind, cycle, is_transfer_event, is_command_completion, is_event, cycle_of, Header, Row, Sub, Write, Reg, Bell, Read, IsHeader, event_shape, Known, event_read, learned, known, is_in_profile, is_impossible_by_kind, is_past_room, is_impossible, event_tests, lenient_tests, lenient, IsLenient, command_id, IsRestored, MayCome, RingsKeep, RingsKept, EndpointsKeep, MayFinish, MayRead, MayReadAll}
-use Rattle.safety.proofs.TestsPassed.{AllFail, tests_fail}
+use Rattle.safety.proofs.Words.{[], ◌≡◌, ◌&&◌, ◌∷◌, not, true, false, List, refl, not-false, Block, BlockKind, TransferEvent, CommandCompletion, kind, is_transfer_event, is_command_completion, Header, Row, Sub, Write, Reg, Bell, Read, IsHeader, Known, event_read, learned, known, is_in_profile, is_impossible_by_kind, IsLenient, command_id, IsRestored, MayCome, RingsKeep, RingsKept, EndpointsKeep, MayFinish, MayRead, MayReadAll}
+use Rattle.safety.proofs.CleanRows.{event_facts}
 use Rattle.safety.proofs.NothingFree.{nothing_free, may_come}
 use Rattle.safety.proofs.DriverRows.{stands, same_keeps, nothing_keeps, declared_keeps, written_keeps, register_keeps, rung_keeps}
 use Rattle.safety.proofs.Transfers.{transfer_keeps}
@@ -15,15 +15,6 @@ module _ (h : Header) (is : IsHeader h) where
   event_keeps k b CommandCompletion keeps endpoints possible inside may = completion_keeps h is k b keeps endpoints possible (may refl)
   event_keeps k b _ keeps endpoints possible inside may = stands h k keeps
 
-  read_facts : (k : Known) (b : Block) → lenient h k (Read b) ≡ [] →
-      (is_impossible_by_kind h k (kind b) b ≡ false) × ((is_transfer_event (kind b) && not (is_in_profile b)) ≡ false)
-  unfolding lenient_tests event_tests is_impossible
-  read_facts k b clean =
-      let fails : AllFail (event_tests h k b) = tests_fail h k (Read b) clean in (
-        (or_parts (not k.started || is_past_room h k || not (cycle b == cycle_of (event_shape h) k.reads) || not (is_event (kind b))) (is_impossible_by_kind h k (kind b) b) fails.0).1,
-        fails.1.0,
-      )
-
   -- one row more
   pub row_kept : (k : Known) (row : Row) → RingsKeep h k → EndpointsKeep h k → IsRestored (k.ring (command_id h)) → MayCome h k row → MayRead h k row → RingsKept h k (learned h k row)
   unfolding learned
@@ -32,8 +23,8 @@ module _ (h : Header) (is : IsHeader h) where
   row_kept k (Reg r x) keeps endpoints commands comes may = register_keeps h k keeps r x
   row_kept k (Bell s t) keeps endpoints commands comes may = rung_keeps h k keeps is s t commands comes.1
   row_kept k (Read b) keeps endpoints commands comes may =
-      let facts = read_facts k b comes.0 in
-      same_keeps h k (event_read h k (kind b) b) (learned h k (Read b)) refl refl (event_keeps k b (kind b) keeps endpoints facts.0 facts.1 may)
+      let facts = event_facts h k b comes.0 in
+      same_keeps h k (event_read h k (kind b) b) (learned h k (Read b)) refl refl (event_keeps k b (kind b) keeps endpoints facts.possible facts.inside may)
 
   pub row_keeps : (k : Known) (row : Row) → RingsKeep h k → EndpointsKeep h k → IsRestored (k.ring (command_id h)) → MayCome h k row → MayRead h k row → RingsKeep h (learned h k row)
   row_keeps k row keeps endpoints commands comes may r driver = (row_kept k row keeps endpoints commands comes may r driver).rules

@@ -1,8 +1,7 @@
 -- No word of a ring is soiled, behind each row
-use Rattle.safety.proofs.Words.{◌≡◌, ◌+◌, ◌%◌, ◌==◌, ◌&&◌, ◌∙◌, ℕ, not, Bool, true, false, [], Option, None, Some, is_none, option_and_then, refl, sym, ap, leb-true, ltb-true, rules, and_parts, and_left, or_from, or_parts, and_cases, false_from_ne_true, false≢true, none-some, same_Some, Block, kind, is_in, is_inside, Command, AddressDevice, device_context_bytes, Header, Sub, Write, Reg, Bell, Read, shape_of, touches_ring, Known, device_named, no_device, taken_device, command_given, with_device, with_word, written, learned, is_bad_area, some_command, write_tests, lenient_tests, lenient, IsDriverRing, KeptByRows}
-use Rattle.ownership_rules.specs.Commands as commands
+use Rattle.safety.proofs.Words.{[], ◌≡◌, ◌+◌, ◌%◌, ◌==◌, ◌&&◌, ◌∙◌, ℕ, not, Bool, true, false, Option, None, Some, is_none, option_and_then, refl, sym, ap, leb-true, ltb-true, rules, and_parts, and_left, or_from, or_parts, and_cases, false_from_ne_true, false≢true, none-some, same_Some, Block, kind, is_in, is_inside, Command, AddressDevice, device_context_bytes, Header, Sub, Write, Reg, Bell, Read, shape_of, touches_ring, Known, device_named, no_device, taken_device, command_given, with_device, with_word, written, learned, is_bad_area, some_command, write_tests, lenient_tests, lenient, IsDriverRing, KeptByRows, has_bad_content, is_bad_command, is_bad_device, takes_bad_device}
 use Rattle.safety.proofs.Headers.{found_in, shape_is}
-use Rattle.safety.proofs.TestsPassed.{AllFail, tests_fail}
+use Rattle.safety.proofs.TestsPassed.{tests_fail}
 use Rattle.safety.proofs.GivenCommands.{content_good, fails_of}
 use Rattle.safety.proofs.Areas.{byte_apart, ring_untouched}
 use Rattle.safety.proofs.SameDriver.{event_same}
@@ -36,15 +35,14 @@ given_some k (Some c) e at = (c, refl, at)
 pub record CleanTaking (h : Header) (k : Known) (a w s d : ℕ) : Type 0 where
   pub command : Command
   pub given : command_given h k a w ≡ Some command
-  pub good : commands.is_bad_command h k command ≡ false
+  pub good : is_bad_command h k command ≡ false
   pub takes : TakesDevice k s d command
 
 module _ (h : Header) where
-  pub given_good : (k : Known) (a w : ℕ) (c : Command) → lenient h k (Write a w) ≡ [] → command_given h k a w ≡ Some c → commands.is_bad_command h k c ≡ false
+  pub given_good : (k : Known) (a w : ℕ) (c : Command) → lenient h k (Write a w) ≡ [] → command_given h k a w ≡ Some c → is_bad_command h k c ≡ false
   unfolding lenient_tests write_tests some_command
   given_good k a w c clean given =
-      let fails : AllFail (write_tests h k a w) = tests_fail h k (Write a w) clean in
-      fails_of h k (commands.is_bad_command h k) (command_given h k a w) c fails.1.1.1.1.1.0 given
+      fails_of h k (is_bad_command h k) (command_given h k a w) c (tests_fail h k (Write a w) clean).1.1.1.1.1.0 given
 
   pub taking : (k : Known) (a w : ℕ) (e : ℕ × ℕ) → lenient h k (Write a w) ≡ [] → option_and_then (taken_device k) (command_given h k a w) ≡ Some e → CleanTaking h k a w e.0 e.1
   taking k a w e clean at =
@@ -52,14 +50,14 @@ module _ (h : Header) where
       record { command = given.0; given = given.1; good = given_good k a w given.0 clean given.1; takes = takes_is k given.0 e given.2 }
 
   -- the device context touches no ring
-  taken_area : (k : Known) (s n d : ℕ) (bsr : Bool) → commands.has_bad_content h k (AddressDevice s bsr n) ≡ false → k.device s ≡ None → device_named k s ≡ d →
+  taken_area : (k : Known) (s n d : ℕ) (bsr : Bool) → has_bad_content h k (AddressDevice s bsr n) ≡ false → k.device s ≡ None → device_named k s ≡ d →
       touches_ring h d (device_context_bytes h.context_size) ≡ false
-  unfolding commands.has_bad_content commands.takes_bad_device commands.is_bad_device is_bad_area
+  unfolding has_bad_content takes_bad_device is_bad_device is_bad_area
   taken_area k s n d bsr good fresh named = search (rules, or_parts, and_cases, is_none, false≢true)
 
   pub taking_apart : (k : Known) (a w s d : ℕ) → CleanTaking h k a w s d → touches_ring h d (device_context_bytes h.context_size) ≡ false
   taking_apart k a w s d t =
-      taken_area k s t.takes.context d t.takes.bsr (ap (λ c. commands.has_bad_content h k c) (sym t.takes.command) ∙ content_good h k t.command t.good) t.takes.fresh t.takes.named
+      taken_area k s t.takes.context d t.takes.bsr (ap (λ c. has_bad_content h k c) (sym t.takes.command) ∙ content_good h k t.command t.good) t.takes.fresh t.takes.named
 
   -- a byte of a ring is in no area that touches none
   pub not_in_area : (r a d len : ℕ) → IsDriverRing h r → is_inside (shape_of h r) a ≡ true → touches_ring h d len ≡ false → is_in a d len ≡ false

@@ -1,11 +1,11 @@
 -- What CRCR and ERSTSZ say is kept by each row
-use Rattle.safety.proofs.Words.{◌≡◌, ◌<◌, ◌==◌, ◌||◌, ◌∙◌, ℕ, not, true, false, Option, None, Some, is_some, is_none, arith, refl, sym, ap, inl, inr, eqb-true, or_parts, not-false, false≢true, same_Some, Block, kind, Shape, address_of, Header, Ring, Register, Crcr, Erstsz, Sub, Write, Reg, Bell, Read, IsHeader, is_command_kind, ring_with, shape_of, command_ring, command_id, event_ring, event_size, with_register, base_address, ring_cycle_state, command_stop, command_abort, Known, learned, is_no_first_block, is_bad_crcr, is_bad_register, IsDriverRing, CommandRingNamed, KeptByRows}
+use Rattle.safety.proofs.Words.{◌≡◌, ◌<◌, ◌==◌, ◌||◌, ◌∙◌, ℕ, not, true, false, Option, None, Some, is_some, is_none, arith, refl, sym, ap, inl, inr, eqb-true, or_parts, not-false, false≢true, same_Some, Block, kind, Shape, address_of, Header, Ring, Register, Crcr, Erstsz, Sub, Write, Reg, Bell, Read, IsHeader, is_command_kind, ring_with, shape_of, command_ring, command_id, event_ring, event_size, with_register, base_address, ring_cycle_state, command_stop, command_abort, Known, learned, is_no_first_block, is_bad_crcr, is_bad_register, IsDriverRing, CommandRingNamed, KeptByRows, lenient, Row, []}
 use Rattle.safety.proofs.Headers.{shape_is, command_found, command_named, event_ring_size}
 use Rattle.safety.proofs.RingIds.{found_again, together}
 use Rattle.safety.proofs.SameDriver.{event_same}
 use Rattle.safety.proofs.RowFrames.{declaration_leaves, write_leaves, bell_leaves}
 use Rattle.safety.proofs.CleanRows.{register_facts}
-use Rattle.safety.proofs.KeptRegisters.{command_drives, written_stays, registered, register_starts, starts_written}
+use Rattle.safety.proofs.KeptRegisters.{Starts, command_drives, written_stays, registered, register_starts, starts_written}
 
 module _ (h : Header) where
   read_leaves : (k : Known) (b : Block) → ((learned h k (Read b)).register ≡ k.register) × ((learned h k (Read b)).started ≡ k.started)
@@ -69,38 +69,29 @@ module _ (h : Header) where
   register_written_before : (k : Known) (r : Register) (x : ℕ) (q : Register) → is_some (k.register q) ≡ true → is_some ((learned h k (Reg r x)).register q) ≡ true
   register_written_before k r x q written = ap (λ f. is_some (f q)) (registered h k r x) ∙ written_stays k.register r x q written
 
-  -- and was written before the start
-  pub kept_crcr_written : KeptByRows h (λ k. k.started ≡ true → is_some (k.register Crcr) ≡ true)
-  kept_crcr_written is k (Sub r blocks) d clean on started =
-      let same = (declaration_leaves h k r blocks).registers in same_written k (learned h k (Sub r blocks)) Crcr same.register (d.crcr_written (sym same.started ∙ started))
-  kept_crcr_written is k (Write a w) d clean on started =
-      let same = (write_leaves h k a w).registers in same_written k (learned h k (Write a w)) Crcr same.register (d.crcr_written (sym same.started ∙ started))
-  kept_crcr_written is k (Reg r x) d clean on started =
-      register_written_before k r x Crcr
+  -- a register that has to be written before the start stays written
+  kept_written : (q : Register) → ((k : Known) (r : Register) (v : ℕ) → is_bad_register h k r v ≡ false → Starts h k r v → is_some (k.register q) ≡ true) →
+      (k : Known) (row : Row) → (k.started ≡ true → is_some (k.register q) ≡ true) → lenient h k row ≡ [] → (learned h k row).started ≡ true → is_some ((learned h k row).register q) ≡ true
+  kept_written q starts k (Sub r blocks) before clean started =
+      let same = (declaration_leaves h k r blocks).registers in same_written k (learned h k (Sub r blocks)) q same.register (before (sym same.started ∙ started))
+  kept_written q starts k (Write a w) before clean started =
+      let same = (write_leaves h k a w).registers in same_written k (learned h k (Write a w)) q same.register (before (sym same.started ∙ started))
+  kept_written q starts k (Reg r x) before clean started =
+      register_written_before k r x q
       (elim (register_starts h k r x started) [
-        | inl before ↦ d.crcr_written before
-        | inr starts ↦ (starts_written h k r x (register_facts h k r x clean).good starts).0
+        | inl already ↦ before already
+        | inr now ↦ starts k r x (register_facts h k r x clean).good now
       ])
-  kept_crcr_written is k (Bell s t) d clean on started =
-      let same = (bell_leaves h k s t).registers in same_written k (learned h k (Bell s t)) Crcr same.register (d.crcr_written (sym same.started ∙ started))
-  kept_crcr_written is k (Read b) d clean on started =
-      let same = read_leaves k b in same_written k (learned h k (Read b)) Crcr same.0 (d.crcr_written (sym same.1 ∙ started))
+  kept_written q starts k (Bell s t) before clean started =
+      let same = (bell_leaves h k s t).registers in same_written k (learned h k (Bell s t)) q same.register (before (sym same.started ∙ started))
+  kept_written q starts k (Read b) before clean started =
+      let same = read_leaves k b in same_written k (learned h k (Read b)) q same.0 (before (sym same.1 ∙ started))
+
+  pub kept_crcr_written : KeptByRows h (λ k. k.started ≡ true → is_some (k.register Crcr) ≡ true)
+  kept_crcr_written is k row d clean on = kept_written Crcr (λ k r v good s. (starts_written h k r v good s).0) k row d.crcr_written clean
 
   pub kept_erstsz_written : KeptByRows h (λ k. k.started ≡ true → is_some (k.register Erstsz) ≡ true)
-  kept_erstsz_written is k (Sub r blocks) d clean on started =
-      let same = (declaration_leaves h k r blocks).registers in same_written k (learned h k (Sub r blocks)) Erstsz same.register (d.erstsz_written (sym same.started ∙ started))
-  kept_erstsz_written is k (Write a w) d clean on started =
-      let same = (write_leaves h k a w).registers in same_written k (learned h k (Write a w)) Erstsz same.register (d.erstsz_written (sym same.started ∙ started))
-  kept_erstsz_written is k (Reg r x) d clean on started =
-      register_written_before k r x Erstsz
-      (elim (register_starts h k r x started) [
-        | inl before ↦ d.erstsz_written before
-        | inr starts ↦ (starts_written h k r x (register_facts h k r x clean).good starts).1
-      ])
-  kept_erstsz_written is k (Bell s t) d clean on started =
-      let same = (bell_leaves h k s t).registers in same_written k (learned h k (Bell s t)) Erstsz same.register (d.erstsz_written (sym same.started ∙ started))
-  kept_erstsz_written is k (Read b) d clean on started =
-      let same = read_leaves k b in same_written k (learned h k (Read b)) Erstsz same.0 (d.erstsz_written (sym same.1 ∙ started))
+  kept_erstsz_written is k row d clean on = kept_written Erstsz (λ k r v good s. (starts_written h k r v good s).1) k row d.erstsz_written clean
 
   -- ERSTSZ is that of an event ring
   pub kept_sized : KeptByRows h (λ k. is_some (k.register Erstsz) ≡ true → 0 < event_size h)

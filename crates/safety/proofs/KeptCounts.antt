@@ -1,6 +1,6 @@
 -- How many events were read and where ERDP stands, behind each row
 use Rattle.safety.proofs.Words.{◌≡◌, ◌+◌, ◌-◌, ◌<◌, ◌≤◌, ◌∙◌, ℕ, false, arith, refl, sym, ap, ltb-false, rules, cond_both, cond-false, false≢true, Block, kind, shape_facts, place_count, Header, Register, Usbcmd, Sub, Write, Reg, Bell, Read, event_shape, event_size, Known, run_or_stop, valued, register_written, learned, may_pass, is_bad_erdp, is_past_room, Unstarted, KeptByRows}
-use Rattle.safety.proofs.Headers.{EventRing, event_ring_is}
+use Rattle.safety.proofs.Headers.{event_ring_is}
 use Rattle.safety.proofs.ErdpMoves.{erdp_within}
 use Rattle.safety.proofs.SameDriver.{event_same}
 use Rattle.safety.proofs.RowFrames.{SameSlots, SamePointer, declaration_leaves, write_leaves, register_leaves, bell_leaves}
@@ -28,7 +28,7 @@ module _ (h : Header) where
   unfolding learned
   dequeues k r x good = dequeues_by k r x good
 
-  passable : (k : Known) → k.dequeue ≤ k.reads → k.dequeue + may_pass k ≤ k.reads
+  pub passable : (k : Known) → k.dequeue ≤ k.reads → k.dequeue + may_pass k ≤ k.reads
   unfolding may_pass
   passable k low =
       cond_both k.started (k.reads - k.dequeue) 0 (λ n. k.dequeue + n ≤ k.reads) (λ _. omega arith) (λ _. omega arith)
@@ -52,9 +52,7 @@ module _ (h : Header) where
   kept_dequeued is k (Sub r blocks) d clean on = let same = (declaration_leaves h k r blocks).registers in omega (arith, d.dequeued, same.dequeue, same.reads)
   kept_dequeued is k (Write a w) d clean on = let same = (write_leaves h k a w).registers in omega (arith, d.dequeued, same.dequeue, same.reads)
   kept_dequeued is k (Reg r x) d clean on =
-      let moves = dequeues k r x (register_facts h k r x clean).erdp in
-      let same = register_leaves h k r x in
-      omega (arith, moves.to, passable k d.dequeued, same.reads)
+      omega (arith, (dequeues k r x (register_facts h k r x clean).erdp).to, passable k d.dequeued, (register_leaves h k r x).reads)
   kept_dequeued is k (Bell s t) d clean on = let same = (bell_leaves h k s t).registers in omega (arith, d.dequeued, same.dequeue, same.reads)
   kept_dequeued is k (Read b) d clean on = let same = read_counts k b in omega (arith, d.dequeued, same.0, same.1)
 
@@ -71,8 +69,7 @@ module _ (h : Header) where
       let same = read_counts k b in
       let facts = event_facts h k b clean in
       let some : 0 < event_size h = d.sized (d.erstsz_written facts.started) in
-      let ring : EventRing h = event_ring_is h is some in
-      let several = (shape_facts (event_shape h) ring.is).several in
+      let several = (shape_facts (event_shape h) (event_ring_is h is some).is).several in
       λ _. omega (arith, room_is k facts.room, d.dequeued, same.0, same.1, size_is)
 
   -- ---- before the start

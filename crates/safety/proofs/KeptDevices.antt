@@ -1,14 +1,8 @@
 -- What is kept of device contexts under lease is kept by each row
-use Rattle.safety.proofs.Words.{◌≡◌, ◌∙◌, ℕ, true, false, Some, refl, sym, ap, subst, inl, inr, cases_Bool, or_parts, false≢true, none-some, Block, BlockKind, TransferEvent, CommandCompletion, kind, Header, Register, Dcbaap, Erstba, Sub, Write, Reg, Bell, Read, IsHeader, with_register, Known, event_read, learned, completed, is_impossible_by_kind, is_bad_register, DriverKeeps, DevicesKeep, KeptByRows}
-use Rattle.safety.proofs.EventRead.{learned_read}
-use Rattle.safety.proofs.WithReads.{with_reads}
-use Rattle.safety.proofs.CleanRows.{EventFacts, event_facts, register_facts}
-use Rattle.safety.proofs.KeptRegisters.{registered}
-use Rattle.safety.proofs.RowFrames.{declaration_leaves, register_leaves, bell_leaves}
-use Rattle.safety.proofs.SameDriver.{SameDriver, transfer_same, completion_same}
-use Rattle.safety.proofs.TransferFrames.{transfer_slots}
+use Rattle.safety.proofs.Words.{◌≡◌, ◌∙◌, ℕ, true, false, Some, refl, sym, ap, subst, inl, inr, cases_Bool, or_parts, false≢true, none-some, Block, BlockKind, TransferEvent, CommandCompletion, kind, Header, Register, Dcbaap, Erstba, Sub, Write, Reg, Bell, Read, IsHeader, with_register, Known, event_read, learned, completed, is_impossible_by_kind, is_bad_register, DriverKeeps, DevicesKeep, KeptByRows, rules}
+use Rattle.safety.proofs.LowerLaws.{learned_read, with_reads, EventFacts, event_facts, register_facts, registered, SameDriver, transfer_same, completion_same, transfer_slots, devices_same}
+use Rattle.safety.proofs.RowFrames.{SameRegisters, SameMemory, declaration_leaves, register_leaves, bell_leaves}
 use Rattle.safety.proofs.CommandsCompleted.{completion_devices}
-use Rattle.safety.proofs.DeviceFrames.{devices_same}
 use Rattle.safety.proofs.DevicesWritten.{written_devices}
 
 module _ (h : Header) where
@@ -24,19 +18,12 @@ module _ (h : Header) where
   register_devices : (k : Known) (r : Register) (x : ℕ) → DriverKeeps h k → is_bad_register h k r x ≡ false → DevicesKeep h (learned h k (Reg r x))
   register_devices k r x d good s c at =
       let leaves = register_leaves h k r x in
-      let was = ap (λ f. f s) (sym leaves.memory.device) ∙ at in
       elim (cases_Bool k.started) [
         | inl on ↦
             let base = base_stands k r x on good in
             devices_same h k (learned h k (Reg r x))
-            (record {
-              memory = leaves.memory.memory;
-              soiled = leaves.memory.soiled;
-              dcbaap = ap (λ f. f Dcbaap) (registered h k r x) ∙ base.0;
-              erstba = ap (λ f. f Erstba) (registered h k r x) ∙ base.1;
-              fewer = λ t e there. ap (λ f. f t) (sym leaves.memory.device) ∙ there;
-            }) d.devices s c at
-        | inr off ↦ absurd (none-some c (sym (d.states.no_device s ((d.unstarted off).slots s)) ∙ was))
+            (search (rules, registered)) d.devices s c at
+        | inr off ↦ absurd (none-some c (sym (d.states.no_device s ((d.unstarted off).slots s)) ∙ (ap (λ f. f s) (sym leaves.memory.device) ∙ at)))
       ]
 
   -- ---- events
@@ -59,29 +46,16 @@ module _ (h : Header) where
 
   -- ---- any row
 
+  same_devices : (k l : Known) → SameRegisters k l → SameMemory k l → DevicesKeep h k → DevicesKeep h l
+  same_devices k l registers memory keeps =
+      devices_same h k l
+      (search rules) keeps
+
   pub kept_devices : KeptByRows h (DevicesKeep h)
-  kept_devices is k (Sub r blocks) d clean on =
-      let leaves = declaration_leaves h k r blocks in
-      devices_same h k (learned h k (Sub r blocks))
-      (record {
-        memory = leaves.memory.memory;
-        soiled = leaves.memory.soiled;
-        dcbaap = ap (λ f. f Dcbaap) leaves.registers.register;
-        erstba = ap (λ f. f Erstba) leaves.registers.register;
-        fewer = λ t c at. ap (λ f. f t) (sym leaves.memory.device) ∙ at;
-      }) d.devices
+  kept_devices is k (Sub r blocks) d clean on = let leaves = declaration_leaves h k r blocks in same_devices k (learned h k (Sub r blocks)) leaves.registers leaves.memory d.devices
   kept_devices is k (Write a w) d clean on = written_devices h is k d a w clean
   kept_devices is k (Reg r x) d clean on = register_devices k r x d (register_facts h k r x clean).good
-  kept_devices is k (Bell s t) d clean on =
-      let leaves = bell_leaves h k s t in
-      devices_same h k (learned h k (Bell s t))
-      (record {
-        memory = leaves.memory.memory;
-        soiled = leaves.memory.soiled;
-        dcbaap = ap (λ f. f Dcbaap) leaves.registers.register;
-        erstba = ap (λ f. f Erstba) leaves.registers.register;
-        fewer = λ u c at. ap (λ f. f u) (sym leaves.memory.device) ∙ at;
-      }) d.devices
+  kept_devices is k (Bell s t) d clean on = let leaves = bell_leaves h k s t in same_devices k (learned h k (Bell s t)) leaves.registers leaves.memory d.devices
   kept_devices is k (Read b) d clean on =
       let facts : EventFacts h k b = event_facts h k b clean in
       subst (DevicesKeep h) (sym (learned_read h k b))

@@ -1,5 +1,5 @@
 -- What the rules keep of each ring is kept by each row: of a command that succeeds holds still what was tested when it was given
-use Rattle.safety.proofs.Words.{◌≡◌, ◌<◌, ◌∙◌, ℕ, true, false, [], Some, arith, sym, ap, ltb-true, rules, or_parts, not-false, Block, kind, is_command_completion, ceiling, RingKeeps, Command, AddressDevice, SetTrDequeue, Header, Row, Read, IsHeader, shape_of, command_id, Known, command_at, next_command, may_be_taken, can_finish, is_impossible_completion, is_impossible_by_kind, lenient, IsDriverRing, IsUnfinished, CommandKeeps, MovesIf, StaysIf, DriverKeeps, KeptByRestoring, StillReads, MovesOn, StillHolds, RingsKeep}
+use Rattle.safety.proofs.Words.{[], ◌≡◌, ◌<◌, ◌∙◌, ℕ, true, false, Some, arith, sym, ap, ltb-true, rules, or_parts, not-false, Block, kind, is_command_completion, ceiling, RingKeeps, Command, AddressDevice, SetTrDequeue, Header, Row, Read, IsHeader, shape_of, command_id, Known, command_at, next_command, may_be_taken, can_finish, is_impossible_completion, is_impossible_by_kind, lenient, IsDriverRing, IsUnfinished, CommandKeeps, MovesIf, StaysIf, DriverKeeps, KeptByRestoring, StillReads, MovesOn, StillHolds, RingsKeep}
 use Rattle.safety.proofs.Headers.{ring_shape}
 use Rattle.safety.proofs.GivenCommands.{content_good, are_free}
 use Rattle.safety.proofs.NoWait.{ceiling_given}
@@ -48,8 +48,7 @@ module _ (h : Header) where
   pub still_of : IsHeader h → (k : Known) (row : Row) → DriverKeeps h k → lenient h k row ≡ [] → StillReads h k row
   still_of is k (Read b) d clean = λ completion c at success.
       let facts : EventFacts h k b = event_facts h k b clean in
-      let finish : CompletionFacts h k b = completion_facts k b completion facts.possible in
-      command_holds k (next_command h k) c (d.unfinished (next_command h k) c (next_unfinished is k d facts.started finish.below c at))
+      command_holds k (next_command h k) c (d.unfinished (next_command h k) c (next_unfinished is k d facts.started (completion_facts k b completion facts.possible).below c at))
   still_of is k _ d clean = tt
 
   -- the next row keeps the rings

@@ -62,7 +62,6 @@ module _ (h : Header) (k m : Known) (r : ℕ) (x : RingView) (l : LearnsRing k m
         v.under_way ≡ u.under_way → v.scribbles ≡ u.scribbles → v.looked_outside ≡ u.looked_outside → Matches h m v
     matches_learns d y other bound under scribbles inside =
         let command_ring : m.ring (command_id h) ≡ k.ring (command_id h) = l.others (command_id h) (λ e. other (sym e)) in
-        let command_state : state_of v (command_id h) ≡ state_of u (command_id h) = o.others (command_id h) (λ e. other (sym e)) in
         record {
           slots = λ q. ap (λ f. f q) o.slot_state ∙ y.slots q ∙ ap (λ f. f q) (sym l.slot_state);
           endpoints = λ q i. ap (λ f. f q i) o.endpoint_state ∙ y.endpoints q i ∙ ap (λ f. f q i) (sym l.endpoint_state);
@@ -78,7 +77,7 @@ module _ (h : Header) (k m : Known) (r : ℕ) (x : RingView) (l : LearnsRing k m
           command = λ on. let c = y.command (sym l.started ∙ on) in record {
             spot = c.spot;
             ring = subst (λ z. RingMatches (shape_of h (command_id h)) z (state_of v (command_id h)) c.spot) (sym command_ring)
-                (subst (λ z. RingMatches (shape_of h (command_id h)) (k.ring (command_id h)) z c.spot) (sym command_state) c.ring);
+                (subst (λ z. RingMatches (shape_of h (command_id h)) (k.ring (command_id h)) z c.spot) (sym (o.others (command_id h) (λ e. other (sym e)))) c.ring);
             under_way = subst (λ z. UnderWayMatches h m c.spot z) (sym under) (under_way_same h k m command_ring l.stop_seen c.spot u.under_way c.under_way);
           };
           scribbles = λ q may none. y.scribbles q (ap (λ f. f q) (sym scribbles) ∙ may) (ap (λ f. f q) (sym l.device) ∙ none);

@@ -1,11 +1,8 @@
 -- An event begins no lease: behind it no word is under lease that wasn't before
-use Rattle.safety.proofs.Words.{◌≡◌, ◌+◌, ◌<◌, ◌≤◌, ◌⊎◌, ◌==◌, ◌&&◌, ◌∷◌, ◌++◌, ◌∙◌, ℕ, suc, zero, Bool, true, false, not, List, [], map, filter, Option, None, Some, arith, refl, sym, ap, subst, inl, inr, eq-eqb, is_handed_over, list_any, flat_map, range_with_len, false≢true, false_from_ne_true, and_parts, and_from, or_parts, Shape, place_count, is_crossing, RingView, floor_number, due_positions, due_crossings, leased_positions, leased_crossings, Header, Ring, Erstba, IsHeader, shape_of, command_id, driver_rings, is_driver_kind, clash, Known, command_at, unfinished_positions, entry_of, Leased, Range, SlotEntry, slots, covers, segment_ranges, table_range, range_of_command, context_ranges, range_of_entry, entry_ranges, range_of_device, device_ranges, open_ranges, open_on, open_leases, is_leased, IsIn, some_of, any_of, in_filter, from_filter, is_the_controllers}
+use Rattle.safety.proofs.Words.{[], ◌≡◌, ◌+◌, ◌<◌, ◌≤◌, ◌⊎◌, ◌==◌, ◌&&◌, ◌∷◌, ◌++◌, ◌∙◌, ℕ, suc, zero, Bool, true, false, not, List, map, filter, Option, None, Some, arith, refl, sym, ap, subst, inl, inr, eq-eqb, is_handed_over, list_any, flat_map, range_with_len, false≢true, false_from_ne_true, and_parts, and_from, or_parts, Shape, place_count, is_crossing, RingView, floor_number, due_positions, due_crossings, leased_positions, leased_crossings, Header, Ring, Erstba, IsHeader, shape_of, command_id, driver_rings, is_driver_kind, clash, Known, command_at, unfinished_positions, entry_of, Leased, Range, SlotEntry, slots, covers, segment_ranges, table_range, range_of_command, context_ranges, range_of_entry, entry_ranges, range_of_device, device_ranges, open_ranges, open_on, open_leases, is_leased, IsIn, some_of, any_of, in_filter, from_filter, is_the_controllers}
 use Rattle.ownership_rules.specs.OpenLeases.{Block, Link}
 use Rattle.safety.specs.RingsKeep.{IsDriverRing}
-use Rattle.safety.proofs.RingsOfHeader.{HasRing, has_ring}
-use Rattle.safety.proofs.Headers.{found_in, header_parts, together}
-use Rattle.safety.proofs.UnfinishedLists.{in_range, in_left, in_right}
-use Rattle.safety.proofs.SameDriver.{SameDriver}
+use Rattle.safety.proofs.LowerLaws.{HasRing, has_ring, found_in, header_parts, together, in_range, in_left, in_right, SameDriver}
 use Rattle.safety.proofs.HeldFurther.{command_same}
 use Rattle.safety.proofs.GivingBeneath.{RingBehind}
 
@@ -118,8 +115,7 @@ module _ (h : Header) where
   shape_here : IsHeader h → (r : Ring) → IsIn r h.rings → IsDriverRing h r.id → shape_of h r.id ≡ r.shape
   shape_here is r at driver =
       let has : HasRing h r.id = has_ring h r.id driver in
-      let found = found_in (λ q. q.id == r.id) h.rings has.ring has.found in
-      elim (together h.rings r has.ring (header_parts h is).1 at found.0) [
+      elim (together h.rings r has.ring (header_parts h is).1 at (found_in (λ q. q.id == r.id) h.rings has.ring has.found).0) [
         | inl same ↦ has.shape ∙ ap (λ (q : Ring). q.shape) (sym same)
         | inr apart ↦ elim apart [
           | inl none ↦ absurd (false≢true (sym (first_of r has.ring none) ∙ eq-eqb r.id has.ring.id (sym has.id)))
@@ -142,12 +138,11 @@ module _ (h : Header) where
     ring_fewer : (r : Ring) → IsIn r (driver_rings h) → (x : Leased) → IsIn x (open_on h l r) → IsIn x (open_on h k r)
     unfolding open_on driver_rings
     ring_fewer r at x there =
-        let here : IsIn r h.rings = (from_filter (λ (q : Ring). is_driver_kind q.shape.kind) h.rings r at).0 in
         elim (b.rings r.id) [
           | inl same ↦
               subst (λ (v : RingView). IsIn x (map (Block r.id) (leased_positions r.shape v) ++ map (Link r.id) (leased_crossings r.shape v))) same there
           | inr on ↦
-              let shape : shape_of h r.id ≡ r.shape = shape_here is r here on.0 in
+              let shape : shape_of h r.id ≡ r.shape = shape_here is r ((from_filter (λ (q : Ring). is_driver_kind q.shape.kind) h.rings r at).0) on.0 in
               let behind : RingBehind r.shape k.memory (k.ring r.id) (l.ring r.id) = subst (λ s. RingBehind s k.memory (k.ring r.id) (l.ring r.id)) shape on.1 in
               both_fewer x (map (Block r.id) (leased_positions r.shape (l.ring r.id))) (map (Link r.id) (leased_crossings r.shape (l.ring r.id)))
               (map (Block r.id) (leased_positions r.shape (k.ring r.id))) (map (Link r.id) (leased_crossings r.shape (k.ring r.id)))

@@ -1,5 +1,5 @@
 -- What breaks no rule of the trace's version breaks no lenient rule
-use Rattle.safety.proofs.Words.{◌≡◌, ◌||◌, ◌∷◌, ◌∙◌, Bool, true, false, List, [], map, refl, sym, inl, inr, IsClean, stricter, broken, tests, cases_Bool, cond-true, cond-false, Header, Row, Known, known, Refusal, AfterStop, Test, broken_of, lenient_tests, lenient, IsLenient}
+use Rattle.safety.proofs.Words.{[], ◌≡◌, ◌||◌, ◌∷◌, ◌∙◌, Bool, true, false, List, map, refl, sym, inl, inr, IsClean, stricter, broken, tests, cases_Bool, cond-true, cond-false, Header, Row, Known, known, Refusal, AfterStop, Test, broken_of, lenient_tests, lenient, IsLenient}
 
 -- tests that refuse besides: where they refuse nothing, neither do those that they are made of
 fewer : (more : Refusal → Bool) (ts : List Test) → broken_of (map (λ t. (t.0, more t.0 || t.1)) ts) ≡ [] → broken_of ts ≡ []

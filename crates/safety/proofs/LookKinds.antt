@@ -1,6 +1,5 @@
 -- The three ways in which a look ends, and what each changes
-use Rattle.safety.proofs.Words.{◌≡◌, ◌≢◌, ◌+◌, ◌-◌, ◌%◌, ◌^◌, ◌==◌, ◌&&◌, ◌⊎◌, if◌then◌else◌, ◌∷◌, ℕ, Bool, true, false, List, Some, None, is_some, refl, inl, inr, cond, eq-eqb, ne_eqb, eqb-true, rules, cond-true, cond-false, not-false, same_Some, put, Block, is_set, aligned, block_at, cycle, kind, pointer, word, is_link, declared_at, Header, command_id, shape_of, World, RingEvent, Took, next_take, looked, looked_at, seen_by_look, crossed, taken, taken_on, command_begun, RingState, state_of}
-use Rattle.world_state.specs.Takes as of_takes
+use Rattle.safety.proofs.Words.{◌≡◌, ◌≢◌, ◌+◌, ◌-◌, ◌%◌, ◌^◌, ◌==◌, ◌&&◌, ◌⊎◌, if◌then◌else◌, ◌∷◌, ℕ, Bool, true, false, List, Some, None, is_some, refl, inl, inr, cond, eq-eqb, ne_eqb, eqb-true, rules, cond-true, cond-false, not-false, same_Some, put, Block, is_set, aligned, block_at, cycle, kind, pointer, word, is_link, declared_at, Header, command_id, shape_of, World, RingEvent, Took, next_take, looked, looked_at, seen_by_look, crossed, taken, taken_on, command_begun, RingState, state_of, declared_next}
 use Rattle.safety.proofs.OnlyRing.{OnlyRing}
 
 pub put_at : {A : Type 0} (f : ℕ → A) (n : ℕ) (x : A) → put f n x n ≡ x
@@ -80,7 +79,7 @@ module _ (h : Header) (w : World) (r : ℕ) where
   }
 
   pub only_taken : (b : Block) → OnlyRing w (taken_on h (seen_by_look h w r) r b) r (behind_block b)
-  unfolding seen_by_look taken_on of_takes.declared_next
+  unfolding seen_by_look taken_on declared_next
   only_taken b = search (rules, behind_block, state_eq, put_at, put_off)
 
   pub only_begun : (u : World) (s : RingState) (a : ℕ) (b : Block) → OnlyRing w u r s → OnlyRing w (command_begun h u a b) r s

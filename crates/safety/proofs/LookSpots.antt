@@ -1,5 +1,5 @@
 -- A look at a ring of a rule-keeping driver: what it finds, and where the pointer stands behind it
-use Rattle.safety.proofs.Words.{◌≡◌, ◌+◌, ◌-◌, ◌%◌, ◌^◌, ◌<◌, ◌≤◌, if◌then◌else◌, ◌∷◌, ◌∙◌, ℕ, true, false, arith, refl, sym, ap, subst, inl, inr, cases_Bool, false≢true, mod-eq_of_lt, is_set, aligned, block_at, cycle, kind, pointer, word, is_link, kind-with_cycle, Spot, Data, Link, address_of, cycle_of, link_address, after, spot_address, declared_at, ceiling, cycle_of_bit, next_is_spot, spot_address-after, Header, IsHeader, shape_of, World, Took, next_take, Known, IsDriverRing, DriverKeeps, Stands, RingMatches, state_of}
+use Rattle.safety.proofs.Words.{◌≡◌, ◌+◌, ◌-◌, ◌%◌, ◌^◌, ◌≤◌, if◌then◌else◌, ◌∷◌, ◌∙◌, ℕ, true, false, arith, refl, sym, ap, subst, inl, inr, cases_Bool, false≢true, mod-eq_of_lt, is_set, aligned, block_at, cycle, kind, pointer, word, is_link, kind-with_cycle, Spot, Data, Link, address_of, cycle_of, link_address, after, spot_address, declared_at, ceiling, cycle_of_bit, next_is_spot, spot_address-after, Header, IsHeader, shape_of, World, Took, next_take, Known, IsDriverRing, DriverKeeps, Stands, RingMatches, state_of}
 use Rattle.safety.proofs.Headers.{ring_shape}
 use Rattle.safety.proofs.AtSpots.{Takeable, Crossable, takeable, crossable, waits_at_block, waits_at_link}
 use Rattle.safety.proofs.NoWait.{ceiling_open, step_inside}
@@ -75,8 +75,7 @@ module _ (h : Header) (is : IsHeader h) (k : Known) (w : World) (d : DriverKeeps
       let allowed = ring_shape h is r ring in
       let lies = spot_lies (shape_of h r) allowed.is (after (shape_of h r) q) (next_is_spot (shape_of h r) (Data q)) in
       let next : spot_address (shape_of h r) (after (shape_of h r) q) ≡ address_of (shape_of h r) q + 16 = spot_address-after (shape_of h r) allowed.is allowed.other q in
-      let ends : w.pointer_of r + 16 < 2 ^ 64 = omega (arith, lies.ends) in
-      mod-eq_of_lt ends ∙ ap (λ n. n + 16) at
+      mod-eq_of_lt (omega (arith, lies.ends)) ∙ ap (λ n. n + 16) at
 
   declared_same : (q : ℕ) → next_take (shape_of h r) (w.events r) ≡ q →
       declared_at (w.queue r) (w.lengths r) (next_take (shape_of h r) (w.events r)) ≡ declared_at (k.ring r).queue (k.ring r).lengths q

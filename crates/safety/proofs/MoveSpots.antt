@@ -1,5 +1,5 @@
 -- The spot to which a ring may be moved is the one that its pointer and cycle state name
-use Rattle.safety.proofs.Words.{◌≡◌, ◌+◌, ◌-◌, ◌*◌, ◌<◌, ◌≤◌, ◌==◌, ◌&&◌, if◌then◌else◌, ◌∷◌, ◌∙◌, ℕ, suc, zero, Bool, true, false, List, [], Some, find, arith, sym, ap, subst, inl, inr, eqb-true, rules, way_without, range_with_len, flat_map, cases_Bool, cases_lt, cases_eq, and_parts, cond-true, cond-false, false≢true, All-get_or, Any-from_list_any, Spot, Data, Link, Shape, IsSpot, is_spot, rank, number, spot_address, spot_cycle, IsShape, RingView, declared, floor_number, is_way_given, is_border, is_target, spots_between, target, is_reached, may_move_to, is_move, RingKeeps, rank_least, rank_most, same_spot, found_is, between, move_reached}
+use Rattle.safety.proofs.Words.{[], ◌≡◌, ◌+◌, ◌-◌, ◌*◌, ◌<◌, ◌≤◌, ◌==◌, ◌&&◌, if◌then◌else◌, ◌∷◌, ◌∙◌, ℕ, suc, zero, Bool, true, false, List, Some, find, arith, sym, ap, subst, inl, inr, eqb-true, rules, way_without, range_with_len, flat_map, cases_Bool, cases_lt, cases_eq, and_parts, cond-true, cond-false, false≢true, All-get_or, Any-from_list_any, Spot, Data, Link, Shape, IsSpot, is_spot, rank, number, spot_address, spot_cycle, IsShape, RingView, declared, floor_number, is_way_given, is_border, is_target, spots_between, target, is_reached, may_move_to, is_move, RingKeeps, rank_least, rank_most, same_spot, found_is, between, move_reached}
 use Rattle.safety.proofs.LookedRing.{way_crossed}
 
 -- among the spots of a range of numbers one that passes is found, if there is one
@@ -57,9 +57,8 @@ target_is shape address cycle t is =
 -- the way to a block up to which all is given is given
 way_reached : (shape : Shape) (v : RingView) (t : Spot) → IsSpot shape t → floor_number v ≤ number t → is_reached shape v t ≡ true → (q : ℕ) → t ≡ Data q → is_way_given shape v q ≡ true
 way_reached shape v t is later reached q e =
-    let may = move_reached shape v t is later reached in
     elim (cases_Bool (is_spot shape (Link q))) [
-      | inl crossing ↦ let at : rank t ≡ 2 * q + 1 = ap rank e in way_crossed shape v q (may.passed_links q crossing (omega arith))
+      | inl crossing ↦ let at : rank t ≡ 2 * q + 1 = ap rank e in way_crossed shape v q ((move_reached shape v t is later reached).passed_links q crossing (omega arith))
       | inr none ↦ way_without shape v q none
     ]
 

@@ -29,10 +29,9 @@ module _ (h : Header) (is : IsHeader h) where
       let there = found_in (λ x. is_transfer_kind x.shape.kind && is_inside x.shape p) h.rings found.0 found.1 in
       let has : is_inside found.0.shape p ≡ true = (and_parts (is_transfer_kind found.0.shape.kind) (is_inside found.0.shape p) there.1).1 in
       let mine = found_in (λ x. x.id == r) h.rings transfer.ring transfer.found in
-      let id : transfer.ring.id ≡ r = eqb-true transfer.ring.id r mine.1 in
       let own : is_inside transfer.ring.shape p ≡ true = ap (λ s. is_inside s p) (sym (shape_is h r transfer.ring transfer.found)) ∙ inside in
       elim (together h.rings found.0 transfer.ring (header_parts h is).1 there.0 mine.0) [
-        | inl same ↦ sym found.2 ∙ ap (λ (x : Ring). x.id) same ∙ id
+        | inl same ↦ sym found.2 ∙ ap (λ (x : Ring). x.id) same ∙ (eqb-true transfer.ring.id r mine.1)
         | inr apart ↦ absurd (elim apart [
           | inl one ↦ clash_apart found.0 transfer.ring p one has own
           | inr other ↦ clash_apart transfer.ring found.0 p other own has
@@ -41,5 +40,4 @@ module _ (h : Header) (is : IsHeader h) where
 
   pub moved_having : (p r q : ℕ) (t : Spot) → IsTransferRing h r → IsSpot (shape_of h r) t → spot_address (shape_of h r) t ≡ p → ring_having h p ≡ Some q → q ≡ r
   moved_having p r q t transfer spot at found =
-      let inside = spot_inside (shape_of h r) (ring_shape h is r (transfer_driver h r transfer)).is t spot in
-      having_is p r q transfer (ap (λ a. is_inside (shape_of h r) a) (sym at) ∙ inside) found
+      having_is p r q transfer (ap (λ a. is_inside (shape_of h r) a) (sym at) ∙ (spot_inside (shape_of h r) (ring_shape h is r (transfer_driver h r transfer)).is t spot)) found

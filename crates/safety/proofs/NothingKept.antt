@@ -1,9 +1,7 @@
 -- Before the first row a driver keeps everything
-use Rattle.safety.proofs.Words.{[], arith, refl, rules, false≢true, none-some, slice_get_past, Header, IsHeader, nothing, known, CommandRingKeeps, StatesKeep, Unstarted, DriverKeeps, EndpointsKeep}
-use Rattle.safety.proofs.DriverRows.{nothing_keeps}
+use Rattle.safety.proofs.Words.{[], rules, false≢true, none-some, slice_get_past, Header, IsHeader, nothing, known, CommandRingKeeps, StatesKeep, Unstarted, DriverKeeps, EndpointsKeep}
+use Rattle.safety.proofs.LowerLaws.{nothing_keeps, driver_test, from_parts}
 use Rattle.safety.proofs.EndpointHistories.{keeps_endpoints}
-use Rattle.safety.proofs.DriverRings.{driver_test}
-use Rattle.safety.proofs.StatesParts.{from_parts}
 
 module _ (h : Header) where
   endpoints_at_start : IsHeader h → EndpointsKeep h nothing
@@ -25,20 +23,4 @@ module _ (h : Header) where
   -- nothing is known
   pub nothing_kept : IsHeader h → DriverKeeps h nothing
   unfolding nothing
-  nothing_kept is = record {
-    rings = λ r ring. nothing_keeps h is r (driver_test h r ring);
-    commands_stay = λ p. refl;
-    clean = λ r a ring word inside. refl;
-    command_ring = command_ring_at_start;
-    states = states_at_start is;
-    numbered = λ s i r at. absurd (none-some r at);
-    unstarted = λ before. unstarted_at_start;
-    crcr = λ v at. absurd (none-some v at);
-    crcr_written = λ started. absurd (false≢true started);
-    sized = λ written. absurd (false≢true written);
-    erstsz_written = λ started. absurd (false≢true started);
-    dequeued = omega arith;
-    read_room = λ some. absurd (omega arith);
-    devices = λ s d at. absurd (none-some d at);
-    unfinished = λ p c u. absurd (false≢true u.given);
-  }
+  nothing_kept is = search (rules, nothing_keeps, driver_test, command_ring_at_start, states_at_start, none-some, unstarted_at_start, false≢true)

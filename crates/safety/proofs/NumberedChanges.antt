@@ -1,7 +1,8 @@
 -- The endpoints that a command names have numbers of slots and endpoints, and so has each endpoint that a success gives a ring
-use Rattle.safety.proofs.Words.{◌≡◌, ◌+◌, ◌<◌, ◌≤◌, ◌==◌, ◌&&◌, if◌then◌else◌, ◌∷◌, ◌∙◌, ℕ, suc, zero, Bool, true, false, List, [], map, filter, Option, None, Some, arith, refl, sym, ap, subst, inl, inr, eqb-true, range_with_len, cond_both, and_parts, none-some, same_Some, Block, BlockKind, kind, endpoint, is_command_left_out, Spot, target, Command, NoOp, EnableSlot, DisableSlot, AddressDevice, ConfigureEndpoint, EvaluateContext, ResetEndpoint, StopEndpoint, SetTrDequeue, ResetDevice, Stopped, is_off, command_by_kind, command_of, Change, SlotGoesOn, DeviceLeft, Disables, Places, Stops, Resets, changes, placed_by_context, ContextSize, input_add_flag, added_endpoints, Header, shape_of, ring_having, Known, on_ring, set_to, bound_to, moved_to, moved, pointed, disabled, in_state, held_at_ceiling, changed_by, changed_by_all}
+use Rattle.safety.proofs.Words.{[], ◌≡◌, ◌+◌, ◌<◌, ◌≤◌, ◌==◌, ◌&&◌, if◌then◌else◌, ◌∷◌, ◌∙◌, ℕ, suc, zero, Bool, true, false, List, map, filter, Option, None, Some, arith, refl, sym, ap, subst, inl, inr, eqb-true, range_with_len, cond_both, and_parts, none-some, same_Some, Block, BlockKind, kind, endpoint, is_command_left_out, Command, NoOp, DisableSlot, AddressDevice, ConfigureEndpoint, EvaluateContext, SetTrDequeue, ResetDevice, Stopped, is_off, command_by_kind, command_of, Change, SlotGoesOn, DeviceLeft, Disables, Places, Stops, Resets, changes, placed_by_context, ContextSize, input_add_flag, added_endpoints, Header, ring_having, Known, bound_to, moved, pointed, disabled, in_state, held_at_ceiling, changed_by, changed_by_all}
 use Rattle.trb.specs.declared.kind.BlockKind.TheVariants as kinds
 use Rattle.safety.proofs.LookKinds.{cond_is}
+use Rattle.safety.proofs.Endpoints.{moved_rings, held_rings}
 use Rattle.safety.proofs.FinishChanges.{AreNumbered}
 use Rattle.safety.proofs.WrittenKnown.{slot_low}
 
@@ -70,19 +71,6 @@ changes_numbered size memory n _ c = (tt, tt)
 -- ---- what is known behind it
 
 module _ (h : Header) where
-  set_ring_of : (k : Known) (r : ℕ) (t : Spot) → (set_to h k r t).ring_of ≡ k.ring_of
-  unfolding set_to on_ring
-  set_ring_of k r t = refl
-
-  moved_ring_of : (k : Known) (o : Option ℕ) (p : ℕ) (cycle : Bool) → (moved h k o p cycle).ring_of ≡ k.ring_of
-  unfolding moved moved_to
-  moved_ring_of k None p cycle = refl
-  moved_ring_of k (Some r) p cycle = by (target (shape_of h r) (k.ring r) p cycle)
-    where
-      by : (o : Option Spot) → (moved_to h k r o).ring_of ≡ k.ring_of
-      by None = refl
-      by (Some t) = set_ring_of k r t
-
   pub same_numbered : (k l : Known) → l.ring_of ≡ k.ring_of → AreNumbered k → AreNumbered l
   same_numbered k l same all s i r at = all s i r (ap (λ (f : ℕ → ℕ → Option ℕ). f s i) (sym same) ∙ at)
 
@@ -103,12 +91,7 @@ module _ (h : Header) where
   pointed_numbered k all s i p cycle fits =
       cond_both (is_off (k.endpoint_state s i)) (bound_to h k s i (ring_having h p) p cycle) (moved h k (k.ring_of s i) p cycle) AreNumbered
       (λ off. bound_numbered k all s i (ring_having h p) p cycle fits)
-      (λ on. same_numbered k (moved h k (k.ring_of s i) p cycle) (moved_ring_of k (k.ring_of s i) p cycle) all)
-
-  held_ring_of : (k : Known) (o : Option ℕ) → (held_at_ceiling h k o).ring_of ≡ k.ring_of
-  unfolding held_at_ceiling on_ring
-  held_ring_of k None = refl
-  held_ring_of k (Some r) = refl
+      (λ on. same_numbered k (moved h k (k.ring_of s i) p cycle) (moved_rings h k (k.ring_of s i) p cycle) all)
 
   change_numbered : (c : Command) (k : Known) (change : Change) → AreNumbered k → PlacesNumbered change → AreNumbered (changed_by h c k change)
   unfolding changed_by disabled in_state
@@ -120,7 +103,7 @@ module _ (h : Header) where
       same_numbered (pointed h k s i p cycle) (changed_by h c k (Places s i p cycle state)) refl (pointed_numbered k all s i p cycle fits)
   change_numbered c k (Stops s i) all fits =
       let l : Known = in_state h k s i Stopped in
-      same_numbered k (held_at_ceiling h l (k.ring_of s i)) (held_ring_of l (k.ring_of s i)) all
+      same_numbered k (held_at_ceiling h l (k.ring_of s i)) (held_rings h l (k.ring_of s i)) all
   change_numbered c k (Resets s i) all fits = same_numbered k (in_state h k s i Stopped) refl all
 
   pub all_numbered : (c : Command) (k : Known) (l : List Change) → AreNumbered k → AllNumbered l → AreNumbered (changed_by_all h c k l)

@@ -1,5 +1,5 @@
 -- A world in which one ring alone has changed: all else that is said of it stays
-use Rattle.safety.proofs.Words.{◌≡◌, ◌≢◌, ◌+◌, ◌*◌, ◌∙◌, ℕ, true, false, List, length, Option, Some, None, arith, sym, ap, subst, inl, inr, rules, cases_eq, false≢true, none-some, Block, block_at, address_of, named_context, Header, shape_of, command_id, event_shape, World, Known, DriverKeeps, Stands, EventsStand, RingState, state_of, RingMatches, BoundRing, FreeRing, EndpointRing, CommandMatches, UnderWayMatches, IsUnchanged, Matches}
+use Rattle.safety.proofs.Words.{◌≡◌, ◌≢◌, ◌+◌, ◌*◌, ◌∙◌, ℕ, true, false, List, length, Option, Some, None, arith, sym, ap, subst, inl, inr, rules, false≢true, none-some, Block, block_at, address_of, named_context, Header, shape_of, command_id, event_shape, World, Known, DriverKeeps, Stands, EventsStand, RingState, state_of, BoundRing, FreeRing, EndpointRing, CommandMatches, IsUnchanged, Matches}
 use Rattle.world_state.specs.World.{event_at}
 use Rattle.safety.proofs.Stored.{Late}
 
@@ -50,26 +50,7 @@ module _ (h : Header) (k : Known) (w v : World) (r : ℕ) (s : RingState) (o : O
   -- where an endpoint's ring has changed
   pub matches_transfer : DriverKeeps h k → Matches h k w → r ≢ command_id h → BoundRing (shape_of h r) k.ring_of (k.ring r) s r →
       v.under_way ≡ w.under_way → v.scribbles ≡ w.scribbles → v.looked_outside ≡ false → Matches h k v
-  matches_transfer d m other bound under scribbles inside =
-      let command_same : state_of v (command_id h) ≡ state_of w (command_id h) = o.others (command_id h) (λ e. other (sym e)) in
-      record {
-        slots = λ q. ap (λ f. f q) o.slot_state ∙ m.slots q;
-        endpoints = λ q i. ap (λ f. f q i) o.endpoint_state ∙ m.endpoints q i;
-        ring_of = λ q i. ap (λ f. f q i) o.ring_of ∙ m.ring_of q i;
-        rings = λ q not_command. elim (cases_eq q r) [
-          | inl same ↦ subst (λ x. EndpointRing h k v x) (sym same) (inl (subst (λ x. BoundRing (shape_of h r) k.ring_of (k.ring r) x r) (sym o.here) bound))
-          | inr apart ↦ other_ring q apart (m.rings q not_command)
-        ];
-        before = λ off. absurd (none-some r (sym ((d.unstarted off).rings bound.slot bound.index) ∙ bound.bound));
-        command = λ on. let c = m.command on in record {
-          spot = c.spot;
-          ring = subst (λ x. RingMatches (shape_of h (command_id h)) (k.ring (command_id h)) x c.spot) (sym command_same) c.ring;
-          under_way = subst (λ x. UnderWayMatches h k c.spot x) (sym under) c.under_way;
-        };
-        scribbles = λ q on. m.scribbles q (ap (λ f. f q) (sym scribbles) ∙ on);
-        contexts = λ p c u. unchanged_only (address_of (shape_of h (command_id h)) p) (named_context c) (m.contexts p c u);
-        inside = inside;
-      }
+  matches_transfer d m other bound under scribbles inside = search (rules, shape_of, other_ring, none-some, command_id, unchanged_only, address_of, named_context)
 
   -- where the command ring has
   pub matches_command : Matches h k w → r ≡ command_id h → k.started ≡ true → CommandMatches h k v →

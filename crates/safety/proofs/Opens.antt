@@ -1,6 +1,5 @@
 -- Before the first row: nothing is known, nothing is posted, and the opening world agrees with that
-use Rattle.safety.proofs.Words.{◌≡◌, ◌≤◌, ℕ, false, List, [], arith, refl, rules, false≢true, All-nil, none-some, IsBlock, Header, Row, opening, nothing, Stands, EventsStand, Matches, Runs, next_take, ceiling}
-use Rattle.world_state.specs.Harms as of_harms
+use Rattle.safety.proofs.Words.{[], ◌≡◌, ◌≤◌, ℕ, false, List, arith, refl, rules, false≢true, All-nil, none-some, IsBlock, Header, Row, opening, nothing, Stands, EventsStand, Matches, Runs, next_take, ceiling, has_other_words, is_out_of_order}
 
 module _ (h : Header) (rows : List Row) where
   stands : Stands h nothing (opening rows)
@@ -12,7 +11,7 @@ module _ (h : Header) (rows : List Row) where
   events = search (rules, none-some)
 
   matches : Matches h nothing (opening rows)
-  unfolding nothing opening of_harms.is_out_of_order of_harms.has_other_words next_take ceiling
+  unfolding nothing opening is_out_of_order has_other_words next_take ceiling
   matches = search (rules, none-some, false≢true)
 
   stamps : (a : ℕ) → (opening rows).changed a ≤ (opening rows).steps

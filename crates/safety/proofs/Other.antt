@@ -1,10 +1,7 @@
 -- An event of the controller itself is posted: the run goes on
-use Rattle.safety.proofs.Words.{◌≡◌, ◌+◌, ◌&&◌, ◌||◌, ◌∷◌, ◌++◌, ◌∙◌, true, false, not, List, [], Some, sym, ap, subst, refl, false≢true, and_parts, and_left, or_right, cond_some, Block, BlockKind, IsBlock, kind, is_transfer_event, is_command_completion, is_other_event, Header, Read, IsHeader, World, can_post, posted, other_posted, counted, Known, event_read, learned, is_in_profile, is_impossible_by_kind, DriverKeeps, Agrees, Runs, all_read}
-use Rattle.trb.specs.declared.kind.BlockKind.TheVariants as kinds
-use Rattle.safety.proofs.Counted.{agrees_counted}
-use Rattle.safety.proofs.WithReads.{with_reads, stands_with_reads, matches_with_reads}
-use Rattle.safety.proofs.Posted.{post_keeps}
-use Rattle.safety.proofs.EventRead.{learned_read, event_clean, blocks_more, possible_more, read_more}
+use Rattle.safety.proofs.Words.{[], ◌≡◌, ◌+◌, ◌&&◌, ◌||◌, ◌∷◌, ◌++◌, ◌∙◌, true, false, not, List, Some, sym, ap, subst, refl, false≢true, and_parts, and_left, or_right, cond_some, Block, BlockKind, IsBlock, kind, is_transfer_event, is_command_completion, is_other_event, Header, Read, IsHeader, World, can_post, posted, other_posted, counted, Known, event_read, learned, is_in_profile, is_impossible_by_kind, DriverKeeps, Agrees, Runs, all_read, BandwidthRequest, DeviceNotification, Doorbell, HostController, MfindexWrap, PortStatusChange}
+use Rattle.safety.proofs.LowerLaws.{agrees_counted, with_reads, stands_with_reads, matches_with_reads, post_keeps, learned_read, event_clean}
+use Rattle.safety.proofs.ReportSuccess.{runs_more}
 
 -- what such an event says
 pub record SaysNothing (h : Header) (k : Known) (b : Block) (t : BlockKind) : Type 0 where
@@ -14,12 +11,12 @@ pub record SaysNothing (h : Header) (k : Known) (b : Block) (t : BlockKind) : Ty
 
 pub says_nothing : (h : Header) (k : Known) (b : Block) (t : BlockKind) → is_other_event t ≡ true → SaysNothing h k b t
 unfolding event_read is_impossible_by_kind
-says_nothing h k b kinds.PortStatusChange other = record { read = refl; possible = refl; no_transfer = refl }
-says_nothing h k b kinds.BandwidthRequest other = record { read = refl; possible = refl; no_transfer = refl }
-says_nothing h k b kinds.Doorbell other = record { read = refl; possible = refl; no_transfer = refl }
-says_nothing h k b kinds.HostController other = record { read = refl; possible = refl; no_transfer = refl }
-says_nothing h k b kinds.DeviceNotification other = record { read = refl; possible = refl; no_transfer = refl }
-says_nothing h k b kinds.MfindexWrap other = record { read = refl; possible = refl; no_transfer = refl }
+says_nothing h k b PortStatusChange other = record { read = refl; possible = refl; no_transfer = refl }
+says_nothing h k b BandwidthRequest other = record { read = refl; possible = refl; no_transfer = refl }
+says_nothing h k b Doorbell other = record { read = refl; possible = refl; no_transfer = refl }
+says_nothing h k b HostController other = record { read = refl; possible = refl; no_transfer = refl }
+says_nothing h k b DeviceNotification other = record { read = refl; possible = refl; no_transfer = refl }
+says_nothing h k b MfindexWrap other = record { read = refl; possible = refl; no_transfer = refl }
 says_nothing h k b _ other = absurd (false≢true other)
 
 posted_is : (h : Header) (w v : World) (b : Block) → other_posted h w b ≡ Some v → (can_post h w b ≡ true) × (is_other_event (kind b) ≡ true) × (posted h w b ≡ v)
@@ -49,11 +46,9 @@ other_runs h is now w v b block running r d at =
     let none = event_clean h k w b r.agrees.stands r.agrees.read running keeps.can keeps.room
     (or_right (is_transfer_event (kind b) || is_command_completion (kind b)) (is_other_event (kind b)) p.1) s.possible
     (and_left (is_transfer_event (kind b)) (not (is_in_profile b)) s.no_transfer) in
-    record {
-      unread = r.unread ++ b ∷ [];
-      possible = possible_more h r.unread now b r.possible none;
-      blocks = blocks_more r.unread b r.blocks block;
-      on = r.on;
-      agrees = subst (λ m. Agrees h m (r.unread ++ b ∷ []) (counted h v)) (sym (read_more h r.unread now b ∙ learned_same h is k r.unread w b block d r.agrees p.0 p.1))
+    runs_more h now w v b block r
+    (record {
+      clean = none;
+      agrees = subst (λ m. Agrees h m (r.unread ++ b ∷ []) (counted h v)) (sym (learned_same h is k r.unread w b block d r.agrees p.0 p.1))
           (subst (λ u. Agrees h (with_reads k (k.reads + 1)) (r.unread ++ b ∷ []) (counted h u)) p.2 (agrees_other h is k r.unread w b block d r.agrees p.0 p.1));
-    }
+    })

@@ -1,5 +1,5 @@
 -- The success of a command leaves other slots, and the rings that it doesn't name; one of an endpoint leaves the slot's other endpoints too
-use Rattle.safety.proofs.Words.{◌≡◌, ◌==◌, ◌&&◌, ◌∷◌, ◌∙◌, ℕ, Bool, true, false, List, [], Option, None, Some, refl, sym, ap, subst, ne_eqb, cond_both, cond-false, and_left, none-some, put_pair, Spot, number, RingChange, Reaches, Holds, ceiling, target, Command, EndpointState, Off, Stopped, is_off, Change, SlotGoesOn, DeviceLeft, Disables, Places, Stops, Resets, Header, shape_of, ring_having, Known, on_ring, set_to, bound_to, moved_to, moved, pointed, disabled, in_state, held_at_ceiling, changed_by, changed_by_all}
+use Rattle.safety.proofs.Words.{[], ◌≡◌, ◌∷◌, ℕ, Bool, true, false, List, Option, None, Some, refl, sym, subst, ne_eqb, cond_both, cond-false, and_left, none-some, put_pair, Spot, number, RingChange, Reaches, Holds, ceiling, target, Command, EndpointState, Stopped, is_off, Change, SlotGoesOn, DeviceLeft, Disables, Places, Stops, Resets, Header, shape_of, ring_having, Known, on_ring, set_to, bound_to, moved_to, moved, pointed, disabled, in_state, held_at_ceiling, changed_by, changed_by_all, rules}
 use Rattle.safety.proofs.DriverRows.{ring_elsewhere}
 use Rattle.safety.proofs.EndpointPut.{at_pair, at_number}
 
@@ -24,28 +24,10 @@ module _ (s : ℕ) (part : Option ℕ) (B : ℕ → Type 0) where
   Within k = (i r : ℕ) → IsPart part i → k.ring_of s i ≡ Some r → B r
 
   pub same_others : (k : Known) → Within k → OtherSlots k k s part B
-  same_others k within = record {
-    device = λ t other. refl;
-    fewer = λ t e at. at;
-    slot_state = λ t other. refl;
-    states = λ t i other. refl;
-    ring_of = λ t i other. refl;
-    within = within;
-    was_bound = λ r out. refl;
-    rings = λ r out. refl;
-  }
+  same_others k within = search rules
 
   pub both_others : (k l m : Known) → OtherSlots k l s part B → OtherSlots l m s part B → OtherSlots k m s part B
-  both_others k l m a b = record {
-    device = λ t other. b.device t other ∙ a.device t other;
-    fewer = λ t e at. a.fewer t e (b.fewer t e at);
-    slot_state = λ t other. b.slot_state t other ∙ a.slot_state t other;
-    states = λ t i other. b.states t i other ∙ a.states t i other;
-    ring_of = λ t i other. b.ring_of t i other ∙ a.ring_of t i other;
-    within = b.within;
-    was_bound = λ r out. b.was_bound r out ∙ a.was_bound r out;
-    rings = λ r out. b.rings r out ∙ a.rings r out;
-  }
+  both_others k l m a b = search rules
 
   part_is : (i j : ℕ) → IsPart part i → j ≡ i → IsPart part j
   part_is i j mine same = subst (λ x. IsPart part x) (sym same) mine
@@ -57,16 +39,7 @@ module _ (s : ℕ) (part : Option ℕ) (B : ℕ → Type 0) where
     -- a ring of which B holds
     pub on_others : (k : Known) → Within k → (r : ℕ) (change : RingChange) → B r → OtherSlots k (on_ring h k r change) s part B
     unfolding on_ring
-    on_others k within r change named = record {
-      device = λ t other. refl;
-      fewer = λ t e at. at;
-      slot_state = λ t other. refl;
-      states = λ t i other. refl;
-      ring_of = λ t i other. refl;
-      within = within;
-      was_bound = λ q out. refl;
-      rings = λ q out. ring_elsewhere h k r q change (λ same. out (subst B (sym same) named));
-    }
+    on_others k within r change named = search (rules, ring_elsewhere)
 
     on_within : (k : Known) → Within k → (r : ℕ) (change : RingChange) → Within (on_ring h k r change)
     unfolding on_ring
@@ -88,16 +61,7 @@ module _ (s : ℕ) (part : Option ℕ) (B : ℕ → Type 0) where
     bound_others k within i mine None p cycle named = same_others k within
     bound_others k within i mine (Some r) p cycle named =
         let set : OtherSlots k (moved_to h k r (target (shape_of h r) (k.ring r) p cycle)) s part B = target_others k within r (target (shape_of h r) (k.ring r) p cycle) (named r refl) in
-        record {
-          device = set.device;
-          fewer = set.fewer;
-          slot_state = set.slot_state;
-          states = set.states;
-          ring_of = λ t j other. at_pair (λ o. o ≡ k.ring_of t j) k.ring_of s i (Some r) t j (λ a b. absurd (other a (part_is i j mine b))) (λ apart. refl);
-          within = λ j q its. at_pair (λ o. o ≡ Some q → B q) k.ring_of s i (Some r) s j (λ a b at. named q at) (λ apart at. within j q its at);
-          was_bound = λ q out. at_number (λ x. x ≡ k.was_bound q) k.was_bound r true q (λ same. absurd (out (named q (ap (λ n. Some n) (sym same))))) (λ apart. refl);
-          rings = set.rings;
-        }
+        search (rules, at_pair, part_is, at_number)
 
     moved_others : (k : Known) → Within k → (i p : ℕ) → IsPart part i → (cycle : Bool) (o : Option ℕ) → k.ring_of s i ≡ o → OtherSlots k (moved h k o p cycle) s part B
     unfolding moved
@@ -113,16 +77,7 @@ module _ (s : ℕ) (part : Option ℕ) (B : ℕ → Type 0) where
 
     state_others : (k : Known) → Within k → (i : ℕ) → IsPart part i → (state : EndpointState) → OtherSlots k (in_state h k s i state) s part B
     unfolding in_state
-    state_others k within i mine state = record {
-      device = λ t other. refl;
-      fewer = λ t e at. at;
-      slot_state = λ t other. refl;
-      states = λ t j other. at_pair (λ e. e ≡ k.endpoint_state t j) k.endpoint_state s i state t j (λ a b. absurd (other a (part_is i j mine b))) (λ apart. refl);
-      ring_of = λ t j other. refl;
-      within = within;
-      was_bound = λ r out. refl;
-      rings = λ r out. refl;
-    }
+    state_others k within i mine state = search (rules, at_pair, part_is)
 
     held_others : (k : Known) → Within k → (i : ℕ) → IsPart part i → (o : Option ℕ) → k.ring_of s i ≡ o → OtherSlots k (held_at_ceiling h k o) s part B
     unfolding held_at_ceiling
@@ -130,8 +85,7 @@ module _ (s : ℕ) (part : Option ℕ) (B : ℕ → Type 0) where
     held_others k within i mine (Some r) at = on_others k within r (Holds (ceiling (shape_of h r) (k.ring r))) (within i r mine at)
 
     must_others : (k l : Known) (f : ℕ → ℕ → Bool) → OtherSlots k l s part B → OtherSlots k (let m : Known = record l { must_move = f } in m) s part B
-    must_others k l f o =
-        record { device = o.device; fewer = o.fewer; slot_state = o.slot_state; states = o.states; ring_of = o.ring_of; within = o.within; was_bound = o.was_bound; rings = o.rings }
+    must_others k l f o = search rules
 
     -- a change of slot s, which binds rings of which B holds
     abbrev pub ChangesOnly : Known → Change → Type 0
@@ -144,42 +98,15 @@ module _ (s : ℕ) (part : Option ℕ) (B : ℕ → Type 0) where
 
     goes_on : (c : Command) (k : Known) → Within k → part ≡ None → OtherSlots k (changed_by h c k (SlotGoesOn s)) s part B
     unfolding changed_by
-    goes_on c k within whole = record {
-      device = λ t other. refl;
-      fewer = λ t e at. at;
-      slot_state = λ t other. at_number (λ x. x ≡ k.slot_state t) k.slot_state s _ t (λ same. absurd (other same whole)) (λ apart. refl);
-      states = λ t j other. refl;
-      ring_of = λ t j other. refl;
-      within = within;
-      was_bound = λ r out. refl;
-      rings = λ r out. refl;
-    }
+    goes_on c k within whole = search (rules, at_number)
 
     leaves_device : (c : Command) (k : Known) → Within k → part ≡ None → OtherSlots k (changed_by h c k (DeviceLeft s)) s part B
     unfolding changed_by
-    leaves_device c k within whole = record {
-      device = λ t other. at_number (λ x. x ≡ k.device t) k.device s None t (λ same. absurd (other same whole)) (λ apart. refl);
-      fewer = λ t e. at_number (λ x. x ≡ Some e → k.device t ≡ Some e) k.device s None t (λ same at. absurd (none-some e at)) (λ apart at. at);
-      slot_state = λ t other. refl;
-      states = λ t j other. refl;
-      ring_of = λ t j other. refl;
-      within = within;
-      was_bound = λ r out. refl;
-      rings = λ r out. refl;
-    }
+    leaves_device c k within whole = search (rules, at_number, none-some)
 
     disables : (c : Command) (k : Known) (which : ℕ → Bool) → Within k → part ≡ None → OtherSlots k (changed_by h c k (Disables s which)) s part B
     unfolding changed_by disabled
-    disables c k which within whole = record {
-      device = λ t other. refl;
-      fewer = λ t e at. at;
-      slot_state = λ t other. refl;
-      states = λ t j other. cond-false (t == s && which j) Off (k.endpoint_state t j) (and_left (t == s) (which j) (ne_eqb t s (λ same. other same (all_part j whole))));
-      ring_of = λ t j other. cond-false (t == s && which j) None (k.ring_of t j) (and_left (t == s) (which j) (ne_eqb t s (λ same. other same (all_part j whole))));
-      within = λ j r mine. cond_both (s == s && which j) None (k.ring_of s j) (λ o. o ≡ Some r → B r) (λ off at. absurd (none-some r at)) (λ on at. within j r mine at);
-      was_bound = λ r out. refl;
-      rings = λ r out. refl;
-    }
+    disables c k which within whole = search (rules, cond-false, and_left, ne_eqb, all_part, cond_both, none-some)
 
     places : (c : Command) (k : Known) (i p : ℕ) (cycle : Bool) (state : EndpointState) → Within k → IsPart part i →
         (is_off (k.endpoint_state s i) ≡ true → (r : ℕ) → ring_having h p ≡ Some r → B r) → OtherSlots k (changed_by h c k (Places s i p cycle state)) s part B

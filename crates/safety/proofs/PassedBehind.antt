@@ -31,11 +31,9 @@ module _ (shape : Shape) (memory : ℕ → ℕ) (v u : RingView) (b : RingBehind
     no_flips_behind none =
         false_from_ne_true (flips_passed shape u a w) (λ flips.
         let found = some_of (λ p. nat_lt p (ceiling shape u) && aims p && turns p) (unrestored shape u) flips in
-        let before : IsIn found.0 (unrestored shape v) = unrestored_before found.0 found.1 in
         let parts = and_parts (nat_lt found.0 (ceiling shape u) && aims found.0) (turns found.0) found.2 in
         let both = and_parts (nat_lt found.0 (ceiling shape u)) (aims found.0) parts.0 in
-        let free : u.free found.0 ≡ true = free_there found.0 found.1 in
-        let below : found.0 < ceiling shape v = (passes found.0 free).1 (ltb-true found.0 (ceiling shape u) both.0) in
-        false≢true (sym none ∙ any_of (λ p. nat_lt p (ceiling shape v) && aims p && turns p) (unrestored shape v) found.0 before
+        let below : found.0 < ceiling shape v = (passes found.0 (free_there found.0 found.1)).1 (ltb-true found.0 (ceiling shape u) both.0) in
+        false≢true (sym none ∙ any_of (λ p. nat_lt p (ceiling shape v) && aims p && turns p) (unrestored shape v) found.0 (unrestored_before found.0 found.1)
         (and_from (nat_lt found.0 (ceiling shape v) && aims found.0) (turns found.0)
         (and_from (nat_lt found.0 (ceiling shape v)) (aims found.0) (lt-ltb found.0 (ceiling shape v) below) both.1) parts.1)))

@@ -1,10 +1,7 @@
 -- A command's success places the rings of several endpoints, one after the other
-use Rattle.safety.proofs.Words.{◌≡◌, ◌≢◌, ◌<◌, ◌==◌, ◌&&◌, ◌∷◌, ◌∙◌, ℕ, Bool, false, List, [], map, All, Option, Some, refl, sym, ap, get_or, eq-eqb, ne_eqb, None, list_any, and_right, or_parts, cond-false, false≢true, All-head, All-tail, Command, Running, Change, Places, placed_by_context, context_pointer, context_cycle, Header, IsHeader, is_ring, World, Known, is_among, has_repeats}
-use Rattle.ring_knowledge.specs.Completions as completions
-use Rattle.safety.proofs.TestsPassed.{each_fails, any_of_map}
-use Rattle.safety.proofs.Placings.{ReadyAt, BoundThere, ring_at, ready_next, placed_there}
+use Rattle.safety.proofs.Words.{[], ◌≡◌, ◌≢◌, ◌<◌, ◌==◌, ◌&&◌, ◌∷◌, ◌∙◌, ℕ, Bool, false, List, map, All, Option, Some, refl, sym, ap, get_or, eq-eqb, ne_eqb, None, list_any, and_right, or_parts, cond-false, false≢true, All-head, All-tail, Command, Running, Change, Places, placed_by_context, context_pointer, context_cycle, Header, IsHeader, is_ring, World, Known, is_among, has_repeats, changed_by}
+use Rattle.safety.proofs.LowerLaws.{each_fails, any_of_map, ReadyAt, BoundThere, ring_at, ready_next, placed_there, StatesMatch}
 use Rattle.safety.proofs.PlaceKeeps.{bind_keeps}
-use Rattle.safety.proofs.FinishChanges.{StatesMatch}
 use Rattle.safety.proofs.FinishGiven.{ListKeeps, nothing_keeps, change_then}
 
 module _ (h : Header) (is : IsHeader h) (memory : ℕ → ℕ) (s a : ℕ) where
@@ -29,7 +26,7 @@ module _ (h : Header) (is : IsHeader h) (memory : ℕ → ℕ) (s a : ℕ) where
         let p : ℕ = context_pointer h.context_size memory a i in
         let cycle : Bool = context_cycle h.context_size memory a i in
         let change : Change = Places s i p cycle Running in
-        let n : Known = completions.changed_by h c l change in
+        let n : Known = changed_by h c l change in
         let parts = or_parts (is_among (map (ring_at h is memory a) rest) (ring_at h is memory a i)) (has_repeats (map (ring_at h is memory a) rest)) apart in
         let missing : list_any (is_ring first.ring) (map (ring_at h is memory a) rest) ≡ false = sym (ap (is_among (map (ring_at h is memory a) rest)) first.named) ∙ parts.0 in
         let others : All (λ j. is_ring first.ring (ring_at h is memory a j) ≡ false) rest =

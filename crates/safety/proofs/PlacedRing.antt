@@ -1,5 +1,5 @@
 -- A ring whose dequeue pointer is set to a spot: what the pointer names, and the ring behind it
-use Rattle.safety.proofs.Words.{◌≡◌, ◌+◌, ◌-◌, ◌<◌, ◌≤◌, ◌==◌, ◌&&◌, ◌∷◌, ℕ, true, false, List, length, map, Some, arith, refl, ap, inl, inr, eq-eqb, eqb-true, rules, false≢true, false_from_ne_true, or_cases, or_left, or_right, and_parts, and_from, drop_all, Spot, Data, Link, Shape, place_count, address_of, is_crossing, link_address, IsSpot, number, spot_address, spot_cycle, IsShape, is_border, RingView, is_way_given, rank_least, rank_most, same_spot, RingEvent, Placed, takes_of, is_place, first_at, next_take, is_out_of_order, has_other_words, first_at-found, RingState, RingMatches, Unreported}
+use Rattle.safety.proofs.Words.{◌≡◌, ◌+◌, ◌<◌, ◌≤◌, ◌==◌, ◌&&◌, ◌∷◌, ℕ, true, false, List, length, map, Some, arith, refl, ap, inl, inr, eq-eqb, eqb-true, rules, false≢true, false_from_ne_true, or_cases, or_left, or_right, and_parts, and_from, drop_all, Spot, Data, Link, Shape, place_count, address_of, is_crossing, link_address, IsSpot, number, spot_address, spot_cycle, IsShape, is_border, RingView, is_way_given, rank_least, rank_most, same_spot, RingEvent, Placed, takes_of, is_place, first_at, next_take, is_out_of_order, has_other_words, first_at-found, RingState, RingMatches, Unreported}
 use Rattle.safety.proofs.NoWait.{ceiling_held}
 
 -- the pointer is known to be at a spot, and the ring is held there

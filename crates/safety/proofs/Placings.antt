@@ -1,5 +1,5 @@
 -- A command of which what was tested still holds places endpoints where it may
-use Rattle.safety.proofs.Words.{◌≡◌, ◌≢◌, ◌<◌, ◌≤◌, ◌==◌, ◌&&◌, ◌||◌, if◌then◌else◌, ◌∷◌, ◌∙◌, ℕ, Bool, true, false, List, [], map, length, All, Option, None, Some, arith, refl, sym, ap, get_or, eq-eqb, ne_eqb, inl, subst, inr, rules, EndpointRestored, IsShape, IsShownTo, Shape, shown_where_restored, list_any, cases_Bool, cases_option, none-some, same_Some, cond-true, cond-false, and_from, and_right, or_parts, or_left, not-false, false≢true, All-head, All-tail, list_any_at, length-map, get_or-map, put_pair, Spot, number, RingView, RingKeeps, Reaches, Holds, is_placement, declared, floor_number, ceiling, target, is_move, is_reached, floor_given, given_count_declared, ceiling_within, move_target, added_endpoints, is_dropped, context_pointer, context_cycle, Command, NoOp, DisableSlot, AddressDevice, ConfigureEndpoint, EvaluateContext, SetTrDequeue, ResetDevice, EndpointState, Off, Running, is_off, is_at_rest, Change, SlotGoesOn, Disables, Places, changes, placed_by_context, Header, IsHeader, shape_of, is_ring, ring_having, Known, on_ring, set_to, bound_to, moved_to, moved, pointed, disabled, in_state, changed_by, Binding, drops, is_placed, is_among, has_repeats, binding_in, binds, ring_bound, binds_ring, is_bad_dequeue, is_bad_move, RingsKeep, EndpointsKeep, MayPoint, MayChangeAll, StillHolds}
+use Rattle.safety.proofs.Words.{[], ◌≡◌, ◌≢◌, ◌<◌, ◌≤◌, ◌==◌, ◌&&◌, ◌||◌, if◌then◌else◌, ◌∷◌, ◌∙◌, ℕ, Bool, true, false, List, map, length, All, Option, None, Some, arith, refl, sym, ap, get_or, eq-eqb, ne_eqb, subst, rules, EndpointRestored, IsShape, IsShownTo, Shape, shown_where_restored, list_any, cases_option, none-some, same_Some, cond-true, cond-false, and_from, and_right, or_parts, or_left, not-false, false≢true, All-head, All-tail, list_any_at, length-map, get_or-map, put_pair, Spot, number, RingView, RingKeeps, Reaches, Holds, is_placement, declared, floor_number, ceiling, target, is_move, is_reached, floor_given, given_count_declared, ceiling_within, move_target, added_endpoints, is_dropped, context_pointer, context_cycle, Command, NoOp, DisableSlot, AddressDevice, ConfigureEndpoint, EvaluateContext, SetTrDequeue, ResetDevice, EndpointState, Off, Running, is_off, is_at_rest, Change, SlotGoesOn, Disables, Places, changes, placed_by_context, Header, IsHeader, shape_of, is_ring, ring_having, Known, on_ring, set_to, bound_to, moved_to, moved, pointed, disabled, in_state, changed_by, Binding, drops, is_placed, is_among, has_repeats, binding_in, binds, ring_bound, binds_ring, is_bad_dequeue, is_bad_move, RingsKeep, EndpointsKeep, MayPoint, MayChangeAll, StillHolds}
 use Rattle.safety.specs.RingsKeep.{IsDriverRing}
 use Rattle.safety.proofs.TestsPassed.{each_fails, any_of_map}
 use Rattle.safety.proofs.RingsOfHeader.{shape_allowed}
@@ -113,14 +113,7 @@ module _ (h : Header) (is : IsHeader h) where
       let bound : binds_ring h k at.ring (AddressDevice s bsr n) ≡ true =
       ap (λ bs. list_any (λ b. is_ring at.ring (ring_bound h b)) bs) one
       ∙ or_left (is_ring at.ring (ring_bound h (binding_in h k n 1))) false (ap (is_ring at.ring) at.named ∙ eq-eqb at.ring at.ring refl) in
-      record {
-        off = off;
-        ring = at.ring;
-        named = at.named;
-        free = λ t j has. false≢true (still.unkept at.ring t j bound has);
-        keeps = (rings at.ring (having_driver (context_pointer h.context_size k.memory n 1) at.ring at.named));
-        placed = at.placed;
-      }
+      search (rules, false≢true, having_driver, context_pointer)
 
   address_points : (k : Known) → RingsKeep h k → EndpointsKeep h k → (s n : ℕ) (bsr : Bool) → StillHolds h k (AddressDevice s bsr n) →
       MayPoint h k s 1 (context_pointer h.context_size k.memory n 1) (context_cycle h.context_size k.memory n 1)
@@ -165,8 +158,7 @@ module _ (h : Header) (is : IsHeader h) where
 
   pub pointed_is : (l : Known) (s i p r : ℕ) (cycle : Bool) → is_off (l.endpoint_state s i) ≡ true → ring_having h p ≡ Some r → pointed h l s i p cycle ≡ bound_to h l s i (Some r) p cycle
   unfolding pointed
-  pointed_is l s i p r cycle off at =
-      cond-true (is_off (l.endpoint_state s i)) (bound_to h l s i (ring_having h p) p cycle) (moved h l (l.ring_of s i) p cycle) off ∙ ap (λ o. bound_to h l s i o p cycle) at
+  pointed_is l s i p r cycle off at = search (rules, cond-true, is_off, bound_to, ring_having, moved)
 
   set_elsewhere : (l : Known) (r q : ℕ) (t : Spot) → q ≢ r → (set_to h l r t).ring q ≡ l.ring q
   unfolding set_to
@@ -187,27 +179,10 @@ module _ (h : Header) (is : IsHeader h) where
   pub ready_next : (c : Command) (l : Known) (memory : ℕ → ℕ) (s a i r j : ℕ) → is_off (l.endpoint_state s i) ≡ true → ring_at memory a i ≡ Some r → ReadyAt l memory s a j →
       is_ring r (ring_at memory a j) ≡ false → ReadyAt (changed_by h c l (placed_by_context h.context_size memory s a i)) memory s a j
   ready_next c l memory s a i r j off at ready apart =
-      let p : ℕ = context_pointer h.context_size memory a i in
-      let cycle : Bool = context_cycle h.context_size memory a i in
-      let m : Known = changed_by h c l (placed_by_context h.context_size memory s a i) in
       let other : j ≢ i = λ same. false≢true (sym apart ∙ ap (is_ring r) (ap (ring_at memory a) same ∙ at) ∙ eq-eqb r r refl) in
       let not_r : ready.ring ≢ r = λ same. false≢true (sym apart ∙ ap (is_ring r) ready.named ∙ eq-eqb ready.ring r same) in
-      let there : BoundThere l m s i r = placed_there c l s i p r cycle off at in
-      record {
-        off =
-            ap (λ (f : ℕ → ℕ → EndpointState). is_off (f s j)) there.states
-            ∙ ap is_off (cond-false (s == s && j == i) Running (l.endpoint_state s j) (and_right (s == s) (j == i) (ne_eqb j i other)))
-            ∙ ready.off;
-        ring = ready.ring;
-        named = ready.named;
-        free = λ t n has.
-            elim (cases_Bool (t == s && n == i)) [
-              | inl here ↦ not_r (sym (same_Some r ready.ring (sym (ap (λ (f : ℕ → ℕ → Option ℕ). f t n) there.ring_of ∙ cond-true (t == s && n == i) (Some r) (l.ring_of t n) here) ∙ has)))
-              | inr apart ↦ ready.free t n (sym (ap (λ (f : ℕ → ℕ → Option ℕ). f t n) there.ring_of ∙ cond-false (t == s && n == i) (Some r) (l.ring_of t n) apart) ∙ has)
-            ];
-        keeps = subst (λ v. RingKeeps (shape_of h ready.ring) memory v) (sym (there.rings ready.ring not_r)) ready.keeps;
-        placed = ap (λ v. is_placement (shape_of h ready.ring) v (context_pointer h.context_size memory a j) (context_cycle h.context_size memory a j)) (there.rings ready.ring not_r) ∙ ready.placed;
-      }
+      let there : BoundThere l (changed_by h c l (placed_by_context h.context_size memory s a i)) s i r = placed_there c l s i (context_pointer h.context_size memory a i) r (context_cycle h.context_size memory a i) off at in
+      search (rules, is_off, cond-false, and_right, ne_eqb, same_Some, cond-true, shape_of, is_placement, context_pointer, context_cycle)
 
   -- each in turn
   each_points : (c : Command) (memory : ℕ → ℕ) (s a : ℕ) (indices : List ℕ) (l : Known) → All (ReadyAt l memory s a) indices →
@@ -216,7 +191,6 @@ module _ (h : Header) (is : IsHeader h) where
   each_points c memory s a [] l ready apart = tt
   each_points c memory s a (i ∷ rest) l ready apart =
       let here : ReadyAt l memory s a i = All-head (ReadyAt l memory s a) i rest ready in
-      let later : All (ReadyAt l memory s a) rest = All-tail (ReadyAt l memory s a) i rest ready in
       let r : ℕ = here.ring in
       let parts = or_parts (is_among (map (ring_at memory a) rest) (ring_at memory a i)) (has_repeats (map (ring_at memory a) rest)) apart in
       let none : list_any (is_ring r) (map (ring_at memory a) rest) ≡ false = sym (ap (is_among (map (ring_at memory a) rest)) here.named) ∙ parts.0 in
@@ -225,7 +199,7 @@ module _ (h : Header) (is : IsHeader h) where
       let change : Change = placed_by_context h.context_size memory s a i in (
         ready_points l memory s i (context_pointer h.context_size memory a i) (context_cycle h.context_size memory a i) here,
         each_points c memory s a rest (changed_by h c l change)
-            (λ x d inside. ready_next c l memory s a i r (get_or rest x d) here.off here.named (later x d inside) (others x d inside)) parts.1,
+            (λ x d inside. ready_next c l memory s a i r (get_or rest x d) here.off here.named ((All-tail (ReadyAt l memory s a) i rest ready) x d inside) (others x d inside)) parts.1,
       )
 
   pub map_map : {X Y Z : Type 0} (g : Y → Z) (f : X → Y) (xs : List X) → map g (map f xs) ≡ map (λ x. g (f x)) xs
@@ -273,16 +247,7 @@ module _ (h : Header) (is : IsHeader h) where
       let bound : binds_ring h k there.ring c ≡ true =
       any_of_map (λ b. is_ring there.ring (ring_bound h b)) (binding_in h k a) added
       ∙ list_any_at (λ j. is_ring there.ring (ring_at k.memory a j)) added x d inside (ap (is_ring there.ring) there.named ∙ eq-eqb there.ring there.ring refl) in
-      record {
-        off = ap is_off (dropped_state c k s a i) ∙ off_then (is_off (k.endpoint_state s i)) (is_dropped k.memory a i) (k.endpoint_state s i) s refl (still.free x d inside);
-        ring = there.ring;
-        named = there.named;
-        free = none_left k s a there.ring still bound;
-        keeps = subst (λ (f : ℕ → RingView). RingKeeps (shape_of h there.ring) k.memory (f there.ring)) (sym (dropped_rings c k s a))
-            (rings there.ring (having_driver (context_pointer h.context_size k.memory a i) there.ring there.named));
-        placed = ap (λ (f : ℕ → RingView). is_placement (shape_of h there.ring) (f there.ring) (context_pointer h.context_size k.memory a i) (context_cycle h.context_size k.memory a i)) (dropped_rings c k s a)
-            ∙ there.placed;
-      }
+      search (rules, is_off, dropped_state, off_then, is_dropped, none_left, shape_of, dropped_rings, having_driver, context_pointer, is_placement, context_cycle)
 
   configures : (k : Known) → RingsKeep h k → (s a : ℕ) → StillHolds h k (ConfigureEndpoint s false a) →
       MayChangeAll h (ConfigureEndpoint s false a) (dropped (ConfigureEndpoint s false a) k s a) (map (placed_by_context h.context_size k.memory s a) (added_endpoints k.memory a))

@@ -1,7 +1,6 @@
 -- Behind a post: the event lies behind the unread ones, and nothing else that the driver or the controller did has changed
-use Rattle.safety.proofs.Words.{◌≡◌, ◌+◌, ◌<◌, ◌≤◌, ◌⊎◌, ◌∷◌, ◌++◌, ◌∙◌, ℕ, suc, zero, true, List, [], length, Some, slice_get, arith, refl, ap, inl, inr, length-append, rules, same_Some, none-some, Block, IsBlock, block_at, place_count, address_of, shape_facts, posted_in_order, Header, IsHeader, event_shape, event_size, World, stored_block, can_post, posted, Known, AreInOrder, DriverKeeps, Stands, EventsStand, Matches, Agrees}
+use Rattle.safety.proofs.Words.{[], ◌≡◌, ◌+◌, ◌<◌, ◌≤◌, ◌⊎◌, ◌∷◌, ◌++◌, ◌∙◌, ℕ, suc, zero, true, List, length, Some, slice_get, arith, refl, ap, inl, inr, length-append, rules, same_Some, none-some, Block, IsBlock, block_at, place_count, address_of, shape_facts, posted_in_order, Header, IsHeader, event_shape, event_size, World, stored_block, can_post, posted, Known, AreInOrder, DriverKeeps, Stands, EventsStand, Matches, Agrees, stored}
 use Rattle.world_state.specs.World.{event_at}
-use Rattle.world_state.specs.World as of_world
 use Rattle.safety.proofs.Headers.{EventRing, event_ring_is}
 use Rattle.safety.proofs.RingMemory.{same_block_at}
 use Rattle.safety.proofs.Stored.{Late}
@@ -55,13 +54,12 @@ module _ (h : Header) (k : Known) (unread : List Block) (w : World) (b : Block) 
       posted_in_order (event_size h) (record { posted = w.posted; reads = w.reads; dequeue = w.dequeue }) (omega (arith, size_is h)) can.room g.events.order
 
   events_posted : IsBlock b → EventsStand h (posted h w b) (unread ++ b ∷ [])
-  unfolding posted of_world.stored_block of_world.stored
+  unfolding posted stored_block stored
   events_posted is = record {
     order = after_posted;
     count = omega (arith, g.events.count, length-append unread (b ∷ []));
     places = λ i f at. elim (more_at unread b i f at) [
       | inl old ↦
-          let high : w.posted + 1 + 1 ≤ w.dequeue + event_size h = after_posted.room (omega arith) in
           event_before h e w b (w.reads + i) (omega (arith, g.events.count, old.0)) (omega (arith, g.events.order.dequeued, size_is h)) ∙ g.events.places i f old.1
       | inr new ↦ ap (λ q. event_at h (posted h w b) q) (index i new.0) ∙ event_new h e w b is ∙ new.1
     ];
@@ -86,17 +84,7 @@ module _ (h : Header) (k : Known) (unread : List Block) (w : World) (b : Block) 
   unfolding posted
   matches_posted =
       let m = matches_block h e k d w w.posted b (λ a. omega (arith, g.stamps a)) g.matches in
-      record {
-        slots = m.slots;
-        endpoints = m.endpoints;
-        ring_of = m.ring_of;
-        rings = m.rings;
-        before = λ off. let b = m.before off in record { inactive = b.inactive; no_events = b.no_events; none = b.none };
-        command = λ on. let c = m.command on in record { spot = c.spot; ring = c.ring; under_way = c.under_way };
-        scribbles = m.scribbles;
-        contexts = m.contexts;
-        inside = m.inside;
-      }
+      search rules
 
   posted_count : (posted h w b).posted ≡ k.reads + 1
   unfolding posted

@@ -1,5 +1,5 @@
 -- An event that is posted: it lies behind the unread ones, and nothing else that the driver or the controller did changes
-use Rattle.safety.proofs.Words.{◌≡◌, ◌≢◌, ◌+◌, ◌%◌, ◌<◌, ◌==◌, ◌&&◌, ◌∷◌, ◌∙◌, ℕ, true, List, [], length, nat_lt, slice_index, arith, refl, sym, ap, inr, add-zero, ltb-true, eqb-true, and_parts, Block, IsBlock, block_at, cycle, word, place_count, address_of, cycle_of, is_inside, address_aligned, place_count_pos, same_in_lap, same_place_of, address_inside, touches-word, has_room, Header, event_shape, event_size, input_context_bytes, World, stored, stored_block, can_post, Known, DriverKeeps, Stands, touches_events, Matches}
+use Rattle.safety.proofs.Words.{[], ◌≡◌, ◌≢◌, ◌+◌, ◌%◌, ◌<◌, ◌==◌, ◌&&◌, ◌∷◌, ◌∙◌, ℕ, true, List, length, nat_lt, slice_index, arith, refl, sym, ap, inr, add-zero, ltb-true, eqb-true, and_parts, Block, IsBlock, block_at, cycle, word, place_count, address_of, cycle_of, is_inside, address_aligned, place_count_pos, same_in_lap, same_place_of, address_inside, touches-word, has_room, Header, event_shape, event_size, input_context_bytes, World, stored, stored_block, can_post, Known, DriverKeeps, Stands, touches_events, Matches}
 use Rattle.safety.proofs.Headers.{EventRing}
 use Rattle.safety.proofs.Stored.{Late, IsInNoContext, late_stored, matches_stored, stands_stored, memory_stored, memory_here}
 use Rattle.safety.proofs.Areas.{byte_apart, context_lies, ring_untouched}
@@ -60,9 +60,8 @@ module _ (h : Header) (e : EventRing h) where
 
   event_in_no_context : (k : Known) → DriverKeeps h k → (p j : ℕ) → j < 16 → IsInNoContext h k (address_of (event_shape h) p + j)
   event_in_no_context k d p j low q n i c u is l same =
-      let lies = context_lies h k d q n c u is in
       byte_apart e.ring.shape n (input_context_bytes h.context_size) (address_of (event_shape h) p + j)
-      (ring_untouched h n (input_context_bytes h.context_size) lies.rings e.ring e.at)
+      (ring_untouched h n (input_context_bytes h.context_size) (context_lies h k d q n c u is).rings e.ring e.at)
       (ap (λ s. is_inside s (address_of (event_shape h) p + j)) (sym e.shape) ∙ address_inside (event_shape h) e.is p j low)
       (omega arith) (omega arith)
 
@@ -95,8 +94,7 @@ module _ (h : Header) (e : EventRing h) where
         let a : ℕ = address_of (event_shape h) p in
         let l1 = late_stored h w a (word b 0) late in
         let l2 = late_stored h (stored w a (word b 0)) (a + 4) (word b 1) l1 in
-        let l3 = late_stored h (stored (stored w a (word b 0)) (a + 4) (word b 1)) (a + 8) (word b 2) l2 in
-        matches_stored h k _ (a + 12) (word b 3) l3 (event_in_no_context k d p 12 (omega arith))
+        matches_stored h k _ (a + 12) (word b 3) (late_stored h (stored (stored w a (word b 0)) (a + 4) (word b 1)) (a + 8) (word b 2) l2) (event_in_no_context k d p 12 (omega arith))
         (matches_stored h k _ (a + 8) (word b 2) l2 (event_in_no_context k d p 8 (omega arith))
         (matches_stored h k _ (a + 4) (word b 1) l1 (event_in_no_context k d p 4 (omega arith))
         (matches_stored h k w a (word b 0) late (λ q n i c u is l same. event_in_no_context k d p 0 (omega arith) q n i c u is l (same ∙ sym (add-zero a))) m)))

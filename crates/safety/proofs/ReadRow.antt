@@ -1,13 +1,11 @@
 -- The driver reads an event: it is the oldest unread one, and the run goes on
-use Rattle.safety.proofs.Words.{◌≡◌, ◌+◌, ◌<◌, ◌&&◌, ◌∷◌, ◌∙◌, ℕ, true, false, List, [], nat_lt, Some, All, slice_get, arith, refl, ap, subst, eqb-true, ltb-true, rules, and_parts, All-head, All-tail, cond_some, Block, IsBlock, kind, same_words, Header, Read, World, counted, Known, learned, EventsStand, Agrees, ArePossible, Runs, all_read}
+use Rattle.safety.proofs.Words.{[], ◌≡◌, ◌+◌, ◌<◌, ◌&&◌, ◌∷◌, ◌∙◌, ℕ, true, false, List, nat_lt, Some, All, slice_get, arith, refl, ap, subst, eqb-true, ltb-true, rules, and_parts, All-head, All-tail, cond_some, Block, IsBlock, kind, same_words, Header, Read, World, counted, Known, learned, EventsStand, Agrees, ArePossible, Runs, all_read}
 use native.Mathlib.Numerals.{unary_clauses}
 use Rattle.world_state.specs.World.{event_at}
 use Rattle.world_state.specs.World as of_world
 use Rattle.controller_model.specs.DriverRows as driver
-use Rattle.safety.proofs.Counted.{agrees_counted}
-use Rattle.safety.proofs.EventRead.{learned_read}
+use Rattle.safety.proofs.LowerLaws.{agrees_counted, learned_read, event_same}
 use Rattle.safety.proofs.Posting.{four_of}
-use Rattle.safety.proofs.SameDriver.{event_same}
 
 -- blocks with the same four words are the same
 same_block : (a b : Block) → IsBlock a → IsBlock b → same_words a b ≡ true → a ≡ b
@@ -44,17 +42,7 @@ module _ (h : Header) where
         started = e.started;
         ring = e.ring;
       })
-      (record {
-        slots = m.slots;
-        endpoints = m.endpoints;
-        ring_of = m.ring_of;
-        rings = m.rings;
-        before = λ off. let b = m.before off in record { inactive = b.inactive; no_events = b.no_events; none = b.none };
-        command = λ on. let c = m.command on in record { spot = c.spot; ring = c.ring; under_way = c.under_way };
-        scribbles = m.scribbles;
-        contexts = m.contexts;
-        inside = m.inside;
-      })
+      (search rules)
       g.read (λ a. omega (arith, g.stamps a))
 
   -- reading an event stops nothing
@@ -70,11 +58,8 @@ module _ (h : Header) where
       Runs h (learned h now (Read e)) (counted h v)
   read_oldest now e w v block x [] possible blocks on g = absurd (none_unread w x.0 g.events)
   read_oldest now e w v block x (u ∷ rest) possible blocks on g =
-      let is_u : IsBlock u = All-head IsBlock u rest blocks in
-      let here : event_at h w (w.reads + 0) ≡ u = g.events.places 0 u refl in
-      let at : event_at h w w.reads ≡ u = subst (λ n. event_at h w n ≡ u) (let z : w.reads + 0 ≡ w.reads = omega arith in z) here in
-      let same : u ≡ e = same_block u e is_u block (subst (λ b. same_words b e ≡ true) at x.1) in
-      subst (λ b. Runs h (learned h now (Read b)) (counted h v)) same
+      let at : event_at h w w.reads ≡ u = subst (λ n. event_at h w n ≡ u) (let z : w.reads + 0 ≡ w.reads = omega arith in z) (g.events.places 0 u refl) in
+      subst (λ b. Runs h (learned h now (Read b)) (counted h v)) (same_block u e (All-head IsBlock u rest blocks) block (subst (λ b. same_words b e ≡ true) at x.1))
       (subst (λ z. Runs h (learned h now (Read u)) (counted h z)) x.2
       (record {
         unread = rest;

@@ -1,19 +1,7 @@
 -- The controller reports that an endpoint has halted, or gone to Error: the run goes on
-use Rattle.safety.proofs.Words.{◌≡◌, ◌≢◌, ◌+◌, ◌<◌, ◌==◌, ◌&&◌, ◌||◌, if◌then◌else◌, ◌∷◌, ◌++◌, ◌∙◌, ℕ, Bool, true, false, not, List, [], length, drop, Some, None, arith, refl, sym, ap, subst, inl, inr, rules, cases_Bool, false≢true, and_parts, and_from, and_right, or_from, or_left, or_right, cond-true, cond-false, not_from_true, none-some, same_Some, put, put_pair, Block, IsBlock, code, endpoint, kind, pointer, slot, is_transfer_event, is_command_completion, is_other_event, is_success, is_halting, is_trb_error, is_transfer_code, Data, Holds, ceiling, is_data_below, is_open, EndpointState, Off, Halted, Error, is_off, is_running, Header, Read, IsHeader, shape_of, command_id, World, RingEvent, unreported, posted, is_last, with_reported, report_error, report_code, reported, counted, Known, event_read, learned, event_at, on_ring, passed, broken_off, transferred, transferred_at, transfer_read, is_in_profile, is_working, is_impossible_by_kind, is_impossible_transfer, can_report, can_report_at, DriverKeeps, RingState, state_of, BoundRing, Agrees, Runs, all_read}
-use Rattle.safety.proofs.Headers.{transfer_driver, transfer_not_command, ring_shape}
-use Rattle.safety.proofs.Counted.{agrees_counted}
-use Rattle.safety.proofs.WithReads.{with_reads}
-use Rattle.safety.proofs.Posted.{PostKeeps, post_keeps}
-use Rattle.safety.proofs.EventRead.{learned_read, event_clean, blocks_more, possible_more, read_more}
-use Rattle.safety.proofs.OnlyRing.{OnlyRing, stands_only, events_only}
-use Rattle.safety.proofs.LookKinds.{cond_is, put_at, put_off}
-use Rattle.safety.proofs.Learns.{LearnsRing, stands_learns, matches_learns}
-use Rattle.safety.proofs.EndpointStates.{known_states, world_states, stands_states, events_states, matches_states}
-use Rattle.safety.proofs.ReportedRing.{open_takes}
-use Rattle.safety.proofs.BrokenRing.{broken_at, last_is, last_take, broken_matches, broken_unreported}
-use Rattle.safety.proofs.ReportSuccess.{IsReport, report_is, ReportKeeps, transfer_kind, spot_named, in_profile_is, below_is}
-use Rattle.safety.proofs.StatesPlaced.{on_is}
-use Rattle.safety.proofs.OpenRings.{held_open}
+use Rattle.safety.proofs.Words.{[], ◌≡◌, ◌≢◌, ◌+◌, ◌<◌, ◌==◌, ◌&&◌, ◌||◌, if◌then◌else◌, ◌∷◌, ◌++◌, ◌∙◌, ℕ, Bool, true, false, not, List, length, drop, Some, None, arith, refl, sym, ap, subst, rules, and_parts, and_from, and_right, or_left, or_right, cond-true, cond-false, not_from_true, none-some, same_Some, put, put_pair, Block, IsBlock, code, endpoint, kind, pointer, slot, is_transfer_event, is_command_completion, is_other_event, is_success, is_halting, is_trb_error, is_transfer_code, Data, Holds, ceiling, is_data_below, is_open, EndpointState, Halted, Error, is_running, Header, Read, IsHeader, shape_of, command_id, World, RingEvent, unreported, posted, is_last, with_reported, report_error, report_code, counted, Known, event_read, learned, event_at, on_ring, passed, broken_off, transferred, transferred_at, transfer_read, is_in_profile, is_working, can_report, can_report_at, DriverKeeps, RingState, state_of, BoundRing, Agrees}
+use Rattle.safety.proofs.LowerLaws.{transfer_driver, transfer_not_command, ring_shape, agrees_counted, with_reads, PostKeeps, post_keeps, learned_read, event_clean, OnlyRing, stands_only, events_only, cond_is, put_at, put_off, LearnsRing, stands_learns, matches_learns, known_states, world_states, stands_states, events_states, matches_states, open_takes, broken_at, last_is, last_take, broken_matches, broken_unreported, held_open}
+use Rattle.safety.proofs.ReportSuccess.{possible, where_bound, IsReport, ReportKeeps, transfer_kind, spot_named, in_profile_is, below_is}
 
 -- the ring at rest, its takes reported
 abbrev pub ended_ring : World → ℕ → ℕ → World
@@ -94,15 +82,6 @@ module _ (h : Header) (k : Known) (b : Block) (transfer : is_transfer_event (kin
         ∙ broken_is h k (slot b) (endpoint b) r p Error;
   }
 
-possible : (h : Header) (k : Known) (b : Block) (r p : ℕ) → is_transfer_event (kind b) ≡ true → event_at h k b ≡ Some (record { ring = r; spot = Data p }) →
-    can_report_at h k b (Some (record { ring = r; spot = Data p })) ≡ true → k.endpoint_state (slot b) (endpoint b) ≢ Off → is_impossible_by_kind h k (kind b) b ≡ false
-unfolding is_impossible_by_kind is_impossible_transfer
-possible h k b r p transfer at may on =
-    ap (λ n. is_impossible_by_kind h k n b) (transfer_kind (kind b) transfer)
-    ∙ and_right (is_in_profile b) (is_off (k.endpoint_state (slot b) (endpoint b)) || not (can_report_at h k b (event_at h k b)))
-    (or_from (is_off (k.endpoint_state (slot b) (endpoint b))) (not (can_report_at h k b (event_at h k b))) (on_is (k.endpoint_state (slot b) (endpoint b)) on)
-    (not_from_true (can_report_at h k b (event_at h k b)) (ap (λ o. can_report_at h k b o) at ∙ may)))
-
 module _ (h : Header) (is : IsHeader h) (k : Known) (unread : List Block) (w v : World) (b : Block) (block : IsBlock b) (running : w.stopped ≡ false) (d : DriverKeeps h k) (g : Agrees h k unread w)
     (x : IsReport h w v b) (state : EndpointState) (must : ℕ → ℕ → Bool) (by : BreaksBy h k b state must) (f : Breaks h (posted h w b) v (slot b) (endpoint b) x.ring (pointer b) state) where
   p : PostKeeps h k unread w b
@@ -156,49 +135,26 @@ module _ (h : Header) (is : IsHeader h) (k : Known) (unread : List Block) (w v :
       record {
         clean = event_clean h k w b g.stands g.read running p.can p.room
             (or_left (is_transfer_event (kind b) || is_command_completion (kind b)) (is_other_event (kind b)) (or_left (is_transfer_event (kind b)) (is_command_completion (kind b)) x.transfer))
-            (possible h k b r q x.transfer at (by.may r q below (works h k (slot b) (endpoint b) r runs open_ring)) (d.states.on (slot b) (endpoint b) r had))
+            (possible h k b (record { ring = r; spot = Data q }) x.transfer at (by.may r q below (works h k (slot b) (endpoint b) r runs open_ring)) (d.states.on (slot b) (endpoint b) r had))
             (and_right (is_transfer_event (kind b)) (not (is_in_profile b)) (not_from_true (is_in_profile b) (in_profile_is b x.no_data by.code_is)));
         agrees = subst (λ n. Agrees h n (unread ++ b ∷ []) (counted h v)) (sym learned_is) (subst (λ y. Agrees h (known_states m e must) (unread ++ b ∷ []) (counted h y)) f.is after_z);
       }
 
-  pub error_keeps : ReportKeeps h k unread w v b
-  error_keeps =
-      elim (p.matches.rings x.ring other) [
-        | inl bound ↦ on_bound bound
-        | inr free ↦ absurd (free.none (slot b) (endpoint b) had)
-      ]
-
-or_second : (a b : Bool) → a ≡ false → (a || b) ≡ true → b ≡ true
-or_second true b off one = absurd (false≢true (sym off))
-or_second false b off one = one
+  error_keeps : ReportKeeps h k unread w v b
+  error_keeps = where_bound h is k unread w v b block running d g x on_bound
 
 -- which report it is, by the event's code
-code_halts : (h : Header) (u v : World) (c s i r a : ℕ) → is_success c ≡ false → is_halting c ≡ true → report_code h u c s i r a ≡ Some v → report_error h u s i r a Halted ≡ Some v
-unfolding report_code
-code_halts h u v c s i r a fails halting at = sym (cond-false (is_success c) _ _ fails ∙ cond-true (is_halting c) _ _ halting) ∙ at
+module _ (h : Header) (is : IsHeader h) (k : Known) (unread : List Block) (w v : World) (b : Block) (block : IsBlock b) (running : w.stopped ≡ false) (d : DriverKeeps h k) (g : Agrees h k unread w)
+    (x : IsReport h w v b) (fails : is_success (code b) ≡ false) where
+  pub halted_keeps : is_halting (code b) ≡ true → ReportKeeps h k unread w v b
+  unfolding report_code
+  halted_keeps halting =
+      error_keeps h is k unread w v b block running d g x Halted _ (halts h k b x.transfer fails halting)
+      (breaks_is h (posted h w b) v (slot b) (endpoint b) x.ring (pointer b) Halted (sym (cond-false (is_success (code b)) _ _ fails ∙ cond-true (is_halting (code b)) _ _ halting) ∙ x.by_code))
 
-code_errs : (h : Header) (u v : World) (c s i r a : ℕ) → is_success c ≡ false → is_halting c ≡ false → is_trb_error c ≡ true → report_code h u c s i r a ≡ Some v → report_error h u s i r a Error ≡ Some v
-unfolding report_code
-code_errs h u v c s i r a fails quiet error at = sym (cond-false (is_success c) _ _ fails ∙ cond-false (is_halting c) _ _ quiet ∙ cond-true (is_trb_error c) _ _ error) ∙ at
-
--- the run goes on behind the report of an error
-pub report_error_runs : (h : Header) → IsHeader h → (now : Known) (w v : World) (b : Block) → IsBlock b → w.stopped ≡ false → (run : Runs h now w) →
-    DriverKeeps h (all_read h now run.unread) → is_success (code b) ≡ false → (is_halting (code b) || is_trb_error (code b)) ≡ true → reported h w b ≡ Some v → Runs h now (counted h v)
-report_error_runs h is now w v b block running run d fails breaks at =
-    let k : Known = all_read h now run.unread in
-    let x = report_is h w v b at in
-    let keeps : ReportKeeps h k run.unread w v b = elim (cases_Bool (is_halting (code b))) [
-      | inl halting ↦ error_keeps h is k run.unread w v b block running d run.agrees x Halted _ (halts h k b x.transfer fails halting)
-          (breaks_is h (posted h w b) v (slot b) (endpoint b) x.ring (pointer b) Halted (code_halts h (posted h w b) v (code b) (slot b) (endpoint b) x.ring (pointer b) fails halting x.by_code))
-      | inr quiet ↦
-          let error = or_second (is_halting (code b)) (is_trb_error (code b)) quiet breaks in
-          error_keeps h is k run.unread w v b block running d run.agrees x Error _ (errs h k b x.transfer fails quiet error)
-          (breaks_is h (posted h w b) v (slot b) (endpoint b) x.ring (pointer b) Error (code_errs h (posted h w b) v (code b) (slot b) (endpoint b) x.ring (pointer b) fails quiet error x.by_code))
-    ] in
-    record {
-      unread = run.unread ++ b ∷ [];
-      possible = possible_more h run.unread now b run.possible keeps.clean;
-      blocks = blocks_more run.unread b run.blocks block;
-      on = run.on;
-      agrees = subst (λ m. Agrees h m (run.unread ++ b ∷ []) (counted h v)) (sym (read_more h run.unread now b)) keeps.agrees;
-    }
+  pub erred_keeps : is_halting (code b) ≡ false → is_trb_error (code b) ≡ true → ReportKeeps h k unread w v b
+  unfolding report_code
+  erred_keeps quiet error =
+      error_keeps h is k unread w v b block running d g x Error _ (errs h k b x.transfer fails quiet error)
+      (breaks_is h (posted h w b) v (slot b) (endpoint b) x.ring (pointer b) Error
+      (sym (cond-false (is_success (code b)) _ _ fails ∙ cond-false (is_halting (code b)) _ _ quiet ∙ cond-true (is_trb_error (code b)) _ _ error) ∙ x.by_code))

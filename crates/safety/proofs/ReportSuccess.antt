@@ -1,7 +1,6 @@
 -- The controller reports that a take has succeeded: the run goes on
-use Rattle.std.proofs.Common.{◌≡◌, ◌≢◌, ◌+◌, ◌<◌, ◌==◌, ◌||◌, ◌∷◌, ◌++◌, ◌∙◌, ℕ, Bool, true, false, not, List, [], drop, Option, Some, None, position, option_map, arith, refl, sym, ap, subst, inl, inr, lt-ltb, rules}
-use Rattle.safety.proofs.Words.{false≢true, and_parts, and_from, and_right, or_from, or_left, cond-true, not-true, not_from_true, not_from_false, none-some, same_Some, Block, BlockKind, is_set, IsBlock, code, endpoint, kind, pointer, slot, word, is_transfer_event, is_command_completion, is_other_event, is_success, is_halting, is_trb_error, is_stopping, is_transfer_code, Spot, Data, after, number, floor_number, ceiling, named, is_data_below, Off, is_off, Header, Read, IsHeader, shape_of, command_id, World, RingEvent, takes_of, unreported, can_post, posted, with_reported, report_success, report_code, reported_on, reported, counted, Known, event_read, learned, RingSpot, event_at, on_ring, spot_on, passed, transferred, transferred_at, transfer_read, lenient, is_in_profile, is_impossible_by_kind, is_impossible_transfer, can_report, can_report_at, DriverKeeps, RingState, state_of, BoundRing, Agrees, Runs, all_read}
-use Rattle.trb.specs.declared.kind.BlockKind.TheVariants as kinds
+use Rattle.std.proofs.Common.{[], ◌≡◌, ◌≢◌, ◌+◌, ◌<◌, ◌==◌, ◌||◌, ◌∷◌, ◌++◌, ◌∙◌, ℕ, Bool, true, false, not, List, drop, Option, Some, None, position, option_map, arith, refl, sym, ap, subst, inl, inr, lt-ltb, rules}
+use Rattle.safety.proofs.Words.{false≢true, and_parts, and_from, and_right, or_from, or_left, cond-true, not-true, not_from_true, not_from_false, none-some, same_Some, Block, BlockKind, is_set, IsBlock, code, endpoint, kind, pointer, slot, word, is_transfer_event, is_command_completion, is_other_event, is_success, is_transfer_code, Spot, Data, after, number, floor_number, ceiling, named, is_data_below, Off, is_off, Header, Read, IsHeader, shape_of, command_id, World, RingEvent, takes_of, unreported, can_post, posted, with_reported, report_success, report_code, reported_on, reported, counted, Known, event_read, learned, RingSpot, event_at, on_ring, spot_on, passed, transferred, transferred_at, transfer_read, lenient, is_in_profile, is_impossible_by_kind, is_impossible_transfer, can_report, can_report_at, DriverKeeps, RingState, state_of, BoundRing, Agrees, Runs, all_read, TransferEvent}
 use Rattle.safety.proofs.Headers.{transfer_driver, transfer_not_command, ring_shape}
 use Rattle.safety.proofs.Counted.{agrees_counted}
 use Rattle.safety.proofs.WithReads.{with_reads}
@@ -13,8 +12,8 @@ use Rattle.safety.proofs.Learns.{LearnsRing, stands_learns, matches_learns}
 use Rattle.safety.proofs.ReportedRing.{open_takes, reported_is, reported_matches, reported_unreported}
 use Rattle.safety.proofs.StatesPlaced.{on_is}
 
-pub transfer_kind : (t : BlockKind) → is_transfer_event t ≡ true → t ≡ kinds.TransferEvent
-transfer_kind kinds.TransferEvent h = refl
+pub transfer_kind : (t : BlockKind) → is_transfer_event t ≡ true → t ≡ TransferEvent
+transfer_kind TransferEvent h = refl
 transfer_kind _ h = absurd (false≢true h)
 
 pub mapped : {A B : Type 0} (f : A → B) (o : Option A) (y : B) → option_map f o ≡ Some y → (x : A) × (o ≡ Some x) × (f x ≡ y)
@@ -43,9 +42,7 @@ report_is h w v b at = search (rules, cond_is, and_parts, on_ring_is, not-true, 
 success_is : (h : Header) (u v : World) (c s i r a : ℕ) → is_success c ≡ true → report_code h u c s i r a ≡ Some v →
     (n : ℕ) × (position (λ b. b == a) (open_takes (state_of u r)) ≡ Some n) × (with_reported h u r (u.reported r + n + 1) ≡ v)
 unfolding report_code report_success unreported
-success_is h u v c s i r a success at =
-    mapped (λ n. with_reported h u r (u.reported r + n + 1)) (position (λ b. b == a) (drop (u.reported r) (takes_of (u.events r)))) v
-    (sym (cond-true (is_success c) (option_map (λ n. with_reported h u r (u.reported r + n + 1)) (position (λ b. b == a) (drop (u.reported r) (takes_of (u.events r))))) _ success) ∙ at)
+success_is h u v c s i r a success at = search (rules, mapped, with_reported, reported, position, drop, takes_of, cond-true, is_success, option_map)
 
 state_reported : (p c : ℕ) (a : Bool) (e : List RingEvent) (m n : ℕ) → m ≡ n →
     ◌≡◌ {A = RingState} (record { pointer = p; cycle = c; active = a; events = e; reported = m }) (record { pointer = p; cycle = c; active = a; events = e; reported = n })
@@ -75,14 +72,12 @@ learns_passed h k r n t = search (rules, put_at, put_off)
 pub spot_named : (h : Header) (k : Known) (b : Block) (r : ℕ) (t : Spot) → k.ring_of (slot b) (endpoint b) ≡ Some r → named (shape_of h r) (k.ring r) (pointer b) ≡ Some t →
     event_at h k b ≡ Some (record { ring = r; spot = t })
 unfolding event_at spot_on
-spot_named h k b r t had is =
-    ap (λ o. spot_on h k (pointer b) o) had ∙ ap (λ o. option_map (λ (t : Spot). let x : RingSpot = record { ring = r; spot = t } in x) o) is
+spot_named h k b r t had is = search (rules, spot_on, pointer, option_map)
 
 success_read : (h : Header) (k : Known) (b : Block) (r : ℕ) (t : Spot) → is_transfer_event (kind b) ≡ true → is_success (code b) ≡ true → event_at h k b ≡ Some (record { ring = r; spot = t }) →
     event_read h k (kind b) b ≡ passed h k r t
 unfolding event_read transfer_read transferred_at transferred
-success_read h k b r t transfer success at =
-    ap (λ n. event_read h k n b) (transfer_kind (kind b) transfer) ∙ ap (λ o. transferred_at h k b o) at ∙ cond-true (is_success (code b)) (passed h k r t) _ success
+success_read h k b r t transfer success at = search (rules, event_read, transfer_kind, kind, transferred_at, cond-true, is_success, code, passed)
 
 pub below_is : (n p : ℕ) → p < n → is_data_below n (Data p) ≡ true
 unfolding is_data_below
@@ -92,40 +87,54 @@ may_report : (h : Header) (k : Known) (b : Block) (r p : ℕ) → is_success (co
 unfolding can_report_at can_report
 may_report h k b r p success below = cond-true (is_success (code b)) _ _ success ∙ below_is (ceiling (shape_of h r) (k.ring r)) p below
 
-success_possible : (h : Header) (k : Known) (b : Block) (r p : ℕ) → is_transfer_event (kind b) ≡ true → is_success (code b) ≡ true → event_at h k b ≡ Some (record { ring = r; spot = Data p }) →
-    p < ceiling (shape_of h r) (k.ring r) → k.endpoint_state (slot b) (endpoint b) ≢ Off → is_impossible_by_kind h k (kind b) b ≡ false
+pub possible : (h : Header) (k : Known) (b : Block) (o : RingSpot) → is_transfer_event (kind b) ≡ true → event_at h k b ≡ Some o → can_report_at h k b (Some o) ≡ true →
+    k.endpoint_state (slot b) (endpoint b) ≢ Off → is_impossible_by_kind h k (kind b) b ≡ false
 unfolding is_impossible_by_kind is_impossible_transfer
-success_possible h k b r p transfer success at below on =
-    ap (λ n. is_impossible_by_kind h k n b) (transfer_kind (kind b) transfer)
-    ∙ and_right (is_in_profile b) (is_off (k.endpoint_state (slot b) (endpoint b)) || not (can_report_at h k b (event_at h k b)))
-    (or_from (is_off (k.endpoint_state (slot b) (endpoint b))) (not (can_report_at h k b (event_at h k b))) (on_is (k.endpoint_state (slot b) (endpoint b)) on)
-    (not_from_true (can_report_at h k b (event_at h k b)) (ap (λ o. can_report_at h k b o) at ∙ may_report h k b r p success below)))
+possible h k b o transfer at may on =
+    search (rules, is_impossible_by_kind, transfer_kind, kind, and_right, is_in_profile, is_off, slot, endpoint, not, can_report_at, event_at, or_from, on_is, not_from_true)
 
 pub in_profile_is : (b : Block) → is_set (word b 3) 2 ≡ false → is_transfer_code (code b) ≡ true → is_in_profile b ≡ true
 unfolding is_in_profile
 in_profile_is b none code_is = and_from (not (is_set (word b 3) 2)) (is_transfer_code (code b)) (not_from_false (is_set (word b 3) 2) none) code_is
 
 success_code : (c : ℕ) → is_success c ≡ true → is_transfer_code c ≡ true
-success_code c success =
-    or_left (is_success c || is_halting c || is_trb_error c) (is_stopping c) (or_left (is_success c || is_halting c) (is_trb_error c) (or_left (is_success c) (is_halting c) success))
+success_code c success = search (rules, or_left)
 
 -- the agreement behind the report, and that the event breaks no rule where it will be read
 pub record ReportKeeps (h : Header) (k : Known) (unread : List Block) (w v : World) (b : Block) : Type 0 where
   pub clean : lenient h k (Read b) ≡ []
   pub agrees : Agrees h (learned h k (Read b)) (unread ++ b ∷ []) (counted h v)
 
-module _ (h : Header) (is : IsHeader h) (k : Known) (unread : List Block) (w v : World) (b : Block) (block : IsBlock b) (running : w.stopped ≡ false) (d : DriverKeeps h k) (g : Agrees h k unread w) (x : IsReport h w v b) (success : is_success (code b) ≡ true) where
-  p : PostKeeps h k unread w b
+-- so the run goes on
+pub runs_more : (h : Header) (now : Known) (w v : World) (b : Block) → IsBlock b → (run : Runs h now w) → ReportKeeps h (all_read h now run.unread) run.unread w v b → Runs h now (counted h v)
+runs_more h now w v b block run keeps = record {
+  unread = run.unread ++ b ∷ [];
+  possible = possible_more h run.unread now b run.possible keeps.clean;
+  blocks = blocks_more run.unread b run.blocks block;
+  on = run.on;
+  agrees = subst (λ m. Agrees h m (run.unread ++ b ∷ []) (counted h v)) (sym (read_more h run.unread now b)) keeps.agrees;
+}
+
+module _ (h : Header) (is : IsHeader h) (k : Known) (unread : List Block) (w v : World) (b : Block) (block : IsBlock b) (running : w.stopped ≡ false) (d : DriverKeeps h k) (g : Agrees h k unread w) (x : IsReport h w v b) where
+  pub p : PostKeeps h k unread w b
   p = post_keeps h is k unread w b block d g x.can
 
-  had : k.ring_of (slot b) (endpoint b) ≡ Some x.ring
+  pub had : k.ring_of (slot b) (endpoint b) ≡ Some x.ring
   had = sym (g.matches.ring_of (slot b) (endpoint b)) ∙ x.had
 
-  other : x.ring ≢ command_id h
+  pub other : x.ring ≢ command_id h
   other = transfer_not_command h is x.ring (d.states.transfer (slot b) (endpoint b) x.ring had)
 
-  on_bound : BoundRing (shape_of h x.ring) k.ring_of (k.ring x.ring) (state_of (posted h w b) x.ring) x.ring → ReportKeeps h k unread w v b
-  on_bound bound =
+  -- an endpoint has the ring
+  pub where_bound : (BoundRing (shape_of h x.ring) k.ring_of (k.ring x.ring) (state_of (posted h w b) x.ring) x.ring → ReportKeeps h k unread w v b) → ReportKeeps h k unread w v b
+  where_bound goes =
+      elim (p.matches.rings x.ring other) [
+        | inl bound ↦ goes bound
+        | inr free ↦ absurd (free.none (slot b) (endpoint b) had)
+      ]
+
+  on_bound : is_success (code b) ≡ true → BoundRing (shape_of h x.ring) k.ring_of (k.ring x.ring) (state_of (posted h w b) x.ring) x.ring → ReportKeeps h k unread w v b
+  on_bound success bound =
       let r : ℕ = x.ring in
       let u : World = posted h w b in
       let driver = transfer_driver h r (d.states.transfer (slot b) (endpoint b) r had) in
@@ -159,28 +168,10 @@ module _ (h : Header) (is : IsHeader h) (k : Known) (unread : List Block) (w v :
       record {
         clean = event_clean h k w b g.stands g.read running p.can p.room
             (or_left (is_transfer_event (kind b) || is_command_completion (kind b)) (is_other_event (kind b)) (or_left (is_transfer_event (kind b)) (is_command_completion (kind b)) x.transfer))
-            (success_possible h k b r q x.transfer success at (omega (arith, named_take.within, bound.matches.below)) (d.states.on (slot b) (endpoint b) r had))
+            (possible h k b (record { ring = r; spot = Data q }) x.transfer at (may_report h k b r q success (omega (arith, named_take.within, bound.matches.below))) (d.states.on (slot b) (endpoint b) r had))
             (and_right (is_transfer_event (kind b)) (not (is_in_profile b)) (not_from_true (is_in_profile b) (in_profile_is b x.no_data (success_code (code b) success))));
         agrees = subst (λ n. Agrees h n (unread ++ b ∷ []) (counted h v)) (sym learned_is) (subst (λ y. Agrees h m (unread ++ b ∷ []) (counted h y)) f.2 after_z);
       }
 
-  success_keeps : ReportKeeps h k unread w v b
-  success_keeps =
-      elim (p.matches.rings x.ring other) [
-        | inl bound ↦ on_bound bound
-        | inr free ↦ absurd (free.none (slot b) (endpoint b) had)
-      ]
-
--- the run goes on behind the report of a success
-pub report_success_runs : (h : Header) → IsHeader h → (now : Known) (w v : World) (b : Block) → IsBlock b → w.stopped ≡ false → (run : Runs h now w) →
-    DriverKeeps h (all_read h now run.unread) → is_success (code b) ≡ true → reported h w b ≡ Some v → Runs h now (counted h v)
-report_success_runs h is now w v b block running run d success at =
-    let k : Known = all_read h now run.unread in
-    let keeps = success_keeps h is k run.unread w v b block running d run.agrees (report_is h w v b at) success in
-    record {
-      unread = run.unread ++ b ∷ [];
-      possible = possible_more h run.unread now b run.possible keeps.clean;
-      blocks = blocks_more run.unread b run.blocks block;
-      on = run.on;
-      agrees = subst (λ m. Agrees h m (run.unread ++ b ∷ []) (counted h v)) (sym (read_more h run.unread now b)) keeps.agrees;
-    }
+  pub success_keeps : is_success (code b) ≡ true → ReportKeeps h k unread w v b
+  success_keeps success = where_bound (on_bound success)

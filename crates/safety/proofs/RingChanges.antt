@@ -1,5 +1,4 @@
 pub mod OtherRings
-pub mod OtherWorlds
 pub mod ListedRings
 pub mod Segments
 pub mod NewRings
@@ -9,13 +8,8 @@ pub mod ReadAlike
 pub mod Squares
 pub mod Forgotten
 pub mod RingRuns
-pub mod QuietViews
-pub mod QuietEvents
-pub mod QuietRuns
 pub mod QuietKeeps
-pub mod QuietWorlds
 pub mod Withdrawn
 pub mod Restored
 pub mod RingsHeadline
 pub mod Examples
-pub mod WithdrawalExamples

@@ -1,5 +1,5 @@
 -- A ring of which more is known while its pointer stays: what is said of it in the world stays
-use Rattle.safety.proofs.Words.{◌≡◌, ◌≤◌, ◌-◌, ◌∷◌, ◌∙◌, ℕ, true, List, [], map, Option, None, Some, arith, refl, sym, ap, rules, range_with_len, Shape, Spot, address_of, number, rank, is_border, RingView, floor_number, ceiling, is_way_given, is_step_given, given_count_same, RingEvent, Took, Newest, RingState, RingMatches, Unreported, BoundRing, IsHeldMore, GivesMore, step_more}
+use Rattle.safety.proofs.Words.{[], ◌≡◌, ◌≤◌, ◌∷◌, ℕ, true, List, map, Option, None, Some, arith, refl, ap, rules, range_with_len, Shape, Spot, address_of, number, rank, is_border, RingView, floor_number, ceiling, is_way_given, is_step_given, given_count_same, RingEvent, Took, Newest, RingState, RingMatches, Unreported, BoundRing, IsHeldMore, GivesMore, step_more}
 use Rattle.safety.proofs.NoWait.{ceiling_open, ceiling_held}
 
 -- the floor is the same, no less is given, and where descriptors begin, they still do
@@ -42,10 +42,7 @@ module _ (shape : Shape) (v x : RingView) (g : RingGoesOn shape v x) (s : RingSt
   }
 
   pub unreported_on : (t : Spot) → Unreported shape v s t → Unreported shape x s t
-  unreported_on t u = record { takes = u.takes ∙ same (sym g.floor); most = u.most }
-    where
-      same : v.floor ≡ x.floor → map (address_of shape) (range_with_len (floor_number v) (number t - floor_number v)) ≡ map (address_of shape) (range_with_len (floor_number x) (number t - floor_number x))
-      same e = ap (λ f. map (address_of shape) (range_with_len (number f) (number t - number f))) e
+  unreported_on t u = search (rules, map, address_of, range_with_len, floor_number, number)
 
   pub bound_on : (ring_of : ℕ → ℕ → Option ℕ) (r : ℕ) → BoundRing shape ring_of v s r → BoundRing shape ring_of x s r
   bound_on ring_of r b = search (rules, matches_on, unreported_on)

@@ -1,5 +1,5 @@
 -- The blocks and Links of a ring stand in the world as the driver wrote them
-use Rattle.safety.proofs.Words.{◌≡◌, ◌+◌, ◌%◌, ◌^◌, ◌<◌, ◌≤◌, ◌∷◌, ◌∙◌, ℕ, true, [], arith, sym, ap, add-zero, Block, block_at, Spot, Data, Link, Shape, is_inside, IsSpot, spot_address, IsShape, link_aligned, link_ends, address_aligned, address_ends, crossed_link, crosses, link_address_is, address_inside, link_address_inside, Header, IsHeader, shape_of, World, Known, IsDriverRing, DriverKeeps, Stands}
+use Rattle.safety.proofs.Words.{[], ◌≡◌, ◌+◌, ◌%◌, ◌^◌, ◌<◌, ◌≤◌, ◌∷◌, ◌∙◌, ℕ, true, arith, sym, ap, add-zero, Block, block_at, Spot, Data, Link, Shape, is_inside, IsSpot, spot_address, IsShape, link_aligned, link_ends, address_aligned, address_ends, crossed_link, crosses, link_address_is, address_inside, link_address_inside, Header, IsHeader, shape_of, World, Known, IsDriverRing, DriverKeeps, Stands}
 use Rattle.safety.proofs.Headers.{ring_shape, ring_not_event}
 
 four_words : (a b c d e f g h : ℕ) → a ≡ e → b ≡ f → c ≡ g → d ≡ h →
@@ -37,7 +37,6 @@ module _ (h : Header) (is : IsHeader h) (k : Known) (w : World) (d : DriverKeeps
   block_at_spot r t ring spot =
       let lies = spot_lies (shape_of h r) (ring_shape h is r ring).is t spot in
       let a : ℕ = spot_address (shape_of h r) t in
-      let at : a % 16 ≡ 0 = lies.aligned in
       same_block_at w.memory k.memory a
       (ring_word r a ring (omega arith) (ap (λ x. is_inside (shape_of h r) x) (sym (add-zero a)) ∙ lies.inside 0 (omega arith)))
       (ring_word r (a + 4) ring (omega arith) (lies.inside 4 (omega arith)))

@@ -1,11 +1,7 @@
 -- The doorbell of a ring that is open: nothing is learned, and where all events are read the world agrees with what is known as before
-use Rattle.safety.proofs.Words.{◌≡◌, ◌==◌, ◌||◌, ◌∙◌, ℕ, not, nat_lt, true, false, List, [], Option, None, Some, refl, sym, ap, subst, inl, inr, rules, cond-true, cond-false, or_parts, not-false, false≢true, put, put_pair, Block, RingView, Opens, changed, is_open, EndpointState, Off, Running, Halted, Error, is_running, is_stopped, Header, Bell, IsHeader, shape_of, command_id, World, counted, Known, learned, on_ring, endpoint_rung, rung, is_bad_bell, is_touched, lenient, DriverKeeps, Agrees, is_open_if, is_idle, MayRing}
-use Rattle.controller_model.specs.DriverRows as driver
-use Rattle.safety.proofs.CleanRows.{BellFacts, bell_facts}
-use Rattle.safety.proofs.RowRegister.{agrees_once_counted}
-use Rattle.safety.proofs.LookKinds.{put_at, put_off}
+use Rattle.safety.proofs.Words.{[], ◌≡◌, ◌==◌, ◌||◌, ◌∙◌, ℕ, not, nat_lt, true, false, List, Option, None, Some, refl, sym, ap, subst, inl, inr, rules, cond-true, cond-false, or_parts, not-false, false≢true, put, put_pair, Block, RingView, Opens, changed, is_open, EndpointState, Off, Running, Halted, Error, is_running, is_stopped, Header, Bell, IsHeader, shape_of, command_id, World, counted, Known, learned, on_ring, endpoint_rung, rung, is_bad_bell, is_touched, lenient, DriverKeeps, Agrees, is_open_if, is_idle, MayRing, activated, bell_row, endpoint_bell}
+use Rattle.safety.proofs.LowerLaws.{bell_facts, agrees_once_counted, put_at, put_off, open_held}
 use Rattle.safety.proofs.RowRings.{endpoint_agrees, command_agrees}
-use Rattle.safety.proofs.OpenRings.{open_held}
 
 -- opening an open ring
 same_view : (v : RingView) (o : Option ℕ) → v.held ≡ o → ◌≡◌ {A = RingView} (record v { held = o }) v
@@ -75,39 +71,38 @@ module _ (h : Header) (k : Known) (d : DriverKeeps h k) (s t : ℕ) where
 
   pub rings : is_idle h k (Bell s t) ≡ true → lenient h k (Bell s t) ≡ [] → (s == 0) ≡ false → MayRing h k s t
   rings is clean endpoint =
-      let facts : BellFacts h k s t = bell_facts h k s t clean in
       may_ring_by (k.ring_of s t) refl (sym (cond-false (s == 0) (is_open (k.ring (command_id h))) (is_open_if k (k.ring_of s t)) endpoint) ∙ is)
-      (sym (cond-false (s == 0) (not (t == 0)) (is_bad_bell h k s t) endpoint) ∙ facts.good)
+      (sym (cond-false (s == 0) (not (t == 0)) (is_bad_bell h k s t) endpoint) ∙ (bell_facts h k s t clean).good)
 
 -- ---- where all events are read
 
 module _ (h : Header) (is : IsHeader h) (k : Known) (unread : List Block) (w : World) (d : DriverKeeps h k) (g : Agrees h k unread w) where
-  rests : (s t : ℕ) (o : Option ℕ) → AtRest (k.endpoint_state s t) → Agrees h k unread (counted h (driver.endpoint_bell h w s t o))
-  unfolding driver.endpoint_bell driver.activated
+  rests : (s t : ℕ) (o : Option ℕ) → AtRest (k.endpoint_state s t) → Agrees h k unread (counted h (endpoint_bell h w s t o))
+  unfolding endpoint_bell activated
   rests s t None rest = agrees_once_counted h k unread w g
   rests s t (Some r) rest =
       subst (λ v. Agrees h k unread (counted h v))
-      (sym (cond-false (is_running (w.endpoint_state s t) || is_stopped (w.endpoint_state s t)) (let v : World = record (driver.activated h w r) { endpoint_state = put_pair w.endpoint_state s t Running } in v) w
+      (sym (cond-false (is_running (w.endpoint_state s t) || is_stopped (w.endpoint_state s t)) (let v : World = record (activated h w r) { endpoint_state = put_pair w.endpoint_state s t Running } in v) w
       (ap (λ e. is_running e || is_stopped e) (g.matches.endpoints s t) ∙ rest.waits))) (agrees_once_counted h k unread w g)
 
   works : (s t : ℕ) (o : Option ℕ) → k.ring_of s t ≡ o → k.endpoint_state s t ≡ Running → ((r : ℕ) → k.ring_of s t ≡ Some r → (k.ring r).held ≡ None) →
-      Agrees h k unread (counted h (driver.endpoint_bell h w s t o))
-  unfolding driver.endpoint_bell
+      Agrees h k unread (counted h (endpoint_bell h w s t o))
+  unfolding endpoint_bell
   works s t None at runs none = agrees_once_counted h k unread w g
   works s t (Some r) at runs none =
-      subst (λ m. Agrees h m unread (counted h (driver.endpoint_bell h w s t (Some r)))) (rung_same h k s t r (none r at) runs)
+      subst (λ m. Agrees h m unread (counted h (endpoint_bell h w s t (Some r)))) (rung_same h k s t r (none r at) runs)
       (endpoint_agrees h is k unread w d g s t (Some r) at (ap (λ e. is_running e || is_stopped e) runs))
 
-  pub rung_agrees : (s t : ℕ) → (s == 0) ≡ false → MayRing h k s t → Agrees h k unread (counted h (driver.bell_row h w s t))
-  unfolding driver.bell_row
+  pub rung_agrees : (s t : ℕ) → (s == 0) ≡ false → MayRing h k s t → Agrees h k unread (counted h (bell_row h w s t))
+  unfolding bell_row
   rung_agrees s t endpoint may =
       subst (λ v. Agrees h k unread (counted h v))
-      (sym (cond-false (s == 0) _ (driver.endpoint_bell h w s t (w.ring_of s t)) endpoint ∙ ap (λ o. driver.endpoint_bell h w s t o) (g.matches.ring_of s t)))
+      (sym (cond-false (s == 0) _ (endpoint_bell h w s t (w.ring_of s t)) endpoint ∙ ap (λ o. endpoint_bell h w s t o) (g.matches.ring_of s t)))
       (elim may.state [
         | inl on ↦ works s t (k.ring_of s t) refl on.0 on.1
         | inr down ↦ rests s t (k.ring_of s t) (elim down [ inl halted ↦ halted_rests (k.endpoint_state s t) halted | inr failed ↦ failed_rests (k.endpoint_state s t) failed ])
       ])
 
-  pub command_rung : is_open (k.ring (command_id h)) ≡ true → k.started ≡ true → Agrees h k unread (counted h (driver.activated h w (command_id h)))
+  pub command_rung : is_open (k.ring (command_id h)) ≡ true → k.started ≡ true → Agrees h k unread (counted h (activated h w (command_id h)))
   command_rung opened on =
-      subst (λ m. Agrees h m unread (counted h (driver.activated h w (command_id h)))) (opens_same h k (command_id h) (open_held (k.ring (command_id h)) opened)) (command_agrees h is k unread w d g on)
+      subst (λ m. Agrees h m unread (counted h (activated h w (command_id h)))) (opens_same h k (command_id h) (open_held (k.ring (command_id h)) opened)) (command_agrees h is k unread w d g on)

@@ -1,9 +1,7 @@
 -- A write of a register where all events are read: what is known agrees with the world
-use Rattle.safety.proofs.Words.{◌≡◌, ◌+◌, ◌*◌, ◌≤◌, ◌==◌, if◌then◌else◌, ℕ, nat_lt, true, false, List, Option, None, Some, option_and_then, slice_get, arith, refl, sym, ap, subst, ltb-true, rules, list_any, range_with_len, some_of, and_parts, cond-true, cond-false, Block, Command, named_context, Shape, Header, Register, shape_of, command_id, event_shape, event_size, with_register, same_register, address_of, place_count, AreInOrder, position_from, is_reached_within, is_event_place, World, counted, Known, IsUnfinished, IsUnchanged, Matches, Agrees}
+use Rattle.safety.proofs.Words.{◌≡◌, ◌+◌, ◌*◌, ◌≤◌, ◌==◌, if◌then◌else◌, ℕ, nat_lt, true, false, List, Option, None, Some, option_and_then, slice_get, arith, refl, sym, ap, subst, ltb-true, rules, list_any, range_with_len, some_of, and_parts, cond-true, cond-false, Block, Command, named_context, Shape, Header, Register, shape_of, command_id, event_shape, event_size, with_register, same_register, address_of, place_count, AreInOrder, position_from, is_reached_within, is_event_place, World, counted, Known, IsUnfinished, IsUnchanged, Matches, Agrees, command_at, next_command, valued}
 use Rattle.world_state.specs.World as of_world
 use Rattle.controller_model.specs.DriverRows as driver
-use Rattle.ring_knowledge.specs.Rings as of_rings
-use Rattle.ring_knowledge.specs.Registers as registers
 use Rattle.safety.proofs.DriverGoesOn.{goes_same}
 use Rattle.safety.proofs.ErdpMoves.{no_place_stays, place_of, position_within}
 use Rattle.safety.proofs.Counted.{agrees_counted}
@@ -28,7 +26,7 @@ module _ (h : Header) (k m : Known) (w v : World) (s : SameRings k m) (c : SameC
   same_goes_on = search (rules, goes_same)
 
   same_before : (p : ℕ) (d : Command) → IsUnfinished h m p d → IsUnfinished h k p d
-  unfolding of_rings.command_at
+  unfolding command_at
   same_before p d u = search (rules, option_and_then, slice_get)
 
   still_unchanged : v.changed ≡ w.changed → v.written ≡ w.written → (at : ℕ) (o : Option ℕ) → IsUnchanged h w at o → IsUnchanged h v at o
@@ -38,7 +36,7 @@ module _ (h : Header) (k m : Known) (w v : World) (s : SameRings k m) (c : SameC
   pub same_matches : v.changed ≡ w.changed → v.written ≡ w.written → Matches h k w → Matches h m v
   same_matches changed written y =
       matches_go_on h k m w v same_goes_on c
-      (λ u at. ap (λ f. slice_get (f (command_id h)).queue (of_rings.next_command h k)) s.rings)
+      (λ u at. ap (λ f. slice_get (f (command_id h)).queue (next_command h k)) s.rings)
       (λ p d u. still_unchanged changed written (address_of (shape_of h (command_id h)) p) (named_context d) (y.contexts p d (same_before p d u))) y
 
 module _ (h : Header) (k : Known) (unread : List Block) (w : World) (g : Agrees h k unread w) where
@@ -46,15 +44,15 @@ module _ (h : Header) (k : Known) (unread : List Block) (w : World) (g : Agrees 
   with_same : (r q : Register) (x : ℕ) → with_register w.register r x q ≡ with_register k.register r x q
   with_same r q x = ap (λ o. if same_register q r then Some x else o) (g.stands.registers q)
 
-  valued_matches : (r : Register) (x : ℕ) → Matches h (registers.valued k r x) (driver.valued w r x)
-  unfolding registers.valued driver.valued
+  valued_matches : (r : Register) (x : ℕ) → Matches h (valued k r x) (driver.valued w r x)
+  unfolding valued driver.valued
   valued_matches r x =
-      same_matches h k (registers.valued k r x) w (driver.valued w r x)
+      same_matches h k (valued k r x) w (driver.valued w r x)
       (record { rings = refl; started = refl; slot_state = refl; endpoint_state = refl; ring_of = refl; was_bound = refl; stop_seen = refl; device = refl })
       (record { slot_state = refl; endpoint_state = refl; ring_of = refl; scribbles = refl; under_way = refl; inside = refl; states = λ q. refl }) refl refl g.matches
 
-  pub valued_agrees : (r : Register) (x : ℕ) → Agrees h (registers.valued k r x) unread (driver.valued w r x)
-  unfolding registers.valued driver.valued of_world.event_at
+  pub valued_agrees : (r : Register) (x : ℕ) → Agrees h (valued k r x) unread (driver.valued w r x)
+  unfolding valued driver.valued of_world.event_at
   valued_agrees r x = search (rules, with_same, valued_matches)
 
 -- ---- ERDP

@@ -1,11 +1,118 @@
 -- A write of any register, but one that stops the controller, where all events are read: what is known agrees with the world
-use Rattle.safety.proofs.Words.{◌≡◌, ◌&&◌, ◌||◌, ◌⊎◌, if◌then◌else◌, ◌∙◌, ℕ, not, true, false, List, [], Option, None, Some, is_some, refl, sym, ap, subst, inl, inr, cases_Bool, cond-true, cond-false, not_from_false, not_from_true, false≢true, Block, erdp_address, is_event_place, event_shape, Header, Register, Usbcmd, Crcr, Erdp, Reg, IsHeader, run_bit, reset_bit, World, counted, Known, learned, is_bad_register, lenient, Unstarted, CommandRingNamed, DriverKeeps, Agrees}
+use Rattle.safety.proofs.Words.{[], ◌≡◌, ◌&&◌, ◌||◌, ◌⊎◌, if◌then◌else◌, ◌∙◌, ℕ, not, true, false, List, Option, None, Some, is_some, refl, sym, ap, subst, inl, inr, cases_Bool, cond-true, cond-false, not_from_false, not_from_true, false≢true, Block, erdp_address, is_event_place, event_shape, Header, Register, Usbcmd, Crcr, Erdp, Reg, IsHeader, run_bit, reset_bit, World, counted, Known, learned, is_bad_register, lenient, Unstarted, CommandRingNamed, DriverKeeps, Agrees, ◌≢◌, ◌∷◌, Bool, rules, Shape, Data, address_of, cycle_of, number, is_border, RingView, is_way_given, place_count_pos, cycle_of-first, Command, shape_of, command_id, register_or_zero, base_address, ring_cycle_state, RingEvent, IsUnfinished, Newest, RingState, state_of, RingMatches, BoundRing, FreeRing, EndpointRing, UnderWayMatches, CommandMatches, NotStarted, Matches, register_written, run_or_stop, valued, next_take, has_other_words, is_out_of_order, command_at, next_command}
 use Rattle.controller_model.specs.DriverRows as driver
-use Rattle.ring_knowledge.specs.Registers as registers
-use Rattle.safety.proofs.CleanRows.{register_facts}
-use Rattle.safety.proofs.KeptRegisters.{starts_written}
-use Rattle.safety.proofs.RowRegister.{ErdpReached, agrees_once_counted, valued_agrees, erdp_agrees, erdp_stays}
-use Rattle.safety.proofs.RowStart.{start_agrees}
+use Rattle.safety.proofs.LowerLaws.{register_facts, starts_written, ErdpReached, agrees_once_counted, valued_agrees, erdp_agrees, erdp_stays, ring_shape, put_at, put_off}
+use Rattle.world_state.specs.World as of_world
+
+-- The start of the controller: what is known agrees with the world
+state_placed : (p q c x : ℕ) (a : Bool) (e : List RingEvent) (m : ℕ) → p ≡ q → c ≡ x →
+    ◌≡◌ {A = RingState} (record { pointer = p; cycle = c; active = a; events = e; reported = m }) (record { pointer = q; cycle = x; active = a; events = e; reported = m })
+state_placed p q c x a e m f g = cc
+
+border_first : (lengths : List ℕ) → is_border lengths 0 0 ≡ true
+unfolding is_border
+border_first [] = refl
+border_first (n ∷ rest) = refl
+
+-- there is no Link before position 0
+way_first : (shape : Shape) (v : RingView) (q : ℕ) → Data 0 ≡ Data q → is_way_given shape v q ≡ true
+unfolding is_way_given
+way_first shape v q at = subst (λ n. is_way_given shape v n ≡ true) (ap (λ t. number t) at) refl
+
+newest_none : (shape : Shape) (v : RingView) (events : List RingEvent) → events ≡ [] → Newest shape v 0 events
+newest_none shape v events none = subst (λ e. Newest shape v 0 e) (sym none) (border_first v.lengths)
+
+next_none : (shape : Shape) (events : List RingEvent) → events ≡ [] → next_take shape events ≡ 0
+unfolding next_take
+next_none shape events none = ap (λ e. next_take shape e) none
+
+order_none : (shape : Shape) (events : List RingEvent) → events ≡ [] → is_out_of_order shape events ≡ false
+unfolding is_out_of_order
+order_none shape events none = ap (λ e. is_out_of_order shape e) none
+
+words_none : (shape : Shape) (events : List RingEvent) → events ≡ [] → has_other_words shape events ≡ false
+unfolding has_other_words
+words_none shape events none = ap (λ e. has_other_words shape e) none
+
+module _ (h : Header) (is : IsHeader h) (k : Known) (unread : List Block) (w : World) (g : Agrees h k unread w) (off : k.started ≡ false) (u : Unstarted h k) (x : ℕ) (at : w.register Crcr ≡ Some x) (named : CommandRingNamed h x) where
+  m : Known
+  m = record k { started = true }
+
+  v : World
+  v = driver.started_with h w
+
+  before : NotStarted h w
+  before = g.matches.before off
+
+  value : register_or_zero w.register Crcr ≡ x
+  value = rw at refl
+
+  others : (q : ℕ) → q ≢ command_id h → state_of v q ≡ state_of w q
+  unfolding v driver.started_with
+  others q other = search (rules, state_placed, put_off, command_id, base_address, register_or_zero, ring_cycle_state)
+
+  pointer : v.pointer_of (command_id h) ≡ address_of (shape_of h (command_id h)) 0
+  unfolding v driver.started_with
+  pointer = put_at w.pointer_of (command_id h) (base_address (register_or_zero w.register Crcr)) ∙ ap base_address value ∙ named.base
+
+  cycle : v.cycle_state (command_id h) ≡ cycle_of (shape_of h (command_id h)) 0
+  unfolding v driver.started_with
+  cycle = search (rules, shape_of, command_id, put_at, ring_cycle_state, register_or_zero, value, cycle_of-first, place_count_pos, ring_shape)
+
+  events_none : v.events (command_id h) ≡ []
+  unfolding v driver.started_with
+  events_none = before.no_events
+
+  inactive : v.is_active (command_id h) ≡ false
+  unfolding v driver.started_with
+  inactive = before.inactive
+
+  none : v.under_way ≡ None
+  unfolding v driver.started_with
+  none = before.none
+
+  first : RingMatches (shape_of h (command_id h)) (k.ring (command_id h)) (state_of v (command_id h)) (Data 0)
+  first = search (rules, v, pointer, cycle, way_first, false≢true, inactive, next_none, events_none, newest_none, order_none, words_none)
+
+  next_zero : next_command h m ≡ 0
+  unfolding next_command m
+  next_zero = ap (λ t. number t) (u.floors (command_id h))
+
+  seen : (s i : ℕ) → m.stop_seen s i ≡ false
+  unfolding m
+  seen s i = u.seen s i
+
+  command : CommandMatches h m v
+  unfolding m
+  command = record { spot = Data 0; ring = first; under_way = subst (λ o. UnderWayMatches h m (Data 0) o) (sym none) (sym next_zero, seen) }
+
+  endpoint_ring : (r : ℕ) → r ≢ command_id h → EndpointRing h k w r → EndpointRing h k v r
+  endpoint_ring r other (inl bound) = inl (subst (λ s. BoundRing (shape_of h r) k.ring_of (k.ring r) s r) (sym (others r other)) bound)
+  endpoint_ring r other (inr free) = inr (subst (λ s. FreeRing (shape_of h r) k.ring_of (k.ring r) s r) (sym (others r other)) free)
+
+  given_before : (p : ℕ) (c : Command) → IsUnfinished h m p c → IsUnfinished h k p c
+  unfolding m command_at
+  given_before p c f = record { due = f.due; given = f.given; command = f.command }
+
+  matches : Matches h m v
+  unfolding m v driver.started_with
+  matches =
+      let y = g.matches in
+      record {
+        slots = y.slots;
+        endpoints = y.endpoints;
+        ring_of = y.ring_of;
+        rings = λ r other. endpoint_ring r other (y.rings r other);
+        before = λ waits. absurd (false≢true (sym waits));
+        command = λ on. command;
+        scribbles = y.scribbles;
+        contexts = λ p c f. y.contexts p c (given_before p c f);
+        inside = y.inside;
+      }
+
+  pub start_agrees : Agrees h (record k { started = true }) unread (driver.started_with h w)
+  unfolding m v driver.started_with of_world.event_at
+  start_agrees = search (rules, matches)
 
 some_value : (o : Option ℕ) → is_some o ≡ true → (x : ℕ) × (o ≡ Some x)
 some_value None is = absurd (false≢true is)
@@ -19,14 +126,13 @@ record MayStart (h : Header) (k : Known) : Type 0 where
   named : CommandRingNamed h value
 
 module _ (h : Header) (is : IsHeader h) (k : Known) (unread : List Block) (w : World) (g : Agrees h k unread w) (x : ℕ) where
-  run_agrees : (k.started ≡ false → (run_bit x && not (reset_bit x)) ≡ true → MayStart h k) → k.stopped ≡ false → (registers.run_or_stop k x).stopped ≡ false →
-      Agrees h (registers.run_or_stop k x) unread (driver.run_or_stop h w x)
-  unfolding registers.run_or_stop driver.run_or_stop
+  run_agrees : (k.started ≡ false → (run_bit x && not (reset_bit x)) ≡ true → MayStart h k) → k.stopped ≡ false → (run_or_stop k x).stopped ≡ false →
+      Agrees h (run_or_stop k x) unread (driver.run_or_stop h w x)
+  unfolding run_or_stop driver.run_or_stop
   run_agrees may on still =
       elim (cases_Bool k.started) [
         | inl started ↦
-            let same = not_from_true k.started started in
-            let known = cond-false (not k.started) first_known later_known same in
+            let known = cond-false (not k.started) first_known later_known (not_from_true k.started started) in
             let world = cond-false (not w.started) first_world later_world (not_from_true w.started (g.stands.started ∙ started)) in
             elim (cases_Bool (not (run_bit x) || reset_bit x)) [
               | inl stops ↦ absurd (false≢true (sym still ∙ ap (λ (m : Known). m.stopped) (known ∙ cond-true (not (run_bit x) || reset_bit x) (record k { stopped = true }) k stops)))
@@ -69,8 +175,8 @@ unfoldable pub MayMove : Header → World → Register → ℕ → Type 0
 MayMove h w Erdp x = ErdpReached h w (erdp_address x) ⊎ (is_event_place (event_shape h) (erdp_address x) ≡ false)
 MayMove h w _ x = Unit {0}
 
-unstarted_valued : (h : Header) (k : Known) (r : Register) (x : ℕ) → Unstarted h k → Unstarted h (registers.valued k r x)
-unfolding registers.valued
+unstarted_valued : (h : Header) (k : Known) (r : Register) (x : ℕ) → Unstarted h k → Unstarted h (valued k r x)
+unfolding valued
 unstarted_valued h k r x u = record { reads = u.reads; dequeue = u.dequeue; slots = u.slots; rings = u.rings; floors = u.floors; held = u.held; seen = u.seen }
 
 reached_valued : (h : Header) (w : World) (r : Register) (x a : ℕ) → ErdpReached h w a → ErdpReached h (driver.valued w r x) a
@@ -78,23 +184,23 @@ unfolding driver.valued
 reached_valued h w r x a e = record { more = e.more; reached = e.reached; within = e.within }
 
 module _ (h : Header) (is : IsHeader h) (k : Known) (unread : List Block) (w : World) (d : DriverKeeps h k) (g : Agrees h k unread w) where
-  may_start : (x : ℕ) → is_bad_register h k Usbcmd x ≡ false → k.started ≡ false → (run_bit x && not (reset_bit x)) ≡ true → MayStart h (registers.valued k Usbcmd x)
-  unfolding registers.valued
+  may_start : (x : ℕ) → is_bad_register h k Usbcmd x ≡ false → k.started ≡ false → (run_bit x && not (reset_bit x)) ≡ true → MayStart h (valued k Usbcmd x)
+  unfolding valued
   may_start x good waits starts =
       let value = some_value (k.register Crcr) (starts_written h k Usbcmd x good (record { before = waits; register = refl; runs = starts })).0 in
       record { before = unstarted_valued h k Usbcmd x (d.unstarted waits); value = value.0; written = value.1; named = d.crcr value.0 value.1 }
 
-  register_by : (r : Register) (x : ℕ) → MayMove h w r x → is_bad_register h k r x ≡ false → k.stopped ≡ false → (registers.register_written h k r x).stopped ≡ false →
-      Agrees h (registers.register_written h k r x) unread (driver.register_row h w r x)
-  unfolding registers.register_written driver.register_row MayMove registers.valued
+  register_by : (r : Register) (x : ℕ) → MayMove h w r x → is_bad_register h k r x ≡ false → k.stopped ≡ false → (register_written h k r x).stopped ≡ false →
+      Agrees h (register_written h k r x) unread (driver.register_row h w r x)
+  unfolding register_written driver.register_row MayMove valued
   register_by Usbcmd x may good on still =
-      run_agrees h is (registers.valued k Usbcmd x) unread (driver.valued w Usbcmd x) (valued_agrees h k unread w g Usbcmd x) x (may_start x good) on still
+      run_agrees h is (valued k Usbcmd x) unread (driver.valued w Usbcmd x) (valued_agrees h k unread w g Usbcmd x) x (may_start x good) on still
   register_by Erdp x may good on still =
       elim may [
         | inl reached ↦
-            erdp_agrees h (registers.valued k Erdp x) unread (driver.valued w Erdp x) (valued_agrees h k unread w g Erdp x) (erdp_address x)
+            erdp_agrees h (valued k Erdp x) unread (driver.valued w Erdp x) (valued_agrees h k unread w g Erdp x) (erdp_address x)
             (reached_valued h w Erdp x (erdp_address x) reached)
-        | inr none ↦ erdp_stays h (registers.valued k Erdp x) unread (driver.valued w Erdp x) (valued_agrees h k unread w g Erdp x) (erdp_address x) none
+        | inr none ↦ erdp_stays h (valued k Erdp x) unread (driver.valued w Erdp x) (valued_agrees h k unread w g Erdp x) (erdp_address x) none
       ]
   register_by r x may good on still = valued_agrees h k unread w g r x
 
@@ -102,5 +208,5 @@ module _ (h : Header) (is : IsHeader h) (k : Known) (unread : List Block) (w : W
       Agrees h (learned h k (Reg r x)) unread (counted h (driver.register_row h w r x))
   unfolding learned
   register_agrees r x may clean on still =
-      agrees_once_counted h (registers.register_written h k r x) unread (driver.register_row h w r x)
+      agrees_once_counted h (register_written h k r x) unread (driver.register_row h w r x)
       (register_by r x may (register_facts h k r x clean).good on still)

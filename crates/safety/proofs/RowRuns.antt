@@ -1,11 +1,23 @@
 -- Behind a row of the driver the run goes on, whatever is unread
-use Rattle.safety.proofs.Words.{◌≡◌, ◌==◌, ◌&&◌, if◌then◌else◌, ◌∷◌, ◌∙◌, ℕ, not, true, false, List, [], Some, refl, sym, subst, inl, inr, rules, cases_Bool, cond-true, and_from, not-false, same_Some, Block, is_open, Header, Row, Sub, Write, Reg, Bell, Read, IsHeader, MayCome, command_id, IsRow, World, counted, Known, learned, is_bad_bell, lenient, DriverKeeps, KeptByRestoring, IsDriverRow, Agrees, ArePossible, Runs, all_read, is_idle, is_open_if, MayRing, SquareLaw, MoreLaw}
-use Rattle.controller_model.specs.DriverRows as driver
-use Rattle.safety.proofs.CleanRows.{BellFacts, bell_facts}
-use Rattle.safety.proofs.KeptCounts.{read_counts}
-use Rattle.safety.proofs.RowBeneath.{awake_runs, read_on}
-use Rattle.safety.proofs.StillOpen.{still_open}
-use Rattle.safety.proofs.RowIdle.{idle, rings, rung_agrees, command_rung}
+use Rattle.safety.proofs.Words.{[], ◌≡◌, ◌==◌, ◌&&◌, if◌then◌else◌, ◌∷◌, ◌∙◌, ℕ, not, true, false, List, Some, refl, sym, subst, inl, inr, rules, cases_Bool, cond-true, and_from, not-false, same_Some, Block, is_open, Header, Row, Sub, Write, Reg, Bell, Read, IsHeader, MayCome, command_id, IsRow, World, counted, Known, learned, is_bad_bell, lenient, DriverKeeps, KeptByRestoring, IsDriverRow, Agrees, ArePossible, Runs, all_read, is_idle, is_open_if, MayRing, SquareLaw, MoreLaw, None, ap, BlockKind, TransferEvent, CommandCompletion, kind, event_read, EndpointsKeep, activated, bell_row, endpoint_bell, row_done}
+use Rattle.safety.proofs.LowerLaws.{BellFacts, bell_facts, endpoints_of, transfer_command, open_held, held_open}
+use Rattle.safety.proofs.MiddleLaws.{read_counts, awake_runs, read_on, idle, rings, rung_agrees, command_rung, completed_view}
+
+-- No event holds the command ring
+module _ (h : Header) (is : IsHeader h) (k : Known) (keeps : EndpointsKeep h k) (b : Block) where
+  event_held : (t : BlockKind) → (k.ring (command_id h)).held ≡ None → ((event_read h k t b).ring (command_id h)).held ≡ None
+  unfolding event_read
+  event_held TransferEvent none = ap (λ v. v.held) (transfer_command h is k keeps b) ∙ none
+  event_held CommandCompletion none = ap (λ v. v.held) (completed_view h is k keeps b) ∙ none
+  event_held _ none = none
+
+  read_held : (k.ring (command_id h)).held ≡ None → ((learned h k (Read b)).ring (command_id h)).held ≡ None
+  unfolding learned
+  read_held none = event_held (kind b) none
+
+-- behind an event it is open still
+pub still_open : (h : Header) → IsHeader h → (k : Known) (b : Block) → DriverKeeps h k → is_open (k.ring (command_id h)) ≡ true → is_open ((learned h k (Read b)).ring (command_id h)) ≡ true
+still_open h is k b d opened = held_open ((learned h k (Read b)).ring (command_id h)) (read_held h is k (endpoints_of h k d.states) b (open_held (k.ring (command_id h)) opened))
 
 -- an endpoint whose doorbell does nothing stays one behind an event
 abbrev pub StillRingsLaw : Header → Type 0
@@ -30,8 +42,8 @@ module _ (h : Header) where
       nothing_more : now ≡ learned h now (Bell s t)
       nothing_more = sym (idle h now now_keeps s t idles)
 
-      command_agrees : (s == 0) ≡ true → Agrees h later run.unread (counted h (driver.bell_row h w s t))
-      unfolding later driver.bell_row
+      command_agrees : (s == 0) ≡ true → Agrees h later run.unread (counted h (bell_row h w s t))
+      unfolding later bell_row
       command_agrees command =
           let facts : BellFacts h now s t = bell_facts h now s t possible in
           let opened : is_open (now.ring (command_id h)) ≡ true =
@@ -39,30 +51,28 @@ module _ (h : Header) where
           let l = along (λ k. is_open (k.ring (command_id h)) ≡ true) (λ k e d o b. still_open h is k e d o) run.unread now now_keeps run.possible run.on opened in
           let started = l.2 facts.started in
           let zero : (t == 0) ≡ true = not-false (t == 0) (sym (cond-true (s == 0) (not (t == 0)) (is_bad_bell h now s t) command) ∙ facts.good) in
-          let both : (t == 0 && w.started) ≡ true = and_from (t == 0) w.started zero (run.agrees.stands.started ∙ started) in
           subst (λ u. Agrees h (all_read h now run.unread) run.unread (counted h u))
-          (sym (cond-true (s == 0) (if t == 0 && w.started then driver.activated h w (command_id h) else w) (driver.endpoint_bell h w s t (w.ring_of s t)) command
-          ∙ cond-true (t == 0 && w.started) (driver.activated h w (command_id h)) w both))
+          (sym (cond-true (s == 0) (if t == 0 && w.started then activated h w (command_id h) else w) (endpoint_bell h w s t (w.ring_of s t)) command
+          ∙ cond-true (t == 0 && w.started) (activated h w (command_id h)) w (and_from (t == 0) w.started zero (run.agrees.stands.started ∙ started))))
           (command_rung h is (all_read h now run.unread) run.unread w l.1 run.agrees l.0 started)
 
-      endpoint_agrees : (s == 0) ≡ false → Agrees h later run.unread (counted h (driver.bell_row h w s t))
+      endpoint_agrees : (s == 0) ≡ false → Agrees h later run.unread (counted h (bell_row h w s t))
       unfolding later
       endpoint_agrees endpoint =
-          let may : MayRing h now s t = rings h now now_keeps s t idles possible endpoint in
-          let l = along (λ k. MayRing h k s t) (λ k e d m b. still k s t e is d m b) run.unread now now_keeps run.possible run.on may in
+          let l = along (λ k. MayRing h k s t) (λ k e d m b. still k s t e is d m b) run.unread now now_keeps run.possible run.on (rings h now now_keeps s t idles possible endpoint) in
           rung_agrees h is (all_read h now run.unread) run.unread w l.1 run.agrees s t endpoint l.0
 
-      agrees_still : Agrees h later run.unread (counted h (driver.bell_row h w s t))
+      agrees_still : Agrees h later run.unread (counted h (bell_row h w s t))
       agrees_still = elim (cases_Bool (s == 0)) [ inl command ↦ command_agrees command | inr endpoint ↦ endpoint_agrees endpoint ]
 
-      pub idle_runs : driver.row_done h w (Bell s t) ≡ Some v → Runs h (learned h now (Bell s t)) (counted h v)
-      unfolding later driver.row_done
+      pub idle_runs : row_done h w (Bell s t) ≡ Some v → Runs h (learned h now (Bell s t)) (counted h v)
+      unfolding later row_done
       idle_runs at = search (rules, later, nothing_more, same_Some, agrees_still)
 
     -- any row of the driver that doesn't stop the controller
     module _ (square : SquareLaw h) (more : MoreLaw h) where
       pub row_runs : (now : Known) (row : Row) (w v : World) → IsRow row → IsDriverRow row → DriverKeeps h now → Runs h now w → MayCome h now row → (learned h now row).stopped ≡ false →
-          driver.row_done h w row ≡ Some v → Runs h (learned h now row) (counted h v)
+          row_done h w row ≡ Some v → Runs h (learned h now row) (counted h v)
       row_runs now (Bell s t) w v is_row driver_row keeps run possible on at =
           elim (cases_Bool (is_idle h now (Bell s t))) [
             | inl idles ↦ idle_runs now w v s t keeps run possible.0 idles at

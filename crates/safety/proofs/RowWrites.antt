@@ -1,19 +1,8 @@
 -- A write of memory where all events are read: what is known agrees with the world
-use Rattle.safety.proofs.Words.{◌≡◌, ◌≢◌, ◌+◌, ◌*◌, ◌/◌, ◌<◌, ◌⊎◌, ◌∙◌, ℕ, false, List, [], Option, None, Some, option_and_then, slice_get, arith, refl, sym, ap, inl, inr, add-zero, ne_eqb, rules, list_any, cases_eq, or_parts, or_cases, false≢true, not_from_false, slice_get_within, put, Block, address_of, is_in, is_inside, Writes, changed, put_here, put_elsewhere, gives_is, address_inside, Command, named_context, device_context_bytes, input_context_bytes, Header, Write, IsHeader, shape_of, command_id, event_shape, World, stored, counted, Known, learned, command_at, next_command, with_device, with_word, written, command_given, taken_device, covers, lease_start, lease_bytes, segment_ranges, device_ranges, lenient, IsUnfinished, DriverKeeps, Stands, EventsStand, touches_events, IsUnchanged, Matches, Agrees, is_the_controllers}
+use Rattle.safety.proofs.Words.{[], ◌≡◌, ◌≢◌, ◌+◌, ◌*◌, ◌/◌, ◌<◌, ◌⊎◌, ◌∙◌, ℕ, false, List, Option, None, Some, option_and_then, slice_get, arith, refl, sym, ap, inl, inr, add-zero, ne_eqb, rules, list_any, cases_eq, or_parts, or_cases, false≢true, not_from_false, slice_get_within, put, Block, address_of, is_in, is_inside, Writes, changed, put_here, put_elsewhere, gives_is, address_inside, Command, named_context, device_context_bytes, input_context_bytes, Header, Write, IsHeader, shape_of, command_id, event_shape, World, stored, counted, Known, learned, command_at, next_command, with_device, with_word, written, command_given, taken_device, covers, lease_start, lease_bytes, segment_ranges, device_ranges, lenient, IsUnfinished, DriverKeeps, Stands, EventsStand, touches_events, IsUnchanged, Matches, Agrees, is_the_controllers}
 use Rattle.world_state.specs.World.{event_at}
-use Rattle.world_state.specs.World as of_world
-use Rattle.safety.proofs.TestsPassed.{any_of_map}
-use Rattle.safety.proofs.Headers.{EventRing, event_ring_is}
-use Rattle.safety.proofs.Areas.{byte_apart, clean_word, context_lies}
-use Rattle.safety.proofs.AreaFacts.{context_free, word_elsewhere, word_free}
-use Rattle.safety.proofs.Writing.{free_or_same, not_the_controllers, none_of_both}
-use Rattle.safety.proofs.RingMemory.{same_block_at}
-use Rattle.safety.proofs.EndpointPut.{at_number}
+use Rattle.safety.proofs.LowerLaws.{any_of_map, EventRing, event_ring_is, byte_apart, clean_word, context_lies, context_free, word_elsewhere, word_free, free_or_same, not_the_controllers, none_of_both, same_block_at, at_number, Late, late_stored, memory_stored, unchanged_stored, agrees_counted, writes_goes_on, KnownGoesOn, SameController, matches_go_on}
 use Rattle.safety.proofs.RowFrames.{WriteLeaves, write_leaves}
-use Rattle.safety.proofs.Stored.{Late, late_stored, memory_stored, unchanged_stored}
-use Rattle.safety.proofs.Counted.{agrees_counted}
-use Rattle.safety.proofs.DriverGoesOn.{writes_goes_on}
-use Rattle.safety.proofs.MatchesGoesOn.{KnownGoesOn, SameController, matches_go_on}
 
 -- ---- what the write adds
 
@@ -79,11 +68,9 @@ module _ (h : Header) (is : IsHeader h) (k : Known) (unread : List Block) (w : W
   in_context_same p n i c u named low here =
       elim (free_or_same h k a x clean) [
         | inl free ↦
-            let apart = context_free h k a 4 (word_free h k a free) p n c u named in
-            absurd (word_elsewhere a n (input_context_bytes h.context_size) (n + 4 * i) apart (omega arith) (omega arith) here)
+            absurd (word_elsewhere a n (input_context_bytes h.context_size) (n + 4 * i) (context_free h k a 4 (word_free h k a free) p n c u named) (omega arith) (omega arith) here)
         | inr same ↦
-            let clean_there : k.soiled a ≡ false = ap k.soiled (sym here) ∙ clean_word k n (input_context_bytes h.context_size) i (context_lies h k d p n c u named).clean low in
-            g.stands.quiet a clean_there not_event ∙ same
+            g.stands.quiet a (ap k.soiled (sym here) ∙ clean_word k n (input_context_bytes h.context_size) i (context_lies h k d p n c u named).clean low) not_event ∙ same
       ]
 
   event_apart : (e : EventRing h) (p j : ℕ) → j < 16 → address_of (event_shape h) p + j ≢ a
@@ -104,16 +91,10 @@ module _ (h : Header) (is : IsHeader h) (k : Known) (unread : List Block) (w : W
   some_posted i f at = let within = slice_get_within unread i f at in omega (arith, g.events.count)
 
   events : EventsStand h v unread
-  unfolding v of_world.stored
+  unfolding v stored
   events =
       let e = g.events in
-      record {
-        order = e.order;
-        count = e.count;
-        places = λ i f at. event_stays (event_ring_is h is (e.ring (some_posted i f at))) (w.reads + i) ∙ e.places i f at;
-        started = e.started;
-        ring = e.ring;
-      }
+      search (rules, event_stays, event_ring_is, some_posted)
 
   -- ---- what is known
 
@@ -122,7 +103,7 @@ module _ (h : Header) (is : IsHeader h) (k : Known) (unread : List Block) (w : W
   goes_on = search (rules, m, write_leaves, written_device, written_rings, writes_goes_on)
 
   controller : SameController w v
-  unfolding v of_world.stored
+  unfolding v stored
   controller = record { slot_state = refl; endpoint_state = refl; ring_of = refl; scribbles = refl; under_way = refl; inside = refl; states = λ q. refl }
 
   queue_same : (r : ℕ) → (m.ring r).queue ≡ (k.ring r).queue
@@ -140,7 +121,7 @@ module _ (h : Header) (is : IsHeader h) (k : Known) (unread : List Block) (w : W
 
   -- what is given now was changed before now
   given_now : (at : ℕ) (o : Option ℕ) → a ≡ at + 12 → IsUnchanged h v at o
-  unfolding v of_world.stored
+  unfolding v stored
   given_now at None same = search rules
   given_now at (Some n) same = search (rules, v, late_stored, late, put_here)
 
@@ -158,7 +139,7 @@ module _ (h : Header) (is : IsHeader h) (k : Known) (unread : List Block) (w : W
       matches_go_on h k m w v goes_on controller (λ u at. ap (λ q. slice_get q (next_command h k)) (queue_same (command_id h))) contexts g.matches
 
   quiet : (b : ℕ) → m.soiled b ≡ false → touches_events h b ≡ false → v.memory b ≡ m.memory b
-  unfolding m v of_world.stored
+  unfolding m v stored
   quiet b none apart =
       elim (cases_eq b a) [
         | inl same ↦ ap (λ c. put w.memory a x c) same ∙ put_here w.memory a x ∙ sym (ap (λ c. put k.memory a x c) same ∙ put_here k.memory a x) ∙ sym (written_memory h k a x b)
@@ -167,7 +148,7 @@ module _ (h : Header) (is : IsHeader h) (k : Known) (unread : List Block) (w : W
       ]
 
   stands : Stands h m v
-  unfolding m v of_world.stored
+  unfolding m v stored
   stands =
       let s = g.stands in
       let l : WriteLeaves k m = write_leaves h k a x in
@@ -182,7 +163,7 @@ module _ (h : Header) (is : IsHeader h) (k : Known) (unread : List Block) (w : W
       }
 
   read : v.posted ≡ m.reads
-  unfolding m v of_world.stored
+  unfolding m v stored
   read = let l : WriteLeaves k m = write_leaves h k a x in g.read ∙ sym l.registers.reads
 
   pub writes_agree : Agrees h (learned h k (Write a x)) unread (counted h (stored w a x))

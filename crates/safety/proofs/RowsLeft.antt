@@ -1,13 +1,9 @@
 -- The rows still to come are those that no row was made of: no step of the controller touches them, and a row takes the first
-use Rattle.std.proofs.Common.{◌≡◌, ◌+◌, ◌==◌, ◌&&◌, if◌then◌else◌, ◌∷◌, ◌||◌, ◌-◌, ◌∙◌, ℕ, Bool, true, false, not, List, [], Option, Some, None, option_map, option_and_then, position, refl, sym, ap, rules}
-use Rattle.safety.proofs.Words.{list_any, range_with_len, none-some, same_Some, Block, is_set, block_at, code, cycle, endpoint, kind, pointer, slot, word, is_command_completion, is_other_event, is_transfer_event, put_pair, Command, EndpointState, Running, named_context, can_succeed, is_running, is_stopped, Change, Places, Stops, changes, Header, Row, Reg, Bell, Read, Register, Usbcmd, Config, Erdp, command_id, register_or_zero, World, UnderWay, unreported}
-use Rattle.world_state.specs.World as of_world
+use Rattle.std.proofs.Common.{[], ◌≡◌, ◌+◌, ◌==◌, ◌&&◌, if◌then◌else◌, ◌∷◌, ◌||◌, ◌∙◌, ℕ, Bool, true, false, not, List, Option, Some, None, option_map, option_and_then, position, refl, sym, ap, rules}
+use Rattle.safety.proofs.Words.{list_any, range_with_len, none-some, same_Some, Block, is_set, block_at, code, cycle, endpoint, kind, pointer, slot, word, is_command_completion, is_other_event, is_transfer_event, put_pair, Command, EndpointState, Running, named_context, can_succeed, is_running, is_stopped, Change, Places, Stops, changes, Header, Row, Reg, Bell, Read, Register, Usbcmd, Config, Erdp, command_id, register_or_zero, World, UnderWay, unreported, stored, stored_block, command_begun, crossed, looked, looked_at, seen_by_look, taken, taken_on, can_post, other_posted, posted, report_code, report_error, report_stop, report_success, reported, reported_on, stopped_with, with_reported, is_scribbled, scribbled}
 use Rattle.controller_model.specs.DriverRows as driver
-use Rattle.controller_model.specs.Looks as looks
-use Rattle.controller_model.specs.Posts as posts
 use Rattle.controller_model.specs.Finishes as finishes
 use Rattle.controller_model.specs.Bindings as bindings
-use Rattle.controller_model.specs.Steps as steps
 
 -- the world that a step leads to, if it leads to one, has the rows of w still to come
 pub record RowsLeft (w : World) (o : Option World) : Type 0 where
@@ -57,55 +53,55 @@ only_if : (w : World) (b : Bool) (o : Option World) → RowsLeft w o → RowsLef
 only_if w b o left = either w b o None left (nowhere w)
 
 module _ (h : Header) where
-  taken_left : (w : World) (r : ℕ) (b : Block) → (looks.taken h w r b).rows ≡ w.rows
-  unfolding looks.taken looks.taken_on looks.command_begun
+  taken_left : (w : World) (r : ℕ) (b : Block) → (taken h w r b).rows ≡ w.rows
+  unfolding taken taken_on command_begun
   taken_left w r b =
-      (one_of w (r == command_id h) (looks.command_begun h (looks.taken_on h w r b) (w.pointer_of r) b) (looks.taken_on h w r b)
-      (kept w (looks.command_begun h (looks.taken_on h w r b) (w.pointer_of r) b) refl) (kept w (looks.taken_on h w r b) refl)).same
+      (one_of w (r == command_id h) (command_begun h (taken_on h w r b) (w.pointer_of r) b) (taken_on h w r b)
+      (kept w (command_begun h (taken_on h w r b) (w.pointer_of r) b) refl) (kept w (taken_on h w r b) refl)).same
 
-  looked_at_left : (w : World) (r : ℕ) (b : Block) → RowsLeft w (looks.looked_at h w r b)
-  unfolding looks.looked_at looks.seen_by_look looks.crossed
+  looked_at_left : (w : World) (r : ℕ) (b : Block) → RowsLeft w (looked_at h w r b)
+  unfolding looked_at seen_by_look crossed
   looked_at_left w r b = search (rules, to_if, either, nowhere, to, taken_left)
 
-  pub looked_left : (w : World) (r : ℕ) → RowsLeft w (looks.looked h w r)
-  unfolding looks.looked
-  looked_left w r = only_if w (w.is_active r) (looks.looked_at h w r (block_at w.memory (w.pointer_of r))) (looked_at_left w r (block_at w.memory (w.pointer_of r)))
+  pub looked_left : (w : World) (r : ℕ) → RowsLeft w (looked h w r)
+  unfolding looked
+  looked_left w r = only_if w (w.is_active r) (looked_at h w r (block_at w.memory (w.pointer_of r))) (looked_at_left w r (block_at w.memory (w.pointer_of r)))
 
-  posted_left : (w : World) (b : Block) → (posts.posted h w b).rows ≡ w.rows
-  unfolding posts.posted of_world.stored of_world.stored_block
+  posted_left : (w : World) (b : Block) → (posted h w b).rows ≡ w.rows
+  unfolding posted stored stored_block
   posted_left w b = refl
 
-  pub other_left : (w : World) (b : Block) → RowsLeft w (posts.other_posted h w b)
-  unfolding posts.other_posted
-  other_left w b = only_if w (posts.can_post h w b && is_other_event (kind b)) (Some (posts.posted h w b)) (to w (posts.posted h w b) (posted_left w b))
+  pub other_left : (w : World) (b : Block) → RowsLeft w (other_posted h w b)
+  unfolding other_posted
+  other_left w b = only_if w (can_post h w b && is_other_event (kind b)) (Some (posted h w b)) (to w (posted h w b) (posted_left w b))
 
-  success_left : (w : World) (r a : ℕ) → RowsLeft w (posts.report_success h w r a)
-  unfolding posts.report_success posts.with_reported
-  success_left w r a = over w (λ n. posts.with_reported h w r (w.reported r + n + 1)) (position (λ b. b == a) (unreported w r)) (λ n. refl)
+  success_left : (w : World) (r a : ℕ) → RowsLeft w (report_success h w r a)
+  unfolding report_success with_reported
+  success_left w r a = over w (λ n. with_reported h w r (w.reported r + n + 1)) (position (λ b. b == a) (unreported w r)) (λ n. refl)
 
-  error_left : (w : World) (s i r a : ℕ) (state : EndpointState) → RowsLeft w (posts.report_error h w s i r a state)
-  unfolding posts.report_error posts.with_reported
+  error_left : (w : World) (s i r a : ℕ) (state : EndpointState) → RowsLeft w (report_error h w s i r a state)
+  unfolding report_error with_reported
   error_left w s i r a state = search (rules, only_if, to)
 
-  stop_left : (w : World) (s i r a : ℕ) → RowsLeft w (posts.report_stop h w s i r a)
-  unfolding posts.report_stop posts.stopped_with posts.with_reported
+  stop_left : (w : World) (s i r a : ℕ) → RowsLeft w (report_stop h w s i r a)
+  unfolding report_stop stopped_with with_reported
   stop_left w s i r a = search (rules, either, nowhere, to_if, only_if, to)
 
-  report_left : (w : World) (c s i r a : ℕ) → RowsLeft w (posts.report_code h w c s i r a)
-  unfolding posts.report_code
+  report_left : (w : World) (c s i r a : ℕ) → RowsLeft w (report_code h w c s i r a)
+  unfolding report_code
   report_left w c s i r a = search (rules, either, success_left, error_left, only_if, stop_left)
 
-  reported_on_left : (w : World) (b : Block) (o : Option ℕ) → RowsLeft w (posts.reported_on h w b o)
-  unfolding posts.reported_on
+  reported_on_left : (w : World) (b : Block) (o : Option ℕ) → RowsLeft w (reported_on h w b o)
+  unfolding reported_on
   reported_on_left w b None = nowhere w
   reported_on_left w b (Some r) =
-      from_start (posts.posted h w b) w (posts.report_code h (posts.posted h w b) (code b) (slot b) (endpoint b) r (pointer b)) (posted_left w b)
-      (report_left (posts.posted h w b) (code b) (slot b) (endpoint b) r (pointer b))
+      from_start (posted h w b) w (report_code h (posted h w b) (code b) (slot b) (endpoint b) r (pointer b)) (posted_left w b)
+      (report_left (posted h w b) (code b) (slot b) (endpoint b) r (pointer b))
 
-  pub reported_left : (w : World) (b : Block) → RowsLeft w (posts.reported h w b)
-  unfolding posts.reported
+  pub reported_left : (w : World) (b : Block) → RowsLeft w (reported h w b)
+  unfolding reported
   reported_left w b =
-      only_if w (posts.can_post h w b && is_transfer_event (kind b) && not (is_set (word b 3) 2)) (posts.reported_on h w b (w.ring_of (slot b) (endpoint b)))
+      only_if w (can_post h w b && is_transfer_event (kind b) && not (is_set (word b 3) 2)) (reported_on h w b (w.ring_of (slot b) (endpoint b)))
       (reported_on_left w b (w.ring_of (slot b) (endpoint b)))
 
   inactive_left : (w : World) (o : Option ℕ) → (bindings.inactive w o).rows ≡ w.rows
@@ -148,11 +144,11 @@ module _ (h : Header) where
   pub finished_left : (w : World) (b : Block) → RowsLeft w (finishes.finished h w b)
   unfolding finishes.finished
   finished_left w b =
-      only_if w (posts.can_post h w b && is_command_completion (kind b) && not (code b == 0)) (finishes.finished_as h w b w.under_way) (finished_as_left w b w.under_way)
+      only_if w (can_post h w b && is_command_completion (kind b) && not (code b == 0)) (finishes.finished_as h w b w.under_way) (finished_as_left w b w.under_way)
 
-  pub scribbled_left : (w : World) (a x : ℕ) → RowsLeft w (steps.scribbled h w a x)
-  unfolding steps.scribbled of_world.stored
-  scribbled_left w a x = only_if w (list_any (steps.is_scribbled h w a) (range_with_len 0 256)) (Some (of_world.stored w a x)) (to w (of_world.stored w a x) refl)
+  pub scribbled_left : (w : World) (a x : ℕ) → RowsLeft w (scribbled h w a x)
+  unfolding scribbled stored
+  scribbled_left w a x = only_if w (list_any (is_scribbled h w a) (range_with_len 0 256)) (Some (stored w a x)) (to w (stored w a x) refl)
 
   -- ---- a row
 
@@ -178,7 +174,7 @@ module _ (h : Header) where
   bell_left w s t = search (rules, one_of, kept, bell_on_left)
 
   pub row_left : (w : World) (row : Row) → RowsLeft w (driver.row_done h w row)
-  unfolding driver.row_done driver.declared of_world.stored driver.event_read
+  unfolding driver.row_done driver.declared stored driver.event_read
   row_left w (Reg r v) = search (rules, to, register_left)
   row_left w (Bell s t) = search (rules, to, bell_left)
   row_left w (Read e) = search (rules, to, only_if)

@@ -1,5 +1,5 @@
 -- A world that agrees with what a rule-keeping driver's rows lead to is safe: harm by harm
-use Rattle.std.proofs.Common.{◌≡◌, ◌+◌, ◌-◌, ◌<◌, ◌≤◌, ◌==◌, ◌&&◌, ◌∷◌, ◌∙◌, ℕ, Bool, false, not, List, [], nat_lt, nat_le, None, find, option_map, arith, refl, sym, ap, inl, inr, eq-eqb, le-ltb, rules}
+use Rattle.std.proofs.Common.{[], ◌≡◌, ◌+◌, ◌-◌, ◌<◌, ◌≤◌, ◌==◌, ◌&&◌, ◌∷◌, ◌∙◌, ℕ, Bool, false, not, List, nat_lt, nat_le, None, find, option_map, arith, refl, sym, ap, inl, inr, eq-eqb, le-ltb, rules}
 use Rattle.safety.proofs.Words.{list_any, cases_Bool, cases_eq, and_left, and_right, or_from, lt-leb, not_from_true, Block, block_at, cycle, number, spot_address, Spot, Header, Ring, IsHeader, shape_of, command_id, event_size, some_ring, Harm, TakenOutOfOrder, TakenOtherWords, WaitsInsideDescriptor, LooksOutside, PostsOverUnread, InputContextChanged, World, is_out_of_order, has_other_words, is_inside_descriptor, waits, harms, harm_of, IsSafe, has_changed_context, Known, IsDriverRing, DriverKeeps, Stands, RingMatches, state_of, Agrees, Runs, all_read}
 use Rattle.safety.proofs.Headers.{transfer_driver, ring_shape}
 use Rattle.safety.proofs.AtSpots.{MayStand}
@@ -56,12 +56,9 @@ module _ (h : Header) (is : IsHeader h) (k : Known) (w : World) (d : DriverKeeps
         | inl on ↦ elim (cases_Bool (is_inside_descriptor (w.events r))) [
           | inr outside ↦ and_right (waits w r) (is_inside_descriptor (w.events r)) outside
           | inl inside ↦
-              let shape = shape_of h r in
-              let allowed = (ring_shape h is r ring).is in
               let keeps = d.rings r ring in
-              let at = stands_at r t ring m in
               let given = inside_given (shape_of h r) (k.ring r) (number t) (w.events r) m.newest inside in
-              let cycle_is = cycle_inside (shape_of h r) allowed k.memory (k.ring r) keeps t at given (keeps.open_restored (m.opened on) (number t)) in
+              let cycle_is = cycle_inside (shape_of h r) ((ring_shape h is r ring).is) k.memory (k.ring r) keeps t (stands_at r t ring m) given (keeps.open_restored (m.opened on) (number t)) in
               and_left (waits w r) (is_inside_descriptor (w.events r)) (waits_not w r (ap (λ b. cycle b) (block_found r t ring m) ∙ cycle_is ∙ sym m.cycle))
         ]
       ]

@@ -2,7 +2,6 @@
 use Rattle.safety.proofs.Words.{◌≡◌, ◌≢◌, ◌+◌, ◌*◌, ◌<◌, ◌≤◌, ◌∙◌, ℕ, true, false, List, nat_lt, nat_le, Option, Some, None, slice_get, unwrap_or, arith, refl, sym, ap, subst, inl, inr, add-zero, leb-true, ltb-true, list_any, range_with_len, cases_lt, and_parts, cond_some, slice_get_within, Block, address_of, is_in, is_inside, address_inside, device_context, device_context_bytes, slot_entry, Header, Dcbaap, IsHeader, event_shape, event_size, touches_ring, register_or_zero, World, stored, is_scribbled, scribbled, counted, Known, device_named, entry_of, some_of, DeviceKeeps, DriverKeeps, EventsStand, touches_events, Agrees, Runs, all_read}
 use Rattle.segments.specs.Places.{touches}
 use Rattle.world_state.specs.World.{event_at}
-use Rattle.world_state.specs.World as of_world
 use Rattle.safety.proofs.Headers.{EventRing, event_ring_is, no_events}
 use Rattle.safety.proofs.RingMemory.{same_block_at}
 use Rattle.safety.proofs.Stored.{late_stored, matches_stored, stands_stored, memory_stored}
@@ -49,12 +48,11 @@ module _ (h : Header) (is : IsHeader h) (k : Known) (unread : List Block) (w : W
 
   same_context : (s c : ℕ) → DeviceKeeps h k s c → device_context w.memory (register_or_zero w.register Dcbaap) s ≡ c
   same_context s c dev =
-      let base : register_or_zero w.register Dcbaap ≡ register_or_zero k.register Dcbaap = ap (λ o. unwrap_or o 0) (g.stands.registers Dcbaap) in
       let e : ℕ = slot_entry (register_or_zero k.register Dcbaap) s in
       let at = entry_is k s in
       let low : w.memory e ≡ k.memory e = subst (λ x. w.memory x ≡ k.memory x) (add-zero (entry_of k s) ∙ at) (entry_word s c 0 dev (omega arith)) in
       let high : w.memory (e + 4) ≡ k.memory (e + 4) = subst (λ x. w.memory (x + 4) ≡ k.memory (x + 4)) at (entry_word s c 1 dev (omega arith)) in
-      ap (λ b. device_context w.memory b s) base ∙ two_words low high ∙ sym (device_is k s) ∙ dev.entry
+      ap (λ b. device_context w.memory b s) (ap (λ o. unwrap_or o 0) (g.stands.registers Dcbaap)) ∙ two_words low high ∙ sym (device_is k s) ∙ dev.entry
     where
       two_words : w.memory (slot_entry (register_or_zero k.register Dcbaap) s) ≡ k.memory (slot_entry (register_or_zero k.register Dcbaap) s) →
           w.memory (slot_entry (register_or_zero k.register Dcbaap) s + 4) ≡ k.memory (slot_entry (register_or_zero k.register Dcbaap) s + 4) →
@@ -89,7 +87,7 @@ module _ (h : Header) (is : IsHeader h) (k : Known) (unread : List Block) (w : W
       (memory_stored w a x (at + 12) (not_event a c s e dev inside p 12 (omega arith)))
 
   events_stored : (a x c s : ℕ) → DeviceKeeps h k s c → is_in a c (device_context_bytes h.context_size) ≡ true → EventsStand h (stored w a x) unread
-  unfolding of_world.stored
+  unfolding stored
   events_stored a x c s dev inside =
       let v = g.events in
       record {
@@ -104,7 +102,7 @@ module _ (h : Header) (is : IsHeader h) (k : Known) (unread : List Block) (w : W
       some_posted i f at = let within = slice_get_within unread i f at in omega (arith, g.events.count)
 
   posted_same : (a x : ℕ) → (stored w a x).posted ≡ k.reads
-  unfolding of_world.stored
+  unfolding stored
   posted_same a x = g.read
 
   agrees_stored : (a x : ℕ) → list_any (is_scribbled h w a) (range_with_len 0 256) ≡ true → Agrees h k unread (counted h (stored w a x))

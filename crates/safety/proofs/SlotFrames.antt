@@ -1,5 +1,5 @@
 -- What a change leaves of slots
-use Rattle.safety.proofs.Words.{◌≡◌, ◌≢◌, ◌⊎◌, ◌==◌, ◌&&◌, ◌∷◌, ◌∙◌, ℕ, Bool, List, [], map, Option, None, Some, refl, sym, ap, inl, inr, ne_eqb, cond_both, cond-false, and_left, none-some, Spot, target, Command, EndpointState, Stopped, is_off, Change, SlotGoesOn, DeviceLeft, Disables, Places, Stops, Resets, placed_by_context, ContextSize, Header, shape_of, ring_having, Known, on_ring, set_to, bound_to, moved_to, moved, pointed, disabled, in_state, held_at_ceiling, changed_by, changed_by_all}
+use Rattle.safety.proofs.Words.{[], ◌≡◌, ◌≢◌, ◌⊎◌, ◌==◌, ◌&&◌, ◌∷◌, ◌∙◌, ℕ, Bool, List, map, Option, None, Some, refl, ap, inl, inr, ne_eqb, cond_both, cond-false, and_left, none-some, Spot, target, Command, EndpointState, Stopped, is_off, Change, SlotGoesOn, DeviceLeft, Disables, Places, Stops, Resets, placed_by_context, ContextSize, Header, shape_of, ring_having, Known, on_ring, set_to, bound_to, moved_to, moved, pointed, disabled, in_state, held_at_ceiling, changed_by, changed_by_all, rules}
 use Rattle.safety.proofs.EndpointPut.{at_pair}
 use Rattle.safety.proofs.StatesOneEndpoint.{same_pair}
 
@@ -51,16 +51,7 @@ module _ (h : Header) where
   bound_leaves : (k : Known) (s i : ℕ) (o : Option ℕ) (p : ℕ) (cycle : Bool) → GetsRing k (bound_to h k s i o p cycle) s i
   unfolding bound_to
   bound_leaves k s i None p cycle = record { slot_state = refl; device = refl; rings = λ u j. inr refl; some = λ u j has. has }
-  bound_leaves k s i (Some r) p cycle = record {
-    slot_state = (moved_tables k r p cycle).0;
-    device = (moved_tables k r p cycle).1;
-    rings = λ t j.
-        elim (same_pair t j s i) [
-          | inl here ↦ inl here
-          | inr other ↦ inr (at_pair (λ x. x ≡ k.ring_of t j) k.ring_of s i (Some r) t j (λ a b. absurd (other a b)) (λ apart. refl))
-        ];
-    some = λ t j has. at_pair (λ x. x ≢ None) k.ring_of s i (Some r) t j (λ a b none. none-some r (sym none)) (λ apart. has);
-  }
+  bound_leaves k s i (Some r) p cycle = search (rules, moved_tables, same_pair, at_pair, none-some)
 
   target_leaves : (k : Known) (s i r : ℕ) (o : Option Spot) → GetsRing k (moved_to h k r o) s i
   unfolding moved_to
@@ -142,8 +133,7 @@ module _ (h : Header) where
   unfolding changed_by_all
   placed_all c k size memory s a [] = record { slot_state = refl; device = refl; some = λ t j has. has }
   placed_all c k size memory s a (i ∷ rest) =
-      let change : Change = placed_by_context size memory s a i in
-      let l : Known = changed_by h c k change in
+      let l : Known = changed_by h c k (placed_by_context size memory s a i) in
       let here : GetsRing k l s i = placed_leaves c k s i _ _ _ in
       let later : KeepsRings l (changed_by_all h c l (map (placed_by_context size memory s a) rest)) = placed_all c l size memory s a rest in
       record { slot_state = later.slot_state ∙ here.slot_state; device = later.device ∙ here.device; some = λ t j has. later.some t j (here.some t j has) }

@@ -1,9 +1,333 @@
 -- A driver's row and an event that isn't read yet may change places, whatever kind of row it is
-use Rattle.safety.proofs.Words.{Header, Sub, Write, Reg, Bell, Read, SquareLaw}
-use Rattle.safety.proofs.DeclarationBeneath.{declaration_square}
-use Rattle.safety.proofs.DoorbellBeneath.{doorbell_square}
-use Rattle.safety.proofs.RegisterBeneath.{register_square}
-use Rattle.safety.proofs.WriteSquare.{any_write_square}
+use Rattle.safety.proofs.Words.{[], Header, Sub, Write, Reg, Bell, Read, SquareLaw, ◌≡◌, ℕ, false, inl, inr, MayCome, Block, cases_option, IsHeader, IsRow, Known, command_given, learned, lenient, DriverKeeps, IsDriverRow, is_idle, Square, ◌==◌, is_none, rules, cases_Bool, cond-true, false≢true, is_open, ◌∙◌, Some, refl, sym, subst, MovesRestored, same_Some, Command, ◌∷◌, Bool, ap, cond-false, or_from, broken_of, AfterStop, some_command, holds_of, write_tests, lenient_tests, ◌+◌, ◌≤◌, ◌<◌, ◌++◌, true, List, length, option_and_then, slice_get, arith, length-append, ltb-true, ltb-false, le-ltb, none-some, slice_get_within, RingView, Declares, changed, declared, floor_number, place_count, ceiling, has_no_room, slice_get-append, command_of, shape_of, command_id, on_ring, command_at, next_command, declaration_tests, may_be_taken, IsHeldMore, HeldMore, ◌||◌, zero, suc, not, nat_lt, unwrap_or, ◌&&◌, list_any, range_with_len, and_parts, and_from, or_parts, or_cases, or_left, or_right, not_from_true, position_from, erdp_address, Register, Usbcmd, Crcr, Dcbaap, Config, Erstsz, Erstba, Erdp, event_shape, with_register, same_register, run_bit, reset_bit, run_or_stop, valued, register_written, changes, may_pass, is_bad_register, is_bad_erdp, register_tests, BadRegister, BadErdp, is_late_reset, is_early_start, is_wrong_start, is_bad_command}
+use Rattle.safety.proofs.WriteBeneath.{write_square}
+use Rattle.safety.proofs.BellBeneath.{command_square}
+use Rattle.safety.proofs.RungBeneath.{rung_ring, bell_square}
+use Rattle.safety.proofs.CommandBeneath.{command_event, command_after}
+use Rattle.safety.proofs.MiddleLaws.{read_alike, passed_behind, read_on, next_unfinished, command_holds, EventAlike, ReadAlike, EverySlot, SameStates, states_from, held_more, counted, read_same, flip_driver, targets_are}
+use Rattle.safety.proofs.WriteBehind.{command_behind, RingRules, rules_behind, broken_none}
+use Rattle.safety.proofs.GivenBehind.{restored_behind}
+use Rattle.safety.proofs.CommandGood.{good_behind}
+use Rattle.safety.proofs.LowerLaws.{clean_tests, tests_fail, transfer_driver, event_facts, register_facts, SameGiven, SameDriver, both_drivers, view_after, Alike, RingAlike, held_same, named_still, erdp_says, erdp_within, reached_is_good}
+use Rattle.safety.proofs.CommandRow.{idle_behind, profile_behind, bindings_behind}
+use Rattle.safety.proofs.CommandMoves.{moves_behind}
+use Rattle.safety.proofs.FloorsGrow.{floors_grow}
+use Rattle.safety.proofs.PlacedTargets.{placed_targets}
+
+-- A register write beneath an event that isn't read yet: the two may change places
+
+-- a write that stops the controller, once it runs
+abbrev stops : Register → ℕ → Bool
+stops Usbcmd v = not (run_bit v) || reset_bit v
+stops _ v = false
+
+any_longer : (test : ℕ → Bool) (a m n : ℕ) → m ≤ n → list_any test (range_with_len a m) ≡ true → list_any test (range_with_len a n) ≡ true
+any_longer test a zero n near some = absurd (false≢true some)
+any_longer test a (suc m) zero near some = absurd (omega arith)
+any_longer test a (suc m) (suc n) near some =
+    elim (or_cases (test a) (list_any test (range_with_len (a + 1) m)) some) [
+      | inl here ↦ or_left (test a) (list_any test (range_with_len (a + 1) n)) here
+      | inr later ↦ or_right (test a) (list_any test (range_with_len (a + 1) n)) (any_longer test (a + 1) m n (omega arith) later)
+    ]
+
+config_apart : (k : Known) (r : Register) (v : ℕ) (h : Header) → k.started ≡ true → is_bad_register h k r v ≡ false → same_register Config r ≡ false
+unfolding is_bad_register
+config_apart k Config v h on good = absurd (false≢true (sym good ∙ on))
+config_apart k _ v h on good = refl
+
+module _ (h : Header) where
+  abbrev dequeue_after : ℕ → Register → ℕ → ℕ
+  dequeue_after p Erdp v = position_from (event_shape h) p (erdp_address v)
+  dequeue_after p _ v = p
+
+  abbrev with_value : Known → Register → ℕ → Known
+  with_value k r v = record k { register = with_register k.register r v; dequeue = dequeue_after k.dequeue r v }
+
+  run_on : (k : Known) (v : ℕ) → k.started ≡ true → (not (run_bit v) || reset_bit v) ≡ false → run_or_stop k v ≡ k
+  unfolding run_or_stop
+  run_on k v on goes = search (rules, cond-false, not_from_true)
+
+  run_stops : (k : Known) (v : ℕ) → k.started ≡ true → (run_or_stop k v).stopped ≡ false → (not (run_bit v) || reset_bit v) ≡ false
+  unfolding run_or_stop
+  run_stops k v on still = search (rules, false≢true, cond-false, not_from_true, cond-true)
+
+  goes_on : (k : Known) (r : Register) (v : ℕ) → k.started ≡ true → (learned h k (Reg r v)).stopped ≡ false → stops r v ≡ false
+  unfolding learned register_written valued
+  goes_on k Usbcmd v on still = run_stops (valued k Usbcmd v) v on still
+  goes_on k _ v on still = refl
+
+  value_is : (k : Known) (r : Register) (v : ℕ) → k.started ≡ true → stops r v ≡ false → learned h k (Reg r v) ≡ with_value k r v
+  unfolding learned register_written valued
+  value_is k Usbcmd v on goes = run_on (valued k Usbcmd v) v on goes
+  value_is k _ v on goes = refl
+
+  -- ---- the write is allowed behind the event
+
+  register_still : (k l : Known) (r : Register) (v : ℕ) → k.started ≡ true → l.started ≡ true → is_bad_register h k r v ≡ false → is_bad_register h l r v ≡ false
+  unfolding is_bad_register
+  register_still k l Usbcmd v on also good = ap (λ b. not b && (is_late_reset l v || is_early_start l v || is_wrong_start h l v)) also
+  register_still k l Crcr v on also good = absurd (false≢true (sym (or_parts k.started _ good).0 ∙ on))
+  register_still k l Dcbaap v on also good = absurd (false≢true (sym good ∙ on))
+  register_still k l Config v on also good = absurd (false≢true (sym good ∙ on))
+  register_still k l Erstsz v on also good = absurd (false≢true (sym (or_parts k.started _ good).0 ∙ on))
+  register_still k l Erstba v on also good = absurd (false≢true (sym (or_parts k.started _ (or_parts _ _ (or_parts _ _ (or_parts _ _ good).0).0).0).0 ∙ on))
+  register_still k l _ v on also good = refl
+
+  erdp_still : (k l : Known) (r : Register) (v : ℕ) → k.started ≡ true → l.started ≡ k.started → l.dequeue ≡ k.dequeue → k.reads ≤ l.reads → is_bad_erdp h k r v ≡ false → is_bad_erdp h l r v ≡ false
+  unfolding is_bad_erdp may_pass
+  erdp_still k l Erdp v on started dequeue reads good = search (rules, erdp_says, false≢true, and_parts, nat_lt, reached_is_good, and_from, any_longer)
+  erdp_still k l _ v on started dequeue reads good = search rules
+
+  none_broken : (x y : Bool) → x ≡ false → y ≡ false → broken_of ((BadRegister, x) ∷ (BadErdp, y) ∷ []) ≡ []
+  none_broken x y one two = rw (one, two) refl
+
+  register_clean : (k : Known) (r : Register) (v : ℕ) → k.stopped ≡ false → is_bad_register h k r v ≡ false → is_bad_erdp h k r v ≡ false → lenient h k (Reg r v) ≡ []
+  unfolding lenient lenient_tests register_tests
+  register_clean k r v on one two = search (rules, cond-false, broken_of, register_tests, none_broken, is_bad_register, is_bad_erdp)
+
+  dequeue_grows : (k : Known) (r : Register) (v : ℕ) → is_bad_erdp h k r v ≡ false → k.dequeue ≤ dequeue_after k.dequeue r v
+  dequeue_grows k Erdp v good = (erdp_within h k v good).0
+  dequeue_grows k _ v good = omega arith
+
+  -- ---- the two
+
+  value_alike : (k : Known) (r : Register) (v : ℕ) → Alike EverySlot k (with_value k r v)
+  value_alike k r v = search (rules, held_same)
+
+  value_events : (k : Known) (r : Register) (v : ℕ) → same_register Config r ≡ false → k.dequeue ≤ dequeue_after k.dequeue r v → EventAlike h k (with_value k r v)
+  unfolding command_at next_command
+  value_events k r v apart grows =
+      record {
+        started = refl;
+        stopped = refl;
+        reads = refl;
+        room = grows;
+        config = ap (λ o. unwrap_or o 0) (cond-false (same_register Config r) (Some v) (k.register Config) apart);
+        names = λ s i q p t has at. at;
+        command = record {
+          command = λ c may at. at;
+          does = λ n c may at. refl;
+          targets = λ n c may at. targets_are h EverySlot c k (with_value k r v) (value_alike k r v) (λ q. refl) (changes h.context_size k.memory n c);
+        };
+      }
+
+  value_driver : (k l : Known) (r : Register) (v : ℕ) → SameDriver k l → SameDriver (with_value k r v) (with_value l r v)
+  value_driver k l r v d = search (rules, with_value)
+
+  pub register_square : (k : Known) (r : Register) (v : ℕ) (e : Block) → lenient h k (Reg r v) ≡ [] → lenient h k (Read e) ≡ [] → (learned h k (Reg r v)).stopped ≡ false →
+      Square h k (Reg r v) e
+  register_square k r v e clean may still =
+      let on : k.started ≡ true = (event_facts h k e may).started in
+      let facts = register_facts h k r v clean in
+      let goes : stops r v ≡ false = goes_on k r v on still in
+      let l : Known = with_value k r v in
+      let k_read : Known = learned h k (Read e) in
+      let l_read : Known = learned h l (Read e) in
+      let same : SameDriver (counted h k) k_read = read_same h k e in
+      let read : ReadAlike h EverySlot k l e = read_alike h EverySlot k l (value_alike k r v) (value_events k r v (config_apart k r v h on facts.good) (dequeue_grows k r v facts.erdp)) e may in
+      let states : SameStates k_read l_read = states_from k_read l_read read.after in
+      let one : learned h k (Reg r v) ≡ l = value_is k r v on goes in
+      let two : learned h k_read (Reg r v) ≡ with_value k_read r v = value_is k_read r v (same.started ∙ on) goes in
+      let driver : SameDriver (with_value k_read r v) l_read =
+      both_drivers (with_value k_read r v) (counted h l) l_read (value_driver k_read (counted h k) r v (flip_driver (counted h k) k_read same)) (read_same h l e) in
+      let states_too : SameStates (with_value k_read r v) l_read = search rules in
+      record {
+        event = subst (λ x. lenient h x (Read e) ≡ []) (sym one) read.possible;
+        row = (
+          register_clean k_read r v (same.stopped ∙ ((clean_tests h k (Read e) may).0)) (register_still k k_read r v on (same.started ∙ on) facts.good)
+              (erdp_still k k_read r v on same.started same.dequeue (let reads = same.reads in omega arith) facts.erdp),
+          tt,
+        );
+        after = subst (λ x. HeldMore x (learned h (learned h k (Reg r v)) (Read e))) (sym two) (subst (λ x. HeldMore (with_value k_read r v) (learned h x (Read e))) (sym one)
+            (held_more (with_value k_read r v) l_read driver states_too (λ q. (read.after.rings q).floor) (λ q. (read.after.rings q).held)));
+        awake = refl;
+      }
+
+-- A declaration beneath an event that isn't read yet: the two may change places
+
+-- what a ring shows but its declared blocks is as it was
+record DeclaresMore (v w : RingView) : Type 0 where
+  pub alike : RingAlike v w
+  pub queue : (p : ℕ) (b : Block) → slice_get v.queue p ≡ Some b → slice_get w.queue p ≡ Some b
+  pub more : declared v ≤ declared w
+
+module _ (h : Header) (r : ℕ) (blocks : List Block) where
+  abbrev declaring : Known → Known
+  declaring k = on_ring h k r (Declares blocks)
+
+  changed_more : (v : RingView) → DeclaresMore v (changed (shape_of h r) v (Declares blocks))
+  changed_more v = search (rules, held_same, slice_get-append, slice_get_within, length-append)
+
+  rings_more : (k : Known) (q : ℕ) → DeclaresMore (k.ring q) ((declaring k).ring q)
+  rings_more k q =
+      view_after h (DeclaresMore (k.ring q)) k r (Declares blocks) q
+      (λ same. subst (λ n. DeclaresMore (k.ring n) (changed (shape_of h r) (k.ring r) (Declares blocks))) (sym same) (changed_more (k.ring r))) (λ other. search (rules, held_same))
+
+  declared_alike : (k : Known) → Alike EverySlot k (declaring k)
+  unfolding on_ring
+  declared_alike k = search (rules, declaring, rings_more)
+
+  -- ---- what an event reads
+
+  some_queued : (xs : List Block) (p : ℕ) (c : Command) → option_and_then command_of (slice_get xs p) ≡ Some c → (b : Block) × (slice_get xs p ≡ Some b)
+  some_queued xs p c at = search (rules, option_and_then, slice_get, cases_option, none-some)
+
+  command_still : (k : Known) (p : ℕ) (c : Command) → command_at h k p ≡ Some c → command_at h (declaring k) p ≡ Some c
+  unfolding command_at
+  command_still k p c at =
+      let queued = some_queued (k.ring (command_id h)).queue p c at in
+      ap (option_and_then command_of) ((rings_more k (command_id h)).queue p queued.0 queued.1 ∙ sym queued.1) ∙ at
+
+  below_ceiling : (k : Known) → may_be_taken h k ≡ true → next_command h k < ceiling (shape_of h (command_id h)) (k.ring (command_id h))
+  unfolding may_be_taken
+  below_ceiling k may = ltb-true (next_command h k) (ceiling (shape_of h (command_id h)) (k.ring (command_id h))) may
+
+  declared_events : IsHeader h → (k : Known) → DriverKeeps h k → k.started ≡ true → EventAlike h k (declaring k)
+  unfolding on_ring
+  declared_events is k d on =
+      let l : Known = declaring k in
+      record {
+        started = refl;
+        stopped = refl;
+        reads = refl;
+        room = omega arith;
+        config = refl;
+        names = λ s i q p t has at.
+            named_still (shape_of h q) (k.ring q) (l.ring q) (rings_more k q).alike.floor (rings_more k q).more p t
+            (d.rings q (transfer_driver h q (d.states.transfer s i q has))).is_spot at;
+        command = record {
+          command = λ c may at. command_still k (next_command h k) c at;
+          does = λ n c may at. refl;
+          targets = λ n c may at.
+              placed_targets h is k l d (λ q. (rings_more k q).alike.floor) (λ q. (rings_more k q).more) refl n c
+              (command_holds h k (next_command h k) c (d.unfinished (next_command h k) c (next_unfinished h is k d on (below_ceiling k may) c at)));
+        };
+      }
+
+  -- ---- where the driver did the same, the declaration does
+
+  changed_same : (v w : RingView) → SameGiven v w → SameGiven (changed (shape_of h r) v (Declares blocks)) (changed (shape_of h r) w (Declares blocks))
+  changed_same v w g = record { queue = ap (λ x. x ++ blocks) g.queue; lengths = ap (λ x. x ++ length blocks ∷ []) g.lengths; given = g.given; crossed = g.crossed; withdrawn = g.withdrawn; free = g.free }
+
+  declared_rings : (k l : Known) → SameDriver k l → (q : ℕ) → SameGiven ((declaring k).ring q) ((declaring l).ring q)
+  declared_rings k l d q =
+      view_after h (λ v. SameGiven v ((declaring l).ring q)) k r (Declares blocks) q
+      (λ same. view_after h (SameGiven (changed (shape_of h r) (k.ring r) (Declares blocks))) l r (Declares blocks) q (λ _. changed_same (k.ring r) (l.ring r) (d.rings r))
+      (λ other. absurd (other same)))
+      (λ other. view_after h (SameGiven (k.ring q)) l r (Declares blocks) q (λ same. absurd (other same)) (λ _. d.rings q))
+
+  declared_driver : (k l : Known) → SameDriver k l → SameDriver (declaring k) (declaring l)
+  unfolding on_ring
+  declared_driver k l d = search (rules, declaring, declared_rings)
+
+  counted_declaring : (k : Known) → declaring (counted h k) ≡ counted h (declaring k)
+  unfolding on_ring
+  counted_declaring k = refl
+
+  -- ---- the declaration behind the event
+
+  room_still : (v w : RingView) → floor_number v ≤ floor_number w → w.queue ≡ v.queue → has_no_room (shape_of h r) v (length blocks) ≡ false → has_no_room (shape_of h r) w (length blocks) ≡ false
+  unfolding has_no_room
+  room_still v w grows queue room = search (rules, ltb-false, place_count, shape_of, floor_number, declared, length, le-ltb)
+
+  still_clean : (k l : Known) → l.stopped ≡ false → floor_number (k.ring r) ≤ floor_number (l.ring r) → (l.ring r).queue ≡ (k.ring r).queue → lenient h k (Sub r blocks) ≡ [] → lenient h l (Sub r blocks) ≡ []
+  unfolding lenient lenient_tests declaration_tests
+  still_clean k l on grows queue clean = search (rules, tests_fail, cond-false, length, room_still)
+
+  learned_declaring : (k : Known) → learned h k (Sub r blocks) ≡ declaring k
+  unfolding learned
+  learned_declaring k = refl
+
+  declared_floor : (k : Known) (q : ℕ) → ((declaring k).ring q).floor ≡ (k.ring q).floor
+  declared_floor k q = (rings_more k q).alike.floor
+
+  declared_held : (k l : Known) (q : ℕ) → IsHeldMore (k.ring q).held (l.ring q).held → IsHeldMore ((declaring k).ring q).held (l.ring q).held
+  declared_held k l q held =
+      view_after h (λ v. IsHeldMore v.held (l.ring q).held) k r (Declares blocks) q (λ same. subst (λ n. IsHeldMore (k.ring n).held (l.ring q).held) same held) (λ _. held)
+
+  declared_states : (k l : Known) → SameStates k l → SameStates (declaring k) l
+  unfolding on_ring
+  declared_states k l s = search (rules, declaring)
+
+  pub declaration_square : IsHeader h → (k : Known) → DriverKeeps h k → (e : Block) → lenient h k (Sub r blocks) ≡ [] → lenient h k (Read e) ≡ [] → Square h k (Sub r blocks) e
+  declaration_square is k d e clean may =
+      let l : Known = declaring k in
+      let k_read : Known = learned h k (Read e) in
+      let l_read : Known = learned h l (Read e) in
+      let same : SameDriver (counted h k) k_read = read_same h k e in
+      let read : ReadAlike h EverySlot k l e = read_alike h EverySlot k l (declared_alike k) (declared_events is k d (event_facts h k e may).started) e may in
+      let driver : SameDriver (declaring k_read) l_read =
+      both_drivers (declaring k_read) (counted h l) l_read
+      (subst (λ x. SameDriver (declaring k_read) x) (counted_declaring k) (declared_driver k_read (counted h k) (flip_driver (counted h k) k_read same))) (read_same h l e) in
+      record {
+        event = subst (λ x. lenient h x (Read e) ≡ []) (sym (learned_declaring k)) read.possible;
+        row = (
+          still_clean k k_read (same.stopped ∙ (clean_tests h k (Read e) may).0) (floors_grow h is k d e may r) (same.rings r).queue clean,
+          tt,
+        );
+        after = subst (λ x. HeldMore x (learned h (learned h k (Sub r blocks)) (Read e))) (sym (learned_declaring k_read)) (subst (λ x. HeldMore (declaring k_read) (learned h x (Read e))) (sym (learned_declaring k))
+            (held_more (declaring k_read) l_read driver (declared_states k_read l_read (states_from k_read l_read read.after))
+            (λ q. (read.after.rings q).floor ∙ sym (declared_floor k_read q)) (λ q. declared_held k_read l_read q (read.after.rings q).held)));
+        awake = refl;
+      }
+
+-- Behind an event that is read before it, a write that gives a good command breaks no rule
+module _ (h : Header) (is : IsHeader h) (k : Known) (d : DriverKeeps h k) (a w : ℕ) (e : Block) (clean : MayCome h k (Write a w)) (may : lenient h k (Read e) ≡ [])
+    (c : Command) (given : command_given h k a w ≡ Some c) where
+  abbrev l : Known
+  l = learned h k (Read e)
+
+  of_given : (test : Command → Bool) → test c ≡ false → some_command h l a w test ≡ false
+  unfolding some_command holds_of
+  of_given test fails = ap (holds_of test) (command_behind h is k d a w e clean may ∙ given) ∙ fails
+
+  pub row_behind : is_bad_command h l c ≡ false → lenient h l (Write a w) ≡ []
+  unfolding lenient lenient_tests write_tests
+  row_behind good =
+      let rules : RingRules h is k d a w e clean may l = rules_behind h is k d a w e clean may in
+      cond-false l.stopped (AfterStop ∷ []) (broken_of (write_tests h l a w)) (read_on h k e ∙ (clean_tests h k (Read e) may).0)
+      ∙ broken_none (write_tests h l a w) (
+        rules.unowned,
+        (rules.declared_as, (rules.declared, (rules.whole, (rules.leads, (of_given _ good, (or_from _ _ (or_from _ _ (of_given _ (idle_behind h is k d a w e clean may c given)) rules.unmoved) rules.unlinked, (or_from _ _ (of_given _ (profile_behind h is k d a w e clean may c given)) rules.inside, (of_given _ (or_from _ _ (bindings_behind h is k d a w e clean may c given) (moves_behind h is k d a w e clean may c given)), tt)))))))),
+      )
+
+-- A write that gives a command and an event that isn't read yet may change places
+module _ (h : Header) (is : IsHeader h) (k : Known) (d : DriverKeeps h k) (a w : ℕ) (e : Block) (clean : MayCome h k (Write a w)) (may : lenient h k (Read e) ≡ [])
+    (c : Command) (given : command_given h k a w ≡ Some c) where
+  pub given_square : Square h k (Write a w) e
+  given_square = record {
+    event = command_event h is k d a w e clean may;
+    row = (
+      row_behind h is k d a w e clean may c given (good_behind h is k d a w e clean may c given),
+      (passed_behind h is k d e may a w clean.1.0, λ f at. subst (λ x. MovesRestored (learned h k (Read e)) x) (same_Some c f (sym (command_behind h is k d a w e clean may ∙ given) ∙ at)) (restored_behind h is k d a w e clean may c given)),
+    );
+    after = command_after h is k d a w e clean may c given;
+    awake = refl;
+  }
+
+-- A doorbell of a ring that is held beneath an event that isn't read yet: the two may change places
+module _ (h : Header) (is : IsHeader h) (k : Known) (d : DriverKeeps h k) (s t : ℕ) (clean : MayCome h k (Bell s t)) (awake : is_idle h k (Bell s t) ≡ false) where
+  endpoint_square : (s == 0) ≡ false → (e : Block) → lenient h k (Read e) ≡ [] → Square h k (Bell s t) e
+  endpoint_square endpoint e may =
+      let ring = rung_ring h s t endpoint k awake in
+      bell_square h s t endpoint is k d ring.0 ring.1 ring.2 e clean may
+
+  pub doorbell_square : (e : Block) → lenient h k (Read e) ≡ [] → Square h k (Bell s t) e
+  unfolding is_open
+  doorbell_square e may =
+      elim (cases_Bool (s == 0)) [
+        | inl command ↦ command_square h is k d (search (rules, cond-true, false≢true, is_none)) s t e command clean may
+        | inr endpoint ↦ endpoint_square endpoint e may
+      ]
+
+-- A write and an event that isn't read yet may change places, whether the write gives a command or not
+pub any_write_square : (h : Header) (k : Known) (a w : ℕ) (e : Block) → IsHeader h → IsRow (Write a w) → IsDriverRow (Write a w) → DriverKeeps h k → MayCome h k (Write a w) →
+    lenient h k (Read e) ≡ [] → is_idle h k (Write a w) ≡ false → (learned h k (Write a w)).stopped ≡ false → Square h k (Write a w) e
+any_write_square h k a w e is row driver d clean may awake on =
+    elim (cases_option (command_given h k a w)) [
+      | inl none ↦ write_square h is k d a w e clean none may
+      | inr some ↦ given_square h is k d a w e clean may some.0 some.1
+    ]
 
 module _ (h : Header) where
   pub square_law : SquareLaw h

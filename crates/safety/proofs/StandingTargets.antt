@@ -1,5 +1,5 @@
 -- A pointer and a cycle state that name a spot at the floor's number
-use Rattle.safety.proofs.Words.{◌≡◌, ◌+◌, ◌-◌, ◌≤◌, ◌&&◌, ◌||◌, ◌∷◌, ◌∙◌, ℕ, suc, Bool, true, false, List, [], find, Some, arith, refl, sym, subst, rules, list_any, range_with_len, flat_map, cond-true, cond-false, false≢true, same_Some, Spot, Data, Link, Shape, number, RingView, declared, floor_number, ceiling, spots_between, target, is_move, is_placement, placement_still}
+use Rattle.safety.proofs.Words.{[], ◌≡◌, ◌+◌, ◌≤◌, ◌&&◌, ◌||◌, ◌∷◌, ◌∙◌, ℕ, suc, Bool, true, false, List, find, Some, arith, refl, sym, subst, rules, list_any, range_with_len, flat_map, cond-true, cond-false, false≢true, same_Some, Spot, Data, Link, Shape, number, RingView, declared, floor_number, ceiling, spots_between, target, is_move, is_placement, placement_still}
 
 find_here : (test : Spot → Bool) (u t : Spot) (rest : List Spot) → find test (u ∷ rest) ≡ Some t → test u ≡ true → u ≡ t
 find_here test u t rest found here = same_Some u t (sym (cond-true (test u) (Some u) (find test rest) here) ∙ found)
@@ -26,5 +26,4 @@ pub target_placed : (shape : Shape) (v : RingView) (p : ℕ) (cycle : Bool) (t :
     target shape v p cycle ≡ Some t → number t ≡ floor_number v
 unfolding is_placement
 target_placed shape v p cycle t within low placed named =
-    let still : ceiling shape v ≡ floor_number v = omega (arith, placement_still shape v p cycle placed, within) in
-    target_here shape v p cycle t low (subst (λ n. is_move shape v p cycle n (floor_number v) ≡ true) still placed) named
+    target_here shape v p cycle t low (subst (λ n. is_move shape v p cycle n (floor_number v) ≡ true) (omega (arith, placement_still shape v p cycle placed, within)) placed) named

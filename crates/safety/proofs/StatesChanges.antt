@@ -1,20 +1,11 @@
 -- What the success of a command changes keeps what is kept of endpoints, change by change
-use Rattle.safety.proofs.Words.{◌≡◌, ◌≢◌, ◌==◌, ◌&&◌, if◌then◌else◌, ◌∷◌, ◌∙◌, ℕ, Bool, true, false, List, [], Option, None, Some, refl, sym, ap, inl, inr, none-some, Holds, ceiling, Command, EndpointState, Off, Running, Stopped, Change, SlotGoesOn, DeviceLeft, Disables, Places, Stops, Resets, Header, IsHeader, shape_of, Known, on_ring, disabled, in_state, held_at_ceiling, changed_by, changed_by_all, EndpointsKeep}
-use Rattle.safety.proofs.DriverRows.{ring_here, ring_elsewhere}
-use Rattle.safety.proofs.Endpoints.{change_keeps}
-use Rattle.safety.proofs.EndpointPut.{at_pair}
-use Rattle.safety.proofs.StatesParts.{EndpointsStand, endpoints_same}
-use Rattle.safety.proofs.StatesOneEndpoint.{OneEndpoint, one_stands}
-use Rattle.safety.proofs.StatesPlaced.{MayPlace, place_stands, some_ring}
+use Rattle.safety.proofs.Words.{[], ◌≡◌, ◌≢◌, if◌then◌else◌, ◌∷◌, ℕ, Bool, true, false, List, Option, None, Some, refl, inl, inr, none-some, Holds, ceiling, Command, EndpointState, Off, Running, Stopped, Change, SlotGoesOn, DeviceLeft, Disables, Places, Stops, Resets, Header, IsHeader, shape_of, Known, on_ring, disabled, in_state, held_at_ceiling, changed_by, changed_by_all, EndpointsKeep, rules}
+use Rattle.safety.proofs.LowerLaws.{ring_here, ring_elsewhere, change_keeps, fewer, at_pair, EndpointsStand, endpoints_same, OneEndpoint, one_stands, MayPlace, place_stands, some_ring}
 
 -- an endpoint that is there, and isn't Running
 pub record RestsThere (e : EndpointState) : Type 0 where
   pub on : e ≢ Off
   pub rests : e ≢ Running
-
-fewer : (b : Bool) (o : Option ℕ) (r : ℕ) → (if b then None else o) ≡ Some r → o ≡ Some r
-fewer true o r at = absurd (none-some r at)
-fewer false o r at = at
 
 none_left : (b : Bool) (o : Option ℕ) → o ≡ None → (if b then None else o) ≡ None
 none_left true o none = refl
@@ -46,41 +37,19 @@ module _ (h : Header) where
 
   disabled_stands : (k : Known) (s : ℕ) (which : ℕ → Bool) → EndpointsStand k → EndpointsStand (disabled h k s which)
   unfolding disabled
-  disabled_stands k s which e = record {
-    no_endpoint = λ t i zero. none_left (t == s && which i) (k.ring_of t i) (e.no_endpoint t i zero);
-    off = λ t i none. off_left (t == s && which i) (k.ring_of t i) (k.endpoint_state t i) (e.off t i) none;
-    on = λ t i r at off.
-        e.on t i r (fewer (t == s && which i) (k.ring_of t i) r at) (sym (state_left (t == s && which i) (k.ring_of t i) (k.endpoint_state t i) r at) ∙ off);
-    one_endpoint = λ t i u j r a b. e.one_endpoint t i u j r (fewer (t == s && which i) (k.ring_of t i) r a) (fewer (u == s && which j) (k.ring_of u j) r b);
-    open_runs = λ t i r at none.
-        state_left (t == s && which i) (k.ring_of t i) (k.endpoint_state t i) r at ∙ e.open_runs t i r (fewer (t == s && which i) (k.ring_of t i) r at) none;
-  }
+  disabled_stands k s which e = search (rules, none_left, off_left, fewer, state_left)
 
   -- ---- an endpoint's state is set
 
   module _ (k : Known) (s i r : ℕ) (state : EndpointState) (e : EndpointsStand k) (at : k.ring_of s i ≡ Some r) (on : state ≢ Off) where
     state_one : ((k.ring r).held ≡ None → state ≡ Running) → OneEndpoint k (in_state h k s i state) s i r
     unfolding in_state
-    state_one runs = record {
-      ring_of = refl;
-      bound = at;
-      on = at_pair (λ x. x ≢ Off) k.endpoint_state s i state s i (λ a b. on) (λ other. absurd (other refl refl));
-      others = λ t j other. at_pair (λ x. x ≡ k.endpoint_state t j) k.endpoint_state s i state t j (λ a b. absurd (other a b)) (λ apart. refl);
-      held = λ q other. refl;
-      runs = λ none. at_pair (λ x. x ≡ Running) k.endpoint_state s i state s i (λ a b. runs none) (λ other. absurd (other refl refl));
-    }
+    state_one runs = search (rules, at_pair)
 
     -- and its ring is held
     held_one : (n : ℕ) → OneEndpoint k (on_ring h (in_state h k s i state) r (Holds n)) s i r
     unfolding in_state on_ring
-    held_one n = record {
-      ring_of = refl;
-      bound = at;
-      on = at_pair (λ x. x ≢ Off) k.endpoint_state s i state s i (λ a b. on) (λ other. absurd (other refl refl));
-      others = λ t j other. at_pair (λ x. x ≡ k.endpoint_state t j) k.endpoint_state s i state t j (λ a b. absurd (other a b)) (λ apart. refl);
-      held = λ q other. ap (λ v. v.held) (ring_elsewhere h (in_state h k s i state) r q (Holds n) other);
-      runs = λ none. absurd (none-some n (sym none ∙ ap (λ v. v.held) (ring_here h (in_state h k s i state) r (Holds n))));
-    }
+    held_one n = search (rules, at_pair, ring_elsewhere, in_state, none-some, ring_here)
 
   reset_stands : (k : Known) (s i : ℕ) → EndpointsStand k → RestsThere (k.endpoint_state s i) → EndpointsStand (in_state h k s i Stopped)
   reset_stands k s i e fits =

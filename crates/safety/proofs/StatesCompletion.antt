@@ -1,19 +1,205 @@
 -- A Command Completion Event keeps what is known of states
-use Rattle.safety.proofs.Words.{◌≡◌, ◌==◌, if◌then◌else◌, ◌∙◌, ℕ, true, Option, None, Some, refl, sym, ap, cond_both, cond-true, and_parts, false≢true, same_Some, Block, code, slot, Spot, after, Reaches, Command, StopEndpoint, may_answer_slot, changes, Header, Config, IsHeader, shape_of, command_id, register_or_zero, Known, on_ring, command_at, next_command, succeeded, stop_ended, finished, completed, can_finish, CommandKeeps, DriverKeeps}
-use Rattle.safety.proofs.DriverRings.{endpoints_of, rings_of}
-use Rattle.safety.proofs.SameDriver.{view_after}
+use Rattle.safety.proofs.Words.{[], ◌≡◌, ◌==◌, if◌then◌else◌, ◌∙◌, ℕ, true, Option, None, Some, refl, sym, ap, cond_both, cond-true, and_parts, false≢true, same_Some, Block, code, slot, Spot, after, Reaches, Command, StopEndpoint, may_answer_slot, changes, Header, Config, IsHeader, shape_of, command_id, register_or_zero, Known, on_ring, command_at, next_command, succeeded, stop_ended, finished, completed, can_finish, CommandKeeps, DriverKeeps, ◌∷◌, Bool, List, rules, target, Stopped, is_off, Change, Places, Stops, ring_having, set_to, bound_to, moved_to, moved, pointed, disabled, in_state, held_at_ceiling, changed_by, changed_by_all, ◌≢◌, false, inl, inr, NoOp, EnableSlot, DisableSlot, AddressDevice, ConfigureEndpoint, EvaluateContext, ResetEndpoint, SetTrDequeue, ResetDevice, named_slot, Resets, RingsKeep, StillHolds, EndpointsKeep, ◌&&◌, nat_le, nat_lt, map, subst, eq-eqb, leb-false, ltb-true, cond-false, and_from, and_right, none-some, SlotState, EndpointState, Off, Running, SlotGoesOn, DeviceLeft, Disables, placed_by_context, is_above_control, added_endpoints, is_dropped, context_pointer, context_cycle, is_bad_command}
+use Rattle.safety.proofs.LowerLaws.{endpoints_of, rings_of, view_after, SeenStand, endpoints_part, slots_part, seen_part, endpoints_same, slots_same, EndpointsStand, SlotsStand, SlotStands, at_pair, IsPlaced, placed_is, pointed_on, on_is, some_ring, GetsRing, stops_slot, resets_slot, placed_leaves, SameSlot, changes_elsewhere, placed_of_slot, placed_all}
 use Rattle.safety.proofs.KeptRings.{CompletionFacts, next_unfinished, command_holds}
-use Rattle.safety.proofs.SeenFrames.{changes_seen, none_seen}
-use Rattle.safety.proofs.StatesParts.{SeenStand, endpoints_part, slots_part, seen_part, endpoints_same, slots_same}
-use Rattle.safety.proofs.StatesFit.{Succeeds, succeeds_is}
-use Rattle.safety.proofs.StatesSuccess.{Stand, success_stands}
+use Rattle.safety.proofs.StatesFit.{Succeeds, succeeds_is, moving_rests, slot_there, no_slot_zero, success_fits}
 use Rattle.safety.proofs.StatesTransfer.{PartsStand}
+use Rattle.safety.proofs.StatesChanges.{RestsThere, changes_stand}
+use Rattle.safety.proofs.StatesOneSlot.{slot_deconfigured, slot_reset, state_after, slot_enabled, slot_disabled, slot_addressed, slot_configured}
+use Rattle.safety.proofs.SlotFrames.{KeepsRings}
+
+-- The success of a command keeps what is kept of slots
+stands_as : (state after : SlotState) (rings fewer : ℕ → Option ℕ) (device left : Option ℕ) → after ≡ state → ((i : ℕ) → fewer i ≡ rings i) → left ≡ device → SlotStands state rings device →
+    SlotStands after fewer left
+stands_as state after rings fewer device left one same gone was = search rules
+
+pub slots_as : (k l : Known) → SlotsStand k → ((t : ℕ) → SameSlot k l t) → SlotsStand l
+slots_as k l was same = search (rules, stands_as)
+
+-- all slots but one are as they were
+but_one : (k l : Known) (s : ℕ) → s ≢ 0 → SlotsStand k → ((t : ℕ) → t ≢ s → SameSlot k l t) → SlotStands (l.slot_state s) (l.ring_of s) (l.device s) → SlotsStand l
+but_one k l s slot was others here = search (rules, stands_as)
+
+off_runs : {x : EndpointState} → x ≡ Off → x ≡ Running → ⊥
+off_runs a b = cc
+
+-- endpoint 1 stays where those above it are disabled, or some of them
+first_stays : (s : ℕ) (drops : Bool) (o : Option ℕ) → drops ≡ false → o ≢ None → (if s == s && drops then None else o) ≢ None
+first_stays s drops o not has none = has (sym (cond-false (s == s && drops) None o (and_right (s == s) drops not)) ∙ none)
+
+only_first : (s i r : ℕ) (o : Option ℕ) → (i ≡ 0 → o ≡ None) → (if s == s && nat_le 2 i then None else o) ≡ Some r → i ≡ 1
+only_first s i r o zero at = search (rules, nat_le, none-some, cond-true, and_from, eq-eqb, cond-false, and_right, leb-false)
+
+module _ (h : Header) (k : Known) (was : SlotsStand k) (e : EndpointsStand k) where
+  slot_goes : (c : Command) (s : ℕ) → (changed_by h c k (SlotGoesOn s)).slot_state s ≡ state_after c (k.slot_state s)
+  unfolding changed_by
+  slot_goes c s = cond-true (s == s) (state_after c (k.slot_state s)) (k.slot_state s) (eq-eqb s s refl)
+
+  same_rings : (c : Command) (s i : ℕ) → k.ring_of s i ≡ (changed_by h c k (SlotGoesOn s)).ring_of s i
+  unfolding changed_by
+  same_rings c s i = refl
+
+  state_kept : (c : Command) (s : ℕ) (which : ℕ → Bool) → (changed_by h c (changed_by h c k (SlotGoesOn s)) (Disables s which)).slot_state s ≡ (changed_by h c k (SlotGoesOn s)).slot_state s
+  unfolding changed_by disabled
+  state_kept c s which = refl
+
+  first_kept : (c : Command) (s : ℕ) (which : ℕ → Bool) → which 1 ≡ false → k.ring_of s 1 ≢ None → (changed_by h c (changed_by h c k (SlotGoesOn s)) (Disables s which)).ring_of s 1 ≢ None
+  unfolding changed_by disabled
+  first_kept c s which not has = first_stays s (which 1) (k.ring_of s 1) not has
+
+  pub enabled_slots : (config n : ℕ) → Succeeds k.slot_state k.endpoint_state config n EnableSlot → SlotsStand (changed_by_all h EnableSlot k (SlotGoesOn n ∷ []))
+  unfolding changed_by_all changed_by
+  enabled_slots config n may = search (rules, ltb-true, and_parts, nat_lt, but_one, changes_elsewhere, slot_goes, slot_enabled)
+
+  pub disabled_slots : (config n s : ℕ) → s ≢ 0 → Succeeds k.slot_state k.endpoint_state config n (DisableSlot s) →
+      SlotsStand (changed_by_all h (DisableSlot s) k (SlotGoesOn s ∷ DeviceLeft s ∷ Disables s (λ i. true) ∷ []))
+  unfolding changed_by_all changed_by disabled
+  disabled_slots config n s slot may =
+      search (rules, changed_by_all, but_one, slot, changes_elsewhere, slot_goes, slot_disabled, cond-true, and_from, eq-eqb)
+
+  pub addressed_slots : (config n s a : ℕ) (bsr : Bool) → s ≢ 0 → Succeeds k.slot_state k.endpoint_state config n (AddressDevice s bsr a) →
+      EndpointsStand (changed_by_all h (AddressDevice s bsr a) k (SlotGoesOn s ∷ placed_by_context h.context_size k.memory s a 1 ∷ [])) →
+      SlotsStand (changed_by_all h (AddressDevice s bsr a) k (SlotGoesOn s ∷ placed_by_context h.context_size k.memory s a 1 ∷ []))
+  unfolding changed_by_all
+  addressed_slots config n s a bsr slot may after =
+      let c : Command = AddressDevice s bsr a in
+      let p : ℕ = context_pointer h.context_size k.memory a 1 in
+      let cycle : Bool = context_cycle h.context_size k.memory a 1 in
+      let m : Known = changed_by h c k (SlotGoesOn s) in
+      let l : Known = changed_by h c m (Places s 1 p cycle Running) in
+      let gets : GetsRing m l s 1 = placed_leaves h c m s 1 p cycle Running in
+      let placed : IsPlaced (pointed h m s 1 p cycle) l s 1 Running = placed_is h c m s 1 p cycle Running in
+      let runs : l.endpoint_state s 1 ≡ Running =
+      ap (λ f. f s 1) placed.states ∙ at_pair (λ x. x ≡ Running) (pointed h m s 1 p cycle).endpoint_state s 1 Running s 1 (λ x y. refl) (λ other. absurd (other refl refl)) in
+      but_one k l s slot was (λ t other. changes_elsewhere h c k s (SlotGoesOn s ∷ Places s 1 p cycle Running ∷ []) t (refl, (refl, tt)) other)
+      (subst (λ x. SlotStands x (l.ring_of s) (l.device s)) (sym (ap (λ f. f s) gets.slot_state ∙ slot_goes c s))
+      (slot_addressed (k.ring_of s) (l.ring_of s) (k.device s) (l.device s) s a bsr (k.slot_state s) may.slot (was.each s)
+      (λ i r at. elim (gets.rings s i) [ inl here ↦ inl here.1 | inr same ↦ inr (same_rings c s i ∙ sym same ∙ at) ])
+      (λ none. off_runs (after.off s 1 none) runs)))
+
+  pub configured_slots : (config n s a : ℕ) → s ≢ 0 → Succeeds k.slot_state k.endpoint_state config n (ConfigureEndpoint s false a) →
+      SlotsStand (changed_by_all h (ConfigureEndpoint s false a) k (SlotGoesOn s ∷ Disables s (is_dropped k.memory a) ∷ map (placed_by_context h.context_size k.memory s a) (added_endpoints k.memory a)))
+  unfolding changed_by_all
+  configured_slots config n s a slot may =
+      let c : Command = ConfigureEndpoint s false a in
+      let adds : List Change = map (placed_by_context h.context_size k.memory s a) (added_endpoints k.memory a) in
+      let d : Known = changed_by h c (changed_by h c k (SlotGoesOn s)) (Disables s (is_dropped k.memory a)) in
+      let l : Known = changed_by_all h c d adds in
+      let keeps : KeepsRings h d l = placed_all h c d h.context_size k.memory s a (added_endpoints k.memory a) in
+      but_one k l s slot was
+      (λ t other. changes_elsewhere h c k s (SlotGoesOn s ∷ Disables s (is_dropped k.memory a) ∷ adds) t (refl, (refl, placed_of_slot h h.context_size k.memory s a (added_endpoints k.memory a))) other)
+      (subst (λ x. SlotStands x (l.ring_of s) (l.device s)) (sym (ap (λ f. f s) keeps.slot_state ∙ state_kept c s (is_dropped k.memory a) ∙ slot_goes c s))
+      (slot_configured (k.ring_of s) (l.ring_of s) (k.device s) (l.device s) s a (k.slot_state s) may.slot (was.each s)
+      (λ has. keeps.some s 1 (first_kept c s (is_dropped k.memory a) refl has))))
+
+  pub above_slots : (c : Command) (s : ℕ) → s ≢ 0 →
+      ((after : ℕ → Option ℕ) (left : Option ℕ) → ((i r : ℕ) → after i ≡ Some r → i ≡ 1) → (k.ring_of s 1 ≢ None → after 1 ≢ None) → SlotStands (state_after c (k.slot_state s)) after left) →
+      SlotsStand (changed_by_all h c k (SlotGoesOn s ∷ Disables s is_above_control ∷ []))
+  unfolding changed_by_all changed_by disabled
+  above_slots c s slot here =
+      let all : List Change = SlotGoesOn s ∷ Disables s is_above_control ∷ [] in
+      let l : Known = changed_by_all h c k all in
+      but_one k l s slot was (λ t other. changes_elsewhere h c k s all t (refl, (refl, tt)) other)
+      (subst (λ x. SlotStands x (l.ring_of s) (l.device s)) (sym (slot_goes c s))
+      (here (l.ring_of s) (l.device s)
+      (λ i r at. only_first s i r (k.ring_of s i) (λ zero. e.no_endpoint s i (inr zero)) at) (λ has. first_stays s false (k.ring_of s 1) refl has)))
+
+-- The success of an unfinished command keeps what is kept of endpoints and slots
+pub record Stand (k : Known) : Type 0 where
+  pub endpoints : EndpointsStand k
+  pub slots : SlotsStand k
+
+module _ (h : Header) (k : Known) (was : SlotsStand k) (e : EndpointsStand k) where
+  -- an endpoint that is there keeps its ring where that is moved
+  dequeued_slots : (c : Command) (s i p : ℕ) (cycle : Bool) → RestsThere (k.endpoint_state s i) → SlotsStand (changed_by_all h c k (Places s i p cycle Stopped ∷ []))
+  unfolding changed_by_all
+  dequeued_slots c s i p cycle rests = search (rules, changed_by, placed_leaves, some_ring, slots_same, placed_is, pointed_on, on_is)
+
+  stopped_slots : (c : Command) (s i : ℕ) → SlotsStand (changed_by_all h c k (Stops s i ∷ []))
+  unfolding changed_by_all
+  stopped_slots c s i = slots_as k (changed_by h c k (Stops s i)) was (stops_slot h c k s i)
+
+  reset_slots : (c : Command) (s i : ℕ) → SlotsStand (changed_by_all h c k (Resets s i ∷ []))
+  unfolding changed_by_all
+  reset_slots c s i = slots_as k (changed_by h c k (Resets s i)) was (resets_slot h c k s i)
+
+  still_slots : (c : Command) → SlotsStand (changed_by_all h c k [])
+  unfolding changed_by_all
+  still_slots c = was
+
+  -- any command that names no slot 0
+  success_slots : (config n : ℕ) (c : Command) → ((s : ℕ) → named_slot c ≡ Some s → s ≢ 0) → Succeeds k.slot_state k.endpoint_state config n c →
+      EndpointsStand (changed_by_all h c k (changes h.context_size k.memory n c)) → SlotsStand (changed_by_all h c k (changes h.context_size k.memory n c))
+  unfolding changes
+  success_slots config n NoOp slot may after = still_slots NoOp
+  success_slots config n EnableSlot slot may after = enabled_slots h k was e config n may
+  success_slots config n (DisableSlot s) slot may after = disabled_slots h k was e config n s (slot s refl) may
+  success_slots config n (AddressDevice s bsr a) slot may after = addressed_slots h k was e config n s a bsr (slot s refl) may after
+  success_slots config n (ConfigureEndpoint s false a) slot may after = configured_slots h k was e config n s a (slot s refl) may
+  success_slots config n (ConfigureEndpoint s true a) slot may after =
+      above_slots h k was e (ConfigureEndpoint s true a) s (slot s refl)
+      (λ fewer left one first. slot_deconfigured (k.ring_of s) fewer (k.device s) left s a (k.slot_state s) may.slot (was.each s) one first)
+  success_slots config n (EvaluateContext s a) slot may after = still_slots (EvaluateContext s a)
+  success_slots config n (ResetEndpoint s i) slot may after = reset_slots (ResetEndpoint s i) s i
+  success_slots config n (StopEndpoint s i) slot may after = stopped_slots (StopEndpoint s i) s i
+  success_slots config n (SetTrDequeue s i p cycle) slot may after =
+      dequeued_slots (SetTrDequeue s i p cycle) s i p cycle (moving_rests s i p cycle (k.endpoint_state s i) may.endpoint)
+  success_slots config n (ResetDevice s) slot may after =
+      above_slots h k was e (ResetDevice s) s (slot s refl) (λ fewer left one first. slot_reset (k.ring_of s) fewer (k.device s) left s (k.slot_state s) may.slot (was.each s) one first)
+
+module _ (h : Header) (is : IsHeader h) where
+  pub success_stands : (k : Known) (config n : ℕ) (c : Command) → EndpointsKeep h k → RingsKeep h k → EndpointsStand k → SlotsStand k → is_bad_command h k c ≡ false → StillHolds h k c →
+      Succeeds k.slot_state k.endpoint_state config n c → Stand (succeeded h k n c)
+  unfolding succeeded
+  success_stands k config n c bound rings e was good still may = search (rules, success_fits, changes_stand, success_slots, no_slot_zero, slot_there)
+
+-- Behind a completion no Stopped event is known: that of the finished Stop Endpoint was the only one
+module _ (h : Header) where
+  target_seen : (k : Known) (r : ℕ) (o : Option Spot) → (moved_to h k r o).stop_seen ≡ k.stop_seen
+  unfolding moved_to set_to on_ring
+  target_seen k r None = refl
+  target_seen k r (Some t) = refl
+
+  moved_seen : (k : Known) (o : Option ℕ) (p : ℕ) (cycle : Bool) → (moved h k o p cycle).stop_seen ≡ k.stop_seen
+  unfolding moved
+  moved_seen k None p cycle = refl
+  moved_seen k (Some r) p cycle = target_seen k r (target (shape_of h r) (k.ring r) p cycle)
+
+  bound_seen : (k : Known) (s i : ℕ) (o : Option ℕ) (p : ℕ) (cycle : Bool) → (bound_to h k s i o p cycle).stop_seen ≡ k.stop_seen
+  unfolding bound_to
+  bound_seen k s i None p cycle = refl
+  bound_seen k s i (Some r) p cycle = moved_seen k (Some r) p cycle
+
+  pointed_seen : (k : Known) (s i p : ℕ) (cycle : Bool) → (pointed h k s i p cycle).stop_seen ≡ k.stop_seen
+  unfolding pointed
+  pointed_seen k s i p cycle = search (rules, cond_both, is_off, bound_to, ring_having, moved, bound_seen, moved_seen)
+
+  held_seen : (k : Known) (o : Option ℕ) → (held_at_ceiling h k o).stop_seen ≡ k.stop_seen
+  unfolding held_at_ceiling on_ring
+  held_seen k None = refl
+  held_seen k (Some r) = refl
+
+  change_seen : (c : Command) (k : Known) (change : Change) → (changed_by h c k change).stop_seen ≡ k.stop_seen
+  unfolding changed_by disabled in_state
+  change_seen c k (Places s i p cycle state) = pointed_seen k s i p cycle
+  change_seen c k (Stops s i) = held_seen (in_state h k s i Stopped) (k.ring_of s i)
+  change_seen c k _ = refl
+
+  pub changes_seen : (c : Command) (k : Known) (all : List Change) → (changed_by_all h c k all).stop_seen ≡ k.stop_seen
+  unfolding changed_by_all
+  changes_seen c k [] = refl
+  changes_seen c k (change ∷ rest) = changes_seen c (changed_by h c k change) rest ∙ change_seen c k change
+
+  -- where only the finished command's can have been known
+  pub none_seen : (k m : Known) (c : Command) → m.stop_seen ≡ k.stop_seen → ((t j : ℕ) → k.stop_seen t j ≡ true → c ≡ StopEndpoint t j) → (t j : ℕ) → (stop_ended h m c).stop_seen t j ≡ true → ⊥
+  unfolding stop_ended
+  none_seen k m (StopEndpoint s i) same was t j = search (rules, at_pair, false≢true)
+  none_seen k m _ same was t j = search (rules, at_pair, false≢true)
 
 module _ (h : Header) where
   stop_stands : (m : Known) (c : Command) → Stand m → Stand (stop_ended h m c)
   unfolding stop_ended
-  stop_stands m (StopEndpoint s i) stand =
-      let l : Known = stop_ended h m (StopEndpoint s i) in record { endpoints = endpoints_same m l refl refl (λ r. refl) stand.endpoints; slots = slots_same m l refl refl refl stand.slots }
+  stop_stands m (StopEndpoint s i) stand = search (rules, endpoints_same, slots_same)
   stop_stands m _ stand = stand
 
   pub reached_fields : (k : Known) (r : ℕ) (t : Spot) →
@@ -26,10 +212,7 @@ module _ (h : Header) where
   reached_held k r t q = view_after h (λ v. v.held ≡ (k.ring q).held) k r (Reaches t) q (λ same. ap (λ n. (k.ring n).held) (sym same)) (λ other. refl)
 
   reached_stands : (k : Known) (r : ℕ) (t : Spot) → Stand k → Stand (on_ring h k r (Reaches t))
-  reached_stands k r t stand =
-      let l : Known = on_ring h k r (Reaches t) in
-      let same = reached_fields k r t in
-      record { endpoints = endpoints_same k l same.0 same.1 (reached_held k r t) stand.endpoints; slots = slots_same k l same.2 same.0 same.3 stand.slots }
+  reached_stands k r t stand = search (rules, on_ring, reached_fields, endpoints_same, reached_held, slots_same)
 
   succeeded_seen : (k : Known) (n : ℕ) (c : Command) → (succeeded h k n c).stop_seen ≡ k.stop_seen
   unfolding succeeded
@@ -45,9 +228,7 @@ module _ (h : Header) where
     -- the command succeeds, or changes nothing
     pub can_be : (c : Command) → can_finish k b (Some c) ≡ true → (code b == 1) ≡ true → Succeeds k.slot_state k.endpoint_state (register_or_zero k.register Config) (slot b) c
     unfolding can_finish
-    can_be c can success =
-        let parts = and_parts (may_answer_slot (Some c) (slot b)) _ can in
-        succeeds_is k.slot_state k.endpoint_state (register_or_zero k.register Config) (slot b) c (sym (cond-true (code b == 1) _ _ success) ∙ parts.1)
+    can_be c can success = search (rules, and_parts, may_answer_slot, slot, succeeds_is, register_or_zero, cond-true, code)
 
     effect_stands : (c : Command) → command_at h k (next_command h k) ≡ Some c → can_finish k b (Some c) ≡ true → Stand (if code b == 1 then succeeded h k (slot b) c else k)
     effect_stands c at can =
@@ -77,8 +258,4 @@ module _ (h : Header) where
         let t : Spot = after (shape_of h (command_id h)) (next_command h k) in
         let parts = finished_stands (command_at h k (next_command h k)) refl facts.finishes in
         let stand : Stand (on_ring h l (command_id h) (Reaches t)) = reached_stands l (command_id h) t parts.0 in
-        record {
-          endpoints = stand.endpoints;
-          slots = stand.slots;
-          seen = no_more_seen (on_ring h l (command_id h) (Reaches t)) (λ s i seen. parts.1 s i (ap (λ f. f s i) (sym (reached_fields l (command_id h) t).4) ∙ seen));
-        }
+        search (rules, no_more_seen, on_ring, command_id, reached_fields)

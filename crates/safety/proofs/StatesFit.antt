@@ -1,13 +1,7 @@
 -- What the success of an unfinished command changes fits the endpoints
-use Rattle.safety.proofs.Words.{◌≡◌, ◌≢◌, ◌≤◌, ◌∷◌, ◌∙◌, ℕ, nat_le, Bool, true, false, List, [], map, All, Some, is_some, arith, refl, sym, ap, get_or, leb-true, rules, list_any, and_parts, or_parts, false≢true, All-head, All-tail, Command, EnableSlot, DisableSlot, AddressDevice, ConfigureEndpoint, ResetEndpoint, StopEndpoint, SetTrDequeue, ResetDevice, SlotState, Disabled, EndpointState, Running, Halted, Stopped, Error, Change, SlotGoesOn, changes, placed_by_context, named_slot, named_endpoint, slot_success, endpoint_success, slot_meant, endpoint_meant, is_slot_enabled, can_succeed, added_endpoints, context_pointer, Header, IsHeader, is_ring, Known, changed_by, is_among, has_repeats, binding_in, binds, ring_bound, RingsKeep, StillHolds}
-use Rattle.ownership_rules.specs.Commands as commands
-use Rattle.safety.proofs.TestsPassed.{each_fails, any_of_map}
-use Rattle.safety.proofs.GivenCommands.{added_above}
-use Rattle.safety.proofs.Placings.{ring_at, ReadyAt, ready_next, map_map, dropped, address_ready, all_ready}
-use Rattle.safety.proofs.StatesParts.{EndpointsStand}
-use Rattle.safety.proofs.StatesPlaced.{MayPlace}
+use Rattle.safety.proofs.Words.{[], ◌≡◌, ◌≢◌, ◌≤◌, ◌∷◌, ◌∙◌, ℕ, nat_le, Bool, true, false, List, map, All, Some, is_some, arith, refl, sym, ap, get_or, leb-true, rules, list_any, and_parts, or_parts, false≢true, All-head, All-tail, Command, EnableSlot, DisableSlot, AddressDevice, ConfigureEndpoint, ResetEndpoint, StopEndpoint, SetTrDequeue, ResetDevice, SlotState, Disabled, EndpointState, Running, Halted, Stopped, Error, Change, SlotGoesOn, changes, placed_by_context, named_slot, named_endpoint, slot_success, endpoint_success, slot_meant, endpoint_meant, is_slot_enabled, can_succeed, added_endpoints, context_pointer, Header, IsHeader, is_ring, Known, changed_by, is_among, has_repeats, binding_in, binds, ring_bound, RingsKeep, StillHolds, is_bad_command, names_disabled_slot}
+use Rattle.safety.proofs.LowerLaws.{each_fails, any_of_map, added_above, ring_at, ReadyAt, ready_next, map_map, dropped, address_ready, all_ready, EndpointsStand, MayPlace, off_is}
 use Rattle.safety.proofs.StatesChanges.{RestsThere, FitAll}
-use Rattle.safety.proofs.EndpointsOff.{off_is}
 
 -- a command that can succeed
 pub record Succeeds (slots : ℕ → SlotState) (endpoints : ℕ → ℕ → EndpointState) (config n : ℕ) (c : Command) : Type 0 where
@@ -37,8 +31,8 @@ moving_rests s i p cycle _ is = absurd (false≢true is)
 
 module _ (h : Header) (is : IsHeader h) where
   -- a command that names a slot names none that is Disabled
-  pub slot_there : (k : Known) (c : Command) (s : ℕ) → commands.is_bad_command h k c ≡ false → named_slot c ≡ Some s → k.slot_state s ≢ Disabled
-  unfolding commands.is_bad_command commands.names_disabled_slot
+  pub slot_there : (k : Known) (c : Command) (s : ℕ) → is_bad_command h k c ≡ false → named_slot c ≡ Some s → k.slot_state s ≢ Disabled
+  unfolding is_bad_command names_disabled_slot
   slot_there k c s good named disabled = search (rules, or_parts, false≢true)
 
   pub no_slot_zero : (k : Known) (s : ℕ) → k.slot_state 0 ≡ Disabled → k.slot_state s ≢ Disabled → s ≢ 0
@@ -87,7 +81,7 @@ module _ (h : Header) (is : IsHeader h) where
 
   -- ---- any command
 
-  pub success_fits : (k : Known) (config n : ℕ) (c : Command) → k.slot_state 0 ≡ Disabled → RingsKeep h k → EndpointsStand k → commands.is_bad_command h k c ≡ false → StillHolds h k c →
+  pub success_fits : (k : Known) (config n : ℕ) (c : Command) → k.slot_state 0 ≡ Disabled → RingsKeep h k → EndpointsStand k → is_bad_command h k c ≡ false → StillHolds h k c →
       Succeeds k.slot_state k.endpoint_state config n c → FitAll h c k (changes h.context_size k.memory n c)
   unfolding changes
   success_fits k config n EnableSlot zero rings e good still may = (tt, tt)

@@ -1,5 +1,5 @@
 -- One slot behind the success of a command that concerns it
-use Rattle.safety.proofs.Words.{◌≡◌, ◌≢◌, ◌⊎◌, ◌∙◌, ℕ, Bool, true, false, Option, None, Some, is_some, unwrap_or, refl, sym, inl, inr, false≢true, none-some, Command, EnableSlot, DisableSlot, AddressDevice, ConfigureEndpoint, ResetDevice, SlotState, Disabled, Enabled, Default, Addressed, Configured, slot_success}
+use Rattle.safety.proofs.Words.{◌≡◌, ◌≢◌, ◌⊎◌, ◌∙◌, ℕ, Bool, true, false, Option, None, Some, is_some, unwrap_or, refl, sym, inl, inr, false≢true, none-some, Command, EnableSlot, DisableSlot, AddressDevice, ConfigureEndpoint, ResetDevice, SlotState, Disabled, Enabled, Default, Addressed, Configured, slot_success, rules}
 use Rattle.safety.proofs.StatesParts.{SlotStands}
 
 -- the state behind it
@@ -18,11 +18,7 @@ module _ (rings after : ℕ → Option ℕ) (device left : Option ℕ) where
 
   -- endpoint 1 alone is there
   one_there : (state : SlotState) → state ≢ Disabled → state ≢ Enabled → ((i r : ℕ) → after i ≡ Some r → i ≡ 1) → after 1 ≢ None → SlotStands state after left
-  one_there state there some one first = record {
-    slots = λ i r at. (there, some, inl (one i r at));
-    first = inr (inr first);
-    no_device = λ is. absurd (there is);
-  }
+  one_there state there some one first = search rules
 
   -- which endpoints were there
   only_first : (state : SlotState) → state ≢ Configured → SlotStands state rings device → (i r : ℕ) → (i ≡ 1) ⊎ (rings i ≡ Some r) → i ≡ 1

@@ -1,5 +1,5 @@
 -- What is kept of states, in three parts: endpoints and their rings, slots, and Stopped events that were read
-use Rattle.safety.proofs.Words.{◌≡◌, ◌≢◌, ◌<◌, ◌⊎◌, ◌∙◌, ℕ, nat_lt, true, Option, None, Some, refl, sym, ap, subst, ltb-true, lt-ltb, eqb-true, eq-eqb, and_parts, and_from, false≢true, ceiling, Command, StopEndpoint, SlotState, Disabled, Enabled, Configured, Off, Running, is_stop_of, Header, shape_of, command_id, Known, command_at, next_command, may_be_taken, is_stopping_now, StatesKeep, EndpointsKeep}
+use Rattle.safety.proofs.Words.{◌≡◌, ◌≢◌, ◌<◌, ◌⊎◌, ◌∙◌, ℕ, nat_lt, true, Option, None, Some, refl, sym, ap, ltb-true, lt-ltb, eqb-true, eq-eqb, and_parts, and_from, false≢true, ceiling, Command, StopEndpoint, SlotState, Disabled, Enabled, Configured, Off, Running, is_stop_of, Header, shape_of, command_id, Known, command_at, next_command, may_be_taken, is_stopping_now, StatesKeep, EndpointsKeep, rules}
 use Rattle.safety.proofs.DriverRings.{transfer_ring}
 
 pub record EndpointsStand (k : Known) : Type 0 where
@@ -58,46 +58,16 @@ module _ (h : Header) where
   seen_part k s = record { command = λ t i seen. stops_is k t i (s.seen_command t i seen); runs = s.seen_runs; held = s.seen_held }
 
   pub from_parts : (k : Known) → EndpointsKeep h k → EndpointsStand k → SlotsStand k → SeenStand h k → StatesKeep h k
-  from_parts k bound endpoints slots seen = record {
-    no_slot = slots.no_slot;
-    no_endpoint = endpoints.no_endpoint;
-    off = endpoints.off;
-    on = endpoints.on;
-    transfer = λ s i r at. transfer_ring h r (bound.transfer s i r at);
-    one_endpoint = endpoints.one_endpoint;
-    open_runs = endpoints.open_runs;
-    seen_command = λ s i is. stops_from k s i (seen.command s i is);
-    seen_runs = seen.runs;
-    seen_held = seen.held;
-    slots = λ s. (slots.each s).slots;
-    first = λ s. (slots.each s).first;
-    no_device = λ s. (slots.each s).no_device;
-  }
+  from_parts k bound endpoints slots seen = search (rules, transfer_ring, stops_from)
 
 -- ---- where all these are as they were
 
 pub endpoints_same : (k l : Known) → l.ring_of ≡ k.ring_of → l.endpoint_state ≡ k.endpoint_state → ((r : ℕ) → (l.ring r).held ≡ (k.ring r).held) → EndpointsStand k → EndpointsStand l
-endpoints_same k l rings states held e = record {
-  no_endpoint = λ s i zero. ap (λ f. f s i) rings ∙ e.no_endpoint s i zero;
-  off = λ s i none. ap (λ f. f s i) states ∙ e.off s i (ap (λ f. f s i) (sym rings) ∙ none);
-  on = λ s i r at is. e.on s i r (ap (λ f. f s i) (sym rings) ∙ at) (ap (λ f. f s i) (sym states) ∙ is);
-  one_endpoint = λ s i t j r one other. e.one_endpoint s i t j r (ap (λ f. f s i) (sym rings) ∙ one) (ap (λ f. f t j) (sym rings) ∙ other);
-  open_runs = λ s i r at none. ap (λ f. f s i) states ∙ e.open_runs s i r (ap (λ f. f s i) (sym rings) ∙ at) (sym (held r) ∙ none);
-}
+endpoints_same k l rings states held e = search rules
 
 pub slots_same : (k l : Known) → l.slot_state ≡ k.slot_state → l.ring_of ≡ k.ring_of → l.device ≡ k.device → SlotsStand k → SlotsStand l
-slots_same k l slots rings device e = record {
-  no_slot = ap (λ f. f 0) slots ∙ e.no_slot;
-  each = λ s.
-      subst (λ (f : ℕ → SlotState). SlotStands (f s) (l.ring_of s) (l.device s)) (sym slots)
-      (subst (λ (f : ℕ → ℕ → Option ℕ). SlotStands (k.slot_state s) (f s) (l.device s)) (sym rings)
-      (subst (λ (f : ℕ → Option ℕ). SlotStands (k.slot_state s) (k.ring_of s) (f s)) (sym device) (e.each s)));
-}
+slots_same k l slots rings device e = search rules
 
 pub seen_same : (h : Header) (k l : Known) → l.stop_seen ≡ k.stop_seen → l.endpoint_state ≡ k.endpoint_state → l.ring_of ≡ k.ring_of → ((r : ℕ) → (l.ring r).held ≡ (k.ring r).held) →
     ((s i : ℕ) → StopsNext h k s i → StopsNext h l s i) → SeenStand h k → SeenStand h l
-seen_same h k l seen states rings held stops e = record {
-  command = λ s i is. stops s i (e.command s i (ap (λ f. f s i) (sym seen) ∙ is));
-  runs = λ s i is. ap (λ f. f s i) states ∙ e.runs s i (ap (λ f. f s i) (sym seen) ∙ is);
-  held = λ s i r is at none. e.held s i r (ap (λ f. f s i) (sym seen) ∙ is) (ap (λ f. f s i) (sym rings) ∙ at) (sym (held r) ∙ none);
-}
+seen_same h k l seen states rings held stops e = search rules

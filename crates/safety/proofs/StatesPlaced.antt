@@ -1,5 +1,5 @@
 -- An endpoint that is placed on a ring: what is kept of endpoints is kept
-use Rattle.safety.proofs.Words.{◌≡◌, ◌≢◌, ◌⊎◌, ◌∙◌, ℕ, Bool, true, false, Option, None, Some, refl, sym, ap, subst, inl, inr, rules, cond-true, cond-false, none-some, same_Some, put_pair, Spot, number, Reaches, Holds, target, Command, EndpointState, Off, Running, is_off, Places, Header, shape_of, ring_having, Known, on_ring, set_to, bound_to, moved_to, moved, pointed, in_state, changed_by, EndpointsKeep}
+use Rattle.safety.proofs.Words.{◌≡◌, ◌≢◌, ◌⊎◌, ◌∙◌, ℕ, Bool, true, false, Option, None, Some, refl, sym, ap, inl, inr, rules, cond-true, cond-false, none-some, same_Some, put_pair, Spot, number, Reaches, Holds, target, Command, EndpointState, Off, Running, is_off, Places, Header, shape_of, ring_having, Known, on_ring, set_to, bound_to, moved_to, moved, pointed, in_state, changed_by, EndpointsKeep}
 use Rattle.safety.proofs.DriverRows.{ring_here, ring_elsewhere}
 use Rattle.safety.proofs.EndpointPut.{at_pair}
 use Rattle.safety.proofs.StatesParts.{EndpointsStand}
@@ -47,8 +47,7 @@ module _ (h : Header) where
 
   set_other : (k : Known) (r : ℕ) (t : Spot) (q : ℕ) → q ≢ r → ((set_to h k r t).ring q).held ≡ (k.ring q).held
   unfolding set_to
-  set_other k r t q other =
-      ap (λ v. v.held) (ring_elsewhere h (on_ring h k r (Reaches t)) r q (Holds (number t)) other) ∙ ap (λ v. v.held) (ring_elsewhere h k r q (Reaches t) other)
+  set_other k r t q other = search (rules, ring_elsewhere, on_ring, number)
 
   set_rest : (k : Known) (r : ℕ) (t : Spot) → ((set_to h k r t).endpoint_state ≡ k.endpoint_state) × ((set_to h k r t).ring_of ≡ k.ring_of)
   unfolding set_to on_ring
@@ -65,21 +64,15 @@ module _ (h : Header) where
 
   bound_is : (k : Known) (s i r p : ℕ) (cycle : Bool) → IsBound k (bound_to h k s i (Some r) p cycle) s i r
   unfolding bound_to
-  bound_is k s i r p cycle =
-      let moves : IsMoved k (moved h k (Some r) p cycle) r = moved_is k r p cycle in
-      record { states = moves.states; ring_of = refl; held = moves.held; others = moves.others }
+  bound_is k s i r p cycle = search (rules, moved, moved_is)
 
   pub pointed_off : (k : Known) (s i p r : ℕ) (cycle : Bool) → is_off (k.endpoint_state s i) ≡ true → ring_having h p ≡ Some r → IsBound k (pointed h k s i p cycle) s i r
   unfolding pointed
-  pointed_off k s i p r cycle off at =
-      subst (λ m. IsBound k m s i r)
-      (sym (cond-true (is_off (k.endpoint_state s i)) (bound_to h k s i (ring_having h p) p cycle) (moved h k (k.ring_of s i) p cycle) off ∙ ap (λ o. bound_to h k s i o p cycle) at)) (bound_is k s i r p cycle)
+  pointed_off k s i p r cycle off at = search (rules, cond-true, is_off, bound_to, ring_having, moved, bound_is)
 
   pub pointed_on : (k : Known) (s i p r : ℕ) (cycle : Bool) → is_off (k.endpoint_state s i) ≡ false → k.ring_of s i ≡ Some r → IsMoved k (pointed h k s i p cycle) r
   unfolding pointed
-  pointed_on k s i p r cycle on at =
-      subst (λ m. IsMoved k m r)
-      (sym (cond-false (is_off (k.endpoint_state s i)) (bound_to h k s i (ring_having h p) p cycle) (moved h k (k.ring_of s i) p cycle) on ∙ ap (λ o. moved h k o p cycle) at)) (moved_is k r p cycle)
+  pointed_on k s i p r cycle on at = search (rules, cond-false, is_off, bound_to, ring_having, moved, moved_is)
 
 -- the endpoint's state is set then
 pub record IsPlaced (m l : Known) (s i : ℕ) (state : EndpointState) : Type 0 where
@@ -93,8 +86,7 @@ placed_is h c k s i p cycle state = record { states = refl; ring_of = refl; ring
 
 module _ (k m l : Known) (s i r : ℕ) (state : EndpointState) (e : EndpointsStand k) (placed : IsPlaced m l s i state) where
   state_at : (t j : ℕ) → m.endpoint_state ≡ k.endpoint_state → (t ≡ s → j ≡ i → ⊥) → l.endpoint_state t j ≡ k.endpoint_state t j
-  state_at t j same other =
-      ap (λ f. f t j) placed.states ∙ at_pair (λ x. x ≡ m.endpoint_state t j) m.endpoint_state s i state t j (λ a b. absurd (other a b)) (λ apart. refl) ∙ ap (λ f. f t j) same
+  state_at t j same other = search (rules, at_pair)
 
   state_here : (t j : ℕ) → t ≡ s → j ≡ i → l.endpoint_state t j ≡ state
   state_here t j a b = ap (λ f. f t j) placed.states ∙ at_pair (λ x. x ≡ state) m.endpoint_state s i state t j (λ x y. refl) (λ other. absurd (other a b))
@@ -111,8 +103,7 @@ module _ (k m l : Known) (s i r : ℕ) (state : EndpointState) (e : EndpointsSta
 
   module _ (bound : IsBound k m s i r) (never : (t j : ℕ) → k.ring_of t j ≢ Some r) (slot : s ≢ 0) (index : i ≢ 0) (on : state ≢ Off) (starts : state ≡ Running) where
     ring_other : (t j : ℕ) → (t ≡ s → j ≡ i → ⊥) → l.ring_of t j ≡ k.ring_of t j
-    ring_other t j other =
-        ap (λ f. f t j) (placed.ring_of ∙ bound.ring_of) ∙ at_pair (λ x. x ≡ k.ring_of t j) k.ring_of s i (Some r) t j (λ a b. absurd (other a b)) (λ apart. refl)
+    ring_other t j other = search (rules, at_pair)
 
     ring_here_is : (t j : ℕ) → t ≡ s → j ≡ i → l.ring_of t j ≡ Some r
     ring_here_is t j a b = ap (λ f. f t j) (placed.ring_of ∙ bound.ring_of) ∙ at_pair (λ x. x ≡ Some r) k.ring_of s i (Some r) t j (λ x y. refl) (λ other. absurd (other a b))

@@ -1,15 +1,8 @@
 -- A Transfer Event keeps what is known of states
 use Rattle.safety.proofs.Words.{◌≡◌, ◌≢◌, ◌+◌, ◌&&◌, ◌||◌, if◌then◌else◌, ◌∙◌, ℕ, Bool, true, false, Option, None, Some, is_none, refl, ap, rules, cond_both, and_parts, and_cases, or_parts, or_left, or_right, or_from, not-false, false≢true, none-some, put_pair, Block, code, slot, endpoint, is_success, is_halting, is_trb_error, is_stopping, Spot, number, after, Reaches, Holds, ceiling, is_open, is_data_below, is_stop_spot, stopped_number, EndpointState, Off, Running, Halted, Error, is_running, Header, IsHeader, shape_of, command_id, Known, RingSpot, on_ring, event_at, passed, broken_off, stopped_at, transferred, transferred_at, transfer_read, is_in_profile, is_working, is_stopping_now, can_report, can_report_at, is_impossible_transfer, DriverKeeps}
-use Rattle.safety.proofs.Transfers.{chain}
-use Rattle.safety.proofs.DriverRows.{ring_here, ring_elsewhere}
-use Rattle.safety.proofs.EndpointPut.{at_pair}
-use Rattle.safety.proofs.DriverRings.{endpoints_of}
-use Rattle.safety.proofs.TransferFrames.{LeavesSlots, event_ring_of, transfer_command, transfer_slots}
-use Rattle.safety.proofs.StatesParts.{EndpointsStand, SlotsStand, StopsNext, SeenStand, endpoints_part, slots_part, seen_part, stops_is, slots_same}
+use Rattle.safety.proofs.LowerLaws.{chain, ring_here, ring_elsewhere, at_pair, endpoints_of, LeavesSlots, event_ring_of, transfer_command, transfer_slots, EndpointsStand, SlotsStand, StopsNext, SeenStand, endpoints_part, slots_part, seen_part, stops_is, slots_same, OneEndpoint, OneSeen, one_stands, one_seen, none_is}
 use Rattle.safety.proofs.StatesDriver.{view_same, stops_on}
-use Rattle.safety.proofs.StatesOneEndpoint.{OneEndpoint, OneSeen, one_stands, one_seen}
 use Rattle.safety.proofs.StatesRung.{running_is}
-use Rattle.safety.proofs.OpenRings.{none_is}
 
 pub record PartsStand (h : Header) (k : Known) : Type 0 where
   pub endpoints : EndpointsStand k
@@ -34,10 +27,7 @@ module _ (h : Header) (k : Known) (e : EndpointsStand k) (seen : SeenStand h k) 
     pub own : OneSeen h k l s i r
 
   nothing_more : OnlyThis k
-  nothing_more = record {
-    one = record { ring_of = refl; bound = bound; on = e.on s i r bound; others = λ t j other. refl; held = λ q other. refl; runs = e.open_runs s i r bound };
-    own = record { others = λ t j other. refl; here = λ is. (seen.command s i is, seen.runs s i is, seen.held s i r is bound) };
-  }
+  nothing_more = search rules
 
   passed_held : (t : Spot) → ((passed h k r t).ring r).held ≡ (k.ring r).held
   unfolding passed
@@ -80,10 +70,7 @@ module _ (h : Header) (k : Known) (e : EndpointsStand k) (seen : SeenStand h k) 
   stopped_only t works stops = search (rules, stopped_other, at_pair, none-some, stopped_held)
 
   must_only : (l : Known) (f : ℕ → ℕ → Bool) → OnlyThis l → OnlyThis (let m : Known = record l { must_move = f } in m)
-  must_only l f only = record {
-    one = record { ring_of = only.one.ring_of; bound = bound; on = only.one.on; others = only.one.others; held = only.one.held; runs = only.one.runs };
-    own = record { others = only.own.others; here = only.own.here };
-  }
+  must_only l f only = search rules
 
   transferred_only : (c : ℕ) (t : Spot) → can_report h k c s i r t ≡ true → OnlyThis (transferred h k c s i r t)
   unfolding transferred can_report

@@ -1,19 +1,7 @@
 -- Behind an event an endpoint whose doorbell does nothing stays one
-use Rattle.safety.proofs.Words.{◌≡◌, ◌==◌, ◌&&◌, ◌∙◌, ℕ, not, true, false, [], Option, None, Some, refl, sym, ap, subst, inl, inr, eqb-true, eq-eqb, rules, list_any, cases_Bool, and_parts, or_from, and_from, not-false, false≢true, false_from_ne_true, Block, BlockKind, TransferEvent, CommandCompletion, kind, code, slot, endpoint, is_transfer_event, is_command_completion, Spot, number, after, Command, StopEndpoint, EndpointState, changes, touches, Header, Read, IsHeader, shape_of, Known, RingSpot, on_ring, event_at, next_command, passed, broken_off, transferred, transferred_at, transfer_read, event_read, learned, touches_endpoint, is_touched, is_in_profile, is_stopping_now, can_report, can_report_at, is_impossible_by_kind, lenient, some_of, any_of, DriverKeeps, IsIdleEndpoint, MayRing}
-use Rattle.safety.proofs.CleanRows.{EventFacts, event_facts}
-use Rattle.safety.proofs.EndpointPut.{at_pair}
-use Rattle.safety.proofs.KeptRings.{completion_facts, next_unfinished}
-use Rattle.safety.proofs.SameDriver.{event_same}
-use Rattle.safety.proofs.StatesCompletion.{reached_held}
-use Rattle.safety.proofs.StatesParts.{StopsNext, stops_is}
-use Rattle.safety.proofs.StatesRung.{stop_touches}
-use Rattle.safety.proofs.StatesTransfer.{reported}
-use Rattle.safety.proofs.TransferFrames.{event_ring_of}
-use Rattle.safety.proofs.TransferLeaves.{TransferLeaves, transferred_leaves}
-use Rattle.safety.proofs.Transfers.{chain}
-use Rattle.safety.proofs.UnfinishedBehind.{listed_before}
-use Rattle.safety.proofs.UnfinishedLists.{unfinished_fails}
-use Rattle.safety.proofs.UntouchedHeld.{EndpointHolds}
+use Rattle.safety.proofs.Words.{[], ◌≡◌, ◌==◌, ◌&&◌, ◌∙◌, ℕ, not, true, false, Option, None, Some, refl, sym, ap, subst, inl, inr, eqb-true, eq-eqb, rules, list_any, cases_Bool, and_parts, or_from, and_from, not-false, false≢true, false_from_ne_true, Block, BlockKind, TransferEvent, CommandCompletion, kind, code, slot, endpoint, is_transfer_event, is_command_completion, Spot, number, after, Command, StopEndpoint, EndpointState, changes, touches, Header, Read, IsHeader, shape_of, Known, RingSpot, on_ring, event_at, next_command, passed, broken_off, transferred, transferred_at, transfer_read, event_read, learned, touches_endpoint, is_touched, is_in_profile, is_stopping_now, can_report, can_report_at, is_impossible_by_kind, lenient, some_of, any_of, DriverKeeps, IsIdleEndpoint, MayRing}
+use Rattle.safety.proofs.LowerLaws.{EventFacts, event_facts, at_pair, event_same, StopsNext, stops_is, event_ring_of, chain, unfinished_fails}
+use Rattle.safety.proofs.MiddleLaws.{completion_facts, next_unfinished, reached_held, stop_touches, reported, TransferLeaves, transferred_leaves, listed_before, EndpointHolds}
 use Rattle.safety.proofs.UntouchedCompletion.{completion_holds}
 use Rattle.safety.proofs.RowRuns.{StillRingsLaw}
 
@@ -56,12 +44,7 @@ module _ (h : Header) where
 
     -- an event for another endpoint
     pub other_holds : (t j r : ℕ) (l : Known) → (s ≡ t → i ≡ j → ⊥) → k.ring_of t j ≡ Some r → TransferLeaves k l t j r → EndpointHolds k l s i
-    other_holds t j r l other bound leaves = record {
-      state = leaves.states s i other;
-      ring_of = ap (λ f. f s i) leaves.ring_of;
-      must_move = leaves.moves s i other;
-      held = λ q at. ap (λ v. v.held) (leaves.others q (λ same. let both = d.states.one_endpoint s i t j r (at ∙ ap (λ n. Some n) same) bound in other both.0 both.1));
-    }
+    other_holds t j r l other bound leaves = search rules
 
     module _ (started : k.started ≡ true) (may : MayRing h k s i) where
       on_ring_idle : (c t j r : ℕ) (spot : Spot) → k.ring_of t j ≡ Some r → can_report h k c t j r spot ≡ true → IsIdleEndpoint h (transferred h k c t j r spot) s i

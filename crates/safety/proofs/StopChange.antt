@@ -1,9 +1,6 @@
 -- The change of a Stop Endpoint's success: the endpoint is Stopped, and its ring held at its ceiling and inactive
-use Rattle.safety.proofs.Words.{◌≡◌, ◌≢◌, ℕ, false, Option, Some, None, refl, sym, ap, subst, inl, inr, rules, cases_eq, false≢true, same_Some, put, Spot, Shape, ceiling, is_way_given, Command, Stopped, Stops, Header, shape_of, command_id, World, Known, RingState, state_of, RingMatches, BoundRing, EndpointRing}
-use Rattle.segments.specs.RingView.{RingView}
+use Rattle.safety.proofs.Words.{◌≡◌, ◌≢◌, ℕ, false, Option, Some, None, refl, sym, ap, subst, inl, inr, rules, cases_eq, false≢true, same_Some, put, Spot, Shape, ceiling, is_way_given, Command, Stopped, Stops, Header, shape_of, command_id, World, Known, RingState, state_of, RingMatches, BoundRing, EndpointRing, on_ring, changed_by, held_at_ceiling, in_state, RingView}
 use Rattle.controller_model.specs.Bindings as bindings
-use Rattle.ring_knowledge.specs.Rings as of_rings
-use Rattle.ring_knowledge.specs.Completions as completions
 use Rattle.safety.proofs.NoWait.{ceiling_held}
 use Rattle.safety.proofs.RingGoesOn.{newest_still}
 use Rattle.safety.proofs.LookKinds.{put_at, put_off}
@@ -81,19 +78,19 @@ module _ (h : Header) (k : Known) (w : World) (m : StatesMatch h k w) (s i r : �
 
 -- the ring of an endpoint, if it has one
 module _ (h : Header) (k : Known) (w : World) (m : StatesMatch h k w) where
-  ring_stops : (s i : ℕ) (o : Option ℕ) → k.ring_of s i ≡ o → ChangeKeeps h k (completions.held_at_ceiling h k o) w (bindings.inactive w o)
-  unfolding completions.held_at_ceiling bindings.inactive of_rings.on_ring
+  ring_stops : (s i : ℕ) (o : Option ℕ) → k.ring_of s i ≡ o → ChangeKeeps h k (held_at_ceiling h k o) w (bindings.inactive w o)
+  unfolding held_at_ceiling bindings.inactive on_ring
   ring_stops s i None at = none_keeps h k w m
   ring_stops s i (Some r) at = held_keeps h k w m s i r at
 
 module _ (h : Header) (c : Command) (k : Known) (w : World) (m : StatesMatch h k w) where
-  pub stop_keeps : (s i : ℕ) (v : World) → bindings.changed_by h c w (Stops s i) ≡ Some v → ChangeKeeps h k (completions.changed_by h c k (Stops s i)) w v
-  unfolding bindings.changed_by completions.changed_by completions.in_state
+  pub stop_keeps : (s i : ℕ) (v : World) → bindings.changed_by h c w (Stops s i) ≡ Some v → ChangeKeeps h k (changed_by h c k (Stops s i)) w v
+  unfolding bindings.changed_by changed_by in_state
   stop_keeps s i v at =
-      let l : Known = completions.in_state h k s i Stopped in
+      let l : Known = in_state h k s i Stopped in
       let u : World = bindings.in_state w s i Stopped in
       let one = state_made h c k w m s i Stopped in
       let two = ring_stops h l u one.states s i (k.ring_of s i) refl in
-      subst (λ x. ChangeKeeps h k (completions.held_at_ceiling h l (k.ring_of s i)) w x) (same_Some _ v at)
-      (subst (λ o. ChangeKeeps h k (completions.held_at_ceiling h l (k.ring_of s i)) w (bindings.inactive u o)) (sym (m.ring_of s i))
-      (both_keep h k l (completions.held_at_ceiling h l (k.ring_of s i)) w u (bindings.inactive u (k.ring_of s i)) one.rest two))
+      subst (λ x. ChangeKeeps h k (held_at_ceiling h l (k.ring_of s i)) w x) (same_Some _ v at)
+      (subst (λ o. ChangeKeeps h k (held_at_ceiling h l (k.ring_of s i)) w (bindings.inactive u o)) (sym (m.ring_of s i))
+      (both_keep h k l (held_at_ceiling h l (k.ring_of s i)) w u (bindings.inactive u (k.ring_of s i)) one.rest two))

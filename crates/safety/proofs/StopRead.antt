@@ -1,7 +1,6 @@
 -- When a Stopped event is possible where it will be read, and what reading it adds
-use Rattle.safety.proofs.Words.{◌≡◌, ◌≢◌, ◌||◌, ◌∙◌, ℕ, true, false, not, Some, ap, and_from, and_right, or_from, or_right, cond-true, cond-false, not_from_true, put_pair, Block, code, endpoint, kind, slot, is_transfer_event, is_success, is_halting, is_trb_error, is_stopping, is_transfer_code, Spot, Reaches, Holds, is_stop_spot, stopped_number, Off, is_stop_of, is_off, Header, shape_of, Known, event_read, event_at, command_at, next_command, on_ring, stopped_at, transferred, transferred_at, transfer_read, is_in_profile, is_working, is_stopping_now, may_be_taken, is_impossible_by_kind, is_impossible_transfer, can_report, can_report_at}
-use Rattle.safety.proofs.ReportSuccess.{transfer_kind}
-use Rattle.safety.proofs.StatesPlaced.{on_is}
+use Rattle.safety.proofs.Words.{◌≡◌, ◌≢◌, ◌||◌, ◌∙◌, ℕ, true, false, Some, ap, and_from, or_from, or_right, cond-true, cond-false, put_pair, Block, code, endpoint, kind, slot, is_transfer_event, is_success, is_halting, is_trb_error, is_stopping, is_transfer_code, Spot, Reaches, Holds, is_stop_spot, stopped_number, Off, is_stop_of, Header, shape_of, Known, event_read, event_at, command_at, next_command, on_ring, stopped_at, transferred, transferred_at, transfer_read, is_working, is_stopping_now, may_be_taken, is_impossible_by_kind, can_report, can_report_at}
+use Rattle.safety.proofs.ReportSuccess.{possible, transfer_kind}
 
 -- the code is that of a Stopped event alone
 pub record StopCode (c : ℕ) : Type 0 where
@@ -32,9 +31,4 @@ module _ (h : Header) (k : Known) (b : Block) (r : ℕ) (t : Spot) (transfer : i
 
   pub stop_possible : is_working k (slot b) (endpoint b) r ≡ true → may_be_taken h k ≡ true → is_stop_of (slot b) (endpoint b) (command_at h k (next_command h k)) ≡ true →
       is_stop_spot (shape_of h r) (k.ring r) t ≡ true → k.endpoint_state (slot b) (endpoint b) ≢ Off → is_impossible_by_kind h k (kind b) b ≡ false
-  unfolding is_impossible_by_kind is_impossible_transfer
-  stop_possible working may stop spot on =
-      ap (λ n. is_impossible_by_kind h k n b) (transfer_kind (kind b) transfer)
-      ∙ and_right (is_in_profile b) (is_off (k.endpoint_state (slot b) (endpoint b)) || not (can_report_at h k b (event_at h k b)))
-      (or_from (is_off (k.endpoint_state (slot b) (endpoint b))) (not (can_report_at h k b (event_at h k b))) (on_is (k.endpoint_state (slot b) (endpoint b)) on)
-      (not_from_true (can_report_at h k b (event_at h k b)) (ap (λ o. can_report_at h k b o) at ∙ may_stop working (stops_now may stop) spot)))
+  stop_possible working may stop spot on = possible h k b (record { ring = r; spot = t }) transfer at (may_stop working (stops_now may stop) spot) on

@@ -1,6 +1,5 @@
 -- What the rules say of a device context that a write takes
-use Rattle.safety.proofs.Words.{◌≡◌, ◌%◌, ◌<◌, ◌==◌, ◌||◌, ◌∙◌, ℕ, not, Bool, true, false, suc, zero, None, Some, is_none, is_some, arith, sym, ap, subst, inl, inr, eqb-true, and_cases, or_parts, not-false, false≢true, overlap, Command, AddressDevice, named_slot, named_endpoint, named_context, is_disabled, device_context_bytes, input_context_bytes, Header, Dcbaap, Known, device_named, entry_of, is_bad_area, is_in_range_lease, is_soiled, DriverKeeps}
-use Rattle.ownership_rules.specs.Commands as commands
+use Rattle.safety.proofs.Words.{◌≡◌, ◌%◌, ◌<◌, ◌==◌, ◌||◌, ◌∙◌, ℕ, not, Bool, true, false, suc, zero, None, Some, is_none, is_some, arith, sym, ap, subst, inl, inr, eqb-true, and_cases, or_parts, not-false, false≢true, overlap, Command, AddressDevice, named_slot, named_endpoint, named_context, is_disabled, device_context_bytes, input_context_bytes, Header, Dcbaap, Known, device_named, entry_of, is_bad_area, is_in_range_lease, is_soiled, DriverKeeps, has_bad_content, has_bad_context, has_bad_entry, is_bad_command, is_bad_device, names_disabled_endpoint, names_disabled_slot, takes_bad_device}
 use Rattle.safety.proofs.GivenCommands.{content_good}
 use Rattle.safety.proofs.KeptClean.{CleanTaking}
 use Rattle.safety.proofs.KeptRegisters.{some_is}
@@ -18,34 +17,34 @@ module _ (h : Header) (k : Known) where
     pub entry_apart : overlap d (device_context_bytes h.context_size) (entry_of k s) 8 ≡ false
     pub context_apart : overlap d (device_context_bytes h.context_size) n (input_context_bytes h.context_size) ≡ false
 
-  pub slot_named : (c : Command) → commands.is_bad_command h k c ≡ false → commands.names_disabled_slot k (named_slot c) ≡ false
-  unfolding commands.is_bad_command
+  pub slot_named : (c : Command) → is_bad_command h k c ≡ false → names_disabled_slot k (named_slot c) ≡ false
+  unfolding is_bad_command
   slot_named c good =
-      let three = or_parts _ (commands.has_bad_content h k c) good in
-      let two = or_parts _ (commands.has_bad_context h k (named_context c)) three.0 in
-      (or_parts (commands.names_disabled_slot k (named_slot c)) (commands.names_disabled_endpoint k (named_endpoint c)) two.0).0
+      let three = or_parts _ (has_bad_content h k c) good in
+      let two = or_parts _ (has_bad_context h k (named_context c)) three.0 in
+      (or_parts (names_disabled_slot k (named_slot c)) (names_disabled_endpoint k (named_endpoint c)) two.0).0
 
   -- a slot that is there isn't slot 0
-  pub slot_above : DriverKeeps h k → (s : ℕ) → commands.names_disabled_slot k (Some s) ≡ false → 0 < s
-  unfolding commands.names_disabled_slot
+  pub slot_above : DriverKeeps h k → (s : ℕ) → names_disabled_slot k (Some s) ≡ false → 0 < s
+  unfolding names_disabled_slot
   slot_above d zero on = absurd (false≢true (sym on ∙ ap is_disabled d.states.no_slot))
   slot_above d (suc s) on = omega arith
 
-  entry_parts : (s : ℕ) → commands.has_bad_entry h k s ≡ false → (is_bad_area h k (entry_of k s) 8 ≡ false) × (is_soiled k (entry_of k s) 8 ≡ false)
-  unfolding commands.has_bad_entry
+  entry_parts : (s : ℕ) → has_bad_entry h k s ≡ false → (is_bad_area h k (entry_of k s) 8 ≡ false) × (is_soiled k (entry_of k s) 8 ≡ false)
+  unfolding has_bad_entry
   entry_parts s good = or_parts (is_bad_area h k (entry_of k s) 8) (is_soiled k (entry_of k s) 8) good
 
-  device_rules : DriverKeeps h k → (s n : ℕ) (bsr : Bool) → commands.is_bad_command h k (AddressDevice s bsr n) ≡ false → k.device s ≡ None → DeviceRules s (device_named k s) n
-  unfolding commands.has_bad_content commands.takes_bad_device commands.is_bad_device
+  device_rules : DriverKeeps h k → (s n : ℕ) (bsr : Bool) → is_bad_command h k (AddressDevice s bsr n) ≡ false → k.device s ≡ None → DeviceRules s (device_named k s) n
+  unfolding has_bad_content takes_bad_device is_bad_device
   device_rules keeps s n bsr good fresh =
       let content = content_good h k (AddressDevice s bsr n) good in
-      let takes = (or_parts _ (commands.takes_bad_device h k s n) content).1 in
-      elim (and_cases (is_none (k.device s)) (is_none (k.register Dcbaap) || commands.has_bad_entry h k s || commands.is_bad_device h k s n (device_named k s)) takes) [
+      let takes = (or_parts _ (takes_bad_device h k s n) content).1 in
+      elim (and_cases (is_none (k.device s)) (is_none (k.register Dcbaap) || has_bad_entry h k s || is_bad_device h k s n (device_named k s)) takes) [
         | inl other ↦ absurd (false≢true (sym other ∙ ap (λ o. is_none o) fresh))
         | inr rules ↦
             let d = device_named k s in
-            let three = or_parts (is_none (k.register Dcbaap) || commands.has_bad_entry h k s) (commands.is_bad_device h k s n (device_named k s)) rules in
-            let two = or_parts (is_none (k.register Dcbaap)) (commands.has_bad_entry h k s) three.0 in
+            let three = or_parts (is_none (k.register Dcbaap) || has_bad_entry h k s) (is_bad_device h k s n (device_named k s)) rules in
+            let two = or_parts (is_none (k.register Dcbaap)) (has_bad_entry h k s) three.0 in
             let entry = entry_parts s two.1 in
             let six = or_parts _ (overlap (device_named k s) (device_context_bytes h.context_size) n (input_context_bytes h.context_size)) three.1 in
             let five = or_parts _ (overlap (device_named k s) (device_context_bytes h.context_size) (entry_of k s) 8) six.0 in
@@ -68,4 +67,4 @@ module _ (h : Header) (k : Known) where
   pub taken_rules : DriverKeeps h k → (a w s d : ℕ) (t : CleanTaking h k a w s d) → DeviceRules s d t.takes.context
   taken_rules keeps a w s d t =
       subst (λ x. DeviceRules s x t.takes.context) t.takes.named
-      (device_rules keeps s t.takes.context t.takes.bsr (ap (λ c. commands.is_bad_command h k c) (sym t.takes.command) ∙ t.good) t.takes.fresh)
+      (device_rules keeps s t.takes.context t.takes.bsr (ap (λ c. is_bad_command h k c) (sym t.takes.command) ∙ t.good) t.takes.fresh)

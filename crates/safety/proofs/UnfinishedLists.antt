@@ -1,5 +1,5 @@
 -- Unfinished commands and leases stand in the lists that the rules go through
-use Rattle.safety.proofs.Words.{◌≡◌, ◌+◌, ◌<◌, ◌≤◌, ◌∷◌, ◌++◌, ◌∙◌, ℕ, suc, zero, Bool, false, List, [], Option, None, Some, arith, refl, sym, ap, subst, inl, inr, list_any, range_with_len, flat_map, filter_map, cons_option, cases_eq, false≢true, false_from_ne_true, place_count, due_positions, floor_number, due_is, Command, named_context, device_context_bytes, input_context_bytes, table_bytes, event_shape, base_address, Header, shape_of, command_id, Known, command_at, unfinished_positions, unfinished, entry_of, Leased, Range, SegmentTable, InputContext, SlotEntry, DeviceContext, slots, range_of_entry, entry_ranges, range_of_context, range_of_command, context_ranges, range_of_device, device_ranges, table_range, segment_ranges, open_ranges, Erstba, IsIn, any_of, in_filter, IsUnfinished}
+use Rattle.safety.proofs.Words.{[], ◌≡◌, ◌+◌, ◌<◌, ◌≤◌, ◌∷◌, ◌++◌, ◌∙◌, ℕ, suc, zero, Bool, false, List, Option, None, Some, arith, refl, sym, ap, subst, inl, inr, list_any, range_with_len, flat_map, filter_map, cons_option, cases_eq, false≢true, false_from_ne_true, place_count, due_positions, floor_number, due_is, Command, named_context, device_context_bytes, input_context_bytes, table_bytes, event_shape, base_address, Header, shape_of, command_id, Known, command_at, unfinished_positions, unfinished, entry_of, Leased, Range, SegmentTable, InputContext, SlotEntry, DeviceContext, slots, range_of_entry, entry_ranges, range_of_context, range_of_command, context_ranges, range_of_device, device_ranges, table_range, segment_ranges, open_ranges, Erstba, IsIn, any_of, in_filter, IsUnfinished}
 
 pub in_range : (a n x : ℕ) → a ≤ x → x < a + n → IsIn x (range_with_len a n)
 in_range a zero x low high = absurd (omega arith)

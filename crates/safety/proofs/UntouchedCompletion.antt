@@ -1,12 +1,7 @@
 -- A Command Completion Event leaves an endpoint that no unfinished command touches
 use Rattle.safety.proofs.Words.{◌≡◌, ◌==◌, if◌then◌else◌, ◌∙◌, ℕ, true, false, Option, None, Some, refl, ap, list_any, cond_both, Block, code, slot, Spot, after, Reaches, ContextSize, Command, NoOp, StopEndpoint, changes, touches, Header, Config, IsHeader, shape_of, command_id, register_or_zero, Known, on_ring, command_at, next_command, succeeded, stop_ended, finished, completed, touches_endpoint, is_touched, can_finish, IsUnfinished, CommandKeeps, DriverKeeps}
-use Rattle.safety.proofs.DriverRings.{endpoints_of, rings_of}
-use Rattle.safety.proofs.KeptRings.{CompletionFacts, next_unfinished, command_holds}
-use Rattle.safety.proofs.StatesFit.{success_fits}
-use Rattle.safety.proofs.StatesParts.{endpoints_part}
-use Rattle.safety.proofs.StatesCompletion.{reached_fields, reached_held, can_be}
-use Rattle.safety.proofs.UnfinishedLists.{unfinished_fails}
-use Rattle.safety.proofs.UntouchedHeld.{EndpointHolds, same_holds, both_hold, changes_hold}
+use Rattle.safety.proofs.LowerLaws.{endpoints_of, rings_of, endpoints_part, unfinished_fails}
+use Rattle.safety.proofs.MiddleLaws.{CompletionFacts, next_unfinished, command_holds, success_fits, reached_fields, reached_held, can_be, EndpointHolds, same_holds, both_hold, changes_hold}
 
 -- which endpoints a command touches doesn't hang on the slot of its completion
 pub touches_any : (size : ContextSize) (memory : ℕ → ℕ) (n s i : ℕ) (c : Command) → list_any (touches s i) (changes size memory n c) ≡ list_any (touches s i) (changes size memory 0 c)

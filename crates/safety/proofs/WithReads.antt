@@ -1,7 +1,5 @@
 -- Other events counted as read, with nothing else that they say
-use Rattle.safety.proofs.Words.{◌≡◌, ◌∷◌, ◌++◌, ◌∙◌, ℕ, List, [], Option, Some, None, refl, sym, Block, Spot, Command, StopEndpoint, Header, World, UnderWay, Known, IsUnfinished, Stands, UnderWayMatches, TakenCommand, Matches}
-use Rattle.ring_knowledge.specs.Rings as of_rings
-use Rattle.ownership_rules.specs.Events as of_events
+use Rattle.safety.proofs.Words.{◌≡◌, ◌∙◌, ℕ, Option, Some, None, refl, sym, Spot, Command, StopEndpoint, Header, World, UnderWay, Known, IsUnfinished, Stands, UnderWayMatches, TakenCommand, Matches, command_at, next_command, was_stop_seen}
 
 abbrev pub with_reads : Known → ℕ → Known
 with_reads k n = record k { reads = n }
@@ -10,22 +8,22 @@ module _ (h : Header) where
   pub stands_with_reads : (n : ℕ) (k : Known) (w : World) → Stands h k w → Stands h (with_reads k n) w
   stands_with_reads n k w s = record { started = s.started; stopped = s.stopped; registers = s.registers; queues = s.queues; lengths = s.lengths; dequeue = s.dequeue; quiet = s.quiet }
 
-  seen_with_reads : (n : ℕ) (k : Known) (c : Command) → of_events.was_stop_seen (with_reads k n) c ≡ of_events.was_stop_seen k c
-  unfolding of_events.was_stop_seen
+  seen_with_reads : (n : ℕ) (k : Known) (c : Command) → was_stop_seen (with_reads k n) c ≡ was_stop_seen k c
+  unfolding was_stop_seen
   seen_with_reads n k (StopEndpoint s i) = refl
   seen_with_reads n k _ = refl
 
   taken_with_reads : (n : ℕ) (k : Known) (u : UnderWay) → TakenCommand h k u → TakenCommand h (with_reads k n) u
-  unfolding of_rings.next_command of_rings.command_at
+  unfolding next_command command_at
   taken_with_reads n k u t = record { address = t.address; words = t.words; stopped = λ c at. t.stopped c at ∙ sym (seen_with_reads n k c) }
 
   under_way_with_reads : (n : ℕ) (k : Known) (t : Spot) (o : Option UnderWay) → UnderWayMatches h k t o → UnderWayMatches h (with_reads k n) t o
-  unfolding of_rings.next_command
+  unfolding next_command
   under_way_with_reads n k t None under = under
   under_way_with_reads n k t (Some u) under = (under.0, taken_with_reads n k u under.1)
 
   unfinished_with_reads : (n : ℕ) (k : Known) (p : ℕ) (c : Command) → IsUnfinished h (with_reads k n) p c → IsUnfinished h k p c
-  unfolding of_rings.command_at
+  unfolding command_at
   unfinished_with_reads n k p c u = record { due = u.due; given = u.given; command = u.command }
 
   pub matches_with_reads : (n : ℕ) (k : Known) (w : World) → Matches h k w → Matches h (with_reads k n) w

@@ -1,12 +1,8 @@
 -- What the success of a command changes, where it doesn't touch the endpoint that was woken: its ring stays woken
-use Rattle.safety.proofs.Words.{◌≡◌, ◌≢◌, ◌==◌, ◌&&◌, if◌then◌else◌, ◌∷◌, ◌∙◌, ℕ, Bool, true, false, List, [], Option, None, Some, refl, sym, ap, subst, eq-eqb, eqb-true, rules, list_any, false≢true, or_parts, and_parts, and_from, cond-false, same_Some, put, put_pair, Spot, number, Reaches, Holds, ceiling, target, Command, EndpointState, Off, Stopped, is_off, Change, SlotGoesOn, DeviceLeft, Disables, Places, Stops, Resets, slot_gone_on, touches, Header, IsHeader, shape_of, ring_having, Known, on_ring, set_to, bound_to, moved_to, moved, pointed, disabled, in_state, held_at_ceiling, changed_by, changed_by_all, EndpointsKeep}
+use Rattle.safety.proofs.Words.{[], ◌≡◌, ◌≢◌, ◌==◌, ◌&&◌, if◌then◌else◌, ◌∷◌, ◌∙◌, ℕ, Bool, true, false, List, Option, None, Some, refl, sym, ap, subst, eq-eqb, eqb-true, rules, list_any, false≢true, or_parts, and_parts, and_from, cond-false, same_Some, put, put_pair, Spot, number, Reaches, Holds, ceiling, target, Command, EndpointState, Stopped, is_off, Change, SlotGoesOn, DeviceLeft, Disables, Places, Stops, Resets, slot_gone_on, touches, Header, IsHeader, shape_of, ring_having, Known, on_ring, set_to, bound_to, moved_to, moved, pointed, disabled, in_state, held_at_ceiling, changed_by, changed_by_all, EndpointsKeep}
 use Rattle.safety.proofs.AlikeChanges.{both_sides_if}
-use Rattle.safety.proofs.Endpoints.{change_keeps}
-use Rattle.safety.proofs.StatesParts.{EndpointsStand}
-use Rattle.safety.proofs.StatesPlaced.{MayPlace}
+use Rattle.safety.proofs.LowerLaws.{change_keeps, EndpointsStand, MayPlace, untouched_stays, Woken, woken_reach, woken_elsewhere, woken_state}
 use Rattle.safety.proofs.StatesChanges.{Fits, FitAll, change_stands}
-use Rattle.safety.proofs.UntouchedStays.{untouched_stays}
-use Rattle.safety.proofs.Woken.{Woken, woken_reach, woken_elsewhere, woken_state}
 
 -- the endpoint of slot s at index i alone
 abbrev pub one_of : ℕ → ℕ → ℕ → ℕ → Bool
@@ -88,59 +84,15 @@ module _ (h : Header) (r s i : ℕ) where
 
   pub change_woken : (c : Command) (k l : Known) → Awake k l → Owns k → (change : Change) → touches s i change ≡ false → Fits h k change → Awake (changed_by h c k change) (changed_by h c l change)
   unfolding changed_by disabled in_state
-  change_woken c k l w o (SlotGoesOn t) apart fits = record {
-    own = w.own;
-    rings = w.rings;
-    awake = w.awake;
-    state = w.state;
-    was_bound = w.was_bound;
-    slot_state = ap (λ f. slot_gone_on c f t) w.slot_state;
-    ring_of = w.ring_of;
-    must_move = w.must_move;
-    stop_seen = w.stop_seen;
-    device = w.device;
-  }
-  change_woken c k l w o (DeviceLeft t) apart fits = record {
-    own = w.own;
-    rings = w.rings;
-    awake = w.awake;
-    state = w.state;
-    was_bound = w.was_bound;
-    slot_state = w.slot_state;
-    ring_of = w.ring_of;
-    must_move = w.must_move;
-    stop_seen = w.stop_seen;
-    device = ap (λ f. put f t None) w.device;
-  }
-  change_woken c k l w o (Disables u which) apart fits = record {
-    own = w.own;
-    rings = w.rings;
-    awake = λ t j same. cond-false (t == u && which j) Off (l.endpoint_state t j) (own_pair which u t j apart same) ∙ w.awake t j same;
-    state = λ t j other. ap (λ x. if t == u && which j then Off else x) (w.state t j other);
-    was_bound = w.was_bound;
-    slot_state = w.slot_state;
-    ring_of = ap {B = ℕ → ℕ → Option ℕ} (λ (f : ℕ → ℕ → Option ℕ) (t j : ℕ). if t == u && which j then None else f t j) w.ring_of;
-    must_move = w.must_move;
-    stop_seen = w.stop_seen;
-    device = w.device;
-  }
+  change_woken c k l w o (SlotGoesOn t) apart fits = search (rules, slot_gone_on)
+  change_woken c k l w o (DeviceLeft t) apart fits = search (rules, put)
+  change_woken c k l w o (Disables u which) apart fits = search (rules, cond-false, own_pair)
   change_woken c k l w o (Places t j p cycle e) apart fits =
       let x : Known = pointed h k t j p cycle in
       let y : Known = pointed h l t j p cycle in
       let there : one_of s i t j ≡ false = flipped t j apart in
       let a : Awake (in_state h x t j e) (in_state h y t j e) = woken_state h r (one_of s i) x y t j e there (pointed_woken k l w o t j p cycle e there fits) in
-      record {
-        own = a.own;
-        rings = a.rings;
-        awake = a.awake;
-        state = a.state;
-        was_bound = a.was_bound;
-        slot_state = a.slot_state;
-        ring_of = a.ring_of;
-        must_move = ap (λ f. put_pair f t j false) w.must_move;
-        stop_seen = a.stop_seen;
-        device = a.device;
-      }
+      search (rules, put_pair)
   change_woken c k l w o (Stops t j) apart fits =
       let there : one_of s i t j ≡ false = flipped t j apart in
       subst (λ (f : ℕ → ℕ → Option ℕ). Awake (changed_by h c k (Stops t j)) (held_at_ceiling h (in_state h l t j Stopped) (f t j))) (sym w.ring_of)

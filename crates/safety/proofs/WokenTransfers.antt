@@ -2,10 +2,8 @@
 use Rattle.safety.proofs.Words.{◌≡◌, ◌≢◌, ◌+◌, ◌≤◌, ◌&&◌, ◌||◌, if◌then◌else◌, ◌∙◌, ℕ, Bool, true, false, not, Option, None, Some, arith, refl, sym, ap, subst, ltb-true, lt-ltb, rules, false≢true, and_parts, and_from, or_parts, or_from, not-false, not_from_true, same_Some, option_map, Block, pointer, code, slot, endpoint, is_success, is_halting, is_trb_error, is_stopping, Spot, Data, Link, Shape, number, after, RingView, Opens, Holds, changed, given_count, ceiling, is_data_below, is_open, is_stop_spot, is_step_given, is_way_given, given_count_same, ceiling_open, EndpointState, Halted, Error, is_off, is_running, Header, shape_of, Known, RingSpot, on_ring, spot_on, event_at, passed, broken_off, stopped_at, transferred, transferred_at, transfer_read, is_in_profile, is_working, is_stopping_now, can_report, can_report_at, is_impossible_transfer}
 use Rattle.safety.proofs.AlikeTransfers.{both_sides, chain_from}
 use Rattle.safety.proofs.AlikeChanges.{both_sides_if}
-use Rattle.safety.proofs.SameDriver.{SameDriver}
+use Rattle.safety.proofs.LowerLaws.{SameDriver, event_ring_of, Woken, woken_floor, woken_reach, woken_elsewhere, woken_state, woken_move, woken_seen}
 use Rattle.safety.proofs.HeldFurther.{named_same}
-use Rattle.safety.proofs.TransferFrames.{event_ring_of}
-use Rattle.safety.proofs.Woken.{Woken, woken_floor, woken_reach, woken_elsewhere, woken_state, woken_move, woken_seen}
 
 -- the ceiling of an opened ring is all that is given
 pub opened_ceiling : (shape : Shape) (v : RingView) → ceiling shape (changed shape v Opens) ≡ given_count shape v

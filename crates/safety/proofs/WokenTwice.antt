@@ -1,9 +1,7 @@
 -- Two knowledges that are the same one with its ring woken: they are the same
 use Rattle.safety.proofs.Words.{◌≡◌, ℕ, Bool, ap, rules, Header, Known, HeldMore}
-use Rattle.safety.proofs.SameDriver.{SameDriver}
-use Rattle.safety.proofs.Alike.{held_same}
+use Rattle.safety.proofs.LowerLaws.{SameDriver, held_same, Woken}
 use Rattle.safety.proofs.HeldFurther.{SameStates, held_more}
-use Rattle.safety.proofs.Woken.{Woken}
 
 module _ (h : Header) (r : ℕ) (S : ℕ → ℕ → Bool) (k l m : Known) (one : Woken h r S k l) (two : Woken h r S k m) where
   same_view : (q : ℕ) → m.ring q ≡ l.ring q

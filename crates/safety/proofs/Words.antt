@@ -15,7 +15,7 @@ unfoldable pub use Rattle.contexts.specs.Contexts.{added_endpoints}
 pub use Rattle.contexts.specs.declared.size.ContextSize.{ContextSize}
 pub use Rattle.contexts.specs.declared.size.ContextSize.TheVariants.{Bytes32, Bytes64}
 pub use Rattle.controller_model.proofs.FirstFound.{first_at-found}
-unfoldable pub use Rattle.controller_model.specs.Bindings.{inactive, is_had_by_another, placed, placed_on}
+unfoldable pub use Rattle.controller_model.specs.Bindings.{inactive, is_had_by_another, placed, placed_on, effect}
 unfoldable pub use Rattle.controller_model.specs.Looks.{command_begun, crossed, looked, looked_at, may_scribble, seen_by_look, taken, taken_on}
 unfoldable pub use Rattle.controller_model.specs.Posts.{can_post, is_last, is_stop_under_way, other_posted, posted, report_code, report_error, report_stop, report_success, reported, reported_on, stopped_with, with_reported, with_stopped}
 unfoldable pub use Rattle.controller_model.specs.Steps.{counted, is_scribbled, scribbled}
@@ -25,7 +25,7 @@ pub use Rattle.guest_memory.specs.Memory.{put, put_pair}
 pub use Rattle.ownership_rules.proofs.Among.{IsIn, any_of, both_ways, from_filter, in_filter, some_of}
 unfoldable pub use Rattle.ownership_rules.specs.Areas.{is_bad_area, is_in_range_lease, is_soiled}
 pub use Rattle.ownership_rules.specs.Clean.{IsClean, IsLenient}
-unfoldable pub use Rattle.ownership_rules.specs.Commands.{has_bad_content, has_bad_context, is_bad_command, names_disabled_endpoint, names_disabled_slot}
+unfoldable pub use Rattle.ownership_rules.specs.Commands.{has_bad_content, has_bad_context, is_bad_command, names_disabled_endpoint, names_disabled_slot, adds_streams, has_bad_entry, is_bad_added, is_bad_device, is_busy, streams_in, takes_bad_device, type_in}
 unfoldable pub use Rattle.ownership_rules.specs.Declarations.{declaration_tests, is_driver_ring}
 unfoldable pub use Rattle.ownership_rules.specs.Doorbells.{doorbell_tests, is_bad_bell, is_bad_doorbell, is_touched, touches_endpoint}
 unfoldable pub use Rattle.ownership_rules.specs.Events.{can_finish, can_report, can_report_at, event_tests, is_impossible, is_impossible_by_kind, is_impossible_completion, is_impossible_transfer, is_in_profile, is_past_room, is_stopping_now, is_working, may_be_taken, was_stop_seen}
@@ -136,7 +136,7 @@ pub use Rattle.trb.specs.declared.ring_kind.RingKind.{RingKind}
 pub use Rattle.trb.specs.declared.ring_kind.RingKind.TheVariants.{Cmd, Evt, Xfer}
 pub use Rattle.world_state.specs.Harms.{IsSafe}
 unfoldable pub use Rattle.world_state.specs.Harms.{harm_of, harms, has_changed_context, has_other_words, is_changed_since, is_context_changed, is_end, is_inside_descriptor, is_out_of_order, is_right_place, waits}
-unfoldable pub use Rattle.world_state.specs.Takes.{first_at, is_as_declared, is_place, next_take, takes_of, unreported, was_placed}
+unfoldable pub use Rattle.world_state.specs.Takes.{first_at, is_as_declared, is_place, next_take, takes_of, unreported, was_placed, declared_next}
 pub use Rattle.world_state.specs.World.{Placed, RingEvent, Took, UnderWay, World}
 unfoldable pub use Rattle.world_state.specs.World.{opening, stored, stored_block}
 pub use Rattle.world_state.specs.declared.harm.Harm.{Harm}
@@ -156,3 +156,5 @@ unfoldable pub use Rattle.safety.specs.RingChanges.Withdrawals.{has_stopped, is_
 pub use Rattle.segments.specs.declared.segment.Segment.{Segment}
 pub use Rattle.traces.specs.declared.trace_row.TraceRow.{TraceRow}
 pub use Rattle.safety.specs.RingChanges.Histories.{AreKept, FitsFields, IsKept, RingsHeadline, Scene, header_after, header_now, known_after, known_now, row_made, row_next, scene_reached, step_made}
+pub use Rattle.trb.specs.declared.kind.BlockKind.TheVariants.{BandwidthRequest, DeviceNotification, Doorbell, HostController, MfindexWrap, PortStatusChange}
+unfoldable pub use Rattle.controller_model.specs.DriverRows.{activated, bell_row, endpoint_bell, row_done}

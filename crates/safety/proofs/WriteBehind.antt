@@ -1,14 +1,8 @@
 -- Behind an event that may be read a write gives the same command as before it, and breaks no rule that speaks of no command
-use Rattle.safety.proofs.Words.{◌≡◌, ◌+◌, ◌<◌, ◌&&◌, ◌∷◌, ◌++◌, ◌∙◌, ℕ, not, Bool, true, false, List, [], length, map, slice_get, nat_le, None, option_and_then, arith, refl, sym, ap, subst, inl, inr, ◌||◌, ◌==◌, eq-eqb, rules, MayCome, list_any, range_with_len, fun_ext, not-true, cases_Bool, cond-false, false≢true, false_from_ne_true, and_parts, and_from, or_parts, or_from, put, Block, block_at, Shape, place_count, address_of, cycle_of, RingView, floor_number, gives, gives_crossing, due_positions, due_crossings, positions_given, crossings_given, length_from, is_declared_as, is_other_than_declared, is_not_declared, descriptor_length, is_not_whole, leads_wrong, interrupts, gives_is, gives_crossing_is, positions_given-one, whole_more, Command, Header, Write, Read, IsHeader, shape_of, command_id, driver_rings, Known, Given, Position, Crossing, given_of, given_by, command_at, command_given, learned, Test, broken_of, lenient_tests, lenient, on_position, on_crossing, holds_of, some_given, some_crossed, some_command, write_tests, is_leased, awaits_binding, is_being_moved, or_cases, or_left, or_right, IsIn, some_of, any_of, in_filter, from_filter, DriverKeeps, and_left, and_right, is_the_controllers, changes_owned}
-use Rattle.safety.proofs.TestsPassed.{AllFail, clean_tests, tests_fail}
+use Rattle.safety.proofs.Words.{[], ◌≡◌, ◌+◌, ◌<◌, ◌&&◌, ◌∷◌, ◌++◌, ◌∙◌, ℕ, not, Bool, true, false, List, length, map, slice_get, nat_le, None, option_and_then, arith, refl, sym, ap, subst, inl, inr, ◌||◌, ◌==◌, eq-eqb, rules, MayCome, list_any, range_with_len, fun_ext, not-true, cases_Bool, cond-false, false≢true, false_from_ne_true, and_parts, and_from, or_parts, or_from, put, Block, block_at, Shape, place_count, address_of, cycle_of, RingView, floor_number, gives, gives_crossing, due_positions, due_crossings, positions_given, crossings_given, length_from, is_declared_as, is_other_than_declared, is_not_declared, descriptor_length, is_not_whole, leads_wrong, interrupts, gives_is, gives_crossing_is, positions_given-one, whole_more, Command, Header, Write, Read, IsHeader, shape_of, command_id, driver_rings, Known, Given, Position, Crossing, given_of, given_by, command_at, command_given, learned, Test, broken_of, lenient_tests, lenient, on_position, on_crossing, holds_of, some_given, some_crossed, some_command, write_tests, is_leased, awaits_binding, is_being_moved, or_cases, or_left, or_right, IsIn, some_of, any_of, in_filter, from_filter, DriverKeeps, and_left, and_right, is_the_controllers, changes_owned}
+use Rattle.safety.proofs.LowerLaws.{AllFail, clean_tests, tests_fail, free_or_same, keeps_cycles, not_the_controllers, in_range}
 use Rattle.safety.proofs.KeptWords.{KeepsCycles}
-use Rattle.safety.proofs.Writing.{free_or_same, keeps_cycles, not_the_controllers}
-use Rattle.safety.proofs.UnfinishedLists.{in_range}
-use Rattle.safety.proofs.HeldFurther.{command_same}
-use Rattle.safety.proofs.GivingBeneath.{RingBehind, gives_behind, gives_before, crosses_before}
-use Rattle.safety.proofs.LeasesBehind.{Behind, both_fewer, flat_fewer, map_fewer, not_the_controllers_behind, still_free}
-use Rattle.safety.proofs.EventBehind.{event_behind}
-use Rattle.safety.proofs.UnfinishedBehind.{moved_before}
+use Rattle.safety.proofs.MiddleLaws.{command_same, RingBehind, gives_behind, gives_before, crosses_before, Behind, both_fewer, flat_fewer, map_fewer, not_the_controllers_behind, still_free, event_behind, moved_before}
 use Rattle.safety.proofs.BoundBehind.{awaits_before}
 
 -- ---- one ring
@@ -87,9 +81,7 @@ crossing_passes s t each (Position r p) on = absurd (false≢true on)
 crossing_passes s t each (Crossing r q) on = each r q on
 
 fewer_pass : {X : Type 0} (s t : X → Bool) (xs ys : List X) → ((x : X) → s x ≡ true → t x ≡ true) → ((x : X) → IsIn x ys → IsIn x xs) → list_any t xs ≡ false → list_any s ys ≡ false
-fewer_pass s t xs ys each fewer none =
-    false_from_ne_true (list_any s ys) (λ some. let found = some_of s ys some in
-    false≢true (sym none ∙ any_of t xs found.0 (fewer found.0 found.1) (each found.0 found.2)))
+fewer_pass s t xs ys each fewer none = search (rules, false_from_ne_true, list_any, some_of, false≢true, any_of)
 
 module _ (h : Header) (is : IsHeader h) (k : Known) (d : DriverKeeps h k) (a w : ℕ) (e : Block) (clean : MayCome h k (Write a w))
     (may : lenient h k (Read e) ≡ []) where
@@ -130,9 +122,7 @@ module _ (h : Header) (is : IsHeader h) (k : Known) (d : DriverKeeps h k) (a w :
 
   other_was : (r p : ℕ) → is_other_than_declared (shape_of h r) (l.ring r) l.memory a w p ≡ true → is_other_than_declared (shape_of h r) (k.ring r) k.memory a w p ≡ true
   unfolding is_other_than_declared
-  other_was r p on =
-      ap (λ q. not (is_declared_as (block_at (put k.memory a w) (address_of (shape_of h r) p)) (cycle_of (shape_of h r) p) (slice_get q p))) (sym (b.driver.rings r).queue)
-      ∙ ap (λ m. not (is_declared_as (block_at (put m a w) (address_of (shape_of h r) p)) (cycle_of (shape_of h r) p) (slice_get (l.ring r).queue p))) (sym memory_same) ∙ on
+  other_was r p on = search (rules, not, is_declared_as, block_at, put, address_of, shape_of, cycle_of, slice_get, b, memory_same)
 
   undeclared_was : (r p : ℕ) → is_not_declared (l.ring r) p ≡ true → is_not_declared (k.ring r) p ≡ true
   unfolding is_not_declared
@@ -180,8 +170,7 @@ module _ (h : Header) (is : IsHeader h) (k : Known) (d : DriverKeeps h k) (a w :
 
   still_unowned : changes_owned h l a w ≡ false
   unfolding changes_owned
-  still_unowned =
-      or_from (is_the_controllers h l a) (is_leased h l a && not (l.memory a == w)) (not_the_controllers_behind h is k l b a (not_the_controllers h k a w clean.0)) still_same
+  still_unowned = search (rules, or_from, is_the_controllers, is_leased, not, not_the_controllers_behind, b, not_the_controllers, still_same)
 
   pub rules_behind : RingRules l
   unfolding write_tests

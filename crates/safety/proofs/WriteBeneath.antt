@@ -1,15 +1,8 @@
 -- A write that gives no command and an event that isn't read yet may change places
-use Rattle.safety.proofs.Words.{◌≡◌, ℕ, [], None, refl, sym, subst, inl, inr, rules, MayCome, none-some, fun_ext, Block, RingView, Writes, changed, Header, Write, Read, IsHeader, shape_of, Known, with_word, command_given, learned, lenient, DriverKeeps, HeldMore, Square}
-use Rattle.safety.proofs.CleanRows.{event_facts}
-use Rattle.safety.proofs.Writing.{keeps_cycles}
-use Rattle.safety.proofs.SameDriver.{SameGiven, SameDriver, both_drivers}
-use Rattle.safety.proofs.AlikeEvents.{ReadAlike}
-use Rattle.safety.proofs.HeldFurther.{EverySlot, SameStates, states_from, held_more, counted, read_same}
-use Rattle.safety.proofs.GivingBeneath.{given_same, crossed_same}
-use Rattle.safety.proofs.LeasesBehind.{Behind}
-use Rattle.safety.proofs.WriteEvents.{written_word, word_read}
+use Rattle.safety.proofs.Words.{[], ◌≡◌, ℕ, None, refl, sym, subst, inl, inr, rules, MayCome, none-some, fun_ext, Block, RingView, Writes, changed, Header, Write, Read, IsHeader, shape_of, Known, with_word, command_given, learned, lenient, DriverKeeps, HeldMore, Square}
+use Rattle.safety.proofs.LowerLaws.{event_facts, keeps_cycles, SameGiven, SameDriver, both_drivers}
+use Rattle.safety.proofs.MiddleLaws.{ReadAlike, EverySlot, SameStates, states_from, held_more, counted, read_same, given_same, crossed_same, Behind, written_word, word_read, event_behind, passed_behind}
 use Rattle.safety.proofs.WriteBehind.{command_behind, write_behind}
-use Rattle.safety.proofs.EventBehind.{event_behind, passed_behind}
 
 module _ (h : Header) (is : IsHeader h) (k : Known) (d : DriverKeeps h k) (a w : ℕ) (e : Block) (clean : MayCome h k (Write a w))
     (may : lenient h k (Read e) ≡ []) where

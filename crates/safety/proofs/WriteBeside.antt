@@ -1,6 +1,5 @@
 -- A write leaves what unfinished commands read of contexts and device contexts
-use Rattle.safety.proofs.Words.{◌≡◌, ◌≢◌, ◌+◌, ◌*◌, ◌/◌, ◌<◌, ◌≤◌, ◌==◌, ◌&&◌, ◌∙◌, ℕ, not, Bool, true, false, [], nat_le, nat_lt, Option, None, Some, option_and_then, arith, refl, sym, ap, inl, inr, lt-ltb, le-leb, rules, or_parts, or_from, and_left, and_from, false≢true, none-some, same_Some, is_in, is_inside, overlap, cases_option, address_inside, gives_is, put_elsewhere, Command, AddressDevice, named_context, is_disabled, is_off, device_context_bytes, input_context_bytes, Header, Write, IsHeader, shape_of, command_id, Known, learned, no_device, taken_device, device_named, command_given, is_bad_area, is_soiled, lenient, IsUnfinished, CommandKeeps, DriverKeeps, is_leased}
-use Rattle.ownership_rules.specs.Commands as commands
+use Rattle.safety.proofs.Words.{[], ◌≡◌, ◌≢◌, ◌+◌, ◌*◌, ◌/◌, ◌<◌, ◌≤◌, ◌==◌, ◌&&◌, ◌∙◌, ℕ, not, Bool, true, false, nat_le, nat_lt, Option, None, Some, option_and_then, arith, refl, sym, ap, inl, inr, lt-ltb, le-leb, rules, or_parts, or_from, and_left, and_from, false≢true, none-some, same_Some, is_in, is_inside, overlap, cases_option, address_inside, gives_is, put_elsewhere, Command, AddressDevice, named_context, is_disabled, is_off, device_context_bytes, input_context_bytes, Header, Write, IsHeader, shape_of, command_id, Known, learned, no_device, taken_device, device_named, command_given, is_bad_area, is_soiled, lenient, IsUnfinished, CommandKeeps, DriverKeeps, is_leased, has_bad_context, is_bad_command}
 use Rattle.safety.proofs.KeptWords.{put_same}
 use Rattle.safety.proofs.Writing.{free_or_same}
 use Rattle.safety.proofs.Headers.{ring_shape}
@@ -20,14 +19,14 @@ module _ (h : Header) (k : Known) where
     pub area : is_bad_area h k n (input_context_bytes h.context_size) ≡ false
     pub clean : is_soiled k n (input_context_bytes h.context_size) ≡ false
 
-  pub context_parts : (n : ℕ) → commands.has_bad_context h k (Some n) ≡ false → ContextParts n
-  unfolding commands.has_bad_context
+  pub context_parts : (n : ℕ) → has_bad_context h k (Some n) ≡ false → ContextParts n
+  unfolding has_bad_context
   context_parts n good =
       let p = or_parts (is_bad_area h k n (input_context_bytes h.context_size)) (is_soiled k n (input_context_bytes h.context_size)) good in record { area = p.0; clean = p.1 }
 
   pub context_from : (n : ℕ) → is_bad_area h k n (input_context_bytes h.context_size) ≡ false → is_soiled k n (input_context_bytes h.context_size) ≡ false →
-      commands.has_bad_context h k (Some n) ≡ false
-  unfolding commands.has_bad_context
+      has_bad_context h k (Some n) ≡ false
+  unfolding has_bad_context
   context_from n area clean = or_from (is_bad_area h k n (input_context_bytes h.context_size)) (is_soiled k n (input_context_bytes h.context_size)) area clean
 
 module _ (h : Header) (is : IsHeader h) (k : Known) (d : DriverKeeps h k) (a w : ℕ) (clean : lenient h k (Write a w) ≡ []) where
@@ -44,7 +43,7 @@ module _ (h : Header) (is : IsHeader h) (k : Known) (d : DriverKeeps h k) (a w :
 
   -- ---- an input context whose words stay, apart from the device context that is taken
 
-  module _ (n : ℕ) (good : commands.has_bad_context h k (Some n) ≡ false) (agree : AgreeIn h.context_size k.memory l.memory n)
+  module _ (n : ℕ) (good : has_bad_context h k (Some n) ≡ false) (agree : AgreeIn h.context_size k.memory l.memory n)
       (apart : (e : ℕ × ℕ) → taken h k a w ≡ Some e → overlap e.1 (device_context_bytes h.context_size) n (input_context_bytes h.context_size) ≡ false) where
     parts : ContextParts h k n
     parts = context_parts h k n good
@@ -71,7 +70,7 @@ module _ (h : Header) (is : IsHeader h) (k : Known) (d : DriverKeeps h k) (a w :
               (not_in_other some.0.1 (device_context_bytes h.context_size) n (input_context_bytes h.context_size) (n + 4 * i) (apart some.0 some.1) (omega arith) (omega arith)) kept
         ]
 
-    still_good : commands.has_bad_context h l (Some n) ≡ false
+    still_good : has_bad_context h l (Some n) ≡ false
     still_good = search (rules, l, context_from, area_from, areas, devices_apart, now_apart, is_soiled_from, now_clean)
 
   -- ---- device contexts under lease stay there
@@ -97,10 +96,10 @@ module _ (h : Header) (is : IsHeader h) (k : Known) (d : DriverKeeps h k) (a w :
 
   beside_with : (c : Command) → ((n : ℕ) → named_context c ≡ Some n → AgreeIn h.context_size k.memory l.memory n) →
       ((n : ℕ) → named_context c ≡ Some n → (e : ℕ × ℕ) → taken h k a w ≡ Some e → overlap e.1 (device_context_bytes h.context_size) n (input_context_bytes h.context_size) ≡ false) →
-      commands.is_bad_command h k c ≡ false → ((s n : ℕ) (bsr : Bool) → c ≡ AddressDevice s bsr n → l.device s ≢ None) → Beside h k l c
+      is_bad_command h k c ≡ false → ((s n : ℕ) (bsr : Bool) → c ≡ AddressDevice s bsr n → l.device s ≢ None) → Beside h k l c
   beside_with c agree apart good device =
       let leaves = write_leaves h k a w in
-      let of : (n : ℕ) → named_context c ≡ Some n → commands.has_bad_context h k (Some n) ≡ false = λ n at. ap (λ o. commands.has_bad_context h k o) (sym at) ∙ context_good h k c good in
+      let of : (n : ℕ) → named_context c ≡ Some n → has_bad_context h k (Some n) ≡ false = λ n at. ap (λ o. has_bad_context h k o) (sym at) ∙ context_good h k c good in
       record {
         memory = agree;
         context = λ n at. still_good n (of n at) (agree n at) (apart n at);
@@ -127,17 +126,17 @@ module _ (h : Header) (is : IsHeader h) (k : Known) (d : DriverKeeps h k) (a w :
       let context : t.takes.context ≡ n = same_Some t.takes.context n (ap named_context (sym t.takes.command) ∙ ap named_context same ∙ at) in
       ap (λ x. overlap e.1 (device_context_bytes h.context_size) x (input_context_bytes h.context_size)) (sym context) ∙ (rules_of e some).context_apart
 
-  given_word : (p : ℕ) (c : Command) → GivesCommand h k a w p c → commands.is_bad_command h k c ≡ false → (n : ℕ) → named_context c ≡ Some n → (x : ℕ) → n ≤ x →
+  given_word : (p : ℕ) (c : Command) → GivesCommand h k a w p c → is_bad_command h k c ≡ false → (n : ℕ) → named_context c ≡ Some n → (x : ℕ) → n ≤ x →
       x < n + input_context_bytes h.context_size → x ≢ a
   given_word p c g good n at x low high same =
       let shape = shape_of h (command_id h) in
       let writes = gives_is (shape_of h (command_id h)) (k.ring (command_id h)).floor p a w g.gives in
       let inside : is_inside (shape_of h (command_id h)) a ≡ true =
       ap (λ y. is_inside (shape_of h (command_id h)) y) writes.at ∙ address_inside (shape_of h (command_id h)) (ring_shape h is (command_id h) g.ring).is p 12 (omega arith) in
-      let context = context_parts h k n (ap (λ o. commands.has_bad_context h k o) (sym at) ∙ context_good h k c good) in
+      let context = context_parts h k n (ap (λ o. has_bad_context h k o) (sym at) ∙ context_good h k c good) in
       let outside = not_in_area h (command_id h) a n (input_context_bytes h.context_size) g.ring inside (area_parts h k n (input_context_bytes h.context_size) context.area).rings in
       false≢true (sym outside ∙ and_from (nat_le n a) (nat_lt a (n + input_context_bytes h.context_size)) (le-leb n a (omega arith)) (lt-ltb a (n + input_context_bytes h.context_size) (omega arith)))
 
-  pub beside_new : (p : ℕ) (c : Command) → GivesCommand h k a w p c → commands.is_bad_command h k c ≡ false → Beside h k l c
+  pub beside_new : (p : ℕ) (c : Command) → GivesCommand h k a w p c → is_bad_command h k c ≡ false → Beside h k l c
   beside_new p c g good =
       beside_with c (λ n at x low high. ap (λ f. f x) (written_memory h k a w) ∙ put_elsewhere k.memory a w x (given_word p c g good n at x low high)) (given_apart p c g) good (λ s n bsr at. device_now s n bsr (g.command ∙ ap (λ x. Some x) at))

@@ -1,10 +1,8 @@
 -- A write that gives no command leaves what an event reads, so that the event stays possible and does the same
-use Rattle.safety.proofs.Words.{◌≡◌, ◌<◌, ◌&&◌, ◌∷◌, ◌∙◌, ℕ, true, false, [], map, nat_le, None, Some, option_and_then, arith, refl, ap, subst, ltb-true, fun_ext, put, Block, ceiling, writes_more, Command, AddressDevice, ConfigureEndpoint, Running, named_context, SlotGoesOn, Disables, Places, changes, placed_by_context, ContextSize, added_endpoints, is_dropped, context_pointer, context_cycle, Header, Write, Read, IsHeader, shape_of, command_id, Known, command_at, next_command, with_device, with_word, written, taken_device, command_given, learned, may_be_taken, lenient, DriverKeeps, IsUnfinished}
+use Rattle.safety.proofs.Words.{[], ◌≡◌, ◌<◌, ◌&&◌, ◌∷◌, ◌∙◌, ℕ, true, false, map, nat_le, None, Some, option_and_then, arith, refl, ap, subst, ltb-true, fun_ext, put, Block, ceiling, writes_more, Command, AddressDevice, ConfigureEndpoint, Running, named_context, SlotGoesOn, Disables, Places, changes, placed_by_context, ContextSize, added_endpoints, is_dropped, context_pointer, context_cycle, Header, Write, Read, IsHeader, shape_of, command_id, Known, command_at, next_command, with_device, with_word, written, taken_device, command_given, learned, may_be_taken, lenient, DriverKeeps, IsUnfinished, rules}
 use Rattle.safety.proofs.KeptRings.{next_unfinished}
-use Rattle.safety.proofs.ContextReads.{AgreeIn, map_same, added_indices, added_same, drop_flag_same, pointer_same, cycle_same}
+use Rattle.safety.proofs.LowerLaws.{AgreeIn, map_same, added_indices, added_same, drop_flag_same, pointer_same, cycle_same, written_memory, Alike, held_same}
 use Rattle.safety.proofs.WriteBeside.{beside_old}
-use Rattle.safety.proofs.WrittenKnown.{written_memory}
-use Rattle.safety.proofs.Alike.{Alike, held_same}
 use Rattle.safety.proofs.AlikeEvents.{EventAlike, ReadAlike, read_alike}
 use Rattle.safety.proofs.HeldFurther.{EverySlot, named_same, command_same, targets_are}
 
@@ -40,16 +38,7 @@ written_word h k a w none = ap (λ o. with_device h (with_word h k a w) (option_
 module _ (h : Header) (k : Known) (a w : ℕ) where
   pub word_alike : Alike EverySlot k (with_word h k a w)
   unfolding with_word
-  word_alike = record {
-    rings = λ r. record { floor = refl; held = held_same (k.ring r).held (k.ring r).held refl; more = writes_more (shape_of h r) k.memory (k.ring r) a w };
-    was_bound = refl;
-    slot_state = refl;
-    endpoint_state = refl;
-    ring_of = refl;
-    must_move = refl;
-    stop_seen = refl;
-    device = λ s _. refl;
-  }
+  word_alike = search (rules, held_same, writes_more)
 
   module _ (is : IsHeader h) (d : DriverKeeps h k) (clean : lenient h k (Write a w) ≡ []) (started : k.started ≡ true) where
     taken_below : may_be_taken h k ≡ true → next_command h k < ceiling (shape_of h (command_id h)) (k.ring (command_id h))

@@ -1,11 +1,7 @@
 -- What an event that is read asks for stays below the floors behind it, or below what is needed later; and it is few looks
-use Rattle.safety.proofs.LazyRuns.Words.{◌≡◌, ◌+◌, ◌<◌, ◌≤◌, ◌==◌, ◌&&◌, ◌||◌, ◌∷◌, ◌∙◌, ℕ, true, false, List, [], Option, Some, None, max, nat_lt, arith, refl, sym, ap, subst, inl, inr, eq-eqb, eqb-true, ltb-true, cases_Bool, cond_both, false≢true, and_parts, Block, BlockKind, TransferEvent, CommandCompletion, kind, code, slot, endpoint, is_transfer_event, is_success, is_halting, is_trb_error, is_stopping, Spot, number, after, number-after, floor_number, is_open, Command, StopEndpoint, Header, TraceRow, Read, IsHeader, shape_of, command_id, Known, RingSpot, command_at, next_command, learned, lenient, transferred, IsDriverRing, IsTransferRing, DriverKeeps, command_is_ring, event_facts, found_in, transfer_driver, transfer_not_command, need, number_behind, number_reported, is_report_of_success, is_shape, driver_test, floors_grow, each_passes, header_parts}
+use Rattle.safety.proofs.LazyRuns.Words.{rules, [], ◌≡◌, ◌+◌, ◌<◌, ◌≤◌, ◌==◌, ◌&&◌, ◌||◌, ◌∷◌, ◌∙◌, ℕ, true, false, List, Option, Some, None, max, nat_lt, arith, refl, sym, ap, subst, inl, inr, eq-eqb, eqb-true, ltb-true, cases_Bool, cond_both, false≢true, and_parts, Block, BlockKind, TransferEvent, CommandCompletion, kind, code, slot, endpoint, is_transfer_event, is_success, is_halting, is_trb_error, is_stopping, Spot, number, after, number-after, floor_number, is_open, Command, StopEndpoint, Header, TraceRow, Read, IsHeader, shape_of, command_id, Known, RingSpot, command_at, next_command, learned, lenient, transferred, IsDriverRing, IsTransferRing, DriverKeeps, command_is_ring, event_facts, found_in, transfer_driver, transfer_not_command, need, number_behind, number_reported, is_report_of_success, is_shape, driver_test, floors_grow, each_passes, header_parts, command_taken, goals as lazy_goals, open_goals, report_goals, stop_goal, stopped_goals, taken_up_to}
 use Rattle.ring_knowledge.specs.Rings.{event_at}
-use Rattle.safety.specs.LazyRuns.Lazy as lazy
-use Rattle.safety.proofs.LazyRuns.Counts.{bit, bit_set}
-use Rattle.safety.proofs.LazyRuns.LooksCounted.{number_taken}
-use Rattle.safety.proofs.LazyRuns.Progress.{AreFew, no_goal, command_goal, ring_goal, two_goals}
-use Rattle.safety.proofs.LazyRuns.TransferFacts.{TransferFacts, transfer_facts, stop_code}
+use Rattle.safety.proofs.UpperLaws.{bit, bit_set, number_taken, AreFew, no_goal, command_goal, ring_goal, two_goals, TransferFacts, transfer_facts, stop_code}
 use Rattle.safety.proofs.LazyRuns.TransferGoals.{read_is, success_floor, error_ring, stop_ring}
 
 -- each goal's number is at most that of its ring
@@ -74,9 +70,7 @@ module _ (h : Header) (k : Known) (b : Block) (clean : lenient h k (Read b) ≡ 
 
     reported_here : (r : ℕ) → is_success (code b) ≡ true → number_behind r (Some (record { ring = f.ring; spot = f.spot })) ≤ floor_number (l.ring r)
     unfolding number_behind
-    reported_here r success =
-        cond_both (f.ring == r) (number f.spot + 1) 0 (λ n. n ≤ floor_number (l.ring r))
-        (λ same. subst (λ q. number f.spot + 1 ≤ floor_number (l.ring q)) (eqb-true f.ring r same) (is_passed.success success)) (λ _. omega arith)
+    reported_here r success = search (rules, arith, cond_both, number, floor_number, l, eqb-true, is_passed)
 
   pub reported_most : (r : ℕ) → number_reported h k r (Read b) ≤ floor_number (l.ring r)
   unfolding number_reported
@@ -92,8 +86,8 @@ module _ (h : Header) (k : Known) (b : Block) (clean : lenient h k (Read b) ≡ 
   abbrev IsWithin : RingSpot → Type 0
   IsWithin goal = number goal.spot ≤ top goal.ring
 
-  taken_within : (n r : ℕ) → n ≤ top r → IsWithin (lazy.taken_up_to h r n)
-  unfolding lazy.taken_up_to
+  taken_within : (n r : ℕ) → n ≤ top r → IsWithin (taken_up_to h r n)
+  unfolding taken_up_to
   taken_within n r low = omega (arith, low, number_taken (shape_of h r) n)
 
   next_is : next_command h k ≡ floor_number (k.ring (command_id h))
@@ -101,50 +95,49 @@ module _ (h : Header) (k : Known) (b : Block) (clean : lenient h k (Read b) ≡ 
   next_is = refl
 
   module _ (is : IsHeader h) (d : DriverKeeps h k) where
-    command_within : IsWithin (lazy.command_taken h k)
-    unfolding lazy.command_taken
-    command_within =
-        taken_within (next_command h k + 1) (command_id h) (omega (arith, top_command, next_is, floors_grow h is k d b clean (command_id h)))
+    command_within : IsWithin (command_taken h k)
+    unfolding command_taken
+    command_within = search (rules, arith, taken_within, next_command, command_id, top_command, next_is, floors_grow)
 
     module _ (transfer : is_transfer_event (kind b) ≡ true) (f : TransferFacts h k b) where
       abbrev at : RingSpot
       at = record { ring = f.ring; spot = f.spot }
 
-      stop_within : (n : ℕ) → n ≤ top f.ring → IsWithin (lazy.stop_goal h at n)
-      unfolding lazy.stop_goal
+      stop_within : (n : ℕ) → n ≤ top f.ring → IsWithin (stop_goal h at n)
+      unfolding stop_goal
       stop_within n low =
-          cond_both (n == number f.spot + 1) (lazy.taken_up_to h f.ring n) at IsWithin
+          cond_both (n == number f.spot + 1) (taken_up_to h f.ring n) at IsWithin
           (λ _. taken_within n f.ring low) (λ _. top_floor f.ring (number f.spot) (is_passed transfer f).spot)
 
-      report_within : AreWithin top (lazy.report_goals h k later b (Some at))
-      unfolding lazy.report_goals
+      report_within : AreWithin top (report_goals h k later b (Some at))
+      unfolding report_goals
       report_within =
-          cond_both (is_stopping (code b)) (lazy.command_taken h k ∷ lazy.stop_goal h at (need h l f.ring later) ∷ []) (lazy.taken_up_to h f.ring (number f.spot + 1) ∷ []) (AreWithin top)
+          cond_both (is_stopping (code b)) (command_taken h k ∷ stop_goal h at (need h l f.ring later) ∷ []) (taken_up_to h f.ring (number f.spot + 1) ∷ []) (AreWithin top)
           (λ _. (command_within, (stop_within (need h l f.ring later) (top_need f.ring), tt)))
           (λ goes_on. (taken_within (number f.spot + 1) f.ring (top_floor f.ring (number f.spot + 1) ((is_passed transfer f).block goes_on)), tt))
 
-    open_within : (o : Option ℕ) → AreWithin top (lazy.open_goals h k later b o)
-    unfolding lazy.open_goals
+    open_within : (o : Option ℕ) → AreWithin top (open_goals h k later b o)
+    unfolding open_goals
     open_within None = tt
     open_within (Some r) =
-        cond_both (is_open (k.ring r)) (lazy.taken_up_to h r (need h l r later) ∷ []) [] (AreWithin top) (λ _. (taken_within (need h l r later) r (top_need r), tt)) (λ _. tt)
+        cond_both (is_open (k.ring r)) (taken_up_to h r (need h l r later) ∷ []) [] (AreWithin top) (λ _. (taken_within (need h l r later) r (top_need r), tt)) (λ _. tt)
 
-    stopped_within : (o : Option Command) → AreWithin top (lazy.stopped_goals h k later b o)
-    unfolding lazy.stopped_goals
+    stopped_within : (o : Option Command) → AreWithin top (stopped_goals h k later b o)
+    unfolding stopped_goals
     stopped_within (Some (StopEndpoint s i)) =
-        cond_both (code b == 1) (lazy.open_goals h k later b (k.ring_of s i)) [] (AreWithin top) (λ _. open_within (k.ring_of s i)) (λ _. tt)
+        cond_both (code b == 1) (open_goals h k later b (k.ring_of s i)) [] (AreWithin top) (λ _. open_within (k.ring_of s i)) (λ _. tt)
     stopped_within _ = tt
 
-    kind_within : (n : BlockKind) → kind b ≡ n → AreWithin top (lazy.goals h k later n b)
-    unfolding lazy.goals
+    kind_within : (n : BlockKind) → kind b ≡ n → AreWithin top (lazy_goals h k later n b)
+    unfolding lazy_goals
     kind_within TransferEvent is_kind =
         let transfer : is_transfer_event (kind b) ≡ true = ap is_transfer_event is_kind in
         let f : TransferFacts h k b = transfer_facts h k b clean transfer in
-        subst (λ o. AreWithin top (lazy.report_goals h k later b o)) (sym f.at) (report_within transfer f)
+        subst (λ o. AreWithin top (report_goals h k later b o)) (sym f.at) (report_within transfer f)
     kind_within CommandCompletion is_kind = (command_within, stopped_within (command_at h k (next_command h k)))
     kind_within _ is_kind = tt
 
-    pub goals_within : AreWithin top (lazy.goals h k later (kind b) b)
+    pub goals_within : AreWithin top (lazy_goals h k later (kind b) b)
     goals_within = kind_within (kind b) refl
 
     -- ---- how many looks they are
@@ -160,66 +153,61 @@ module _ (h : Header) (k : Known) (b : Block) (clean : lenient h k (Read b) ≡ 
 
     module _ (pointers : ℕ → Spot) where
       -- the goal is on the command ring, or on a transfer ring
-      command_few : AreFew h pointers (lazy.command_taken h k ∷ [])
-      unfolding lazy.command_taken lazy.taken_up_to
-      command_few = command_goal h pointers (lazy.command_taken h k) (low_id (command_id h) command_ring) (driver_test h (command_id h) command_ring) refl
+      command_few : AreFew h pointers (command_taken h k ∷ [])
+      unfolding command_taken taken_up_to
+      command_few = command_goal h pointers (command_taken h k) (low_id (command_id h) command_ring) (driver_test h (command_id h) command_ring) refl
 
       ring_few : (goal : RingSpot) → IsTransferRing h goal.ring → AreFew h pointers (goal ∷ [])
-      ring_few goal ring =
-          let driver : IsDriverRing h goal.ring = transfer_driver h goal.ring ring in
-          ring_goal h pointers goal (low_id goal.ring driver) (driver_test h goal.ring driver) (λ same. transfer_not_command h is goal.ring ring same)
+      ring_few goal ring = search (rules, transfer_driver, ring_goal, low_id, driver_test, transfer_not_command)
 
-      both_few : (goal : RingSpot) → IsTransferRing h goal.ring → AreFew h pointers (lazy.command_taken h k ∷ goal ∷ [])
-      unfolding lazy.command_taken lazy.taken_up_to
-      both_few goal ring =
-          let driver : IsDriverRing h goal.ring = transfer_driver h goal.ring ring in
-          two_goals h pointers (lazy.command_taken h k) goal refl (λ same. transfer_not_command h is goal.ring ring same) (low_id (command_id h) command_ring) (low_id goal.ring driver)
-          (driver_test h (command_id h) command_ring) (driver_test h goal.ring driver)
+      both_few : (goal : RingSpot) → IsTransferRing h goal.ring → AreFew h pointers (command_taken h k ∷ goal ∷ [])
+      unfolding command_taken taken_up_to
+      both_few goal ring = search (rules, transfer_driver, two_goals, command_taken, transfer_not_command, low_id, command_id, command_ring, driver_test)
 
-      taken_on : (r n : ℕ) → IsTransferRing h r → IsTransferRing h (lazy.taken_up_to h r n).ring
-      unfolding lazy.taken_up_to
+      taken_on : (r n : ℕ) → IsTransferRing h r → IsTransferRing h (taken_up_to h r n).ring
+      unfolding taken_up_to
       taken_on r n ring = ring
 
       module _ (transfer : is_transfer_event (kind b) ≡ true) (f : TransferFacts h k b) where
         on_ring : IsTransferRing h f.ring
         on_ring = d.states.transfer (slot b) (endpoint b) f.ring f.bound
 
-        stop_on : (n : ℕ) → IsTransferRing h (lazy.stop_goal h (at transfer f) n).ring
-        unfolding lazy.stop_goal
+        stop_on : (n : ℕ) → IsTransferRing h (stop_goal h (at transfer f) n).ring
+        unfolding stop_goal
         stop_on n =
-            cond_both (n == number f.spot + 1) (lazy.taken_up_to h f.ring n) (at transfer f) (λ (g : RingSpot). IsTransferRing h g.ring) (λ _. taken_on f.ring n on_ring) (λ _. on_ring)
+            cond_both (n == number f.spot + 1) (taken_up_to h f.ring n) (at transfer f) (λ (g : RingSpot). IsTransferRing h g.ring) (λ _. taken_on f.ring n on_ring) (λ _. on_ring)
 
-        report_few : AreFew h pointers (lazy.report_goals h k later b (Some (at transfer f)))
-        unfolding lazy.report_goals
+        report_few : AreFew h pointers (report_goals h k later b (Some (at transfer f)))
+        unfolding report_goals
         report_few =
-            cond_both (is_stopping (code b)) (lazy.command_taken h k ∷ lazy.stop_goal h (at transfer f) (need h l f.ring later) ∷ []) (lazy.taken_up_to h f.ring (number f.spot + 1) ∷ []) (AreFew h pointers)
-            (λ _. both_few (lazy.stop_goal h (at transfer f) (need h l f.ring later)) (stop_on (need h l f.ring later)))
-            (λ _. ring_few (lazy.taken_up_to h f.ring (number f.spot + 1)) (taken_on f.ring (number f.spot + 1) on_ring))
+            cond_both (is_stopping (code b)) (command_taken h k ∷ stop_goal h (at transfer f) (need h l f.ring later) ∷ []) (taken_up_to h f.ring (number f.spot + 1) ∷ []) (AreFew h pointers)
+            (λ _. both_few (stop_goal h (at transfer f) (need h l f.ring later)) (stop_on (need h l f.ring later)))
+            (λ _. ring_few (taken_up_to h f.ring (number f.spot + 1)) (taken_on f.ring (number f.spot + 1) on_ring))
 
       abbrev AreFewThen : List RingSpot → Type 0
-      AreFewThen goals = AreFew h pointers (lazy.command_taken h k ∷ goals)
+      AreFewThen goals = AreFew h pointers (command_taken h k ∷ goals)
 
-      open_few : (s i : ℕ) (o : Option ℕ) → k.ring_of s i ≡ o → AreFewThen (lazy.open_goals h k later b o)
-      unfolding lazy.open_goals
+      open_few : (s i : ℕ) (o : Option ℕ) → k.ring_of s i ≡ o → AreFewThen (open_goals h k later b o)
+      unfolding open_goals
       open_few s i None has = command_few
       open_few s i (Some r) has =
-          cond_both (is_open (k.ring r)) (lazy.taken_up_to h r (need h l r later) ∷ []) [] AreFewThen
-          (λ _. both_few (lazy.taken_up_to h r (need h l r later)) (taken_on r (need h l r later) (d.states.transfer s i r has))) (λ _. command_few)
+          cond_both (is_open (k.ring r)) (taken_up_to h r (need h l r later) ∷ []) [] AreFewThen
+          (λ _. both_few (taken_up_to h r (need h l r later)) (taken_on r (need h l r later) (d.states.transfer s i r has))) (λ _. command_few)
 
-      stopped_few : (o : Option Command) → AreFewThen (lazy.stopped_goals h k later b o)
-      unfolding lazy.stopped_goals
+      stopped_few : (o : Option Command) → AreFewThen (stopped_goals h k later b o)
+      unfolding stopped_goals
       stopped_few (Some (StopEndpoint s i)) =
-          cond_both (code b == 1) (lazy.open_goals h k later b (k.ring_of s i)) [] AreFewThen (λ _. open_few s i (k.ring_of s i) refl) (λ _. command_few)
+          cond_both (code b == 1) (open_goals h k later b (k.ring_of s i)) [] AreFewThen (λ _. open_few s i (k.ring_of s i) refl) (λ _. command_few)
       stopped_few _ = command_few
 
-      kind_few : (n : BlockKind) → kind b ≡ n → AreFew h pointers (lazy.goals h k later n b)
-      unfolding lazy.goals
+      kind_few : (n : BlockKind) → kind b ≡ n → AreFew h pointers (lazy_goals h k later n b)
+      unfolding lazy_goals
       kind_few TransferEvent is_kind =
           let transfer : is_transfer_event (kind b) ≡ true = ap is_transfer_event is_kind in
           let f : TransferFacts h k b = transfer_facts h k b clean transfer in
-          subst (λ o. AreFew h pointers (lazy.report_goals h k later b o)) (sym f.at) (report_few transfer f)
+          subst (λ o. AreFew h pointers (report_goals h k later b o)) (sym f.at) (report_few transfer f)
       kind_few CommandCompletion is_kind = stopped_few (command_at h k (next_command h k))
       kind_few _ is_kind = no_goal h pointers
 
-      pub goals_few : AreFew h pointers (lazy.goals h k later (kind b) b)
+      pub goals_few : AreFew h pointers (lazy_goals h k later (kind b) b)
       goals_few = kind_few (kind b) refl

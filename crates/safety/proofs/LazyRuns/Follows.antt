@@ -1,7 +1,9 @@
+-- What the induction over the rows follows: where rings stand in the world, what is known of them there, and what looks may be made
+use Rattle.safety.proofs.LazyRuns.Words.{rules, [], ◌≡◌, ◌⊎◌, ◌∷◌, ◌++◌, ℕ, true, false, List, reverse, Some, Block, IsBlock, Spot, Data, is_open, IsSpot, number, spot_address, spot_cycle, Header, Row, Read, Step, NextRow, TraceRow, Plain, IsHeader, shape_of, command_id, World, next_take, Known, learned, lenient, DriverKeeps, Runs, scene_reached, scene_with, steps_before, pointers_after, AreAtFloors, ◌∙◌, option_map, option_and_then, refl, sym, ap, subst, IsDriverRow, step_made, Option, None, cond-false, row_done, counted, made as steps_made, while_running, ◌≢◌, ◌+◌, ◌<◌, ◌≤◌, rank, MayReach, RingSpot, next_command, state_of, further, looks_to, flat_map, kind, goals, Bool, inl, inr, cases_Bool, cases_eq, false≢true, Link, Shape, IsShape, data_not_link, IsDriverRing, RingMatches, Unreported, UnderWayMatches, Agrees, transfer_driver, ring_shape, command_is_ring}
+use Rattle.safety.proofs.LazyRuns.NeedsOfHeld.{AreTimely}
+
 -- What an induction over the rows has to carry beside the lazy law: all events are read, the schedule knows where the pointers stand,
 -- also that of the command ring, and a ring that is open is active. Without it neither a look nor a post is known to be possible
-use Rattle.safety.proofs.LazyRuns.Words.{◌≡◌, ◌⊎◌, ◌∷◌, ◌++◌, ℕ, true, false, List, [], reverse, Some, Block, IsBlock, Spot, Data, is_open, IsSpot, number, spot_address, spot_cycle, Header, Row, Read, Step, NextRow, TraceRow, Plain, IsHeader, shape_of, command_id, World, next_take, Known, learned, lenient, DriverKeeps, Runs, scene_reached, scene_with, steps_before, pointers_after, AreAtFloors}
-use Rattle.safety.proofs.LazyRuns.NeedsOfHeld.{AreTimely}
 
 abbrev pub IsActiveIfOpen : Known → World → ℕ → Type 0
 IsActiveIfOpen k w r = is_open (k.ring r) ≡ true → w.is_active r ≡ true
@@ -54,3 +56,201 @@ module _ (h : Header) where
       (past : Past) (later : List TraceRow) (b : Block) (w : World) → IsHeader h → IsBlock b → lenient h past.known (Read b) ≡ [] →
       AreTimely h past.known (Plain (Read b) ∷ later) → Leads past past.made (Plain (Read b) ∷ later) w → Follows past.known past.pointers w →
       Carries past (Read b) later
+
+-- The lazy run makes no step of the controller for a row of the driver: it goes from one row to the next
+
+module _ (h : Header) where
+  pub no_steps : (k : Known) (pointers : ℕ → Spot) (row : Row) (later : List TraceRow) → IsDriverRow row → steps_before h k pointers row later ≡ []
+  unfolding steps_before
+  no_steps k pointers (Read e) later driver_row = absurd driver_row
+  no_steps k pointers _ later driver_row = refl
+
+  pub pointers_same : (k : Known) (pointers : ℕ → Spot) (row : Row) (later : List TraceRow) (r : ℕ) → IsDriverRow row → pointers_after h k pointers row later r ≡ pointers r
+  unfolding pointers_after
+  pointers_same k pointers (Read e) later r driver_row = absurd driver_row
+  pointers_same k pointers _ later r driver_row = refl
+
+  -- the next row is made
+  pub next_reached : (past : Past h) (made : List Step) (w v : World) (row : Row) (later : List TraceRow) → Leads h past made (Plain row ∷ later) w →
+      row_done h w row ≡ Some v → Leads h past (NextRow ∷ made) later (counted h v)
+  next_reached past made w v row later run at = search (rules, option_and_then, step_made, option_map, scene_with, counted)
+
+  -- a step of the controller is made
+  pub step_reached : (past : Past h) (to_come : List TraceRow) (made : List Step) (w u : World) (s : Step) (o : Option World) → (s ≡ NextRow → ⊥) → steps_made h w s ≡ while_running h w o →
+      Leads h past made to_come w → w.stopped ≡ false → o ≡ Some u → Leads h past (s ∷ made) to_come (counted h u)
+  unfolding while_running
+  step_reached past to_come made w u NextRow o other same run running at = absurd (other refl)
+  step_reached past to_come made w u s o other same run running at =
+      ap (λ o. option_and_then (λ x. step_made x s) o) run ∙ ap (λ o. option_map (λ x. scene_with h to_come (counted h x)) o) (same ∙ cond-false w.stopped None o running ∙ at)
+
+  pub driver_reached : (past : Past h) (w v : World) (row : Row) (later : List TraceRow) → IsDriverRow row → Leads h past past.made (Plain row ∷ later) w →
+      row_done h w row ≡ Some v → Leads h past (NextRow ∷ reverse (steps_before h past.known past.pointers row later) ++ past.made) later (counted h v)
+  driver_reached past w v row later driver_row run at = search (rules, reverse, counted, no_steps, next_reached)
+
+-- The looks of the lazy schedule at one ring are a run, and bring the ring to its spot
+
+-- what the looks at ring r leave
+pub record LooksLeave (h : Header) (w v : World) (r : ℕ) : Type 0 where
+  -- the other rings
+  pub others : (q : ℕ) → q ≢ r → state_of v q ≡ state_of w q
+  -- of ring r what no look changes
+  pub active : v.is_active r ≡ w.is_active r
+  pub reported : v.reported r ≡ w.reported r
+  pub under_way : r ≢ command_id h → v.under_way ≡ w.under_way
+  pub rows : v.rows ≡ w.rows
+  pub started : v.started ≡ w.started
+  pub stopped : v.stopped ≡ w.stopped
+  pub memory : v.memory ≡ w.memory
+  pub slot_state : v.slot_state ≡ w.slot_state
+  pub endpoint_state : v.endpoint_state ≡ w.endpoint_state
+  pub ring_of : v.ring_of ≡ w.ring_of
+  pub posted : v.posted ≡ w.posted
+  pub reads : v.reads ≡ w.reads
+  pub dequeue : v.dequeue ≡ w.dequeue
+
+module _ (h : Header) where
+  -- ring r may be brought to spot t: it is active, all before t is given, and of the command ring no more than the next command is taken
+  pub record MayBring (k : Known) (w : World) (r : ℕ) (t : Spot) : Type 0 where
+    pub active : w.is_active r ≡ true
+    pub reach : MayReach (shape_of h r) (k.ring r) t
+    pub one_command : r ≡ command_id h → number t ≤ next_command h k + 1
+
+  -- the looks are a run, and the ring stands at its goal, or where it stood if that is further. Its takes are those of the blocks
+  -- that it passed: what stands at a spot has taken the blocks before it, by the agreement of a run
+  pub record Looked (past : Past h) (to_come : List TraceRow) (made : List Step) (w : World) (r : ℕ) (t : Spot) (looks : List Step) : Type 0 where
+    pub world : World
+    pub run : Leads h past (reverse looks ++ made) to_come world
+    pub runs : Runs h past.known world
+    pub stands : StandsAt h world r t
+    pub leaves : LooksLeave h w world r
+
+  -- nothing is asked of a ring that stands at its goal, or behind it
+  abbrev pub LooksLaw : Type 0
+  LooksLaw =
+      (past : Past h) (to_come : List TraceRow) (made : List Step) (w : World) (pointers : ℕ → Spot) (goal : RingSpot) → IsHeader h → Leads h past made to_come w → Runs h past.known w →
+      w.posted ≡ w.reads → StandsAt h w goal.ring (pointers goal.ring) →
+      (rank (pointers goal.ring) < rank goal.spot → MayBring past.known w goal.ring goal.spot) →
+      Looked past to_come made w goal.ring (further (pointers goal.ring) goal.spot) (looks_to h pointers goal)
+
+-- The world directly before the controller posts an event: each ring stands where the schedule says
+
+module _ (h : Header) where
+  -- all events are read, and the rings stand at these spots, by ring ID
+  pub record Traced (k : Known) (pointers : ℕ → Spot) (w : World) : Type 0 where
+    pub runs : Runs h k w
+    pub all_read : w.posted ≡ w.reads
+    pub rings : (s i r : ℕ) → k.ring_of s i ≡ Some r → StandsAt h w r (pointers r)
+    pub active : (s i r : ℕ) → k.ring_of s i ≡ Some r → IsActiveIfOpen k w r
+    pub command : k.started ≡ true → StandsAt h w (command_id h) (pointers (command_id h))
+    pub command_active : IsActiveIfOpen k w (command_id h)
+
+  -- so it is behind each row
+  pub traced_behind : (k : Known) (pointers : ℕ → Spot) (w : World) → Follows h k pointers w → Traced k pointers w
+  traced_behind k pointers w f = record {
+    runs = f.runs;
+    all_read = f.all_read;
+    rings = λ s i r at. subst (λ t. StandsAt h w r t) (sym (f.traced s i r at)) (f.floors s i r at);
+    active = f.active;
+    command = f.command;
+    command_active = f.command_active;
+  }
+
+  -- the looks for an event, in their order
+  abbrev pub looks_for : Past h → List TraceRow → Block → List Step
+  looks_for past later b = flat_map (looks_to h past.pointers) (goals h past.known later (kind b) b)
+
+-- What the completion of a command leaves of rings: each that an endpoint has stands at its floor, and is active if it is open
+
+-- an endpoint had ring r before, and its floor stays
+pub record HadBefore (k m : Known) (r : ℕ) : Type 0 where
+  pub slot : ℕ
+  pub index : ℕ
+  pub had : k.ring_of slot index ≡ Some r
+  pub floor : (m.ring r).floor ≡ (k.ring r).floor
+
+module _ (h : Header) where
+  pub record AtFloors (k : Known) (w : World) : Type 0 where
+    pub floors : (s i r : ℕ) → k.ring_of s i ≡ Some r → StandsAt h w r (k.ring r).floor
+    pub active : (s i r : ℕ) → k.ring_of s i ≡ Some r → IsActiveIfOpen k w r
+
+  -- what is known goes from k to m; the test tells which rings are bound or moved
+  pub record RingsGo (k m : Known) (x : World) (placed : ℕ → Bool) : Type 0 where
+    pub at_floors : AtFloors m x
+    pub had : (s i r : ℕ) → m.ring_of s i ≡ Some r → placed r ≡ false → HadBefore k m r
+    pub not_command : placed (command_id h) ≡ false
+
+-- two spots with one address and one number are one
+pub one_spot : (shape : Shape) → IsShape shape → (t u : Spot) → IsSpot shape t → IsSpot shape u → spot_address shape t ≡ spot_address shape u → number t ≡ number u → t ≡ u
+one_spot shape is (Data p) (Data q) a b same at = ap (λ n. Data n) at
+one_spot shape is (Data p) (Link q) a b same at = absurd (data_not_link shape is p q b same)
+one_spot shape is (Link p) (Data q) a b same at = absurd (data_not_link shape is q p a (sym same))
+one_spot shape is (Link p) (Link q) a b same at = ap (λ n. Link n) at
+
+module _ (h : Header) (is : IsHeader h) (k : Known) (w : World) (d : DriverKeeps h k) (g : Agrees h k [] w) where
+  same_there : (r : ℕ) (t u : Spot) → IsDriverRing h r → RingMatches (shape_of h r) (k.ring r) (state_of w r) t → StandsAt h w r u → t ≡ u
+  same_there r t u ring m at = one_spot (shape_of h r) (ring_shape h is r ring).is t u m.is_spot at.is_spot (sym m.pointer ∙ at.pointer) (sym m.next ∙ at.next)
+
+  -- the ring of an endpoint: where it stands, and the takes that aren't reported
+  pub record EndpointStands (r : ℕ) (t : Spot) : Type 0 where
+    pub ring : IsDriverRing h r
+    pub matches : RingMatches (shape_of h r) (k.ring r) (state_of w r) t
+    pub takes : Unreported (shape_of h r) (k.ring r) (state_of w r) t
+
+  pub endpoint_stands : (s i r : ℕ) (t : Spot) → r ≢ command_id h → k.ring_of s i ≡ Some r → StandsAt h w r t → EndpointStands r t
+  endpoint_stands s i r t other has at =
+      let ring : IsDriverRing h r = transfer_driver h r (d.states.transfer s i r has) in
+      elim (g.matches.rings r other) [
+        | inl b ↦
+            let same = same_there r b.spot t ring b.matches at in
+            record {
+              ring = ring;
+              matches = subst (λ x. RingMatches (shape_of h r) (k.ring r) (state_of w r) x) same b.matches;
+              takes = subst (λ x. Unreported (shape_of h r) (k.ring r) (state_of w r) x) same b.takes;
+            }
+        | inr free ↦ absurd (free.none s i has)
+      ]
+
+  -- the command ring: where it stands, and which command is under way
+  pub record CommandsStand (t : Spot) : Type 0 where
+    pub ring : IsDriverRing h (command_id h)
+    pub matches : RingMatches (shape_of h (command_id h)) (k.ring (command_id h)) (state_of w (command_id h)) t
+    pub under_way : UnderWayMatches h k t w.under_way
+
+  pub commands_stand : (t : Spot) → k.started ≡ true → StandsAt h w (command_id h) t → CommandsStand t
+  commands_stand t on at =
+      let ring : IsDriverRing h (command_id h) = command_is_ring h k d on in
+      let c = g.matches.command on in
+      let same = same_there (command_id h) c.spot t ring c.ring at in
+      record {
+        ring = ring;
+        matches = subst (λ x. RingMatches (shape_of h (command_id h)) (k.ring (command_id h)) (state_of w (command_id h)) x) same c.ring;
+        under_way = subst (λ x. UnderWayMatches h k x w.under_way) same c.under_way;
+      }
+
+  -- any ring that is active
+  pub record RingStands (r : ℕ) (t : Spot) : Type 0 where
+    pub ring : IsDriverRing h r
+    pub matches : RingMatches (shape_of h r) (k.ring r) (state_of w r) t
+
+  commands_active : (t : Spot) → w.is_active (command_id h) ≡ true → StandsAt h w (command_id h) t → RingStands (command_id h) t
+  commands_active t active at =
+      elim (cases_Bool k.started) [
+        | inl on ↦ let c = commands_stand t on at in record { ring = c.ring; matches = c.matches }
+        | inr off ↦ absurd (false≢true (sym (g.matches.before off).inactive ∙ active))
+      ]
+
+  endpoint_active : (r : ℕ) (t : Spot) → r ≢ command_id h → w.is_active r ≡ true → StandsAt h w r t → RingStands r t
+  endpoint_active r t other active at =
+      elim (g.matches.rings r other) [
+        | inl b ↦ let e = endpoint_stands b.slot b.index r t other b.bound at in record { ring = e.ring; matches = e.matches }
+        | inr free ↦ absurd (false≢true (sym free.rests.inactive ∙ active))
+      ]
+
+  pub ring_stands : (r : ℕ) (t : Spot) → w.is_active r ≡ true → StandsAt h w r t → RingStands r t
+  ring_stands r t active at =
+      elim (cases_eq r (command_id h)) [
+        | inl command ↦
+            subst (λ q. RingStands q t) (sym command)
+            (commands_active t (ap w.is_active (sym command) ∙ active) (subst (λ q. StandsAt h w q t) command at))
+        | inr other ↦ endpoint_active r t other active at
+      ]

@@ -1,15 +1,9 @@
 -- Each position before a ring's floor was given by a write of its own: floors, summed, and events that are read are no more than rows
-use Rattle.safety.proofs.LazyRuns.Words.{◌≡◌, ◌≢◌, ◌+◌, ◌<◌, ◌≤◌, ◌∷◌, ◌∙◌, ◌==◌, if◌then◌else◌, ℕ, suc, true, false, List, [], All, length, Option, Some, None, arith, refl, sym, ap, inl, inr, rules, cases_eq, cond_both, All-head, All-tail, is_inside, put, put_at, put_off, Opens, Restores, RingChange, RingView, new_ring, floor_number, Header, Row, Sub, Write, Reg, Bell, Read, TraceRow, Comes, Goes, Plain, Withdraws, IsHeader, shape_of, command_id, Register, Known, on_ring, nothing, endpoint_rung, rung, learned, AreKept, FitsFields, header_now, known_now, forgotten, restored, restored_on, ring_restored, with_ring, without_ring, register_leaves, view_after, kind, Block, DriverKeeps, IsDriverRing, ring_shape, Declares, Writes, changed, ring_with, is_driver_ring, driver_ring, endpoints_of, rings_of, nothing_keeps, row_keeps, still_of, not_in_both, transfer_driver, written_view, event_same, still_reads}
-use Rattle.safety.specs.RingsKeep as rings
-use Rattle.segments.specs.RingView as changes
+use Rattle.safety.proofs.LazyRuns.Words.{[], ◌≡◌, ◌≢◌, ◌+◌, ◌<◌, ◌≤◌, ◌∷◌, ◌∙◌, ℕ, suc, true, false, List, All, length, Option, Some, None, arith, refl, sym, ap, inl, inr, rules, cases_eq, cond_both, All-head, All-tail, is_inside, put, put_at, put_off, Opens, Restores, RingChange, RingView, new_ring, floor_number, Header, Row, Sub, Write, Reg, Bell, Read, TraceRow, Comes, Goes, Plain, Withdraws, IsHeader, shape_of, command_id, Register, Known, on_ring, nothing, endpoint_rung, rung, learned, AreKept, FitsFields, header_now, known_now, forgotten, restored, restored_on, ring_restored, with_ring, without_ring, register_leaves, view_after, kind, Block, DriverKeeps, IsDriverRing, ring_shape, Declares, Writes, changed, ring_with, is_driver_ring, driver_ring, endpoints_of, rings_of, nothing_keeps, row_keeps, still_of, not_in_both, transfer_driver, written_view, event_same, still_reads, RingsKeep, RingWithdraws}
 use Rattle.safety.proofs.RingChanges.GoneRings as rings_gone
 use Rattle.safety.proofs.RingChanges.Restored.{row_comes, row_keeps as kept_row}
-use Rattle.safety.proofs.RingChanges.RingsHeadline.{Keeps, now_keeps}
-use Rattle.safety.proofs.LazyRuns.Counts.{given_among, all_given, none_given, same_given, one_more, no_more}
+use Rattle.safety.proofs.UpperLaws.{Keeps, now_keeps, given_among, all_given, none_given, same_given, one_more, no_more, of_driver, on_driver, off_driver, none_of_driver, driver_le, OthersStay, comes_stay, goes_stay, total, total_grows, total_le, total_none, total_one}
 use Rattle.safety.proofs.LazyRuns.Induction.{kept_on}
-use Rattle.safety.proofs.LazyRuns.Progress.{of_driver, on_driver, off_driver, none_of_driver, driver_le}
-use Rattle.safety.proofs.LazyRuns.RingRows.{OthersStay, comes_stay, goes_stay}
-use Rattle.safety.proofs.LazyRuns.Totals.{total, total_grows, total_le, total_none, total_one}
 
 -- how many rows read an event
 unfoldable pub events : List TraceRow → ℕ
@@ -38,9 +32,7 @@ module _ (h : Header) where
 
   rung_none : (k : Known) (s t : ℕ) → GivesNone k (learned h k (Bell s t))
   unfolding learned rung
-  rung_none k s t =
-      cond_both (s == 0) (on_ring h k (command_id h) Opens) (endpoint_rung h k s t (k.ring_of s t)) (GivesNone k)
-      (λ _. opens_none k (command_id h)) (λ _. endpoint_none k s t (k.ring_of s t))
+  rung_none k s t = search (rules, cond_both, on_ring, command_id, endpoint_rung, opens_none, endpoint_none)
 
   register_none : (k : Known) (r : Register) (x : ℕ) → GivesNone k (learned h k (Reg r x))
   register_none k r x q = ap (λ f. (f q).given) (register_leaves h k r x).ring
@@ -107,11 +99,8 @@ module _ (h : Header) where
 
     -- a row of the driver gives one position at most, and one that reads an event none
     row_most : IsHeader h → (k : Known) (row : Row) → all_rings (learned h k row) ≤ all_rings k + 1
-    row_most is k (Sub r blocks) = omega (arith, none_more k (learned h k (Sub r blocks)) (declares_none k r blocks))
     row_most is k (Write a w) = write_one is k a w
-    row_most is k (Reg r x) = omega (arith, none_more k (learned h k (Reg r x)) (register_none k r x))
-    row_most is k (Bell s t) = omega (arith, none_more k (learned h k (Bell s t)) (rung_none k s t))
-    row_most is k (Read b) = omega (arith, none_more k (learned h k (Read b)) (event_none k b))
+    row_most is k _ = search (rules, arith, none_more, declares_none, register_none, rung_none, event_none)
 
     event_most : (k : Known) (b : Block) → all_rings (learned h k (Read b)) ≤ all_rings k
     event_most k b = none_more k (learned h k (Read b)) (event_none k b)
@@ -119,8 +108,8 @@ module _ (h : Header) where
     restored_most : (k : Known) (row : Row) → all_rings (restored h k row) ≤ all_rings k
     restored_most k row = none_more k (restored h k row) (restored_none k (ring_restored h k row))
 
-    withdrawn_most : (k : Known) (r p : ℕ) → all_rings (on_ring h k r (changes.Withdraws p)) ≤ all_rings k
-    withdrawn_most k r p = none_more k (on_ring h k r (changes.Withdraws p)) (change_none k r (changes.Withdraws p) (λ v. refl))
+    withdrawn_most : (k : Known) (r p : ℕ) → all_rings (on_ring h k r (RingWithdraws p)) ≤ all_rings k
+    withdrawn_most k r p = none_more k (on_ring h k r (RingWithdraws p)) (change_none k r (RingWithdraws p) (λ v. refl))
 
 -- ---- a ring comes or goes
 
@@ -130,9 +119,7 @@ module _ (h g : Header) (k : Known) (id : ℕ) (o : OthersStay h g k id) (n : �
 
   other_same : (r : ℕ) → r ≢ id → of_ring g n without r ≡ of_ring h n k r
   unfolding of_ring of_driver forgotten
-  other_same r other =
-      ap (λ q. if is_driver_ring q then given_among (without.ring r) (n r) else 0) (o.listed r other)
-      ∙ ap (λ v. if is_driver_ring (ring_with h r) then given_among v (n r) else 0) (put_off k.ring id new_ring r other)
+  other_same r other = search (rules, is_driver_ring, given_among, without, ring_with, put_off, new_ring)
 
   -- nothing of it is given
   here_none : of_ring g n without id ≡ 0
@@ -172,9 +159,8 @@ module _ (h : Header) where
     driven : (row : Row) (past : List TraceRow) → All FitsFields (Plain row ∷ past) → AreKept h (Plain row ∷ past) → (n : ℕ → ℕ) → all_rings (header_now h past) n (known_now h past) + gone past + events past ≤ length past →
         all_rings (header_now h past) n (known_now h (Plain row ∷ past)) + gone past + events past ≤ length (Plain row ∷ past)
     driven row past are kept n before =
-        let p = kept_before (Plain row) past are kept in
         let g : Header = header_now h past in
-        omega (arith, before, restored_most g n (known_now h past) row, row_most g n p.headed (restored g (known_now h past) row) row)
+        omega (arith, before, restored_most g n (known_now h past) row, row_most g n (kept_before (Plain row) past are kept).headed (restored g (known_now h past) row) row)
 
     change_on : (g : Header) (k : Known) (r : ℕ) (change : RingChange) → k.stopped ≡ false → (on_ring g k r change).stopped ≡ false
     unfolding on_ring
@@ -190,10 +176,7 @@ module _ (h : Header) where
     given_most [] are kept n = omega (arith, before_any h n)
     given_most (Plain (Read b) ∷ past) are kept n =
         omega (arith, given_most past (All-tail FitsFields (Plain (Read b)) past are) kept.0 n, event_most (header_now h past) n (known_now h past) b)
-    given_most (Plain (Sub r blocks) ∷ past) are kept n = driven (Sub r blocks) past are kept n (given_most past (All-tail FitsFields (Plain (Sub r blocks)) past are) kept.0 n)
-    given_most (Plain (Write a w) ∷ past) are kept n = driven (Write a w) past are kept n (given_most past (All-tail FitsFields (Plain (Write a w)) past are) kept.0 n)
-    given_most (Plain (Reg r x) ∷ past) are kept n = driven (Reg r x) past are kept n (given_most past (All-tail FitsFields (Plain (Reg r x)) past are) kept.0 n)
-    given_most (Plain (Bell s t) ∷ past) are kept n = driven (Bell s t) past are kept n (given_most past (All-tail FitsFields (Plain (Bell s t)) past are) kept.0 n)
+    given_most (Plain row ∷ past) are kept n = driven row past are kept n (given_most past (All-tail FitsFields (Plain row) past are) kept.0 n)
     given_most (Withdraws r p ∷ past) are kept n =
         omega (arith, given_most past (All-tail FitsFields (Withdraws r p) past are) kept.0 n, withdrawn_most (header_now h past) n (known_now h past) r p)
     given_most (Comes ring ∷ past) are kept n =
@@ -207,8 +190,7 @@ module _ (h : Header) where
         let g : Header = header_now h past in
         let k : Known = known_now h past in
         let m : ℕ = floor_number (k.ring id) in
-        let driver = transfer_driver g id (rings_gone.gone g p.headed k p.keeps id kept.1.1) in
-        let all : given_among (k.ring id) m ≡ m = all_given (k.ring id) m (p.keeps.rings id driver).passed in
+        let all : given_among (k.ring id) m ≡ m = all_given (k.ring id) m (p.keeps.rings id (transfer_driver g id (rings_gone.gone g p.headed k p.keeps id kept.1.1))).passed in
         omega (
           arith,
           given_most past (All-tail FitsFields (Goes id) past are) kept.0 (put n id m),
@@ -217,7 +199,7 @@ module _ (h : Header) where
 
     -- ---- before a floor all is given
 
-    rings_kept : (past : List TraceRow) → All FitsFields past → AreKept h past → rings.RingsKeep (header_now h past) (known_now h past)
+    rings_kept : (past : List TraceRow) → All FitsFields past → AreKept h past → RingsKeep (header_now h past) (known_now h past)
     rings_kept [] are kept = nothing_keeps h is
     rings_kept (Plain row ∷ past) are kept =
         let p = kept_before (Plain row) past are kept in
@@ -227,13 +209,11 @@ module _ (h : Header) where
         row_keeps g p.headed k row (rings_of g k d) (endpoints_of g k d.states) d.commands_stay (row_comes g p.headed (known_now h past) p.keeps row kept.1.0 kept.1.2)
         (still_reads g p.headed k row (rings_of g k d) (endpoints_of g k d.states) (still_of g p.headed k row d kept.1.0))
     rings_kept (Withdraws r q ∷ past) are kept =
-        let p = now_keeps h is (Withdraws r q ∷ past) are kept (change_on (header_now h past) (known_now h past) r (changes.Withdraws q) kept.1.0) in rings_of (header_now h past) (known_now h (Withdraws r q ∷ past)) p.keeps
+        let p = now_keeps h is (Withdraws r q ∷ past) are kept (change_on (header_now h past) (known_now h past) r (RingWithdraws q) kept.1.0) in rings_of (header_now h past) (known_now h (Withdraws r q ∷ past)) p.keeps
     rings_kept (Comes ring ∷ past) are kept =
-        let p = now_keeps h is (Comes ring ∷ past) are kept (stays_on (known_now h past) ring.id kept.1.0) in
-        rings_of (header_now h (Comes ring ∷ past)) (known_now h (Comes ring ∷ past)) p.keeps
+        rings_of (header_now h (Comes ring ∷ past)) (known_now h (Comes ring ∷ past)) (now_keeps h is (Comes ring ∷ past) are kept (stays_on (known_now h past) ring.id kept.1.0)).keeps
     rings_kept (Goes id ∷ past) are kept =
-        let p = now_keeps h is (Goes id ∷ past) are kept (stays_on (known_now h past) id kept.1.0) in
-        rings_of (header_now h (Goes id ∷ past)) (known_now h (Goes id ∷ past)) p.keeps
+        rings_of (header_now h (Goes id ∷ past)) (known_now h (Goes id ∷ past)) (now_keeps h is (Goes id ∷ past) are kept (stays_on (known_now h past) id kept.1.0)).keeps
 
     pub floors_most : (past : List TraceRow) → All FitsFields past → AreKept h past → floors (header_now h past) (known_now h past) + gone past + events past ≤ length past
     unfolding floors all_rings of_ring

@@ -1,13 +1,134 @@
 -- The lazy law by induction over the rows, from the step of a row that reads an event
-use Rattle.safety.proofs.LazyRuns.Words.{◌≡◌, ◌⊎◌, ◌∷◌, ◌++◌, ◌∙◌, true, false, List, [], All, reverse, Some, option_and_then, refl, sym, ap, subst, inl, inr, append_assoc, false≢true, reverse-append, All-cons, All-head, All-nil, All-tail, Header, Row, Sub, Write, Reg, Bell, Read, TraceRow, Comes, Goes, Plain, Withdraws, NextRow, IsHeader, command_id, IsRow, IsDriverRow, World, opening, counted, emptied, with_ring, without_ring, without_descriptor, Known, DriverKeeps, MayCome, scene_reached, step_made, scene_with, AreKept, FitsFields, IsKept, header_after, header_now, known_now, restored, restored_on, ring_restored, clean_tests, IsTimely, lazy_run, pointers_at, pointers_for, steps_for, AreAtFloors, LazyLaw, AllAreRead}
+use Rattle.safety.proofs.LazyRuns.Words.{[], ◌≡◌, ◌≢◌, ◌⊎◌, ◌≤◌, ◌∷◌, ◌∙◌, ℕ, true, false, List, Some, arith, sym, ap, subst, inl, inr, rules, cases_Bool, false≢true, Spot, Data, Link, Shape, number, rank, Header, Row, TraceRow, Plain, IsHeader, command_id, IsRow, World, RingEvent, next_take, counted, Known, learned, MayCome, DriverKeeps, IsDriverRow, Agrees, Runs, kept_driver, transfer_not_command, more_law, row_runs, square_law, still_rings, pointers_after, AreAtFloors, ◌++◌, All, reverse, option_and_then, refl, append_assoc, reverse-append, All-cons, All-head, All-nil, All-tail, Read, Comes, Goes, Withdraws, NextRow, opening, emptied, with_ring, without_ring, without_descriptor, scene_reached, step_made, scene_with, AreKept, FitsFields, IsKept, header_after, header_now, known_now, restored, restored_on, ring_restored, clean_tests, IsTimely, lazy_run, pointers_at, pointers_for, steps_for, LazyLaw, AllAreRead, none-some, is_open, nothing, opens}
+use Rattle.safety.proofs.UpperLaws.{agrees_now, pointers_same, driver_reached, StandsAt, IsActiveIfOpen, Follows, Carries, Leads, Past, RowLearns, row_learns, row_active, row_starts, Keeps, now_keeps, all_are_read, EventLaw, AreTimely, comes_follows, comes_stay, goes_follows, goes_stay, restored_follows, withdrawn_follows}
+use Rattle.safety.proofs.LazyRuns.RowsLearn.{PointerStays, RowLeaves, row_leaves, done, row_is_done}
 use Rattle.safety.proofs.RingChanges.Restored.{row_comes, row_keeps, stopped_still}
-use Rattle.safety.proofs.RingChanges.RingsHeadline.{Keeps, now_keeps}
-use Rattle.safety.proofs.LazyRuns.AllRead.{all_are_read}
-use Rattle.safety.proofs.LazyRuns.Beginning.{first}
-use Rattle.safety.proofs.LazyRuns.DriverSteps.{driver_step}
-use Rattle.safety.proofs.LazyRuns.Follows.{Follows, Past, Carries, EventLaw}
-use Rattle.safety.proofs.LazyRuns.NeedsOfHeld.{AreTimely}
-use Rattle.safety.proofs.LazyRuns.RingRows.{comes_follows, comes_stay, goes_follows, goes_stay, restored_follows, withdrawn_follows}
+
+-- The induction's step for a row of the driver
+
+-- a spot of number 0 that is no Link
+zero_spot : (t : Spot) → number t ≡ 0 → 1 ≤ rank t → t ≡ Data 0
+zero_spot (Data q) zero some = ap (λ n. Data n) zero
+zero_spot (Link q) zero some = absurd (omega (arith, zero, some))
+
+next_none : (shape : Shape) (events : List RingEvent) → events ≡ [] → next_take shape events ≡ 0
+unfolding next_take
+next_none shape events none = ap (λ e. next_take shape e) none
+
+module _ (h : Header) where
+  stands_still : (w v : World) (r : ℕ) (t : Spot) → StandsAt h w r t → PointerStays w v r → v.events r ≡ w.events r → StandsAt h v r t
+  stands_still w v r t s p events = search rules
+
+  module _ (is : IsHeader h) (row : Row) (past : Past h) (later : List TraceRow) (w : World) (driver_row : IsDriverRow row) (is_row : IsRow row) (may : MayCome h past.known row)
+      (f : Follows h past.known past.pointers w) where
+    l : Known
+    l = learned h past.known row
+
+    v : World
+    v = done h w row
+
+    leaves : RowLeaves h w v
+    unfolding v
+    leaves = row_leaves h w row
+
+    learns : RowLearns h past.known l
+    unfolding l
+    learns = row_learns h past.known row driver_row
+
+    -- an endpoint that has a ring had it before, and it isn't the command ring
+    had : (s i r : ℕ) → l.ring_of s i ≡ Some r → past.known.ring_of s i ≡ Some r
+    had s i r at = ap (λ g. g s i) (sym learns.ring_of) ∙ at
+
+    other : (s i r : ℕ) → l.ring_of s i ≡ Some r → r ≢ command_id h
+    other s i r at same = transfer_not_command h is r (past.keeps.states.transfer s i r (had s i r at)) same
+
+    floors : (s i r : ℕ) → l.ring_of s i ≡ Some r → StandsAt h (counted h v) r (l.ring r).floor
+    unfolding counted
+    floors s i r at =
+        let p = leaves.pointers r (inl (other s i r at)) in
+        let still : StandsAt h v r (past.known.ring r).floor =
+        stands_still w v r (past.known.ring r).floor (f.floors s i r (had s i r at)) (record { pointer = p.pointer; cycle = p.cycle }) (leaves.events r) in
+        let there : StandsAt h v r (l.ring r).floor = subst (λ t. StandsAt h v r t) (sym (learns.floors r)) still in
+        record { is_spot = there.is_spot; pointer = there.pointer; cycle = there.cycle; next = there.next }
+
+    stay_at_floors : AreAtFloors h l (counted h v)
+    stay_at_floors s i r at = let stands = floors s i r at in record { pointer = stands.pointer; cycle = stands.cycle }
+
+    traced : (s i r : ℕ) → l.ring_of s i ≡ Some r → pointers_after h past.known past.pointers row later r ≡ (l.ring r).floor
+    traced s i r at = pointers_same h past.known past.pointers row later r driver_row ∙ f.traced s i r (had s i r at) ∙ sym (learns.floors r)
+
+    agrees : Agrees h past.known [] w
+    agrees = agrees_now h past.known w f.runs f.all_read
+
+    active : (q : ℕ) → IsActiveIfOpen past.known w q → IsActiveIfOpen l (counted h v) q
+    unfolding counted v l
+    active q was opened = row_active h past.known w agrees.stands.started agrees.matches.ring_of agrees.matches.endpoints row q driver_row may.0 was opened
+
+    before : l.started ≡ false → pointers_after h past.known past.pointers row later (command_id h) ≡ Data 0
+    unfolding l
+    before off =
+        pointers_same h past.known past.pointers row later (command_id h) driver_row
+        ∙ elim (cases_Bool past.known.started) [
+          | inl on ↦ absurd (false≢true (sym off ∙ row_starts h past.known row driver_row on))
+          | inr waits ↦ f.before waits
+        ]
+
+    module _ (on : l.stopped ≡ false) where
+      runs : Runs h (learned h past.known row) (counted h v)
+      unfolding l v
+      runs = row_runs h is (kept_driver h) (still_rings h) (square_law h) (more_law h) past.known row w v is_row driver_row past.keeps f.runs may on (row_is_done h w row driver_row)
+
+      all_read : (counted h v).posted ≡ (counted h v).reads
+      unfolding counted
+      all_read = leaves.posted ∙ f.all_read ∙ sym leaves.reads
+
+      agrees_then : Agrees h l [] (counted h v)
+      unfolding l
+      agrees_then = agrees_now h (learned h past.known row) (counted h v) runs all_read
+
+      -- it was started before
+      goes_on : past.known.started ≡ true → l.started ≡ true → StandsAt h (counted h v) (command_id h) (past.pointers (command_id h))
+      unfolding counted
+      goes_on started still = search (rules, l, v, agrees_then, agrees, leaves, stands_still)
+
+      -- the row starts it: nothing is taken yet
+      begins : past.known.started ≡ false → l.started ≡ true → StandsAt h (counted h v) (command_id h) (past.pointers (command_id h))
+      unfolding counted
+      begins waits started = search (rules, l, v, agrees_then, leaves, agrees, before, next_none, learns, floors, past.keeps, zero_spot)
+
+      command : l.started ≡ true → StandsAt h (counted h v) (command_id h) (pointers_after h past.known past.pointers row later (command_id h))
+      command started =
+          subst (λ t. StandsAt h (counted h v) (command_id h) t) (sym (pointers_same h past.known past.pointers row later (command_id h) driver_row))
+          (elim (cases_Bool past.known.started) [ inl already ↦ goes_on already started | inr waits ↦ begins waits started ])
+
+      follows_row : Follows h (learned h past.known row) (pointers_after h past.known past.pointers row later) (counted h v)
+      unfolding l
+      follows_row = record {
+        runs = runs;
+        all_read = all_read;
+        floors = floors;
+        traced = traced;
+        active = λ s i r at. active r (f.active s i r (had s i r at));
+        before = before;
+        command = command;
+        command_active = active (command_id h) f.command_active;
+      }
+
+    -- the world behind the row, be it a stop or not
+    goes : Follows h (learned h past.known row) (pointers_after h past.known past.pointers row later) (counted h v) ⊎ (((learned h past.known row).stopped ≡ true) × AreAtFloors h (learned h past.known row) (counted h v))
+    unfolding l
+    goes = elim (cases_Bool l.stopped) [ inl stopped ↦ inr (stopped, stay_at_floors) | inr on ↦ inl (follows_row on) ]
+
+    pub driver_step : Leads h past past.made (Plain row ∷ later) w → Carries h past row later
+    unfolding v
+    driver_step run = record { world = counted h v; run = driver_reached h past w v row later driver_row run (row_is_done h w row driver_row); goes = goes }
+
+-- The lazy run before the first row
+
+-- no endpoint has a ring yet, and none is open
+pub first : (h : Header) → Follows h nothing (λ r. Data 0) (opening [])
+unfolding opening nothing is_open
+first h = search (rules, opens, none-some, false≢true)
 
 -- a row that is kept isn't behind a stop
 pub kept_on : (h : Header) (k : Known) (row : TraceRow) → IsKept h k row → k.stopped ≡ false
@@ -100,11 +221,7 @@ module _ (h : Header) where
 
           carried : Carries g (past_of past later row keeps) row later → Carried (Plain row ∷ past) later
           unfolding lazy_run pointers_at steps_for pointers_for
-          carried c = record {
-            world = c.world;
-            run = ap (λ rows. scene_reached h rows (lazy_run h (Plain row ∷ past) later)) (one_more (Plain row) past later) ∙ c.run;
-            goes = c.goes;
-          }
+          carried c = search (rules, scene_reached, lazy_run, one_more, goes)
 
         drives : (row : Row) → IsDriverRow row → IsRow row → IsKept g k (Plain row) → AreTimely g k (Plain row ∷ later) →
             scene_reached h (reverse past ++ (Plain row ∷ later)) (lazy_run h past (Plain row ∷ later)) ≡ Some (scene_with g (Plain row ∷ later) w) →
@@ -120,10 +237,7 @@ module _ (h : Header) where
         plain (Read b) is_row kept timely run f =
             carried (Read b) is_row kept timely run f
             (events g (past_of past later (Read b) (keeps (Read b) is_row kept timely run f)) later b w p.headed is_row kept.0 timely run (follows (Read b) is_row kept timely run f))
-        plain (Sub r blocks) is_row kept timely run f = drives (Sub r blocks) tt is_row kept timely run f
-        plain (Write a x) is_row kept timely run f = drives (Write a x) tt is_row kept timely run f
-        plain (Reg r x) is_row kept timely run f = drives (Reg r x) tt is_row kept timely run f
-        plain (Bell s t) is_row kept timely run f = drives (Bell s t) tt is_row kept timely run f
+        plain row is_row kept timely run f = drives row tt is_row kept timely run f
 
         -- ---- a row of another kind
 
@@ -131,9 +245,7 @@ module _ (h : Header) where
         made : (row : TraceRow) (v : World) (x : Header) → scene_reached h (reverse past ++ (row ∷ later)) (lazy_run h past (row ∷ later)) ≡ Some (scene_with g (row ∷ later) w) →
             step_made (scene_with g (row ∷ later) w) NextRow ≡ Some (scene_with x later v) →
             scene_reached h (reverse (row ∷ past) ++ later) (NextRow ∷ lazy_run h past (row ∷ later)) ≡ Some (scene_with x later v)
-        made row v x run at =
-            ap (λ rows. scene_reached h rows (NextRow ∷ lazy_run h past (row ∷ later))) (one_more row past later)
-            ∙ ap (λ o. option_and_then (λ y. step_made y NextRow) o) run ∙ at
+        made row v x run at = search (rules, scene_reached, lazy_run, one_more, option_and_then, step_made)
 
         step : (row : TraceRow) → FitsFields row → IsKept g k row → AreTimely g k (row ∷ later) →
             scene_reached h (reverse past ++ (row ∷ later)) (lazy_run h past (row ∷ later)) ≡ Some (scene_with g (row ∷ later) w) →

@@ -1,33 +1,140 @@
+-- The looks for an event, at one ring after the other, are a run: each ring comes to its goal
+use Rattle.safety.proofs.LazyRuns.Words.{[], ◌≡◌, ◌+◌, ◌-◌, ◌*◌, ◌<◌, ◌≤◌, ◌∷◌, ◌++◌, ◌∙◌, ℕ, suc, zero, List, filter, map, nat_lt, reverse, arith, refl, sym, ap, subst, inl, inr, lt-ltb, le-ltb, append_assoc, rules, cases_lt, cond-true, cond-false, reverse-append, Spot, Shape, IsSpot, number, rank, next, spots_from, rank_least, rank_most, same_rank, next_later, next_least, Header, TraceRow, Step, Look, IsHeader, shape_of, World, counted, Known, DriverKeeps, Agrees, Runs, run_keeps, look_runs, false, Some, None, ◌≢◌, ◌==◌, ◌&&◌, if◌then◌else◌, Bool, true, Option, is_some, ne_eqb, cases_Bool, cases_eq, and_left, and_right, Block, cycle, kind, is_link, Data, Link, after, command_id, UnderWay, next_command, RingState, RingMatches, UnderWayMatches, state_of, Takeable, Crossable, takeable, crossable, ring_shape, seen, only_crossed, only_taken, only_begun, behind_link, behind_block, TakeDone, CrossDone, take_done, cross_done, block_no_link, link_is, OnlyRing, looked_left, stands_at, block_found, not, eq-eqb, IsDriverRing, Stands, further, looks_to, spots_before, command_begun, crossed, looked, looked_at, seen_by_look, taken as looks_taken, taken_on, made as steps_made, flat_map, put, RingSpot, put_at, put_off, brought as lazy_brought, further as lazy_further}
+use Rattle.safety.proofs.UpperLaws.{step_reached, agrees_now, StandsAt, Leads, Past, MayBring, Looked, LooksLeave, LooksLaw, RingStands, ring_stands, commands_stand, Traced}
+
 -- The looks of the lazy schedule at one ring are a run: by induction over the spots on the way
-use Rattle.safety.proofs.LazyRuns.Words.{◌≡◌, ◌+◌, ◌-◌, ◌*◌, ◌<◌, ◌≤◌, ◌∷◌, ◌++◌, ◌∙◌, ℕ, suc, zero, List, [], filter, map, nat_lt, reverse, arith, refl, sym, ap, subst, inl, inr, lt-ltb, le-ltb, append_assoc, rules, cases_lt, cond-true, cond-false, reverse-append, Spot, Shape, IsSpot, number, rank, next, spots_from, rank_least, rank_most, same_rank, next_later, next_least, Header, TraceRow, Step, Look, IsHeader, shape_of, World, counted, Known, DriverKeeps, Agrees, Runs, run_keeps, look_runs}
-use Rattle.safety.specs.LazyRuns.Lazy as lazy
-use Rattle.safety.proofs.LazyRuns.AllEventsRead.{agrees_now}
-use Rattle.safety.proofs.LazyRuns.Follows.{StandsAt, Leads, Past}
-use Rattle.safety.proofs.LazyRuns.LooksPossible.{look_reached}
-use Rattle.safety.proofs.LazyRuns.Looking.{MayBring, Looked, LooksLeave, LooksLaw}
-use Rattle.safety.proofs.LazyRuns.OneLook.{LookDone, one_look}
+
+-- One look at what is given: the ring stands at its next spot, and all else stays
+
+-- A look at what is given moves the pointer on: a block that is given is taken, and a Link that is given is followed
+module _ (h : Header) (is : IsHeader h) (k : Known) (w : World) (d : DriverKeeps h k) (s : Stands h k w) (r : ℕ) (ring : IsDriverRing h r) (on : w.is_active r ≡ true) where
+  shows_cycle : cycle (seen w r) ≡ w.cycle_state r → not (cycle (seen w r) == w.cycle_state r) ≡ false
+  shows_cycle same = ap not (eq-eqb (cycle (seen w r)) (w.cycle_state r) same)
+
+  pub block_taken : (q : ℕ) → RingMatches (shape_of h r) (k.ring r) (state_of w r) (Data q) → (k.ring r).given q ≡ true → (r == command_id h && is_some w.under_way) ≡ false →
+      looked h w r ≡ Some (looks_taken h (seen_by_look h w r) r (seen w r))
+  unfolding looked looked_at
+  block_taken q m given free =
+      let t = takeable (shape_of h r) (ring_shape h is r ring).is k.memory (k.ring r) (d.rings r ring) q (stands_at h is k w d s r (Data q) ring m) given ((d.rings r ring).open_restored (m.opened on) q) in
+      simp (on, shows_cycle (ap (λ b. cycle b) (block_found h is k w d s r (Data q) ring m) ∙ t.cycle_is ∙ sym m.cycle), block_no_link h is k w d s r ring q m t, free)
+
+  pub link_followed : (q : ℕ) → RingMatches (shape_of h r) (k.ring r) (state_of w r) (Link q) → (k.ring r).crossed q ≡ true →
+      looked h w r ≡ Some (crossed h (seen_by_look h w r) r (seen w r))
+  unfolding looked looked_at
+  link_followed q m given =
+      let c = crossable (shape_of h r) (ring_shape h is r ring).is k.memory (k.ring r) (d.rings r ring) q (stands_at h is k w d s r (Link q) ring m) given in
+      simp (on, shows_cycle (ap (λ b. cycle b) (block_found h is k w d s r (Link q) ring m) ∙ c.cycle_is ∙ sym m.cycle), link_is h is k w d s r ring q m c)
+
+either_only : (w x y : World) (r : ℕ) (s : RingState) (c : Bool) → OnlyRing w x r s → OnlyRing w y r s → OnlyRing w (if c then x else y) r s
+either_only w x y r s true a b = a
+either_only w x y r s false a b = b
+
+is_none_some : (o : Option UnderWay) → o ≡ None → is_some o ≡ false
+is_none_some o none = ap (λ x. is_some x) none
+
+module _ (h : Header) where
+  only_taken_any : (w : World) (r : ℕ) (b : Block) → OnlyRing w (looks_taken h (seen_by_look h w r) r b) r (behind_block h w r b)
+  unfolding looks_taken
+  only_taken_any w r b = search (rules, seen_by_look, either_only, command_begun, taken_on, behind_block, command_id, only_begun, only_taken)
+
+  taken_elsewhere : (w : World) (r : ℕ) (b : Block) → r ≢ command_id h → (looks_taken h (seen_by_look h w r) r b).under_way ≡ w.under_way
+  unfolding looks_taken taken_on seen_by_look
+  taken_elsewhere w r b other = ap (λ (x : World). x.under_way) (cond-false (r == command_id h) _ _ (ne_eqb r (command_id h) other))
+
+  crossed_under_way : (w : World) (r : ℕ) (b : Block) → (crossed h (seen_by_look h w r) r b).under_way ≡ w.under_way
+  unfolding crossed seen_by_look
+  crossed_under_way w r b = refl
+
+  -- what a look leaves, from what its ring is then
+  leaves_from : (w v : World) (r : ℕ) (s : RingState) → OnlyRing w v r s → s.active ≡ w.is_active r → s.reported ≡ w.reported r → v.rows ≡ w.rows →
+      (r ≢ command_id h → v.under_way ≡ w.under_way) → LooksLeave h w (counted h v) r
+  unfolding counted
+  leaves_from w v r s o active reported rows under_way = search rules
+
+  pub record LookDone (w : World) (r : ℕ) (s : Spot) : Type 0 where
+    pub world : World
+    pub made : looked h w r ≡ Some world
+    pub stands : StandsAt h (counted h world) r (next (shape_of h r) s)
+    pub leaves : LooksLeave h w (counted h world) r
+
+  stands_from : (k : Known) (w v : World) (r : ℕ) (x : RingState) (t : Spot) → OnlyRing w v r x → RingMatches (shape_of h r) (k.ring r) x t → StandsAt h (counted h v) r t
+  unfolding counted
+  stands_from k w v r x t o m = search (rules, shape_of, state_of, cycle, next)
+
+  module _ (is : IsHeader h) (k : Known) (w : World) (d : DriverKeeps h k) (g : Agrees h k [] w) (r : ℕ) where
+    -- no command is under way where the next one isn't taken
+    none_yet : (q : ℕ) (o : Option UnderWay) → q < next_command h k + 1 → UnderWayMatches h k (Data q) o → is_some o ≡ false
+    none_yet q None low u = refl
+    none_yet q (Some x) low u = absurd (omega (arith, low, u.0))
+
+    free_ring : (q : ℕ) (t : Spot) → q < number t → w.is_active r ≡ true → StandsAt h w r (Data q) → (r ≡ command_id h → number t ≤ next_command h k + 1) →
+        (r == command_id h && is_some w.under_way) ≡ false
+    free_ring q t before active at one = search (rules, arith, cases_eq, command_id, and_left, is_some, ne_eqb, cases_Bool, commands_stand, and_right, none_yet, is_none_some)
+
+    take_look : (q : ℕ) (t : Spot) → rank (Data q) < rank t → StandsAt h w r (Data q) → MayBring h k w r t → LookDone w r (Data q)
+    take_look q t before at may =
+        let b : Block = seen w r in
+        let m : RingStands h is k w d g r (Data q) = ring_stands h is k w d g r (Data q) may.active at in
+        let below : q < number t = omega (arith, before, rank_most t) in
+        let given : (k.ring r).given q ≡ true = may.reach.passed q below in
+        let can : Takeable (shape_of h r) k.memory (k.ring r) q =
+        takeable (shape_of h r) (ring_shape h is r m.ring).is k.memory (k.ring r) (d.rings r m.ring) q (stands_at h is k w d g.stands r (Data q) m.ring m.matches) given
+        ((d.rings r m.ring).open_restored (m.matches.opened may.active) q) in
+        let same : cycle b ≡ w.cycle_state r = ap (λ x. cycle x) (block_found h is k w d g.stands r (Data q) m.ring m.matches) ∙ can.cycle_is ∙ sym m.matches.cycle in
+        let plain : is_link (kind b) ≡ false = block_no_link h is k w d g.stands r m.ring q m.matches can in
+        let done : TakeDone h is k w d g.stands r m.ring (Data q) = take_done h is k w d g.stands r m.ring (Data q) m.matches may.active same plain in
+        let here : done.number ≡ q = ap number (sym done.was) in
+        let v : World = looks_taken h (seen_by_look h w r) r b in
+        let o : OnlyRing w v r (behind_block h w r b) = only_taken_any w r b in
+        let made : looked h w r ≡ Some v = block_taken h is k w d g.stands r m.ring may.active q m.matches given (free_ring q t below may.active at may.one_command) in
+        record {
+          world = v;
+          made = made;
+          stands = stands_from k w v r (behind_block h w r b) (after (shape_of h r) q) o (subst (λ n. RingMatches (shape_of h r) (k.ring r) (behind_block h w r b) (after (shape_of h r) n)) here done.matches);
+          leaves = leaves_from w v r (behind_block h w r b) o refl refl ((looked_left h w r).left v made) (taken_elsewhere w r b);
+        }
+
+    link_look : (q : ℕ) (t : Spot) → rank (Link q) < rank t → StandsAt h w r (Link q) → MayBring h k w r t → LookDone w r (Link q)
+    link_look q t before at may =
+        let b : Block = seen w r in
+        let m : RingStands h is k w d g r (Link q) = ring_stands h is k w d g r (Link q) may.active at in
+        let given : (k.ring r).crossed q ≡ true = may.reach.passed_links q at.is_spot before in
+        let can : Crossable (shape_of h r) k.memory (k.ring r) q =
+        crossable (shape_of h r) (ring_shape h is r m.ring).is k.memory (k.ring r) (d.rings r m.ring) q (stands_at h is k w d g.stands r (Link q) m.ring m.matches) given in
+        let same : cycle b ≡ w.cycle_state r = ap (λ x. cycle x) (block_found h is k w d g.stands r (Link q) m.ring m.matches) ∙ can.cycle_is ∙ sym m.matches.cycle in
+        let link : is_link (kind b) ≡ true = link_is h is k w d g.stands r m.ring q m.matches can in
+        let done : CrossDone h is k w d g.stands r m.ring (Link q) = cross_done h is k w d g.stands r m.ring (Link q) m.matches may.active same link in
+        let here : done.number ≡ q = ap number (sym done.was) in
+        let v : World = crossed h (seen_by_look h w r) r b in
+        let o : OnlyRing w v r (behind_link h w r b) = only_crossed h w r b in
+        let made : looked h w r ≡ Some v = link_followed h is k w d g.stands r m.ring may.active q m.matches given in
+        record {
+          world = v;
+          made = made;
+          stands = stands_from k w v r (behind_link h w r b) (Data q) o (subst (λ n. RingMatches (shape_of h r) (k.ring r) (behind_link h w r b) (Data n)) here done.matches);
+          leaves = leaves_from w v r (behind_link h w r b) o refl refl ((looked_left h w r).left v made) (λ other. crossed_under_way w r b);
+        }
+
+    pub one_look : (s t : Spot) → rank s < rank t → StandsAt h w r s → MayBring h k w r t → LookDone w r s
+    one_look (Data q) t before at may = take_look q t before at may
+    one_look (Link q) t before at may = link_look q t before at may
 
 -- from a spot on none is before t, where that one isn't
 none_before : (shape : Shape) (t s : Spot) (n : ℕ) → rank t ≤ rank s → filter (λ u. nat_lt (rank u) (rank t)) (spots_from shape s n) ≡ []
 none_before shape t s zero le = refl
-none_before shape t s (suc n) le =
-    let later : rank s < rank (next shape s) = next_later shape s in
-    cond-false (nat_lt (rank s) (rank t)) (s ∷ filter (λ u. nat_lt (rank u) (rank t)) (spots_from shape (next shape s) n)) (filter (λ u. nat_lt (rank u) (rank t)) (spots_from shape (next shape s) n))
-    (le-ltb (rank s) (rank t) le) ∙ none_before shape t (next shape s) n (omega (arith, le, later))
+none_before shape t s (suc n) le = simp (le-ltb (rank s) (rank t) le) (none_before shape t (next shape s) n (omega (arith, le, next_later shape s)))
 
 one_before : (shape : Shape) (t s : Spot) (n : ℕ) → rank s < rank t →
     filter (λ u. nat_lt (rank u) (rank t)) (spots_from shape s (suc n)) ≡ s ∷ filter (λ u. nat_lt (rank u) (rank t)) (spots_from shape (next shape s) n)
-one_before shape t s n lt =
-    cond-true (nat_lt (rank s) (rank t)) (s ∷ filter (λ u. nat_lt (rank u) (rank t)) (spots_from shape (next shape s) n)) (filter (λ u. nat_lt (rank u) (rank t)) (spots_from shape (next shape s) n))
-    (lt-ltb (rank s) (rank t) lt)
+one_before shape t s n lt = simp (lt-ltb (rank s) (rank t) lt)
 
 -- where a ring stands that was brought to a spot
-pub further_then : (s t : Spot) → rank s < rank t → lazy.further s t ≡ t
-unfolding lazy.further
+pub further_then : (s t : Spot) → rank s < rank t → further s t ≡ t
+unfolding further
 further_then s t lt = cond-true _ t s (lt-ltb (rank s) (rank t) lt)
 
-pub further_not : (s t : Spot) → rank t ≤ rank s → lazy.further s t ≡ s
-unfolding lazy.further
+pub further_not : (s t : Spot) → rank t ≤ rank s → further s t ≡ s
+unfolding further
 further_not s t le = cond-false _ t s (le-ltb (rank s) (rank t) le)
 
 -- the first of the steps in their order is made first
@@ -63,6 +170,7 @@ module _ (h : Header) where
 
     brings : (n : ℕ) (made : List Step) (w : World) (s t : Spot) → IsSpot (shape_of h r) t → rank s ≤ rank t → rank t < rank s + n → Leads h past made to_come w → Runs h past.known w → w.posted ≡ w.reads →
         StandsAt h w r s → (rank s < rank t → MayBring h past.known w r t) → Looked h past to_come made w r t (looks_on r t s n)
+    unfolding steps_made
     brings zero made w s t is_spot le near run runs read at may = absurd (omega (arith, le, near))
     brings (suc n) made w s t is_spot le near run runs read at may =
         elim (cases_lt (rank s) (rank t)) [
@@ -75,7 +183,7 @@ module _ (h : Header) where
               let g : Agrees h k [] w = agrees_now h past.known w runs read in
               let one : LookDone h w r s = one_look h is k w d g r s t before at (may before) in
               let v : World = counted h one.world in
-              let then_run : Leads h past (Look r ∷ made) to_come v = look_reached h past to_come made w one.world r run (g.stands.stopped ∙ runs.on) one.made in
+              let then_run : Leads h past (Look r ∷ made) to_come v = step_reached h past to_come made w one.world (Look r) (looked h w r) (λ e. cc) refl run (g.stands.stopped ∙ runs.on) one.made in
               let then_runs : Runs h past.known v = look_runs h is past.known w one.world r runs (run_keeps h is k w d runs) one.made in
               let later : rank s < rank (next (shape_of h r) s) = next_later (shape_of h r) s in
               let rest : Looked h past to_come (Look r ∷ made) v r t (looks_on r t (next (shape_of h r) s) n) =
@@ -91,8 +199,8 @@ module _ (h : Header) where
               }
         ]
 
-  looks_are : (pointers : ℕ → Spot) (r : ℕ) (t : Spot) → lazy.looks_to h pointers (record { ring = r; spot = t }) ≡ looks_on r t (pointers r) (2 * (number t - number (pointers r)) + 2)
-  unfolding lazy.looks_to lazy.spots_before looks_on
+  looks_are : (pointers : ℕ → Spot) (r : ℕ) (t : Spot) → looks_to h pointers (record { ring = r; spot = t }) ≡ looks_on r t (pointers r) (2 * (number t - number (pointers r)) + 2)
+  unfolding looks_to spots_before looks_on
   looks_are pointers r t = refl
 
   pub looks_law : LooksLaw h
@@ -103,10 +211,111 @@ module _ (h : Header) where
       let n : ℕ = 2 * (number t - number s) + 2 in
       elim (cases_lt (rank s) (rank t)) [
         | inl before ↦
-            subst (λ u. Looked h past to_come made w r u (lazy.looks_to h pointers goal)) (sym (further_then s t before))
+            subst (λ u. Looked h past to_come made w r u (looks_to h pointers goal)) (sym (further_then s t before))
             (subst (λ l. Looked h past to_come made w r t l) (sym (looks_are pointers r t))
             (brings is past to_come r n made w s t (may before).reach.is_spot (omega (arith, before)) (omega (arith, rank_most t, rank_least s)) run runs read at may))
         | inr behind ↦
-            subst (λ u. Looked h past to_come made w r u (lazy.looks_to h pointers goal)) (sym (further_not s t (omega (arith, behind))))
-            (stays is past to_come r made w s (lazy.looks_to h pointers goal) (looks_are pointers r t ∙ no_looks r t s n (omega (arith, behind))) run runs at)
+            subst (λ u. Looked h past to_come made w r u (looks_to h pointers goal)) (sym (further_not s t (omega (arith, behind))))
+            (stays is past to_come r made w s (looks_to h pointers goal) (looks_are pointers r t ∙ no_looks r t s n (omega (arith, behind))) run runs at)
       ]
+
+module _ (h : Header) where
+  -- a ring stands where it is said to, and may be brought to its goal, if that is further
+  pub record Fits (k : Known) (w : World) (pointers : ℕ → Spot) (goal : RingSpot) : Type 0 where
+    pub stands : StandsAt h w goal.ring (pointers goal.ring)
+    pub may : rank (pointers goal.ring) < rank goal.spot → MayBring h k w goal.ring goal.spot
+
+  abbrev pub AllFit : Known → World → (ℕ → Spot) → List RingSpot → Type 0
+  AllFit k w pointers [] = Unit {0}
+  AllFit k w pointers (goal ∷ rest) = Fits k w pointers goal × AllFit k w pointers rest
+
+  -- none of the goals is on ring r
+  abbrev pub AreElsewhere : ℕ → List RingSpot → Type 0
+  AreElsewhere r [] = Unit {0}
+  AreElsewhere r (goal ∷ rest) = (goal.ring ≢ r) × AreElsewhere r rest
+
+  -- no two goals are on one ring
+  abbrev pub AreApart : List RingSpot → Type 0
+  AreApart [] = Unit {0}
+  AreApart (goal ∷ rest) = AreElsewhere goal.ring rest × AreApart rest
+
+  pub record AllBrought (past : Past h) (to_come : List TraceRow) (made : List Step) (w : World) (now : ℕ → Spot) (goals : List RingSpot) (looks : List Step) : Type 0 where
+    pub world : World
+    pub run : Leads h past (reverse looks ++ made) to_come world
+    pub traced : Traced h past.known (lazy_brought h now goals) world
+
+  pub stands_same : (w v : World) (q : ℕ) (t : Spot) → state_of v q ≡ state_of w q → StandsAt h w q t → StandsAt h v q t
+  stands_same w v q t same at = search rules
+
+  module _ (k : Known) (w v : World) (now : ℕ → Spot) (r : ℕ) (t : Spot) (there : StandsAt h v r t) (leaves : LooksLeave h w v r) where
+    moved_stands : (q : ℕ) → StandsAt h w q (now q) → StandsAt h v q (put now r t q)
+    moved_stands q at = search (rules, put_at, put_off, stands_same)
+
+    still_active : (q : ℕ) → v.is_active q ≡ w.is_active q
+    still_active q = search rules
+
+    moved_on : Runs h k v → Traced h k now w → Traced h k (put now r t) v
+    moved_on runs trace = record {
+      runs = runs;
+      all_read = leaves.posted ∙ trace.all_read ∙ sym leaves.reads;
+      rings = λ s i q at. moved_stands q (trace.rings s i q at);
+      active = λ s i q at opened. still_active q ∙ trace.active s i q at opened;
+      command = λ on. moved_stands (command_id h) (trace.command on);
+      command_active = λ opened. still_active (command_id h) ∙ trace.command_active opened;
+    }
+
+  same_spot_looks : (pointers now : ℕ → Spot) (goal : RingSpot) → now goal.ring ≡ pointers goal.ring → looks_to h now goal ≡ looks_to h pointers goal
+  unfolding looks_to
+  same_spot_looks pointers now goal same = ap (λ s. map (λ t. Look goal.ring) (spots_before (shape_of h goal.ring) s goal.spot)) same
+
+  -- the looks at one ring leave the goals on others as they are
+  module _ (k : Known) (w v : World) (now : ℕ → Spot) (r : ℕ) (t : Spot) (there : StandsAt h v r t) (leaves : LooksLeave h w v r) where
+    fits_still : (goal : RingSpot) → goal.ring ≢ r → Fits k w now goal → Fits k v (put now r t) goal
+    fits_still goal other fits = search (rules, put_off, moved_stands, still_active)
+
+    all_fit_still : (goals : List RingSpot) → AreElsewhere r goals → AllFit k w now goals → AllFit k v (put now r t) goals
+    all_fit_still [] other fits = tt
+    all_fit_still (goal ∷ rest) other fits = (fits_still goal other.0 fits.0, all_fit_still rest other.1 fits.1)
+
+  abbrev AreSame : (ℕ → Spot) → (ℕ → Spot) → List RingSpot → Type 0
+  AreSame pointers now [] = Unit {0}
+  AreSame pointers now (goal ∷ rest) = (now goal.ring ≡ pointers goal.ring) × AreSame pointers now rest
+
+  same_still : (pointers now : ℕ → Spot) (r : ℕ) (t : Spot) (goals : List RingSpot) → AreElsewhere r goals → AreSame pointers now goals → AreSame pointers (put now r t) goals
+  same_still pointers now r t [] other same = tt
+  same_still pointers now r t (goal ∷ rest) other same = (put_off now r t goal.ring other.0 ∙ same.0, same_still pointers now r t rest other.1 same.1)
+
+  all_same : (pointers : ℕ → Spot) (goals : List RingSpot) → AreSame pointers pointers goals
+  all_same pointers [] = tt
+  all_same pointers (goal ∷ rest) = (refl, all_same pointers rest)
+
+  two_lists : (a b made : List Step) → reverse (a ++ b) ++ made ≡ reverse b ++ (reverse a ++ made)
+  two_lists a b made = ap (λ l. l ++ made) (reverse-append a b) ∙ append_assoc (reverse b) (reverse a) made
+
+  module _ (is : IsHeader h) (past : Past h) (to_come : List TraceRow) (pointers : ℕ → Spot) where
+    all_brought : (goals : List RingSpot) (made : List Step) (w : World) (now : ℕ → Spot) → AreSame pointers now goals → AreApart goals → AllFit past.known w now goals →
+        Leads h past made to_come w → Traced h past.known now w → AllBrought past to_come made w now goals (flat_map (looks_to h pointers) goals)
+    unfolding lazy_brought
+    all_brought [] made w now same apart fits run trace = record { world = w; run = run; traced = trace }
+    all_brought (goal ∷ rest) made w now same apart fits run trace =
+        let r : ℕ = goal.ring in
+        let t : Spot = lazy_further (now r) goal.spot in
+        let looks : List Step = looks_to h pointers goal in
+        let one : Looked h past to_come made w r t looks =
+        subst (λ l. Looked h past to_come made w r t l) (same_spot_looks pointers now goal same.0)
+        (looks_law h past to_come made w now goal is run trace.runs trace.all_read fits.0.stands fits.0.may) in
+        let v : World = one.world in
+        let on : AllBrought past to_come (reverse looks ++ made) v (put now r t) rest (flat_map (looks_to h pointers) rest) =
+        all_brought rest (reverse looks ++ made) v (put now r t) (same_still pointers now r t rest apart.0 same.1) apart.1
+        (all_fit_still past.known w v now r t one.stands one.leaves rest apart.0 fits.1) one.run
+        (moved_on past.known w v now r t one.stands one.leaves one.runs trace) in
+        record {
+          world = on.world;
+          run = subst (λ l. Leads h past l to_come on.world) (sym (two_lists looks (flat_map (looks_to h pointers) rest) made)) on.run;
+          traced = on.traced;
+        }
+
+  -- goals on rings apart are reached one after the other
+  pub goals_reached : IsHeader h → (past : Past h) (to_come : List TraceRow) (made : List Step) (w : World) (pointers : ℕ → Spot) (goals : List RingSpot) → AreApart goals → AllFit past.known w pointers goals →
+      Leads h past made to_come w → Traced h past.known pointers w → AllBrought past to_come made w pointers goals (flat_map (looks_to h pointers) goals)
+  goals_reached is past to_come made w pointers goals apart fits run trace = all_brought is past to_come pointers goals made w pointers (all_same pointers goals) apart fits run trace

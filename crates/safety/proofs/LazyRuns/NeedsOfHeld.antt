@@ -1,9 +1,6 @@
 -- The need of a ring that is held is 0, where no event is late: until its doorbell no success of its blocks is read
-use Rattle.safety.proofs.LazyRuns.Words.{◌≡◌, ◌≢◌, ◌+◌, ◌==◌, ◌&&◌, if◌then◌else◌, ◌∷◌, ◌∙◌, ℕ, not, max, Bool, false, List, [], Option, Some, None, option_map, refl, sym, ap, subst, inl, inr, ne_eqb, eq-eqb, cond_both, cond-false, false≢true, not_from_false, Block, BlockKind, TransferEvent, CommandCompletion, kind, code, pointer, slot, endpoint, is_success, is_halting, is_trb_error, is_stopping, Spot, number, after, RingView, RingChange, changed, new_ring, Shape, put, put_at, put_off, cases_eq, Opens, Holds, Reaches, Restores, is_open, ceiling, named, stopped_number, target, Command, StopEndpoint, is_off, Change, Places, Stops, changes, Header, Row, Sub, Write, Reg, Bell, Read, TraceRow, Plain, Comes, Goes, Withdraws, IsDriverRow, shape_of, command_id, is_ring, ring_having, Known, RingSpot, on_ring, spot_on, command_at, next_command, endpoint_rung, rung, event_read, learned, declaration_leaves, write_leaves, register_leaves, view_after, is_report_of_success, is_held_ring, is_late, is_late_row, number_behind, begins_anew, number_reported, ends_need, number_needed, need, header_after, known_after, forgotten, restored, restored_on, ring_restored}
+use Rattle.safety.proofs.LazyRuns.Words.{rules, [], ◌≡◌, ◌≢◌, ◌+◌, ◌==◌, ◌&&◌, if◌then◌else◌, ◌∷◌, ◌∙◌, ℕ, not, max, Bool, false, List, Option, Some, None, option_map, refl, sym, ap, subst, ne_eqb, eq-eqb, cond_both, cond-false, false≢true, not_from_false, Block, BlockKind, TransferEvent, CommandCompletion, kind, code, pointer, slot, endpoint, is_success, is_halting, is_trb_error, is_stopping, Spot, number, after, RingView, RingChange, changed, new_ring, Shape, put, put_at, put_off, cases_eq, Opens, Holds, Reaches, Restores, is_open, ceiling, named, stopped_number, target, Command, StopEndpoint, is_off, Change, Places, Stops, changes, Header, Row, Read, TraceRow, Plain, IsDriverRow, shape_of, command_id, is_ring, ring_having, Known, RingSpot, on_ring, spot_on, command_at, next_command, endpoint_rung, rung, event_read, learned, declaration_leaves, write_leaves, register_leaves, view_after, is_report_of_success, is_held_ring, is_late, is_late_row, number_behind, begins_anew, number_reported, ends_need, number_needed, need, header_after, known_after, forgotten, restored, restored_on, ring_restored, broken_off, passed as transfers_passed, stopped_at, transfer_read, transferred, transferred_at, bound_to, known_changed_by, known_changed_by_all, completed, known_disabled, known_finished, held_at_ceiling, known_in_state, moved, moved_to, pointed, set_to, stop_ended, known_succeeded}
 use Rattle.ring_knowledge.specs.Rings.{event_at}
-use Rattle.ring_knowledge.specs.Transfers as transfers
-use Rattle.segments.specs.RingView as changes
-use Rattle.ring_knowledge.specs.Completions as completions
 
 abbrev pub IsHeld : Known → ℕ → Type 0
 IsHeld k r = is_open (k.ring r) ≡ false
@@ -28,80 +25,67 @@ module _ (h : Header) where
 
   -- ---- an event holds rings, and opens none
 
-  transfer_held : (k : Known) (c s i q r : ℕ) (t : Spot) → StaysHeld k (transfers.transferred h k c s i q t) r
-  unfolding transfers.transferred transfers.broken_off transfers.passed transfers.stopped_at
-  transfer_held k c s i q r t held =
-      let passed : Known = on_ring h k q (Reaches (after (shape_of h q) (number t))) in
-      let behind : IsHeld passed r = reaches_held k q (after (shape_of h q) (number t)) r held in
-      let n : ℕ = stopped_number (shape_of h q) (k.ring q) t in
-      cond_both (is_success c) _ _ (λ (l : Known). IsHeld l r) (λ _. behind)
-      (λ _. cond_both (is_halting c) _ _ (λ (l : Known). IsHeld l r) (λ _. holds_held passed q (number t + 1) r behind)
-      (λ _. cond_both (is_trb_error c) _ _ (λ (l : Known). IsHeld l r) (λ _. holds_held passed q (number t + 1) r behind)
-      (λ _. cond_both (is_stopping c) _ k (λ (l : Known). IsHeld l r) (λ _. reaches_held (on_ring h k q (Holds n)) q t r (holds_held k q n r held)) (λ _. held))))
+  transfer_held : (k : Known) (c s i q r : ℕ) (t : Spot) → StaysHeld k (transferred h k c s i q t) r
+  unfolding transferred broken_off transfers_passed stopped_at
+  transfer_held k c s i q r t held = search (rules, on_ring, after, shape_of, number, reaches_held, stopped_number, cond_both, is_success, is_halting, holds_held, is_trb_error, is_stopping)
 
-  transfer_at_held : (k : Known) (b : Block) (o : Option RingSpot) (r : ℕ) → StaysHeld k (transfers.transferred_at h k b o) r
-  unfolding transfers.transferred_at
+  transfer_at_held : (k : Known) (b : Block) (o : Option RingSpot) (r : ℕ) → StaysHeld k (transferred_at h k b o) r
+  unfolding transferred_at
   transfer_at_held k b None r held = held
   transfer_at_held k b (Some at) r held = transfer_held k (code b) (slot b) (endpoint b) at.ring r at.spot held
 
-  set_held : (k : Known) (q : ℕ) (t : Spot) (r : ℕ) → StaysHeld k (completions.set_to h k q t) r
-  unfolding completions.set_to
-  set_held k q t r held = holds_held (on_ring h k q (Reaches t)) q (number t) r (reaches_held k q t r held)
-
-  moved_to_held : (k : Known) (q : ℕ) (o : Option Spot) (r : ℕ) → StaysHeld k (completions.moved_to h k q o) r
-  unfolding completions.moved_to
+  moved_to_held : (k : Known) (q : ℕ) (o : Option Spot) (r : ℕ) → StaysHeld k (moved_to h k q o) r
+  unfolding moved_to set_to
   moved_to_held k q None r held = held
-  moved_to_held k q (Some t) r held = set_held k q t r held
+  moved_to_held k q (Some t) r held = holds_held (on_ring h k q (Reaches t)) q (number t) r (reaches_held k q t r held)
 
-  moved_held : (k : Known) (o : Option ℕ) (p : ℕ) (cycle : Bool) (r : ℕ) → StaysHeld k (completions.moved h k o p cycle) r
-  unfolding completions.moved
+  moved_held : (k : Known) (o : Option ℕ) (p : ℕ) (cycle : Bool) (r : ℕ) → StaysHeld k (moved h k o p cycle) r
+  unfolding moved
   moved_held k None p cycle r held = held
   moved_held k (Some q) p cycle r held = moved_to_held k q (target (shape_of h q) (k.ring q) p cycle) r held
 
-  bound_held : (k : Known) (s i : ℕ) (o : Option ℕ) (p : ℕ) (cycle : Bool) (r : ℕ) → StaysHeld k (completions.bound_to h k s i o p cycle) r
-  unfolding completions.bound_to
+  bound_held : (k : Known) (s i : ℕ) (o : Option ℕ) (p : ℕ) (cycle : Bool) (r : ℕ) → StaysHeld k (bound_to h k s i o p cycle) r
+  unfolding bound_to
   bound_held k s i None p cycle r held = held
   bound_held k s i (Some q) p cycle r held = moved_held k (Some q) p cycle r held
 
-  ceiling_held : (k : Known) (o : Option ℕ) (r : ℕ) → StaysHeld k (completions.held_at_ceiling h k o) r
-  unfolding completions.held_at_ceiling
+  ceiling_held : (k : Known) (o : Option ℕ) (r : ℕ) → StaysHeld k (held_at_ceiling h k o) r
+  unfolding held_at_ceiling
   ceiling_held k None r held = held
   ceiling_held k (Some q) r held = holds_held k q (ceiling (shape_of h q) (k.ring q)) r held
 
-  pointed_held : (k : Known) (s i p : ℕ) (cycle : Bool) (r : ℕ) → StaysHeld k (completions.pointed h k s i p cycle) r
-  unfolding completions.pointed
-  pointed_held k s i p cycle r held =
-      cond_both (is_off (k.endpoint_state s i)) _ _ (λ (l : Known). IsHeld l r) (λ _. bound_held k s i (ring_having h p) p cycle r held) (λ _. moved_held k (k.ring_of s i) p cycle r held)
+  pointed_held : (k : Known) (s i p : ℕ) (cycle : Bool) (r : ℕ) → StaysHeld k (pointed h k s i p cycle) r
+  unfolding pointed
+  pointed_held k s i p cycle r held = search (rules, cond_both, is_off, bound_held, ring_having, moved_held)
 
-  change_held : (c : Command) (k : Known) (change : Change) (r : ℕ) → StaysHeld k (completions.changed_by h c k change) r
-  unfolding completions.changed_by completions.disabled completions.in_state
+  change_held : (c : Command) (k : Known) (change : Change) (r : ℕ) → StaysHeld k (known_changed_by h c k change) r
+  unfolding known_changed_by known_disabled known_in_state
   change_held c k (Places s i p cycle state) r held = pointed_held k s i p cycle r held
-  change_held c k (Stops s i) r held = ceiling_held (completions.in_state h k s i _) (k.ring_of s i) r held
+  change_held c k (Stops s i) r held = ceiling_held (known_in_state h k s i _) (k.ring_of s i) r held
   change_held c k _ r held = held
 
-  changes_held : (c : Command) (k : Known) (all : List Change) (r : ℕ) → StaysHeld k (completions.changed_by_all h c k all) r
-  unfolding completions.changed_by_all
+  changes_held : (c : Command) (k : Known) (all : List Change) (r : ℕ) → StaysHeld k (known_changed_by_all h c k all) r
+  unfolding known_changed_by_all
   changes_held c k [] r held = held
-  changes_held c k (change ∷ rest) r held = changes_held c (completions.changed_by h c k change) rest r (change_held c k change r held)
+  changes_held c k (change ∷ rest) r held = changes_held c (known_changed_by h c k change) rest r (change_held c k change r held)
 
-  ended_held : (k : Known) (c : Command) (r : ℕ) → StaysHeld k (completions.stop_ended h k c) r
-  unfolding completions.stop_ended
+  ended_held : (k : Known) (c : Command) (r : ℕ) → StaysHeld k (stop_ended h k c) r
+  unfolding stop_ended
   ended_held k (StopEndpoint s i) r held = held
   ended_held k _ r held = held
 
-  finished_held : (k : Known) (b : Block) (o : Option Command) (r : ℕ) → StaysHeld k (completions.finished h k b o) r
-  unfolding completions.finished completions.succeeded
+  finished_held : (k : Known) (b : Block) (o : Option Command) (r : ℕ) → StaysHeld k (known_finished h k b o) r
+  unfolding known_finished known_succeeded
   finished_held k b None r held = held
   finished_held k b (Some c) r held =
-      let done : Known = if code b == 1 then completions.succeeded h k (slot b) c else k in
-      ended_held done c r (cond_both (code b == 1) (completions.succeeded h k (slot b) c) k (λ (l : Known). IsHeld l r)
+      ended_held (if code b == 1 then known_succeeded h k (slot b) c else k) c r (cond_both (code b == 1) (known_succeeded h k (slot b) c) k (λ (l : Known). IsHeld l r)
       (λ _. changes_held c k (changes h.context_size k.memory (slot b) c) r held) (λ _. held))
 
   event_held : (k : Known) (t : BlockKind) (b : Block) (r : ℕ) → StaysHeld k (event_read h k t b) r
-  unfolding event_read transfers.transfer_read completions.completed
+  unfolding event_read transfer_read completed
   event_held k TransferEvent b r held = transfer_at_held k b (event_at h k b) r held
   event_held k CommandCompletion b r held =
-      reaches_held (completions.finished h k b (command_at h k (next_command h k))) (command_id h) (after (shape_of h (command_id h)) (next_command h k)) r
+      reaches_held (known_finished h k b (command_at h k (next_command h k))) (command_id h) (after (shape_of h (command_id h)) (next_command h k)) r
       (finished_held k b (command_at h k (next_command h k)) r held)
   event_held k _ b r held = held
 
@@ -117,18 +101,13 @@ module _ (h : Header) where
 
   bell_held : (k : Known) (s t r : ℕ) → r ≢ command_id h → (not (s == 0) && is_ring r (k.ring_of s t)) ≡ false → StaysHeld k (rung h k s t) r
   unfolding rung
-  bell_held k s t r no_command quiet held =
-      cond_both (s == 0) _ _ (λ (l : Known). IsHeld l r) (λ _. opens_other k (command_id h) r no_command held)
-      (λ endpoint. endpoint_held k s t (k.ring_of s t) r (sym (ap (λ c. c && is_ring r (k.ring_of s t)) (not_from_false (s == 0) endpoint)) ∙ quiet) held)
+  bell_held k s t r no_command quiet held = search (rules, cond_both, opens_other, command_id, endpoint_held, is_ring, not_from_false)
 
   -- ring r is held behind a row, if it was before: but for its doorbell
   pub row_held : (k : Known) (row : Row) (r : ℕ) → r ≢ command_id h → begins_anew h k r row ≡ false → StaysHeld k (learned h k row) r
   unfolding learned begins_anew
-  row_held k (Sub q blocks) r no_command quiet held = held_as_before (k.ring r) _ ((declaration_leaves h k q blocks).pointers r).held held
-  row_held k (Write a x) r no_command quiet held = held_as_before (k.ring r) _ ((write_leaves h k a x).pointers r).held held
-  row_held k (Reg q x) r no_command quiet held = held_as_before (k.ring r) _ (ap (λ f. (f r).held) (register_leaves h k q x).ring) held
-  row_held k (Bell s t) r no_command quiet held = bell_held k s t r no_command quiet held
   row_held k (Read b) r no_command quiet held = event_held k (kind b) b r held
+  row_held k _ r no_command quiet held = search (rules, held_as_before, declaration_leaves, write_leaves, register_leaves, bell_held)
 
   -- ---- no success of its blocks is read
 
@@ -165,11 +144,7 @@ timely_then h k b later timely = timely.1
 module _ (h : Header) where
   forgotten_held : (k : Known) (id r : ℕ) → StaysHeld k (forgotten k id) r
   unfolding forgotten is_open
-  forgotten_held k id r held =
-      elim (cases_eq r id) [
-        | inl same ↦ ap (λ (v : RingView). is_open v) (ap (λ n. put k.ring id new_ring n) same ∙ put_at k.ring id new_ring)
-        | inr other ↦ ap (λ (v : RingView). is_open v) (put_off k.ring id new_ring r other) ∙ held
-      ]
+  forgotten_held k id r held = search (rules, cases_eq, is_open, put, new_ring, put_at, put_off)
 
   -- what restores or withdraws leaves the ring held
   quiet_held : (k : Known) (q : ℕ) (change : RingChange) → ((v : RingView) (shape : Shape) → (changed shape v change).held ≡ v.held) → (r : ℕ) → StaysHeld k (on_ring h k q change) r
@@ -185,31 +160,20 @@ module _ (h : Header) where
   anew_same : (k : Known) (o : Option ℕ) (r : ℕ) (row : Row) → IsDriverRow row → begins_anew h k r row ≡ false → begins_anew h (restored_on h k o) r row ≡ false
   unfolding begins_anew restored_on on_ring
   anew_same k None r row driver_row quiet = quiet
-  anew_same k (Some q) r (Bell s t) driver_row quiet = quiet
-  anew_same k (Some q) r (Sub p blocks) driver_row quiet = quiet
-  anew_same k (Some q) r (Write a x) driver_row quiet = quiet
-  anew_same k (Some q) r (Reg p x) driver_row quiet = quiet
   anew_same k (Some q) r (Read b) driver_row quiet = absurd driver_row
+  anew_same k (Some q) r _ driver_row quiet = quiet
 
   plain_held : (k : Known) (row : Row) (r : ℕ) → r ≢ command_id h → begins_anew h k r row ≡ false → StaysHeld k (learned h (restored h k row) row) r
   unfolding ring_restored restored_on
   plain_held k (Read b) r other quiet held = row_held h k (Read b) r other quiet held
-  plain_held k (Sub q blocks) r other quiet held = row_held h k (Sub q blocks) r other quiet held
-  plain_held k (Reg q x) r other quiet held = row_held h k (Reg q x) r other quiet held
-  plain_held k (Write a x) r other quiet held =
-      let o : Option ℕ = ring_restored h k (Write a x) in
-      row_held h (restored_on h k o) (Write a x) r other (anew_same k o r (Write a x) tt quiet) (restored_held k o r held)
-  plain_held k (Bell s t) r other quiet held =
-      let o : Option ℕ = ring_restored h k (Bell s t) in
-      row_held h (restored_on h k o) (Bell s t) r other (anew_same k o r (Bell s t) tt quiet) (restored_held k o r held)
+  plain_held k row r other quiet held =
+      let o : Option ℕ = ring_restored h k row in row_held h (restored_on h k o) row r other (anew_same k o r row tt quiet) (restored_held k o r held)
 
   -- ring r is held behind a row of any kind, if it was before: but for its doorbell
   any_held : (k : Known) (row : TraceRow) (r : ℕ) → r ≢ command_id h → ends_need h k r row ≡ false → StaysHeld k (known_after h k row) r
   unfolding ends_need
   any_held k (Plain row) r other quiet held = plain_held k row r other quiet held
-  any_held k (Comes ring) r other quiet held = forgotten_held k ring.id r held
-  any_held k (Goes id) r other quiet held = forgotten_held k id r held
-  any_held k (Withdraws q p) r other quiet held = quiet_held k q (changes.Withdraws p) (λ v shape. refl) r held
+  any_held k _ r other quiet held = search (rules, forgotten_held, quiet_held)
 
   none_needed : (k : Known) (r : ℕ) (row : TraceRow) → IsHeld k r → is_late_row k row ≡ false → number_needed h k r row ≡ 0
   unfolding number_needed

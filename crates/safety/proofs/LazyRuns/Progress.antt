@@ -1,14 +1,186 @@
--- How far the pointers of a driver's rings have come, summed: looks move them on, by as many places as there are looks
-use Rattle.safety.proofs.LazyRuns.Words.{◌≡◌, ◌≢◌, ◌+◌, ◌-◌, ◌*◌, ◌<◌, ◌≤◌, ◌==◌, ◌∷◌, ◌∙◌, if◌then◌else◌, ℕ, true, false, List, [], length, map, arith, refl, ap, eq-eqb, ne_eqb, length-append, rules, cond-false, cond-true, cond_both, flat_map, put, number, rank, Spot, rank_least, rank_most, Header, Step, Look, command_id, ring_with, shape_of, is_driver_ring, RingSpot}
-use Rattle.safety.specs.LazyRuns.Lazy as lazy
-use Rattle.safety.proofs.LazyRuns.LooksCounted.{looks_few}
-use Rattle.safety.proofs.LazyRuns.Totals.{total, total_grows}
+-- How far the pointers of a driver's rings have come, and which positions are given, summed: looks move pointers on, by as many places as there are looks
+use Rattle.safety.proofs.LazyRuns.Words.{put_at, put_off, ◌≡◌, ◌≢◌, ◌+◌, ◌*◌, ◌<◌, ◌≤◌, ℕ, suc, zero, arith, sym, subst, inl, inr, cases_eq, cases_lt, ◌||◌, ◌∙◌, Bool, true, false, refl, ap, cases_Bool, false≢true, is_inside, RingView, Writes, changed, gives, IsShape, Shape, address_inside, gives_is, gives_one, ◌∷◌, List, filter, length, max, nat_lt, ltb-true, ltb-false, rules, cond_both, length-map, next, number, rank, spots_from, Spot, number-after, next_later, Header, RingSpot, behind_taken, further, looks_to, spots_before, [], ◌-◌, ◌==◌, if◌then◌else◌, map, eq-eqb, ne_eqb, length-append, cond-false, cond-true, flat_map, put, rank_least, rank_most, Step, Look, command_id, ring_with, shape_of, is_driver_ring, brought}
 
-put_here : (f : ℕ → Spot) (r : ℕ) (t : Spot) → put f r t r ≡ t
-put_here f r t = cond-true (r == r) t (f r) (eq-eqb r r refl)
+-- Sums of a function over the numbers below a bound
 
-put_there : (f : ℕ → Spot) (r : ℕ) (t : Spot) (q : ℕ) → q ≢ r → put f r t q ≡ f q
-put_there f r t q other = cond-false (q == r) t (f q) (ne_eqb q r other)
+-- f 0 + .. + f (n - 1)
+pub total : (ℕ → ℕ) → ℕ → ℕ
+total f zero = 0
+total f (suc n) = total f n + f n
+
+pub total_le : (f g : ℕ → ℕ) (n : ℕ) → ((i : ℕ) → f i ≤ g i) → total f n ≤ total g n
+unfolding total
+total_le f g zero le = omega arith
+total_le f g (suc n) le = omega (arith, total_le f g n le, le n)
+
+total_below : (f g : ℕ → ℕ) (n : ℕ) → ((i : ℕ) → i < n → f i ≤ g i) → total f n ≤ total g n
+unfolding total
+total_below f g zero le = omega arith
+total_below f g (suc n) le = omega (arith, total_below f g n (λ i below. le i (omega arith)), le n (omega arith))
+
+-- one grows by d, and none shrinks
+pub total_grows : (f g : ℕ → ℕ) (r d n : ℕ) → r < n → ((i : ℕ) → i ≢ r → f i ≤ g i) → f r + d ≤ g r → total f n + d ≤ total g n
+unfolding total
+total_grows f g r d zero below others here = absurd (omega arith)
+total_grows f g r d (suc n) below others here =
+    elim (cases_eq r n) [
+      | inl last ↦
+          let rest : total f n ≤ total g n = total_below f g n (λ i low. others i (λ same. omega arith)) in
+          let end : f n + d ≤ g n = subst (λ m. f m + d ≤ g m) last here in
+          omega arith
+      | inr other ↦
+          let rest : total f n + d ≤ total g n = total_grows f g r d n (omega arith) others here in
+          let end : f n ≤ g n = others n (λ same. other (sym same)) in
+          omega arith
+    ]
+
+-- one grows by d at most, and no other does
+pub total_most : (f g : ℕ → ℕ) (r d n : ℕ) → ((i : ℕ) → i ≢ r → g i ≤ f i) → g r ≤ f r + d → total g n ≤ total f n + d
+unfolding total
+total_most f g r d zero others here = omega arith
+total_most f g r d (suc n) others here =
+    elim (cases_eq r n) [
+      | inl last ↦
+          let rest : total g n ≤ total f n = total_below g f n (λ i low. others i (λ same. omega arith)) in
+          let end : g n ≤ f n + d = subst (λ m. g m ≤ f m + d) last here in
+          omega arith
+      | inr other ↦
+          let rest : total g n ≤ total f n + d = total_most f g r d n others here in
+          let end : g n ≤ f n = others n (λ same. other (sym same)) in
+          omega arith
+    ]
+
+-- each grows by one at most, and no two do
+pub total_one : (f g : ℕ → ℕ) (n : ℕ) → ((i : ℕ) → g i ≤ f i + 1) → ((i j : ℕ) → f i < g i → f j < g j → i ≡ j) → total g n ≤ total f n + 1
+unfolding total
+total_one f g zero near one = omega arith
+total_one f g (suc n) near one =
+    elim (cases_lt (f n) (g n)) [
+      | inl grows ↦
+          let still : (i : ℕ) → i < n → g i ≤ f i =
+          λ i low. elim (cases_lt (f i) (g i)) [ inl more ↦ let same = one i n more grows in absurd (omega arith) | inr none ↦ none ] in
+          let rest : total g n ≤ total f n = total_below g f n still in
+          let end : g n ≤ f n + 1 = near n in
+          omega arith
+      | inr none ↦ let rest : total g n ≤ total f n + 1 = total_one f g n near one in omega arith
+    ]
+
+pub total_ones : (f : ℕ → ℕ) (n : ℕ) → ((i : ℕ) → i < n → f i ≡ 1) → total f n ≡ n
+unfolding total
+total_ones f zero ones = omega arith
+total_ones f (suc n) ones = let rest : total f n ≡ n = total_ones f n (λ i low. ones i (omega arith)) in let end : f n ≡ 1 = ones n (omega arith) in omega arith
+
+pub total_none : (f : ℕ → ℕ) (n : ℕ) → ((i : ℕ) → f i ≡ 0) → total f n ≡ 0
+unfolding total
+total_none f zero none = omega arith
+total_none f (suc n) none = let rest : total f n ≡ 0 = total_none f n none in let end : f n ≡ 0 = none n in omega arith
+
+pub total_twice : (f : ℕ → ℕ) (n : ℕ) → total (λ i. 2 * f i) n ≡ 2 * total f n
+unfolding total
+total_twice f zero = omega arith
+total_twice f (suc n) = let rest : total (λ i. 2 * f i) n ≡ 2 * total f n = total_twice f n in omega arith
+
+-- How many positions of a ring are given: a write gives one more at most, and none of a ring that doesn't have its word
+
+pub bit : Bool → ℕ
+bit true = 1
+bit false = 0
+
+pub bit_most : (b : Bool) → bit b ≤ 1
+unfolding bit
+bit_most true = omega arith
+bit_most false = omega arith
+
+pub bit_set : (b : Bool) → b ≡ true → bit b ≡ 1
+unfolding bit
+bit_set true set = refl
+bit_set false set = absurd (false≢true set)
+
+pub bit_clear : (b : Bool) → b ≡ false → bit b ≡ 0
+unfolding bit
+bit_clear true set = absurd (false≢true (sym set))
+bit_clear false set = refl
+
+newly : (was now : Bool) → bit was < bit (was || now) → now ≡ true
+unfolding bit
+newly true now more = absurd (omega arith)
+newly false true more = refl
+newly false false more = absurd (omega arith)
+
+not_newly : (was now : Bool) → now ≡ false → bit (was || now) ≤ bit was
+unfolding bit
+not_newly true now none = omega arith
+not_newly false true none = absurd (false≢true (sym none))
+not_newly false false none = omega arith
+
+-- how many of the first n positions are given
+pub given_among : RingView → ℕ → ℕ
+given_among v n = total (λ p. bit (v.given p)) n
+
+-- where all of them are
+pub all_given : (v : RingView) (n : ℕ) → ((p : ℕ) → p < n → v.given p ≡ true) → given_among v n ≡ n
+unfolding given_among
+all_given v n all = total_ones (λ p. bit (v.given p)) n (λ p low. bit_set (v.given p) (all p low))
+
+pub none_given : (v : RingView) (n : ℕ) → ((p : ℕ) → v.given p ≡ false) → given_among v n ≡ 0
+unfolding given_among
+none_given v n none = total_none (λ p. bit (v.given p)) n (λ p. bit_clear (v.given p) (none p))
+
+pub same_given : (v w : RingView) (n : ℕ) → w.given ≡ v.given → given_among w n ≡ given_among v n
+unfolding given_among
+same_given v w n same = ap (λ (g : ℕ → Bool). total (λ p. bit (g p)) n) same
+
+module _ (shape : Shape) (is : IsShape shape) (v : RingView) (a w n : ℕ) where
+  pub one_more : given_among (changed shape v (Writes a w)) n ≤ given_among v n + 1
+  unfolding given_among
+  one_more =
+      total_one (λ p. bit (v.given p)) (λ p. bit (v.given p || gives shape v.floor p a w)) n
+      (λ p. let most = bit_most (v.given p || gives shape v.floor p a w) in omega (arith, most))
+      (λ p q first second. gives_one shape is v.floor a w p q (newly (v.given p) (gives shape v.floor p a w) first) (newly (v.given q) (gives shape v.floor q a w) second))
+
+  gives_none : is_inside shape a ≡ false → (p : ℕ) → gives shape v.floor p a w ≡ false
+  gives_none outside p =
+      elim (cases_Bool (gives shape v.floor p a w)) [
+        | inl now ↦
+            absurd (false≢true (sym outside ∙ ap (λ y. is_inside shape y) (gives_is shape v.floor p a w now).at ∙ address_inside shape is p 12 (omega arith)))
+        | inr none ↦ none
+      ]
+
+  pub no_more : is_inside shape a ≡ false → given_among (changed shape v (Writes a w)) n ≤ given_among v n
+  unfolding given_among
+  no_more outside = search (rules, total_le, bit, gives, not_newly, gives_none)
+
+-- How many looks bring a ring to a spot: no more than there are places between the two
+
+spots_few : (shape : Shape) (s t : Spot) (n : ℕ) → length (filter (λ u. nat_lt (rank u) (rank t)) (spots_from shape s n)) + rank s ≤ max (rank s) (rank t)
+spots_few shape s t zero = omega arith
+spots_few shape s t (suc n) =
+    let later : rank s < rank (next shape s) = next_later shape s in
+    let rest : List Spot = filter (λ u. nat_lt (rank u) (rank t)) (spots_from shape (next shape s) n) in
+    let few : length rest + rank (next shape s) ≤ max (rank (next shape s)) (rank t) = spots_few shape (next shape s) t n in
+    cond_both (nat_lt (rank s) (rank t)) (s ∷ rest) rest (λ l. length l + rank s ≤ max (rank s) (rank t))
+    (λ before. let lt : rank s < rank t = ltb-true (rank s) (rank t) before in omega arith)
+    (λ past. let le : rank t ≤ rank s = ltb-false (rank s) (rank t) past in omega arith)
+
+further_rank : (s t : Spot) → rank (further s t) ≡ max (rank s) (rank t)
+unfolding further
+further_rank s t = search (rules, arith, cond_both, nat_lt, rank, max, ltb-true, ltb-false)
+
+-- it is one of the two
+pub further_most : (s t : Spot) (n : ℕ) → number s ≤ n → number t ≤ n → number (further s t) ≤ n
+unfolding further
+further_most s t n a b = cond_both (nat_lt (rank s) (rank t)) t s (λ u. number u ≤ n) (λ _. b) (λ _. a)
+
+pub number_taken : (shape : Shape) (n : ℕ) → number (behind_taken shape n) ≡ n
+unfolding behind_taken
+number_taken shape zero = omega arith
+number_taken shape (suc p) = number-after shape p ∙ omega arith
+
+module _ (h : Header) where
+  pub looks_few : (pointers : ℕ → Spot) (goal : RingSpot) →
+      length (looks_to h pointers goal) + rank (pointers goal.ring) ≤ rank (further (pointers goal.ring) goal.spot)
+  unfolding looks_to spots_before
+  looks_few pointers goal = search (rules, length, filter, nat_lt, length-map, spots_few, further_rank)
 
 module _ (h : Header) where
   -- n, of a ring of the driver
@@ -51,87 +223,64 @@ module _ (h : Header) where
   transfer_value r t other = cond-false (r == command_id h) (rank t) (2 * number t) (ne_eqb r (command_id h) other)
 
   come_same : (pointers : ℕ → Spot) (r : ℕ) (t : Spot) (q : ℕ) → q ≢ r → come_to q (pointers q) ≤ come_to q (put pointers r t q)
-  come_same pointers r t q other = let same = ap (λ s. come_to q s) (put_there pointers r t q other) in omega (arith, same)
+  come_same pointers r t q other = let same = ap (λ s. come_to q s) (put_off pointers r t q other) in omega (arith, same)
 
   module _ (pointers : ℕ → Spot) (goal : RingSpot) (low : goal.ring < 256) (driver : is_driver_ring (ring_with h goal.ring) ≡ true) where
     there : Spot
-    there = lazy.further (pointers goal.ring) goal.spot
+    there = further (pointers goal.ring) goal.spot
 
     looked : ℕ
-    looked = length (lazy.looks_to h pointers goal)
+    looked = length (looks_to h pointers goal)
 
     -- a ring comes on by so much at least
     moves : (d : ℕ) → place_value goal.ring (pointers goal.ring) + d ≤ place_value goal.ring there → progress pointers + d ≤ progress (put pointers goal.ring there)
     unfolding progress come_to
     moves d on =
         total_grows (λ r. come_to r (pointers r)) (λ r. come_to r (put pointers goal.ring there r)) goal.ring d 256 low (come_same pointers goal.ring there)
-        (omega (
-          arith,
-          on,
-          on_driver goal.ring (place_value goal.ring (pointers goal.ring)) driver,
-          on_driver goal.ring (place_value goal.ring there) driver,
-          ap (λ t. of_driver goal.ring (place_value goal.ring t)) (put_here pointers goal.ring there),
-        ))
+        (omega (arith, on, on_driver, ap (λ t. of_driver goal.ring (place_value goal.ring t)) (put_at pointers goal.ring there)))
 
-    pub command_looks : goal.ring ≡ command_id h → progress pointers + length (lazy.looks_to h pointers goal) ≤ progress (put pointers goal.ring (lazy.further (pointers goal.ring) goal.spot))
+    pub command_looks : goal.ring ≡ command_id h → progress pointers + length (looks_to h pointers goal) ≤ progress (put pointers goal.ring (further (pointers goal.ring) goal.spot))
     unfolding there looked
     command_looks command =
-        let value : (t : Spot) → place_value goal.ring t ≡ rank t = λ t. ap (λ r. place_value r t) command ∙ command_value t in
-        moves looked (omega (arith, value (pointers goal.ring), value there, looks_few h pointers goal))
+        let value : (t : Spot) → place_value goal.ring t ≡ rank t = λ t. ap (λ r. place_value r t) command ∙ command_value t in moves looked (omega (arith, value, looks_few))
 
-    pub ring_looks : goal.ring ≢ command_id h → progress pointers + length (lazy.looks_to h pointers goal) ≤ progress (put pointers goal.ring (lazy.further (pointers goal.ring) goal.spot)) + 1
+    pub ring_looks : goal.ring ≢ command_id h → progress pointers + length (looks_to h pointers goal) ≤ progress (put pointers goal.ring (further (pointers goal.ring) goal.spot)) + 1
     unfolding there looked
     ring_looks other =
-        let on : progress pointers + (looked - 1) ≤ progress (put pointers goal.ring there) =
-        moves (looked - 1)
-        (omega (
-          arith,
-          transfer_value goal.ring (pointers goal.ring) other,
-          transfer_value goal.ring there other,
-          looks_few h pointers goal,
-          rank_least (pointers goal.ring),
-          rank_most there,
-        )) in
+        let on : progress pointers + (looked - 1) ≤ progress (put pointers goal.ring there) = moves (looked - 1) (omega (arith, transfer_value, other, looks_few, rank_least, rank_most)) in
         omega (arith, on)
 
   -- ---- the looks for an event
 
   abbrev pub AreFew : (ℕ → Spot) → List RingSpot → Type 0
-  AreFew pointers goals = progress pointers + length (flat_map (lazy.looks_to h pointers) goals) ≤ progress (lazy.brought h pointers goals) + 1
+  AreFew pointers goals = progress pointers + length (flat_map (looks_to h pointers) goals) ≤ progress (brought h pointers goals) + 1
 
   pub no_goal : (pointers : ℕ → Spot) → AreFew pointers []
-  unfolding lazy.brought
+  unfolding brought
   no_goal pointers = omega arith
 
   flat_one : (pointers : ℕ → Spot) (goal : RingSpot) (rest : List RingSpot) →
-      length (flat_map (lazy.looks_to h pointers) (goal ∷ rest)) ≡ length (lazy.looks_to h pointers goal) + length (flat_map (lazy.looks_to h pointers) rest)
-  flat_one pointers goal rest = length-append (lazy.looks_to h pointers goal) (flat_map (lazy.looks_to h pointers) rest)
+      length (flat_map (looks_to h pointers) (goal ∷ rest)) ≡ length (looks_to h pointers goal) + length (flat_map (looks_to h pointers) rest)
+  flat_one pointers goal rest = length-append (looks_to h pointers goal) (flat_map (looks_to h pointers) rest)
 
   module _ (pointers : ℕ → Spot) (goal : RingSpot) (low : goal.ring < 256) (driver : is_driver_ring (ring_with h goal.ring) ≡ true) where
     pub command_goal : goal.ring ≡ command_id h → AreFew pointers (goal ∷ [])
-    unfolding lazy.brought
+    unfolding brought
     command_goal command = omega (arith, flat_one pointers goal [], command_looks pointers goal low driver command)
 
     pub ring_goal : goal.ring ≢ command_id h → AreFew pointers (goal ∷ [])
-    unfolding lazy.brought
+    unfolding brought
     ring_goal other = omega (arith, flat_one pointers goal [], ring_looks pointers goal low driver other)
 
-  same_looks : (pointers now : ℕ → Spot) (goal : RingSpot) → now goal.ring ≡ pointers goal.ring → lazy.looks_to h now goal ≡ lazy.looks_to h pointers goal
-  unfolding lazy.looks_to
-  same_looks pointers now goal same = ap (λ s. map (λ t. Look goal.ring) (lazy.spots_before (shape_of h goal.ring) s goal.spot)) same
+  same_looks : (pointers now : ℕ → Spot) (goal : RingSpot) → now goal.ring ≡ pointers goal.ring → looks_to h now goal ≡ looks_to h pointers goal
+  unfolding looks_to
+  same_looks pointers now goal same = ap (λ s. map (λ t. Look goal.ring) (spots_before (shape_of h goal.ring) s goal.spot)) same
 
   pub two_goals : (pointers : ℕ → Spot) (command goal : RingSpot) → command.ring ≡ command_id h → goal.ring ≢ command_id h → command.ring < 256 → goal.ring < 256 →
       is_driver_ring (ring_with h command.ring) ≡ true → is_driver_ring (ring_with h goal.ring) ≡ true → AreFew pointers (command ∷ goal ∷ [])
-  unfolding lazy.brought
+  unfolding brought
   two_goals pointers command goal first other low_first low driver_first driver =
-      let now : ℕ → Spot = put pointers command.ring (lazy.further (pointers command.ring) command.spot) in
-      let apart : goal.ring ≢ command.ring = λ same. other (same ∙ first) in
-      let same : now goal.ring ≡ pointers goal.ring = put_there pointers command.ring (lazy.further (pointers command.ring) command.spot) goal.ring apart in
-      omega (
-        arith,
-        flat_one pointers command (goal ∷ []),
-        flat_one pointers goal [],
-        ap (λ (l : List Step). length l) (same_looks pointers now goal same),
-        command_looks pointers command low_first driver_first first,
-        ring_looks now goal low driver other,
-      )
+      let now : ℕ → Spot = put pointers command.ring (further (pointers command.ring) command.spot) in
+      let same : now goal.ring ≡ pointers goal.ring = put_off pointers command.ring (further (pointers command.ring) command.spot) goal.ring (λ same. other (same ∙ first)) in
+      let looks = ap (λ (l : List Step). length l) (same_looks pointers now goal same) in
+      omega (arith, flat_one, looks, command_looks pointers command low_first driver_first first, ring_looks now goal low driver other)

@@ -1,6 +1,5 @@
 -- What the schedule follows stays where a ring comes or goes, where a descriptor is withdrawn, and where a ring is restored: no pointer moves
-use Rattle.safety.proofs.LazyRuns.Words.{◌≡◌, ◌≢◌, ◌==◌, ◌∷◌, ◌∙◌, ℕ, not, Bool, true, false, List, [], find, filter, Option, Some, None, refl, sym, ap, subst, inl, inr, eq-eqb, ne_eqb, rules, cases_eq, cond_both, cond-false, cond-true, not_from_false, not_from_true, none-some, put, put_off, Spot, Data, RingView, RingChange, Restores, changed, new_ring, is_open, Header, Ring, Row, IsHeader, shape_of, command_id, ring_with, World, counted, Known, on_ring, DriverKeeps, IsTransferRing, Runs, view_after, IsComing, forgotten, is_bad_free, is_bad_ring, emptied, with_ring, without_ring, without_descriptor, is_bad_withdraw, is_left, restored, restored_on, ring_restored}
-use Rattle.segments.specs.RingView as changes
+use Rattle.safety.proofs.LazyRuns.Words.{◌≡◌, ◌≢◌, ◌==◌, ◌∙◌, ℕ, true, false, Option, Some, None, refl, sym, ap, subst, ne_eqb, rules, none-some, put, put_off, Spot, Data, RingView, RingChange, Restores, changed, new_ring, is_open, Header, Ring, Row, IsHeader, shape_of, command_id, ring_with, World, counted, Known, on_ring, DriverKeeps, IsTransferRing, Runs, view_after, IsComing, forgotten, is_bad_free, is_bad_ring, emptied, with_ring, without_ring, without_descriptor, is_bad_withdraw, is_left, restored, restored_on, ring_restored, RingWithdraws}
 use Rattle.safety.proofs.RingChanges.GoneRings as gone
 use Rattle.safety.proofs.RingChanges.NewRings as new
 use Rattle.safety.proofs.RingChanges.Restored as restores
@@ -56,16 +55,15 @@ module _ (h : Header) where
   restored_learns k None = record { ring_of = refl; started = refl; floors = λ r. refl; held = λ r. refl }
   restored_learns k (Some r) = one_learns k r Restores (λ v. refl) (λ v. refl)
 
-  pub withdrawn_learns : (k : Known) (r p : ℕ) → Learns k (on_ring h k r (changes.Withdraws p))
-  withdrawn_learns k r p = one_learns k r (changes.Withdraws p) (λ v. refl) (λ v. refl)
+  pub withdrawn_learns : (k : Known) (r p : ℕ) → Learns k (on_ring h k r (RingWithdraws p))
+  withdrawn_learns k r p = one_learns k r (RingWithdraws p) (λ v. refl) (λ v. refl)
 
   all_stays : (w : World) → StaysPut w w
   all_stays w = record { posted = refl; reads = refl; pointers = refl; cycles = refl; active = refl }
 
   pub restored_follows : IsHeader h → (k : Known) (pointers : ℕ → Spot) (w : World) (row : Row) → DriverKeeps h k → is_left h k (ring_restored h k row) ≡ false → Follows h k pointers w →
       Follows h (restored h k row) pointers w
-  restored_follows is k pointers w row d good f =
-      follows_too k (restored h k row) pointers w w (restored_learns k (ring_restored h k row)) (all_stays w) refl (restores.row_runs h is k d row w good f.runs) f
+  restored_follows is k pointers w row d good f = search (rules, follows_too, restored, restored_learns, ring_restored, all_stays, restores.row_runs)
 
   withdrawn_stays : (w : World) (r p : ℕ) → StaysPut w (counted h (without_descriptor w r p))
   unfolding counted without_descriptor
@@ -76,30 +74,10 @@ module _ (h : Header) where
   withdrawn_events w r p = refl
 
   pub withdrawn_follows : IsHeader h → (k : Known) (pointers : ℕ → Spot) (w : World) (r p : ℕ) → DriverKeeps h k → is_bad_withdraw h k r p ≡ false → Follows h k pointers w →
-      Follows h (on_ring h k r (changes.Withdraws p)) pointers (counted h (without_descriptor w r p))
-  withdrawn_follows is k pointers w r p d good f =
-      follows_too k (on_ring h k r (changes.Withdraws p)) pointers w (counted h (without_descriptor w r p)) (withdrawn_learns k r p) (withdrawn_stays w r p)
-      (withdrawn_events w r p) (withdrawn.withdraw_runs h r p is k w d good f.runs) f
+      Follows h (on_ring h k r (RingWithdraws p)) pointers (counted h (without_descriptor w r p))
+  withdrawn_follows is k pointers w r p d good f = search (rules, follows_too, on_ring, counted, without_descriptor, withdrawn_learns, withdrawn_stays, withdrawn_events, withdrawn.withdraw_runs)
 
 -- ---- a ring comes or goes
-
--- a ring with another ID is found among the rings without this one
-listed_still : (rings : List Ring) (id q : ℕ) → q ≢ id → find (λ (x : Ring). x.id == q) (filter (λ x. not (x.id == id)) rings) ≡ find (λ x. x.id == q) rings
-listed_still [] id q other = refl
-listed_still (r ∷ rest) id q other =
-    let test : Ring → Bool = λ x. x.id == q in
-    let keep : Ring → Bool = λ x. not (x.id == id) in
-    let later : find test (filter keep rest) ≡ find test rest = listed_still rest id q other in
-    elim (cases_eq r.id id) [
-      | inl gone ↦
-          let no : (r.id == q) ≡ false = ne_eqb r.id q (λ same. other (sym same ∙ gone)) in
-          ap (find test) (cond-false (not (r.id == id)) (r ∷ filter keep rest) (filter keep rest) (not_from_true (r.id == id) (eq-eqb r.id id gone)))
-          ∙ later ∙ sym (cond-false (r.id == q) (Some r) (find test rest) no)
-      | inr stays ↦
-          ap (find test) (cond-true (not (r.id == id)) (r ∷ filter keep rest) (filter keep rest) (not_from_false (r.id == id) (ne_eqb r.id id stays)))
-          ∙ cond_both (r.id == q) (Some r) (find test (filter keep rest)) (λ o. o ≡ find test (r ∷ rest))
-          (λ yes. sym (cond-true (r.id == q) (Some r) (find test rest) yes)) (λ no. later ∙ sym (cond-false (r.id == q) (Some r) (find test rest) no))
-    ]
 
 -- the rings but one are those of h, and the ring of no endpoint is that one
 pub record OthersStay (h g : Header) (k : Known) (id : ℕ) : Type 0 where
@@ -202,7 +180,7 @@ module _ (h : Header) (is : IsHeader h) (k : Known) (d : DriverKeeps h k) where
     pub goes_stay : OthersStay h (without_ring h id) k id
     unfolding without_ring
     goes_stay = record {
-      listed = λ q other. listed_still h.rings id q other;
+      listed = λ q other. gone.ring_same h is k d id good q other;
       shapes = λ q other. gone.shape_same h is k d id good q other;
       command = gone.command_same h is k d id good;
       no_command = gone.no_command h is k d id good;

@@ -1,7 +1,113 @@
--- What a row of the driver leaves as it was known: floors, and which ring an endpoint has. A ring that it opens is active then
-use Rattle.safety.proofs.LazyRuns.Words.{◌≡◌, ◌==◌, ◌&&◌, ◌||◌, if◌then◌else◌, ◌∙◌, ℕ, nat_lt, not, true, false, [], Option, Some, None, is_none, refl, sym, ap, subst, inl, inr, rules, cases_Bool, cond_both, cond-true, cond-false, or_parts, and_from, not-false, put_pair, RingView, Opens, is_open, Running, is_running, is_stopped, Header, Row, Sub, Write, Reg, Bell, Read, Register, Usbcmd, command_id, World, Known, on_ring, run_or_stop, valued, register_written, endpoint_rung, rung, learned, is_bad_bell, lenient, IsDriverRow, BellFacts, bell_facts, put_at, declaration_leaves, write_leaves, register_leaves, bell_leaves, view_after}
-use Rattle.controller_model.specs.DriverRows as driver
-use Rattle.safety.proofs.LazyRuns.RowsLeave.{row_leaves, done}
+-- What a row of the driver leaves as it was, in the world and in what is known: floors, and which ring an endpoint has. A ring that it opens is active then
+use Rattle.safety.proofs.LazyRuns.Words.{◌≡◌, ◌≢◌, ◌==◌, ◌&&◌, ◌||◌, ◌⊎◌, if◌then◌else◌, ◌∙◌, ℕ, not, Bool, true, false, List, Option, Some, None, refl, sym, ap, inl, inr, cases_eq, cond_both, false≢true, put, put_pair, Block, Running, is_running, is_stopped, position_from, erdp_address, is_event_place, Header, Row, Sub, Write, Reg, Bell, Read, Register, Usbcmd, Erdp, command_id, event_shape, register_or_zero, run_bit, reset_bit, base_address, ring_cycle_state, World, stored, IsDriverRow, put_at, put_off, activated, bell_row, driver_declared, endpoint_bell as driver_endpoint_bell, register_row, row_done, driver_run_or_stop, started_with, driver_valued, with_dequeue, [], nat_lt, is_none, subst, rules, cases_Bool, cond-true, cond-false, or_parts, not-false, RingView, Opens, is_open, Known, on_ring, run_or_stop, valued, register_written, endpoint_rung, rung, learned, is_bad_bell, lenient, BellFacts, bell_facts, declaration_leaves, write_leaves, register_leaves, bell_leaves, view_after}
+
+-- What a row of the driver leaves as it is in the world: only the start moves a pointer, and that of the command ring alone
+
+-- the pointer of ring r stays, and so does its cycle state
+pub record PointerStays (w v : World) (r : ℕ) : Type 0 where
+  pub pointer : v.pointer_of r ≡ w.pointer_of r
+  pub cycle : v.cycle_state r ≡ w.cycle_state r
+
+pub stays_still : (w : World) (r : ℕ) → PointerStays w w r
+stays_still w r = record { pointer = refl; cycle = refl }
+
+not_back : (b : Bool) → not b ≡ true → b ≡ false
+not_back true off = absurd (false≢true off)
+not_back false off = refl
+
+module _ (h : Header) where
+  pub record RowLeaves (w v : World) : Type 0 where
+    pub posted : v.posted ≡ w.posted
+    pub reads : v.reads ≡ w.reads
+    pub events : (r : ℕ) → v.events r ≡ w.events r
+    pub active : (r : ℕ) → w.is_active r ≡ true → v.is_active r ≡ true
+    pub pointers : (r : ℕ) → (r ≢ command_id h) ⊎ (v.started ≡ w.started) → PointerStays w v r
+
+  leaves_all : (w : World) → RowLeaves w w
+  leaves_all w = record { posted = refl; reads = refl; events = λ r. refl; active = λ r on. on; pointers = λ r why. stays_still w r }
+
+  -- ---- the registers
+
+  starts : (w : World) → w.started ≡ false → RowLeaves w (started_with h w)
+  unfolding started_with
+  starts w off = search (rules, put_off, command_id, base_address, register_or_zero, ring_cycle_state, false≢true)
+
+  runs_or_stops : (w : World) (x : ℕ) → RowLeaves w (driver_run_or_stop h w x)
+  unfolding driver_run_or_stop
+  runs_or_stops w x =
+      let ended : World = record w { stopped = true } in
+      let stays : RowLeaves w ended = record { posted = refl; reads = refl; events = λ r. refl; active = λ r on. on; pointers = λ r why. record { pointer = refl; cycle = refl } } in
+      cond_both (not w.started) (if run_bit x && not (reset_bit x) then started_with h w else w) (if not (run_bit x) || reset_bit x then ended else w) (RowLeaves w)
+      (λ off. cond_both (run_bit x && not (reset_bit x)) (started_with h w) w (RowLeaves w) (λ _. starts w (not_back w.started off)) (λ _. leaves_all w))
+      (λ _. cond_both (not (run_bit x) || reset_bit x) ended w (RowLeaves w) (λ _. stays) (λ _. leaves_all w))
+
+  -- a register's value is no part of it
+  from_valued : (w v : World) (r : Register) (x : ℕ) → RowLeaves (driver_valued w r x) v → RowLeaves w v
+  unfolding driver_valued
+  from_valued w v r x l = search rules
+
+  dequeues : (w : World) (a : ℕ) → RowLeaves w (with_dequeue h w a)
+  unfolding with_dequeue
+  dequeues w a = search (rules, position_from, event_shape, cond_both, is_event_place, leaves_all)
+
+  registers : (w : World) (r : Register) (x : ℕ) → RowLeaves w (register_row h w r x)
+  unfolding register_row
+  registers w Usbcmd x = from_valued w (driver_run_or_stop h (driver_valued w Usbcmd x) x) Usbcmd x (runs_or_stops (driver_valued w Usbcmd x) x)
+  registers w Erdp x = from_valued w (with_dequeue h (driver_valued w Erdp x) (erdp_address x)) Erdp x (dequeues (driver_valued w Erdp x) (erdp_address x))
+  registers w r x = from_valued w (driver_valued w r x) r x (leaves_all (driver_valued w r x))
+
+  -- ---- the doorbells
+
+  still_active : (w : World) (r q : ℕ) → w.is_active q ≡ true → (activated h w r).is_active q ≡ true
+  unfolding activated
+  still_active w r q on = search (rules, cases_eq, put, put_at, put_off)
+
+  activates : (w : World) (r : ℕ) → RowLeaves w (activated h w r)
+  unfolding activated
+  activates w r = record { posted = refl; reads = refl; events = λ q. refl; active = still_active w r; pointers = λ q why. record { pointer = refl; cycle = refl } }
+
+  endpoint_rings : (w : World) (s t : ℕ) (o : Option ℕ) → RowLeaves w (driver_endpoint_bell h w s t o)
+  unfolding driver_endpoint_bell activated
+  endpoint_rings w s t None = leaves_all w
+  endpoint_rings w s t (Some r) =
+      let runs : World = record (activated h w r) { endpoint_state = put_pair w.endpoint_state s t Running } in
+      let goes : RowLeaves w runs = record { posted = refl; reads = refl; events = λ q. refl; active = still_active w r; pointers = λ q why. record { pointer = refl; cycle = refl } } in
+      cond_both (is_running (w.endpoint_state s t) || is_stopped (w.endpoint_state s t)) runs w (RowLeaves w) (λ _. goes) (λ _. leaves_all w)
+
+  rings : (w : World) (s t : ℕ) → RowLeaves w (bell_row h w s t)
+  unfolding bell_row
+  rings w s t =
+      cond_both (s == 0) (if t == 0 && w.started then activated h w (command_id h) else w) (driver_endpoint_bell h w s t (w.ring_of s t)) (RowLeaves w)
+      (λ _. cond_both (t == 0 && w.started) (activated h w (command_id h)) w (RowLeaves w) (λ _. activates w (command_id h)) (λ _. leaves_all w))
+      (λ _. endpoint_rings w s t (w.ring_of s t))
+
+  -- ---- all of them
+
+  declares : (w : World) (r : ℕ) (blocks : List Block) → RowLeaves w (driver_declared h w r blocks)
+  unfolding driver_declared
+  declares w r blocks = record { posted = refl; reads = refl; events = λ q. refl; active = λ q on. on; pointers = λ q why. record { pointer = refl; cycle = refl } }
+
+  stores : (w : World) (a x : ℕ) → RowLeaves w (stored w a x)
+  unfolding stored
+  stores w a x = record { posted = refl; reads = refl; events = λ q. refl; active = λ q on. on; pointers = λ q why. record { pointer = refl; cycle = refl } }
+
+  -- such a row is always possible
+  unfoldable pub done : World → Row → World
+  done w (Sub r blocks) = driver_declared h w r blocks
+  done w (Write a x) = stored w a x
+  done w (Reg r x) = register_row h w r x
+  done w (Bell s t) = bell_row h w s t
+  done w (Read e) = w
+
+  pub row_is_done : (w : World) (row : Row) → IsDriverRow row → row_done h w row ≡ Some (done w row)
+  unfolding row_done done
+  row_is_done w (Read e) driver_row = absurd driver_row
+  row_is_done w _ driver_row = refl
+
+  pub row_leaves : (w : World) (row : Row) → RowLeaves w (done w row)
+  unfolding done
+  row_leaves w (Sub r blocks) = search (rules, declares, stores, registers, rings, leaves_all)
+  row_leaves w _ = search (rules, declares, stores, registers, rings, leaves_all)
 
 pub open_before : (v w : RingView) → w.held ≡ v.held → is_open w ≡ true → is_open v ≡ true
 unfolding is_open
@@ -26,9 +132,7 @@ module _ (h : Header) where
 
   bell_floor : (k : Known) (s t q : ℕ) → ((learned h k (Bell s t)).ring q).floor ≡ (k.ring q).floor
   unfolding learned rung
-  bell_floor k s t q =
-      cond_both (s == 0) (on_ring h k (command_id h) Opens) (endpoint_rung h k s t (k.ring_of s t)) (λ l. (l.ring q).floor ≡ (k.ring q).floor)
-      (λ _. opens_floor k (command_id h) q) (λ _. rung_floor k s t (k.ring_of s t) q)
+  bell_floor k s t q = search (rules, cond_both, on_ring, command_id, endpoint_rung, opens_floor, rung_floor)
 
   -- ---- any row of the driver
 
@@ -49,21 +153,19 @@ module _ (h : Header) where
       view_after h (λ x. is_open x ≡ true → v.is_active q ≡ true) k r Opens q
       (λ same opened. ap (λ n. v.is_active n) same ∙ on) (λ other opened. still (was opened))
 
-  command_bell : (k : Known) (w : World) (t q : ℕ) → (t == 0) ≡ true → w.started ≡ true → (w.is_active q ≡ true → (if t == 0 && w.started then driver.activated h w (command_id h) else w).is_active q ≡ true) →
-      WasActive k w q → is_open ((on_ring h k (command_id h) Opens).ring q) ≡ true → (if t == 0 && w.started then driver.activated h w (command_id h) else w).is_active q ≡ true
-  unfolding driver.activated
+  command_bell : (k : Known) (w : World) (t q : ℕ) → (t == 0) ≡ true → w.started ≡ true → (w.is_active q ≡ true → (if t == 0 && w.started then activated h w (command_id h) else w).is_active q ≡ true) →
+      WasActive k w q → is_open ((on_ring h k (command_id h) Opens).ring q) ≡ true → (if t == 0 && w.started then activated h w (command_id h) else w).is_active q ≡ true
+  unfolding activated
   command_bell k w t q zero on still was =
-      let v : World = if t == 0 && w.started then driver.activated h w (command_id h) else w in
-      let here : v ≡ driver.activated h w (command_id h) = cond-true (t == 0 && w.started) (driver.activated h w (command_id h)) w (and_from (t == 0) w.started zero on) in
-      opens_one k w v (command_id h) q (ap (λ (u : World). u.is_active (command_id h)) here ∙ put_at w.is_active (command_id h) true) still was
+      let v : World = if t == 0 && w.started then activated h w (command_id h) else w in opens_one k w v (command_id h) q (simp (zero, on) (put_at w.is_active (command_id h) true)) still was
 
   endpoint_bell : (k : Known) (w : World) (s t q : ℕ) (o : Option ℕ) → (is_running (w.endpoint_state s t) || is_stopped (w.endpoint_state s t)) ≡ true →
-      (w.is_active q ≡ true → (driver.endpoint_bell h w s t o).is_active q ≡ true) → WasActive k w q →
-      is_open ((endpoint_rung h k s t o).ring q) ≡ true → (driver.endpoint_bell h w s t o).is_active q ≡ true
-  unfolding driver.endpoint_bell driver.activated endpoint_rung
+      (w.is_active q ≡ true → (driver_endpoint_bell h w s t o).is_active q ≡ true) → WasActive k w q →
+      is_open ((endpoint_rung h k s t o).ring q) ≡ true → (driver_endpoint_bell h w s t o).is_active q ≡ true
+  unfolding driver_endpoint_bell activated endpoint_rung
   endpoint_bell k w s t q None may still was opened = still (was opened)
   endpoint_bell k w s t q (Some r) may still was opened =
-      let runs : World = record (driver.activated h w r) { endpoint_state = put_pair w.endpoint_state s t Running } in
+      let runs : World = record (activated h w r) { endpoint_state = put_pair w.endpoint_state s t Running } in
       let v : World = if is_running (w.endpoint_state s t) || is_stopped (w.endpoint_state s t) then runs else w in
       let here : v ≡ runs = cond-true (is_running (w.endpoint_state s t) || is_stopped (w.endpoint_state s t)) runs w may in
       opens_one k w v r q (ap (λ (u : World). u.is_active r) here ∙ put_at w.is_active r true) still was opened
@@ -74,13 +176,13 @@ module _ (h : Header) where
 
   module _ (k : Known) (w : World) (started : w.started ≡ k.started) (ring_of : (s i : ℕ) → w.ring_of s i ≡ k.ring_of s i)
       (endpoints : (s i : ℕ) → w.endpoint_state s i ≡ k.endpoint_state s i) where
-    bell_active : (s t q : ℕ) → lenient h k (Bell s t) ≡ [] → (w.is_active q ≡ true → (driver.bell_row h w s t).is_active q ≡ true) → WasActive k w q →
-        is_open ((learned h k (Bell s t)).ring q) ≡ true → (driver.bell_row h w s t).is_active q ≡ true
-    unfolding learned rung driver.bell_row
+    bell_active : (s t q : ℕ) → lenient h k (Bell s t) ≡ [] → (w.is_active q ≡ true → (bell_row h w s t).is_active q ≡ true) → WasActive k w q →
+        is_open ((learned h k (Bell s t)).ring q) ≡ true → (bell_row h w s t).is_active q ≡ true
+    unfolding learned rung bell_row
     bell_active s t q clean still was opened =
         let f : BellFacts h k s t = bell_facts h k s t clean in
-        let first : World = if t == 0 && w.started then driver.activated h w (command_id h) else w in
-        let second : World = driver.endpoint_bell h w s t (w.ring_of s t) in
+        let first : World = if t == 0 && w.started then activated h w (command_id h) else w in
+        let second : World = driver_endpoint_bell h w s t (w.ring_of s t) in
         let one : Known = on_ring h k (command_id h) Opens in
         let two : Known = endpoint_rung h k s t (k.ring_of s t) in
         elim (cases_Bool (s == 0)) [
@@ -129,8 +231,5 @@ module _ (h : Header) where
 
   -- no row takes the start back
   pub row_starts : (k : Known) (row : Row) → IsDriverRow row → k.started ≡ true → (learned h k row).started ≡ true
-  row_starts k (Sub r blocks) driver_row on = (declaration_leaves h k r blocks).registers.started ∙ on
-  row_starts k (Write a x) driver_row on = (write_leaves h k a x).registers.started ∙ on
-  row_starts k (Reg r x) driver_row on = register_started k r x on
-  row_starts k (Bell s t) driver_row on = (bell_leaves h k s t).registers.started ∙ on
-  row_starts k (Read e) driver_row on = absurd driver_row
+  row_starts k (Sub r blocks) driver_row on = search (rules, declaration_leaves, write_leaves, register_started, bell_leaves)
+  row_starts k _ driver_row on = search (rules, declaration_leaves, write_leaves, register_started, bell_leaves)

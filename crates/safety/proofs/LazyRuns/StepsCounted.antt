@@ -1,20 +1,131 @@
 -- A clean trace has at most three steps for each row, and three more: rows, events posted, and looks, each of which moves a pointer on
-use Rattle.safety.proofs.LazyRuns.Words.{◌≡◌, ◌≢◌, ◌+◌, ◌*◌, ◌≤◌, ◌==◌, ◌∷◌, ◌∙◌, if◌then◌else◌, ℕ, true, false, List, [], All, length, reverse, Option, Some, None, arith, refl, sym, ap, subst, inl, inr, ne_eqb, length-append, rules, FewSteps, none-some, driver_ring, length-reverse, flat_map, cases_Bool, cond_both, false≢true, and_parts, or_from, put_off, Block, kind, slot, completion_kind, Spot, number, rank_most, floor_number, Command, StopEndpoint, Change, Places, changes, is_off, Header, Sub, Write, Reg, Bell, Read, Step, NextRow, IsHeader, command_id, is_ring, ring_having, Known, RingSpot, learned, IsDriverRow, DriverKeeps, transfer_not_command, need, further, brought, goals, looks_to, EndpointsKeep, endpoints_of, transfer_ring, floors_grow, having_transfer, ring_with, is_driver_ring, Row, TraceRow, Comes, Goes, Plain, Withdraws, Data, rank, put, lenient, All-head, All-tail, AreKept, FitsFields, header_now, known_now, restored, restored_on, ring_restored, with_ring, without_ring, pointers_at, pointers_after, pointers_for, steps_before, steps_for, lazy_run}
-use Rattle.ring_knowledge.specs.Completions as completions
+use Rattle.safety.proofs.LazyRuns.Words.{[], ◌≡◌, ◌≢◌, ◌+◌, ◌*◌, ◌≤◌, ◌==◌, ◌∷◌, ◌∙◌, if◌then◌else◌, ℕ, true, false, List, All, length, reverse, Option, Some, None, arith, refl, sym, ap, subst, inl, inr, ne_eqb, length-append, rules, FewSteps, none-some, driver_ring, length-reverse, flat_map, cases_Bool, cond_both, false≢true, and_parts, or_from, put_off, Block, kind, slot, completion_kind, Spot, number, rank_most, floor_number, Command, StopEndpoint, Change, Places, changes, is_off, Header, Read, IsHeader, command_id, is_ring, ring_having, Known, RingSpot, learned, IsDriverRow, DriverKeeps, transfer_not_command, need, further, brought, goals, looks_to, EndpointsKeep, endpoints_of, transfer_ring, floors_grow, having_transfer, ring_with, is_driver_ring, Row, TraceRow, Comes, Goes, Plain, Withdraws, Data, rank, put, lenient, All-head, All-tail, AreKept, FitsFields, header_now, known_now, restored, restored_on, ring_restored, with_ring, without_ring, pointers_at, pointers_after, pointers_for, steps_before, steps_for, lazy_run, max, eq-eqb, cases_eq, cond-true, put_at, Ring, IsKept, header_after, known_after, forgotten, begins_anew, ends_need, number_needed, number_reported, known_changed_by, command_taken, lazy_steps, post_of, stopped_goals, taken_up_to, is_placed, is_placed_by, is_placed_by_all, ring_placed}
 use Rattle.safety.proofs.Endpoints.{change_keeps}
 use Rattle.safety.proofs.RingChanges.RingRuns.{no_ring}
-use Rattle.safety.specs.LazyRuns.Lazy as lazy
-use Rattle.safety.specs.LazyRuns.Needs as needs
-use Rattle.safety.proofs.LazyRuns.Counts.{bit, bit_clear, bit_most}
-use Rattle.safety.proofs.LazyRuns.DriverRuns.{no_steps, pointers_same}
-use Rattle.safety.proofs.LazyRuns.EventGoals.{goals_few}
+use Rattle.safety.proofs.UpperLaws.{bit, bit_clear, bit_most, no_steps, pointers_same, whole, come_to, driver_le, of_driver, on_driver, off_driver, place_value, command_value, transfer_value, progress, OthersStay, comes_stay, goes_stay, total, total_le, total_most, total_twice, Keeps, now_keeps, further_most, restored_learns, withdrawn_learns, row_learns}
+use Rattle.safety.proofs.LazyRuns.EventGoals.{goals_few, AreWithin, top, reported_most, goals_within}
 use Rattle.safety.proofs.LazyRuns.GivenCounted.{events, floors, floors_most, gone, kept_before}
-use Rattle.safety.proofs.LazyRuns.AllRead.{whole}
-use Rattle.safety.proofs.LazyRuns.Induction.{rows_of}
-use Rattle.safety.proofs.LazyRuns.PointersNear.{IsNear, event_pointer, need_gone, need_placed, pointers_near}
-use Rattle.safety.proofs.LazyRuns.Progress.{come_to, driver_le, of_driver, on_driver, off_driver, place_value, command_value, transfer_value, progress}
-use Rattle.safety.proofs.LazyRuns.RingRows.{OthersStay, comes_stay, goes_stay}
-use Rattle.safety.proofs.LazyRuns.Totals.{total, total_le, total_most, total_twice}
+use Rattle.safety.proofs.LazyRuns.Induction.{rows_of, kept_on}
+
+-- Behind each row of a clean trace no pointer is past its floor, or past what is needed later; the command ring's by one place
+module _ (h : Header) where
+  -- goals below bounds bring no pointer past them
+  brought_within : (most : ℕ → ℕ) (goals : List RingSpot) (pointers : ℕ → Spot) → ((r : ℕ) → number (pointers r) ≤ most r) → AreWithin most goals → (r : ℕ) → number (brought h pointers goals r) ≤ most r
+  unfolding brought
+  brought_within most [] pointers low within r = low r
+  brought_within most (goal ∷ rest) pointers low within r =
+      let there : Spot = further (pointers goal.ring) goal.spot in
+      brought_within most rest (put pointers goal.ring there)
+      (λ q. elim (cases_eq q goal.ring) [
+        | inl same ↦
+            subst (λ n. number (put pointers goal.ring there n) ≤ most n) (sym same)
+            (let at = ap (λ t. number t) (put_at pointers goal.ring there) in omega (arith, at, further_most (pointers goal.ring) goal.spot (most goal.ring) (low goal.ring) within.0))
+        | inr other ↦ let at = ap (λ t. number t) (put_off pointers goal.ring there q other) in omega (arith, at, low q)
+      ]) within.1 r
+
+  -- ---- what is needed before a row
+
+  need_by : (k : Known) (r : ℕ) (row : TraceRow) (later : List TraceRow) → need h k r (row ∷ later) ≤ max (number_needed h k r row) (need (header_after h row) (known_after h k row) r later)
+  unfolding need
+  need_by k r row later = search (rules, arith, max, number_needed, need, header_after, known_after, cond_both, ends_need)
+
+  need_by_event : (k : Known) (r : ℕ) (b : Block) (later : List TraceRow) → need h k r (Plain (Read b) ∷ later) ≤ max (number_reported h k r (Read b)) (need h (learned h k (Read b)) r later)
+  unfolding number_needed ring_restored restored_on
+  need_by_event k r b later = need_by k r (Plain (Read b)) later
+
+  reports_none : (k : Known) (r : ℕ) (row : Row) → IsDriverRow row → number_reported h k r row ≡ 0
+  unfolding number_reported
+  reports_none k r (Read b) is = absurd is
+  reports_none k r _ is = refl
+
+  needs_none : (k : Known) (r : ℕ) (row : Row) → IsDriverRow row → number_needed h k r (Plain row) ≡ 0
+  unfolding number_needed
+  needs_none k r row driver_row = reports_none k r row driver_row
+
+  comes_none : (k : Known) (r : ℕ) (ring : Ring) → number_needed h k r (Comes ring) ≡ 0
+  unfolding number_needed
+  comes_none k r ring = refl
+
+  goes_none : (k : Known) (r id : ℕ) → number_needed h k r (Goes id) ≡ 0
+  unfolding number_needed
+  goes_none k r id = refl
+
+  withdraws_none : (k : Known) (r q p : ℕ) → number_needed h k r (Withdraws q p) ≡ 0
+  unfolding number_needed
+  withdraws_none k r q p = refl
+
+  pub need_placed : (k : Known) (r : ℕ) (b : Block) (later : List TraceRow) → is_placed h k r b ≡ true → need h k r (Plain (Read b) ∷ later) ≡ 0
+  unfolding need ends_need begins_anew
+  need_placed k r b later placed = cond-true (is_placed h k r b) 0 _ placed
+
+  -- of a ring that goes nothing is needed
+  pub need_gone : (k : Known) (id : ℕ) (later : List TraceRow) → need h k id (Goes id ∷ later) ≡ 0
+  unfolding need ends_need
+  need_gone k id later = cond-true (id == id) 0 _ (eq-eqb id id refl)
+
+  -- ---- pointers
+
+  abbrev pub IsNear : Known → (ℕ → Spot) → List TraceRow → ℕ → Type 0
+  IsNear k pointers later r = number (pointers r) ≤ max (floor_number (k.ring r)) (need h k r later) + bit (r == command_id h)
+
+  pub event_pointer : (k : Known) (pointers : ℕ → Spot) (later : List TraceRow) (b : Block) (r : ℕ) →
+      pointers_after h k pointers (Read b) later r ≡ (if is_placed h k r b then ((learned h k (Read b)).ring r).floor else brought h pointers (goals h k later (kind b) b) r)
+  unfolding pointers_after
+  event_pointer k pointers later b r = refl
+
+  row_near : (k : Known) (pointers : ℕ → Spot) (later : List TraceRow) (row : Row) → IsDriverRow row → (r : ℕ) → IsNear k pointers (Plain row ∷ later) r →
+      IsNear (learned h (restored h k row) row) (pointers_after h (restored h k row) pointers row later) later r
+  row_near k pointers later row is r near = search (rules, pointers_same, row_learns, restored_learns, need_by, needs_none)
+
+  module _ (is : IsHeader h) (k : Known) (pointers : ℕ → Spot) (later : List TraceRow) (b : Block) (d : DriverKeeps h k) (clean : lenient h k (Read b) ≡ [])
+      (near : (r : ℕ) → IsNear k pointers (Plain (Read b) ∷ later) r) where
+    before_goals : (r : ℕ) → number (pointers r) ≤ top h k b clean later r
+    unfolding top
+    before_goals r = omega (arith, near r, need_by_event k r b later, reported_most h k b clean later r, floors_grow h is k d b clean r)
+
+    -- where the goals bring the pointers
+    pub goals_near : (r : ℕ) → number (brought h pointers (goals h k later (kind b) b) r) ≤ top h k b clean later r
+    goals_near r = brought_within (top h k b clean later) (goals h k later (kind b) b) pointers before_goals (goals_within h k b clean later is d) r
+
+    pub event_near : (r : ℕ) → IsNear (learned h k (Read b)) (pointers_after h k pointers (Read b) later) later r
+    unfolding top
+    event_near r = search (rules, top, max, bit, event_pointer, goals_near)
+
+  -- a descriptor that is withdrawn moves no floor
+  withdrawn_near : (k : Known) (pointers : ℕ → Spot) (later : List TraceRow) (q p r : ℕ) → IsNear k pointers (Withdraws q p ∷ later) r → IsNear (known_after h k (Withdraws q p)) pointers later r
+  withdrawn_near k pointers later q p r near = search (rules, arith, need_by, withdraws_none, number, withdrawn_learns, floors)
+
+-- a ring comes or goes
+module _ (h g : Header) (k : Known) (pointers : ℕ → Spot) (later : List TraceRow) (id : ℕ) (command : command_id g ≡ command_id h) where
+  forgotten_near : (r n : ℕ) → (n ≤ need g (forgotten k id) r later) → number (pointers r) ≤ max (floor_number (k.ring r)) n + bit (r == command_id h) → IsNear g (forgotten k id) (put pointers id (Data 0)) later r
+  unfolding forgotten
+  forgotten_near r n most near = search (rules, max, bit, put_at, put_off)
+
+module _ (h : Header) (is : IsHeader h) where
+  -- behind each row
+  pub pointers_near : (past later : List TraceRow) → All FitsFields past → AreKept h past → (r : ℕ) → IsNear (header_now h past) (known_now h past) (pointers_at h past later) later r
+  unfolding pointers_at pointers_for ring_restored restored_on
+  pointers_near [] later are kept r = omega arith
+  pointers_near (row ∷ past) later are kept r =
+      let made : All FitsFields past = All-tail FitsFields row past are in
+      let p : Keeps h is past = now_keeps h is past made kept.0 (kept_on (header_now h past) (known_now h past) row kept.1) in
+      one row (All-head FitsFields row past are) kept.1 p (pointers_near past (row ∷ later) made kept.0) r
+    where
+      one : (row : TraceRow) → FitsFields row → IsKept (header_now h past) (known_now h past) row → Keeps h is past → ((r : ℕ) → IsNear (header_now h past) (known_now h past) (pointers_at h past (row ∷ later)) (row ∷ later) r) →
+          (r : ℕ) → IsNear (header_after (header_now h past) row) (known_after (header_now h past) (known_now h past) row) (pointers_for (header_now h past) (known_now h past) (pointers_at h past (row ∷ later)) row later) later r
+      one (Plain (Read b)) is_row kept p near r = event_near (header_now h past) p.headed (known_now h past) (pointers_at h past (Plain (Read b) ∷ later)) later b p.keeps kept.0 near r
+      one (Plain row) is_row kept p near r = row_near (header_now h past) (known_now h past) (pointers_at h past (Plain row ∷ later)) later row tt r (near r)
+      one (Withdraws q n) is_row kept p near r = withdrawn_near (header_now h past) (known_now h past) (pointers_at h past (Withdraws q n ∷ later)) later q n r (near r)
+      one (Comes ring) coming kept p near r =
+          let g : Header = header_now h past in
+          let k : Known = known_now h past in
+          forgotten_near g (with_ring g ring) k (pointers_at h past (Comes ring ∷ later)) later ring.id (comes_stay g p.headed k p.keeps ring coming kept.1).command r (need g k r (Comes ring ∷ later))
+          (omega (arith, need_by g k r (Comes ring) later, comes_none g k r ring)) (near r)
+      one (Goes id) is_row kept p near r =
+          let g : Header = header_now h past in
+          let k : Known = known_now h past in
+          forgotten_near g (without_ring g id) k (pointers_at h past (Goes id ∷ later)) later id (goes_stay g p.headed k p.keeps id kept.1).command r (need g k r (Goes id ∷ later))
+          (omega (arith, need_by g k r (Goes id) later, goes_none g k r id)) (near r)
 
 module _ (h : Header) where
   -- ---- the command ring is never bound or moved
@@ -23,46 +134,45 @@ module _ (h : Header) where
   none_named is None other = refl
   none_named is (Some r) other = ne_eqb r (command_id h) (other r refl)
 
-  ring_other : IsHeader h → (k : Known) → EndpointsKeep h k → (change : Change) → is_ring (command_id h) (needs.ring_placed h k change) ≡ false
-  unfolding needs.ring_placed
+  ring_other : IsHeader h → (k : Known) → EndpointsKeep h k → (change : Change) → is_ring (command_id h) (ring_placed h k change) ≡ false
+  unfolding ring_placed
   ring_other is k endpoints (Places s i p cycle state) =
       cond_both (is_off (k.endpoint_state s i)) (ring_having h p) (k.ring_of s i) (λ o. is_ring (command_id h) o ≡ false)
       (λ _. none_named is (ring_having h p) (λ r at. transfer_not_command h is r (transfer_ring h r (having_transfer h is p r at))))
       (λ _. none_named is (k.ring_of s i) (λ r at. transfer_not_command h is r (transfer_ring h r (endpoints.transfer s i r at))))
   ring_other is k endpoints _ = refl
 
-  all_other : IsHeader h → (c : Command) (k : Known) (all : List Change) → EndpointsKeep h k → needs.is_placed_by_all h c k (command_id h) all ≡ false
-  unfolding needs.is_placed_by_all
+  all_other : IsHeader h → (c : Command) (k : Known) (all : List Change) → EndpointsKeep h k → is_placed_by_all h c k (command_id h) all ≡ false
+  unfolding is_placed_by_all
   all_other is c k [] endpoints = refl
   all_other is c k (change ∷ rest) endpoints =
-      let l : Known = completions.changed_by h c k change in
-      or_from (is_ring (command_id h) (needs.ring_placed h k change)) (needs.is_placed_by_all h c l (command_id h) rest) (ring_other is k endpoints change)
+      let l : Known = known_changed_by h c k change in
+      or_from (is_ring (command_id h) (ring_placed h k change)) (is_placed_by_all h c l (command_id h) rest) (ring_other is k endpoints change)
       (all_other is c l rest (change_keeps h is c k change endpoints))
 
-  never_placed : IsHeader h → (k : Known) (n : ℕ) (o : Option Command) → EndpointsKeep h k → needs.is_placed_by h k (command_id h) n o ≡ false
-  unfolding needs.is_placed_by
+  never_placed : IsHeader h → (k : Known) (n : ℕ) (o : Option Command) → EndpointsKeep h k → is_placed_by h k (command_id h) n o ≡ false
+  unfolding is_placed_by
   never_placed is k n None endpoints = refl
   never_placed is k n (Some c) endpoints = all_other is c k (changes h.context_size k.memory n c) endpoints
 
   -- ---- an event that binds or moves a ring asks for no look at it
 
-  no_stop : (k : Known) (later : List TraceRow) (b : Block) (r : ℕ) (o : Option Command) → needs.is_placed_by h k r (slot b) o ≡ true → lazy.stopped_goals h k later b o ≡ []
-  unfolding needs.is_placed_by needs.is_placed_by_all needs.ring_placed changes lazy.stopped_goals
+  no_stop : (k : Known) (later : List TraceRow) (b : Block) (r : ℕ) (o : Option Command) → is_placed_by h k r (slot b) o ≡ true → stopped_goals h k later b o ≡ []
+  unfolding is_placed_by is_placed_by_all ring_placed changes stopped_goals
   no_stop k later b r (Some (StopEndpoint s i)) placed = absurd (false≢true placed)
   no_stop k later b r _ placed = refl
 
   record IsPlacedSo (k : Known) (later : List TraceRow) (b : Block) (r : ℕ) : Type 0 where
     other : r ≢ command_id h
-    goals_are : goals h k later (kind b) b ≡ lazy.command_taken h k ∷ []
+    goals_are : goals h k later (kind b) b ≡ command_taken h k ∷ []
 
-  placed_so : IsHeader h → (k : Known) (later : List TraceRow) (b : Block) (r : ℕ) → EndpointsKeep h k → needs.is_placed h k r b ≡ true → IsPlacedSo k later b r
-  unfolding needs.is_placed goals
+  placed_so : IsHeader h → (k : Known) (later : List TraceRow) (b : Block) (r : ℕ) → EndpointsKeep h k → is_placed h k r b ≡ true → IsPlacedSo k later b r
+  unfolding is_placed goals
   placed_so is k later b r endpoints placed = search (rules, and_parts, false≢true, never_placed, completion_kind, no_stop)
 
-  command_off : (k : Known) (pointers : ℕ → Spot) (r : ℕ) → r ≢ command_id h → brought h pointers (lazy.command_taken h k ∷ []) r ≡ pointers r
-  unfolding brought lazy.command_taken lazy.taken_up_to
-  command_off k pointers r other =
-      let goal : RingSpot = lazy.command_taken h k in put_off pointers (command_id h) (further (pointers (command_id h)) goal.spot) r other
+  command_off : (k : Known) (pointers : ℕ → Spot) (r : ℕ) → r ≢ command_id h → brought h pointers (command_taken h k ∷ []) r ≡ pointers r
+  unfolding brought command_taken taken_up_to
+  command_off k pointers r other = search (rules, command_taken, put_off, command_id, further)
 
   -- ---- one row more
 
@@ -75,29 +185,21 @@ module _ (h : Header) where
     abbrev now : ℕ → Spot
     now = brought h before (goals h k later (kind b) b)
 
-    placed_on : (r : ℕ) → needs.is_placed h k r b ≡ true → come_to h r (now r) ≤ come_to h r ((learned h k (Read b)).ring r).floor
+    placed_on : (r : ℕ) → is_placed h k r b ≡ true → come_to h r (now r) ≤ come_to h r ((learned h k (Read b)).ring r).floor
     placed_on r placed = search (rules, come_to, now, placed_so, endpoints_of, command_off, come_le, need_placed, bit_clear, ne_eqb, floors_grow)
 
     -- no ring's pointer goes back
     goes_on : progress h now ≤ progress h (pointers_after h k before (Read b) later)
     unfolding progress
-    goes_on =
-        total_le (λ r. come_to h r (now r)) (λ r. come_to h r (pointers_after h k before (Read b) later r)) 256
-        (λ r. subst (λ t. come_to h r (now r) ≤ come_to h r t) (sym (event_pointer h k before later b r))
-        (cond_both (needs.is_placed h k r b) ((learned h k (Read b)).ring r).floor (now r) (λ t. come_to h r (now r) ≤ come_to h r t) (placed_on r) (λ _. omega arith)))
+    goes_on = search (rules, arith, total_le, come_to, now, pointers_after, event_pointer, cond_both, is_placed, learned, placed_on)
 
     event_few : length (steps_before h k before (Read b) later) + progress h before ≤ progress h (pointers_after h k before (Read b) later) + 2
     unfolding steps_before
-    event_few =
-        let looks : List Step = flat_map (looks_to h before) (goals h k later (kind b) b) in
-        omega (arith, length-append looks (lazy.post_of h (kind b) b ∷ []), goes_on, goals_few h k b clean later is keeps before)
+    event_few = search (rules, arith, length-append, flat_map, looks_to, goals, kind, post_of, goes_on, goals_few)
 
   row_few : (k : Known) (before : ℕ → Spot) (later : List TraceRow) (row : Row) → IsDriverRow row → length (steps_before h k before row later) + progress h before ≤ progress h (pointers_after h k before row later)
   unfolding progress
-  row_few k before later row is =
-      let same : progress h before ≤ progress h (pointers_after h k before row later) =
-      total_le (λ r. come_to h r (before r)) (λ r. come_to h r (pointers_after h k before row later r)) 256 (λ r. omega (arith, ap (λ t. come_to h r t) (pointers_same h k before row later r is))) in
-      omega (arith, same, ap (λ (l : List Step). length l) (no_steps h k before row later is))
+  row_few k before later row is = search (rules, arith, progress, pointers_after, total_le, come_to, pointers_same, length, no_steps)
 
   -- ---- sums
 
@@ -117,10 +219,7 @@ module _ (h g : Header) (k : Known) (id : ℕ) (o : OthersStay h g k id) (before
 
   other_come : (r : ℕ) → r ≢ id → come_to g r (after_it r) ≡ come_to h r (before r)
   unfolding come_to of_driver place_value
-  other_come r other =
-      ap (λ q. if is_driver_ring q then (if r == command_id g then rank (after_it r) else 2 * number (after_it r)) else 0) (o.listed r other)
-      ∙ ap (λ c. if is_driver_ring (ring_with h r) then (if r == c then rank (after_it r) else 2 * number (after_it r)) else 0) o.command
-      ∙ ap (λ t. if is_driver_ring (ring_with h r) then (if r == command_id h then rank t else 2 * number t) else 0) (put_off before id (Data 0) r other)
+  other_come r other = search (rules, is_driver_ring, command_id, rank, after_it, number, ring_with, put_off)
 
   -- no pointer but its own is counted less
   one_less : progress h before ≤ progress g after_it + come_to h id (before id)
@@ -142,10 +241,8 @@ module _ (h : Header) where
   -- how far the pointers of the rings had come that went
   unfoldable spent : List TraceRow → List TraceRow → ℕ
   spent [] later = 0
-  spent (Plain row ∷ past) later = spent past (Plain row ∷ later)
-  spent (Comes ring ∷ past) later = spent past (Comes ring ∷ later)
-  spent (Withdraws r p ∷ past) later = spent past (Withdraws r p ∷ later)
   spent (Goes id ∷ past) later = spent past (Goes id ∷ later) + come_to (header_now h past) id (pointers_at h past (Goes id ∷ later) id)
+  spent (row ∷ past) later = spent past (row ∷ later)
 
   abbrev IsCounted : List TraceRow → List TraceRow → Type 0
   IsCounted past later = length (lazy_run h past later) ≤ length past + 2 * events past + progress (header_now h past) (pointers_at h past later) + spent past later
@@ -153,16 +250,11 @@ module _ (h : Header) where
   run_length : (row : TraceRow) (past later : List TraceRow) →
       length (lazy_run h (row ∷ past) later) ≡ length (steps_for (header_now h past) (known_now h past) (pointers_at h past (row ∷ later)) row later) + length (lazy_run h past (row ∷ later)) + 1
   unfolding lazy_run
-  run_length row past later =
-      let steps : List Step = steps_for (header_now h past) (known_now h past) (pointers_at h past (row ∷ later)) row later in
-      omega (arith, length-append (NextRow ∷ reverse steps) (lazy_run h past (row ∷ later)), length-reverse steps)
+  run_length row past later = search (rules, arith, steps_for, header_now, known_now, pointers_at, length-append, reverse, lazy_run, length-reverse)
 
   driven : (row : Row) → IsDriverRow row → (past later : List TraceRow) → events (Plain row ∷ past) ≡ events past → IsCounted past (Plain row ∷ later) → IsCounted (Plain row ∷ past) later
   unfolding spent pointers_at pointers_for steps_for
-  driven row driver_row past later none before =
-      let g : Header = header_now h past in
-      let k : Known = restored g (known_now h past) row in
-      omega (arith, before, none, run_length (Plain row) past later, row_few g k (pointers_at h past (Plain row ∷ later)) later row driver_row)
+  driven row driver_row past later none before = search (rules, arith, header_now, run_length, row_few, restored, known_now, pointers_at)
 
   module _ (is : IsHeader h) where
     counted : (past later : List TraceRow) → All FitsFields past → AreKept h past → IsCounted past later
@@ -177,10 +269,7 @@ module _ (h : Header) where
           run_length (Plain (Read b)) past later,
           event_few (header_now h past) p.headed (known_now h past) (pointers_at h past (Plain (Read b) ∷ later)) later b p.keeps kept.1.0 (pointers_near h is past (Plain (Read b) ∷ later) made kept.0),
         )
-    counted (Plain (Sub r blocks) ∷ past) later are kept = driven (Sub r blocks) tt past later refl (counted past (Plain (Sub r blocks) ∷ later) (All-tail FitsFields (Plain (Sub r blocks)) past are) kept.0)
-    counted (Plain (Write a w) ∷ past) later are kept = driven (Write a w) tt past later refl (counted past (Plain (Write a w) ∷ later) (All-tail FitsFields (Plain (Write a w)) past are) kept.0)
-    counted (Plain (Reg r x) ∷ past) later are kept = driven (Reg r x) tt past later refl (counted past (Plain (Reg r x) ∷ later) (All-tail FitsFields (Plain (Reg r x)) past are) kept.0)
-    counted (Plain (Bell s t) ∷ past) later are kept = driven (Bell s t) tt past later refl (counted past (Plain (Bell s t) ∷ later) (All-tail FitsFields (Plain (Bell s t)) past are) kept.0)
+    counted (Plain row ∷ past) later are kept = driven row tt past later refl (counted past (Plain row ∷ later) (All-tail FitsFields (Plain row) past are) kept.0)
     counted (Withdraws r p ∷ past) later are kept =
         omega (arith, counted past (Withdraws r p ∷ later) (All-tail FitsFields (Withdraws r p) past are) kept.0, run_length (Withdraws r p) past later)
     counted (Comes ring ∷ past) later are kept =
@@ -189,25 +278,22 @@ module _ (h : Header) where
         let k : Known = known_now h past in
         let before : ℕ → Spot = pointers_at h past (Comes ring ∷ later) in
         let coming = All-head FitsFields (Comes ring) past are in
-        let stay = comes_stay g p.headed k p.keeps ring coming kept.1.1 in
-        let absent = none_absent g ring.id (no_ring g p.headed ring coming k kept.1.1) in
         omega (
           arith,
           counted past (Comes ring ∷ later) (All-tail FitsFields (Comes ring) past are) kept.0,
           run_length (Comes ring) past later,
-          one_less g (with_ring g ring) k ring.id stay before,
-          come_absent g ring.id (before ring.id) absent,
+          one_less g (with_ring g ring) k ring.id (comes_stay g p.headed k p.keeps ring coming kept.1.1) before,
+          come_absent g ring.id (before ring.id) (none_absent g ring.id (no_ring g p.headed ring coming k kept.1.1)),
         )
     counted (Goes id ∷ past) later are kept =
         let p = kept_before h is (Goes id) past are kept in
         let g : Header = header_now h past in
         let k : Known = known_now h past in
-        let before : ℕ → Spot = pointers_at h past (Goes id ∷ later) in
         omega (
           arith,
           counted past (Goes id ∷ later) (All-tail FitsFields (Goes id) past are) kept.0,
           run_length (Goes id) past later,
-          one_less g (without_ring g id) k id (goes_stay g p.headed k p.keeps id kept.1.1) before,
+          one_less g (without_ring g id) k id (goes_stay g p.headed k p.keeps id kept.1.1) (pointers_at h past (Goes id ∷ later)),
         )
 
     -- ---- the rings that went
@@ -215,9 +301,6 @@ module _ (h : Header) where
     spent_most : (past later : List TraceRow) → All FitsFields past → AreKept h past → spent past later ≤ 2 * gone h past
     unfolding spent gone come_to
     spent_most [] later are kept = omega arith
-    spent_most (Plain row ∷ past) later are kept = spent_most past (Plain row ∷ later) (All-tail FitsFields (Plain row) past are) kept.0
-    spent_most (Comes ring ∷ past) later are kept = spent_most past (Comes ring ∷ later) (All-tail FitsFields (Comes ring) past are) kept.0
-    spent_most (Withdraws r p ∷ past) later are kept = spent_most past (Withdraws r p ∷ later) (All-tail FitsFields (Withdraws r p) past are) kept.0
     spent_most (Goes id ∷ past) later are kept =
         let made : All FitsFields past = All-tail FitsFields (Goes id) past are in
         let p = kept_before h is (Goes id) past are kept in
@@ -237,6 +320,7 @@ module _ (h : Header) where
                 bit_clear (id == command_id g) (ne_eqb id (command_id g) other),
               )),
         )
+    spent_most (row ∷ past) later are kept = spent_most past (row ∷ later) (All-tail FitsFields row past are) kept.0
 
     -- ---- behind all rows
 
@@ -262,8 +346,8 @@ module _ (h : Header) where
         (twice g c (place_value g c (at c)) (floor_number (k.ring c)) 3 (omega (arith, near_floor past are kept c, command_value g (at c), rank_most (at c), bit_most (c == c)))) in
         omega (arith, most, total_twice floor_of 256)
 
-  steps_same : (rows : List TraceRow) → length (lazy.lazy_steps h rows) ≡ length (lazy_run h (reverse rows) [])
-  unfolding lazy.lazy_steps
+  steps_same : (rows : List TraceRow) → length (lazy_steps h rows) ≡ length (lazy_run h (reverse rows) [])
+  unfolding lazy_steps
   steps_same rows = length-reverse (lazy_run h (reverse rows) [])
 
   pub few_steps : FewSteps h

@@ -1,5 +1,5 @@
 -- An event says the same where other rings are there, so long as those that endpoints have and commands bind are as they were
-use Rattle.safety.proofs.Words.{◌≡◌, ◌==◌, ◌&&◌, if◌then◌else◌, ◌∷◌, ◌∙◌, ℕ, Bool, true, false, List, [], Option, Some, None, refl, sym, ap, rules, put, put_pair, cond_both, none-some, same_Some, option_map, Block, code, slot, endpoint, pointer, is_success, is_halting, is_trb_error, is_stopping, Spot, number, after, RingView, RingChange, Reaches, Holds, changed, ceiling, named, target, Command, EndpointState, Halted, Error, Stopped, is_off, Change, Disables, Places, Stops, Header, Ring, shape_of, command_id, event_shape, event_size, ring_having, Known, RingSpot, on_ring, spot_on, event_at, passed, broken_off, stopped_at, transferred, transferred_at, transfer_read, set_to, bound_to, moved_to, moved, pointed, disabled, in_state, held_at_ceiling, changed_by, changed_by_all}
+use Rattle.safety.proofs.Words.{[], ◌≡◌, ◌==◌, ◌&&◌, if◌then◌else◌, ◌∷◌, ◌∙◌, ℕ, Bool, true, false, List, Option, Some, None, refl, sym, ap, rules, put, put_pair, cond_both, none-some, same_Some, option_map, Block, code, slot, endpoint, pointer, is_success, is_halting, is_trb_error, is_stopping, Spot, number, after, RingView, RingChange, Reaches, Holds, changed, ceiling, named, target, Command, EndpointState, Stopped, is_off, Change, Disables, Places, Stops, Header, Ring, shape_of, command_id, event_shape, event_size, ring_having, Known, RingSpot, on_ring, spot_on, event_at, passed, broken_off, stopped_at, transferred, transferred_at, transfer_read, set_to, bound_to, moved_to, moved, pointed, disabled, in_state, held_at_ceiling, changed_by, changed_by_all}
 
 module _ (h : Header) (rings : List Ring) (over : (ℕ → RingView) → ℕ → RingView) (Kept : ℕ → Type 0) where
   abbrev g : Header
@@ -46,17 +46,13 @@ module _ (h : Header) (rings : List Ring) (over : (ℕ → RingView) → ℕ →
   module _ (o : KeepsRings) where
     pub on_alike : (k : Known) (r : ℕ) (c : RingChange) → Kept r → on_ring g (other k) r c ≡ other (on_ring h k r c)
     unfolding on_ring
-    on_alike k r c kept =
-        let views : put (over k.ring) r (changed (shape_of g r) (over k.ring r) c) ≡ over (put k.ring r (changed (shape_of h r) (k.ring r) c)) =
-        (λ j. put (over k.ring) r (changed (o.shape r kept j) (o.view k.ring r kept j) c)) ∙ sym (o.changes k.ring r (changed (shape_of h r) (k.ring r) c) kept) in
-        λ j. record k { ring = views j }
+    on_alike k r c kept = search (rules, put, changed, shape_of, g)
 
     -- ---- a Transfer Event
 
     passed_alike : (k : Known) (r : ℕ) (t : Spot) → Kept r → passed g (other k) r t ≡ other (passed h k r t)
     unfolding passed
-    passed_alike k r t kept =
-        ap (λ s. on_ring g (other k) r (Reaches (after s (number t)))) (o.shape r kept) ∙ on_alike k r (Reaches (after (shape_of h r) (number t))) kept
+    passed_alike k r t kept = search (rules, on_ring, g, other, after, number, on_alike, shape_of)
 
     broken_alike : (k : Known) (s i r : ℕ) (t : Spot) (state : EndpointState) → Kept r → broken_off g (other k) s i r t state ≡ other (broken_off h k s i r t state)
     unfolding broken_off
@@ -86,10 +82,7 @@ module _ (h : Header) (rings : List Ring) (over : (ℕ → RingView) → ℕ →
 
     transferred_alike : (k : Known) (c s i r : ℕ) (t : Spot) → Kept r → transferred g (other k) c s i r t ≡ other (transferred h k c s i r t)
     unfolding transferred
-    transferred_alike k c s i r t kept =
-        either (is_success c) _ _ _ _ (passed_alike k r t kept)
-        (either (is_halting c) _ _ _ _ (λ j. record (broken_alike k s i r t Halted kept j) { must_move = put_pair k.must_move s i true })
-        (either (is_trb_error c) _ _ _ _ (broken_alike k s i r t Error kept) (either (is_stopping c) _ _ _ _ (stopped_alike k s i r t kept) refl)))
+    transferred_alike k c s i r t kept = search (rules, either, is_success, passed_alike, is_halting, broken_alike, put_pair, is_trb_error, is_stopping, stopped_alike)
 
     at_alike : (k : Known) (b : Block) (q : Option RingSpot) → ((at : RingSpot) → q ≡ Some at → Kept at.ring) → transferred_at g (other k) b q ≡ other (transferred_at h k b q)
     unfolding transferred_at
@@ -121,8 +114,7 @@ module _ (h : Header) (rings : List Ring) (over : (ℕ → RingView) → ℕ →
     unfolding bound_to
     bound_alike k s i None p cycle kept = refl
     bound_alike k s i (Some r) p cycle kept =
-        let m = moved_alike k (Some r) p cycle kept in
-        λ j. record (m j) { ring_of = put_pair k.ring_of s i (Some r); was_bound = put k.was_bound r true }
+        λ j. record ((moved_alike k (Some r) p cycle kept) j) { ring_of = put_pair k.ring_of s i (Some r); was_bound = put k.was_bound r true }
 
     pointed_alike : (k : Known) (s i p : ℕ) (cycle : Bool) → HasKept k → (is_off (k.endpoint_state s i) ≡ true → HavesAlike p) → pointed g (other k) s i p cycle ≡ other (pointed h k s i p cycle)
     unfolding pointed
@@ -162,10 +154,7 @@ module _ (h : Header) (rings : List Ring) (over : (ℕ → RingView) → ℕ →
 
     pointed_has : (k : Known) (s i p : ℕ) (cycle : Bool) → HasKept k → (is_off (k.endpoint_state s i) ≡ true → HavesAlike p) → HasKept (pointed h k s i p cycle)
     unfolding pointed
-    pointed_has k s i p cycle kept haves =
-        cond_both (is_off (k.endpoint_state s i)) (bound_to h k s i (ring_having h p) p cycle) (moved h k (k.ring_of s i) p cycle) HasKept
-        (λ off. bound_has k s i (ring_having h p) p cycle kept (haves off).1)
-        (λ on t n x at. kept t n x (ap (λ f. f t n) (sym (moved_has k (k.ring_of s i) p cycle)) ∙ at))
+    pointed_has k s i p cycle kept haves = search (rules, cond_both, is_off, bound_to, ring_having, moved, bound_has, moved_has)
 
     held_has : (k : Known) (q : Option ℕ) → (held_at_ceiling h k q).ring_of ≡ k.ring_of
     unfolding held_at_ceiling on_ring

@@ -1,14 +1,9 @@
 -- Of an ID that no ring has all may be forgotten
-use Rattle.safety.proofs.Words.{◌≡◌, ◌≢◌, ◌<◌, ◌==◌, ◌∙◌, ℕ, List, [], Some, None, get_or, refl, sym, ap, subst, inl, inr, eq-eqb, ne_eqb, rules, put, new_ring, emptied, forgotten, cases_eq, cases_option, cond-true, cond-false, none-some, Block, RingView, RingKeeps, Header, Ring, Read, IsHeader, ring_with, ring_having, shape_of, command_id, command_ring, World, Known, learned, lenient, Binding, binds, ring_bound, IsTransferRing, DriverKeeps, Stands, FreeRing, state_of, Agrees}
-use Rattle.safety.proofs.Areas.{context_lies}
-use Rattle.safety.proofs.DriverRings.{transfer_ring}
-use Rattle.safety.proofs.Headers.{command_named}
-use Rattle.safety.proofs.KeptCommandRing.{command_with}
-use Rattle.safety.proofs.RingIds.{having_transfer}
+use Rattle.safety.proofs.Words.{[], ◌≡◌, ◌≢◌, ◌<◌, ◌∙◌, ℕ, List, Some, None, get_or, refl, sym, ap, subst, inl, inr, rules, emptied, forgotten, cases_eq, cases_option, none-some, Block, RingKeeps, Header, Ring, Read, IsHeader, ring_with, ring_having, shape_of, command_id, World, Known, learned, lenient, Binding, binds, ring_bound, IsTransferRing, DriverKeeps, Agrees}
+use Rattle.safety.proofs.LowerLaws.{forgetting_agrees, context_lies, transfer_ring, command_named, having_transfer, BindsAsBefore, IsAsBefore, OtherRings, other_rings_keep}
+use Rattle.safety.proofs.MiddleLaws.{command_with, BindsAlike, read_possible}
 use Rattle.safety.proofs.RingChanges.EventsAlike.{KeepsRings}
-use Rattle.safety.proofs.RingChanges.OtherRings.{BindsAsBefore, IsAsBefore, OtherRings, other_rings_keep}
-use Rattle.safety.proofs.RingChanges.OtherWorlds.{OtherTakes, free_new, other_worlds_agree}
-use Rattle.safety.proofs.RingChanges.ReadAlike.{BindsAlike, read_alike, read_possible}
+use Rattle.safety.proofs.RingChanges.ReadAlike.{read_alike}
 use Rattle.safety.proofs.RingChanges.Squares.{Other, cleared, cleared_apart, cleared_here, cleared_put}
 
 module _ (h : Header) (is : IsHeader h) (k : Known) (d : DriverKeeps h k) (id : ℕ) (low : id < 256) (absent : ring_with h id ≡ None) where
@@ -55,45 +50,9 @@ module _ (h : Header) (is : IsHeader h) (k : Known) (d : DriverKeeps h k) (id : 
   unfolding forgotten
   forgotten_keeps = other_rings_keep h h.rings k (cleared id k.ring) d others
 
-  module _ (w : World) where
-    here : {X : Type 0} (f : ℕ → X) (x : X) (s : ℕ) → s ≡ id → put f id x s ≡ x
-    here f x s same = cond-true (s == id) x (f s) (eq-eqb s id same)
-
-    apart : {X : Type 0} (f : ℕ → X) (x : X) (s : ℕ) → s ≢ id → put f id x s ≡ f s
-    apart f x s away = cond-false (s == id) x (f s) (ne_eqb s id away)
-
-    abbrev v : World
-    v = record w { queue = put w.queue id []; lengths = put w.lengths id []; events = put w.events id []; reported = put w.reported id 0 }
-
-    state_apart : (s : ℕ) → s ≢ id → state_of v s ≡ state_of w s
-    state_apart s away = λ j. record { pointer = w.pointer_of s; cycle = w.cycle_state s; active = w.is_active s; events = apart w.events [] s away j; reported = apart w.reported 0 s away j }
-
-    free_still : (s : ℕ) → FreeRing (shape_of h s) k.ring_of (k.ring s) (state_of w s) s → FreeRing (shape_of h s) k.ring_of (cleared id k.ring s) (state_of v s) s
-    free_still s free = elim (cases_eq s id) [
-      | inl same ↦ free_new (shape_of h s) k.ring_of (cleared id k.ring s) (state_of v s) s free.none free.rests.inactive (here w.events [] s same) (here k.ring new_ring s same)
-      | inr away ↦
-          subst (λ x. FreeRing (shape_of h s) k.ring_of (cleared id k.ring s) x s) (sym (state_apart s away))
-          (subst (λ y. FreeRing (shape_of h s) k.ring_of y (state_of w s) s) (sym (cleared_apart id k.ring s away)) free)
-    ]
-
-    takes : Stands h k w → OtherTakes h h.rings k (cleared id k.ring) w v.queue v.lengths v.events v.reported
-    takes stands = record {
-      queues = λ s. elim (cases_eq s id) [
-        | inl same ↦ here w.queue [] s same ∙ sym (ap (λ (y : RingView). y.queue) (here k.ring new_ring s same))
-        | inr away ↦ apart w.queue [] s away ∙ stands.queues s ∙ sym (ap (λ (y : RingView). y.queue) (cleared_apart id k.ring s away))
-      ];
-      counts = λ s. elim (cases_eq s id) [
-        | inl same ↦ here w.lengths [] s same ∙ sym (ap (λ (y : RingView). y.lengths) (here k.ring new_ring s same))
-        | inr away ↦ apart w.lengths [] s away ∙ stands.lengths s ∙ sym (ap (λ (y : RingView). y.lengths) (cleared_apart id k.ring s away))
-      ];
-      command = (apart w.events [] (command_id h) no_command, apart w.reported 0 (command_id h) no_command);
-      had = λ s i x at. let away = not_had s i x at in (apart w.events [] x away, apart w.reported 0 x away);
-      free = λ s away free. free_still s free;
-    }
-
-    pub forgotten_agrees : (unread : List Block) → Agrees h k unread w → Agrees h (forgotten k id) unread (emptied w id)
-    unfolding forgotten emptied
-    forgotten_agrees unread a = other_worlds_agree h h.rings k (cleared id k.ring) w v.queue v.lengths v.events v.reported d others (takes a.stands) unread a
+  pub forgotten_agrees : (w : World) (unread : List Block) → Agrees h k unread w → Agrees h (forgotten k id) unread (emptied w id)
+  unfolding forgotten emptied
+  forgotten_agrees w unread a = forgetting_agrees h h.rings k id (λ s away. refl) no_command not_had w d others unread a
 
   -- ---- an event
 

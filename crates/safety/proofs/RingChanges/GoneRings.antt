@@ -1,14 +1,7 @@
 -- A ring that goes: what a driver keeps it keeps still
-use Rattle.safety.proofs.Words.{◌≡◌, ◌≢◌, ◌<◌, ◌==◌, ◌&&◌, ◌||◌, ◌∷◌, ◌∙◌, ℕ, not, Bool, true, false, List, [], Option, Some, None, find, filter, get_or, length, nat_lt, arith, refl, sym, ap, subst, inl, inr, eqb-true, eq-eqb, ne_eqb, rules, put, new_ring, emptied, forgotten, is_bad_free, is_had, without_ring, list_all, and_from, is_shape, may_stand_together, Block, World, Stands, FreeRing, state_of, Agrees, Evt, Xfer, RingKind, same_Some, cases_Bool, cases_eq, list_any, list_any_at, range_with_len, cond-true, cond-false, false≢true, false_from_ne_true, none-some, not-false, not_from_false, not-true, or_parts, is_inside, place_count, RingView, RingKeeps, Command, device_context_bytes, input_context_bytes, Header, Ring, IsHeader, is_command_kind, is_event_kind, is_transfer_kind, is_ring, ring_with, shape_of, shape_or, command_ring, command_id, event_ring, event_shape, event_size, ring_having, id_of, id_or_none, touches_ring, Known, entry_of, Binding, binds, ring_bound, binds_ring, is_being_bound, any_of, from_filter, some_of, IsIn, is_transfer_ring, IsDriverRing, IsTransferRing, IsUnfinished, DriverKeeps}
+use Rattle.safety.proofs.Words.{[], ◌≡◌, ◌≢◌, ◌<◌, ◌==◌, ◌∷◌, ◌∙◌, ℕ, not, Bool, true, false, List, Option, Some, None, find, filter, get_or, length, nat_lt, arith, refl, sym, ap, subst, inl, inr, eqb-true, eq-eqb, ne_eqb, rules, put, new_ring, emptied, forgotten, is_bad_free, is_had, without_ring, list_all, and_from, is_shape, may_stand_together, Block, World, Agrees, Evt, Xfer, RingKind, same_Some, cases_Bool, cases_eq, list_any, list_any_at, range_with_len, cond-true, cond-false, false≢true, false_from_ne_true, none-some, not-false, not_from_false, not-true, or_parts, is_inside, place_count, RingView, RingKeeps, Command, device_context_bytes, input_context_bytes, Header, Ring, IsHeader, is_command_kind, is_event_kind, is_transfer_kind, is_ring, ring_with, shape_of, shape_or, command_ring, command_id, event_ring, event_shape, event_size, ring_having, id_of, id_or_none, touches_ring, Known, entry_of, Binding, binds, ring_bound, binds_ring, is_being_bound, any_of, from_filter, IsIn, is_transfer_ring, IsDriverRing, IsTransferRing, IsUnfinished, DriverKeeps}
 use Rattle.segments.specs.Places.{touches}
-use Rattle.safety.proofs.Areas.{context_lies}
-use Rattle.safety.proofs.DriverRings.{transfer_ring}
-use Rattle.safety.proofs.Headers.{found_in, header_parts, together, transfer_not_command}
-use Rattle.safety.proofs.RingIds.{having_transfer, other_ids}
-use Rattle.safety.proofs.UnfinishedLists.{in_range, unfinished_fails}
-use Rattle.safety.proofs.RingChanges.ListedRings.{all_kept, together_kept}
-use Rattle.safety.proofs.RingChanges.OtherWorlds.{OtherTakes, free_new, other_worlds_agree}
-use Rattle.safety.proofs.RingChanges.OtherRings.{OtherRings, IsAsBefore, BindsAsBefore, other_rings_keep}
+use Rattle.safety.proofs.LowerLaws.{forgetting_agrees, none_kept, context_lies, transfer_ring, found_in, header_parts, together, transfer_not_command, having_transfer, other_ids, in_range, unfinished_fails, all_kept, together_kept, OtherRings, IsAsBefore, BindsAsBefore, other_rings_keep}
 
 -- ---- some rings of a list
 
@@ -19,17 +12,8 @@ module _ (p keep : Ring → Bool) where
   find_kept (y ∷ ys) kept =
       let rest = find_kept ys (λ q at. kept q (inr at)) in
       elim (cases_Bool (p y)) [
-        | inl passes ↦
-            ap (find p) (cond-true (keep y) (y ∷ filter keep ys) (filter keep ys) (kept y (inl refl) passes))
-            ∙ cond-true (p y) (Some y) (find p (filter keep ys)) passes ∙ sym (cond-true (p y) (Some y) (find p ys) passes)
-        | inr fails ↦
-            elim (cases_Bool (keep y)) [
-              | inl stays ↦
-                  ap (find p) (cond-true (keep y) (y ∷ filter keep ys) (filter keep ys) stays)
-                  ∙ cond-false (p y) (Some y) (find p (filter keep ys)) fails ∙ rest ∙ sym (cond-false (p y) (Some y) (find p ys) fails)
-              | inr goes ↦
-                  ap (find p) (cond-false (keep y) (y ∷ filter keep ys) (filter keep ys) goes) ∙ rest ∙ sym (cond-false (p y) (Some y) (find p ys) fails)
-            ]
+        | inl passes ↦ simp (kept y (inl refl) passes, passes)
+        | inr fails ↦ elim (cases_Bool (keep y)) [ inl stays ↦ simp (stays, fails) rest | inr goes ↦ simp (goes, fails) rest ]
       ]
 
   -- the one that is found is among them
@@ -39,22 +23,11 @@ module _ (p keep : Ring → Bool) where
       elim (cases_Bool (p y)) [
         | inl passes ↦
             let same : Some y ≡ Some q = sym (cond-true (p y) (Some y) (find p ys) passes) ∙ found in
-            ap (find p) (cond-true (keep y) (y ∷ filter keep ys) (filter keep ys) (ap keep (same_Some y q same) ∙ kept))
-            ∙ cond-true (p y) (Some y) (find p (filter keep ys)) passes ∙ same
+            let stays : keep y ≡ true = ap keep (same_Some y q same) ∙ kept in simp (stays, passes) same
         | inr fails ↦
             let rest = found_kept ys q (sym (cond-false (p y) (Some y) (find p ys) fails) ∙ found) kept in
-            elim (cases_Bool (keep y)) [
-              | inl stays ↦
-                  ap (find p) (cond-true (keep y) (y ∷ filter keep ys) (filter keep ys) stays) ∙ cond-false (p y) (Some y) (find p (filter keep ys)) fails ∙ rest
-              | inr goes ↦ ap (find p) (cond-false (keep y) (y ∷ filter keep ys) (filter keep ys) goes) ∙ rest
-            ]
+            elim (cases_Bool (keep y)) [ inl stays ↦ simp (stays, fails) rest | inr goes ↦ simp goes rest ]
       ]
-
-  none_kept : (rs : List Ring) → list_any p rs ≡ false → list_any p (filter keep rs) ≡ false
-  none_kept rs none =
-      false_from_ne_true (list_any p (filter keep rs)) (λ t.
-      let q = some_of p (filter keep rs) t in
-      false≢true (sym none ∙ any_of p rs q.0 (from_filter keep rs q.0 q.1).0 q.2))
 
 transfer_no_command : (kind : RingKind) → is_transfer_kind kind ≡ true → is_command_kind kind ≡ false
 transfer_no_command Xfer t = refl
@@ -76,10 +49,7 @@ module _ (h : Header) (is : IsHeader h) (k : Known) (d : DriverKeeps h k) (id : 
 
   pub parts : (is_transfer_ring (ring_with h id) ≡ true) × (is_had k id ≡ false) × (is_being_bound h k id ≡ false)
   unfolding is_bad_free
-  parts =
-      let two = or_parts (not (is_transfer_ring (ring_with h id)) || is_had k id) (is_being_bound h k id) good in
-      let one = or_parts (not (is_transfer_ring (ring_with h id))) (is_had k id) two.0 in
-      (not-false (is_transfer_ring (ring_with h id)) one.0, one.1, two.1)
+  parts = search (rules, or_parts, not, is_transfer_ring, ring_with, is_had, is_being_bound, not-false)
 
   pub gone : IsTransferRing h id
   gone = transfer_ring h id parts.0
@@ -106,7 +76,7 @@ module _ (h : Header) (is : IsHeader h) (k : Known) (d : DriverKeeps h k) (id : 
   of_other_kind : (test : Ring → Bool) → test gone.ring ≡ false → (q : Ring) → IsIn q h.rings → test q ≡ true → keep q ≡ true
   of_other_kind test fails q at passes = stays q (λ same. false≢true (sym fails ∙ ap test (sym (only_one q at same)) ∙ passes))
 
-  ring_same : (s : ℕ) → s ≢ id → ring_with g s ≡ ring_with h s
+  pub ring_same : (s : ℕ) → s ≢ id → ring_with g s ≡ ring_with h s
   ring_same s other = find_kept (λ q. q.id == s) keep h.rings (λ q at passes. stays q (λ same. other (sym (eqb-true q.id s passes) ∙ same)))
 
   pub shape_same : (s : ℕ) → s ≢ id → shape_of g s ≡ shape_of h s
@@ -117,8 +87,7 @@ module _ (h : Header) (is : IsHeader h) (k : Known) (d : DriverKeeps h k) (id : 
   not_there : (s : ℕ) (q : Ring) → ring_with g s ≡ Some q → s ≢ id
   not_there s q found same =
       let there = found_in (λ x. x.id == s) (filter keep h.rings) q found in
-      let kept = (from_filter keep h.rings q there.0).1 in
-      false≢true (sym (not-true (q.id == id) kept) ∙ eq-eqb q.id id (eqb-true q.id s there.1 ∙ same))
+      false≢true (sym (not-true (q.id == id) ((from_filter keep h.rings q there.0).1)) ∙ eq-eqb q.id id (eqb-true q.id s there.1 ∙ same))
 
   driver_before : (s : ℕ) → IsDriverRing g s → IsDriverRing h s
   driver_before s ring = record { ring = ring.ring; found = sym (ring_same s (not_there s ring.ring ring.found)) ∙ ring.found; kind = ring.kind }
@@ -173,8 +142,7 @@ module _ (h : Header) (is : IsHeader h) (k : Known) (d : DriverKeeps h k) (id : 
 
   pub having_same : (p s : ℕ) → s ≢ id → ring_having h p ≡ Some s → ring_having g p ≡ Some s
   unfolding ring_having
-  having_same p s other names =
-      having_still (λ q. is_transfer_kind q.shape.kind && is_inside q.shape p) (find (λ q. is_transfer_kind q.shape.kind && is_inside q.shape p) h.rings) s refl other names
+  having_same p s other names = search (rules, having_still, is_transfer_kind, is_inside, find)
 
   bound_same : (b : Binding) → is_ring id (ring_bound h b) ≡ false → BindsAsBefore h (filter keep h.rings) k views b
   unfolding ring_bound
@@ -185,13 +153,12 @@ module _ (h : Header) (is : IsHeader h) (k : Known) (d : DriverKeeps h k) (id : 
   pub none_binds : (p : ℕ) (c : Command) → IsUnfinished h k p c → (i : ℕ) (b : Binding) → i < length (binds h k c) → is_ring id (ring_bound h (get_or (binds h k c) i b)) ≡ false
   unfolding is_being_bound binds_ring
   none_binds p c u i b low =
-      let none : binds_ring h k id c ≡ false = unfinished_fails h k (binds_ring h k id) p c parts.2 u in
       false_from_ne_true (is_ring id (ring_bound h (get_or (binds h k c) i b))) (λ t.
-      false≢true (sym none ∙ list_any_at (λ x. is_ring id (ring_bound h x)) (binds h k c) i b low t))
+      false≢true (sym (unfinished_fails h k (binds_ring h k id) p c parts.2 u) ∙ list_any_at (λ x. is_ring id (ring_bound h x)) (binds h k c) i b low t))
 
   area_apart : (from len : ℕ) → touches_ring h from len ≡ false → touches_ring g from len ≡ false
   unfolding touches_ring
-  area_apart from len none = none_kept (λ q. touches q.shape from len) keep h.rings none
+  area_apart from len none = none_kept keep (λ q. touches q.shape from len) h.rings none
 
   pub others : OtherRings h (filter keep h.rings) k views
   others = record {
@@ -224,50 +191,10 @@ module _ (h : Header) (is : IsHeader h) (k : Known) (d : DriverKeeps h k) (id : 
 
   pub gone_ring_header : IsHeader (without_ring h id)
   unfolding without_ring
-  gone_ring_header =
-      let was = header_parts h is in
-      and_from (list_all (λ q. nat_lt q.id 256 && is_shape q.shape) (filter keep h.rings)) (may_stand_together (filter keep h.rings))
-      (all_kept keep (λ q. nat_lt q.id 256 && is_shape q.shape) h.rings was.0) (together_kept keep h.rings was.1)
+  gone_ring_header = search (rules, header_parts, and_from, list_all, nat_lt, is_shape, filter, keep, may_stand_together, all_kept, together_kept)
 
   -- ---- a world that forgets it too
 
-  pub put_here : {X : Type 0} (f : ℕ → X) (x : X) (s : ℕ) → s ≡ id → put f id x s ≡ x
-  put_here f x s same = cond-true (s == id) x (f s) (eq-eqb s id same)
-
-  pub put_apart : {X : Type 0} (f : ℕ → X) (x : X) (s : ℕ) → s ≢ id → put f id x s ≡ f s
-  put_apart f x s other = cond-false (s == id) x (f s) (ne_eqb s id other)
-
-  module _ (w : World) where
-    abbrev v : World
-    v = record w { queue = put w.queue id []; lengths = put w.lengths id []; events = put w.events id []; reported = put w.reported id 0 }
-
-    state_apart : (s : ℕ) → s ≢ id → state_of v s ≡ state_of w s
-    state_apart s other =
-        λ j. record { pointer = w.pointer_of s; cycle = w.cycle_state s; active = w.is_active s; events = put_apart w.events [] s other j; reported = put_apart w.reported 0 s other j }
-
-    free_still : (s : ℕ) → FreeRing (shape_of h s) k.ring_of (k.ring s) (state_of w s) s → FreeRing (shape_of g s) k.ring_of (views s) (state_of v s) s
-    free_still s free = elim (cases_eq s id) [
-      | inl here ↦ free_new (shape_of g s) k.ring_of (views s) (state_of v s) s free.none free.rests.inactive (put_here w.events [] s here) (put_here k.ring new_ring s here)
-      | inr other ↦
-          subst (λ x. FreeRing (shape_of g s) k.ring_of (views s) x s) (sym (state_apart s other))
-          (subst (λ y. FreeRing (shape_of g s) k.ring_of y (state_of w s) s) (sym (view_same s other)) (subst (λ y. FreeRing y k.ring_of (k.ring s) (state_of w s) s) (sym (shape_same s other)) free))
-    ]
-
-    takes : Stands h k w → OtherTakes h (filter keep h.rings) k views w v.queue v.lengths v.events v.reported
-    takes stands = record {
-      queues = λ s. elim (cases_eq s id) [
-        | inl here ↦ put_here w.queue [] s here ∙ sym (ap (λ (y : RingView). y.queue) (put_here k.ring new_ring s here))
-        | inr other ↦ put_apart w.queue [] s other ∙ stands.queues s ∙ sym (ap (λ (y : RingView). y.queue) (view_same s other))
-      ];
-      counts = λ s. elim (cases_eq s id) [
-        | inl here ↦ put_here w.lengths [] s here ∙ sym (ap (λ (y : RingView). y.lengths) (put_here k.ring new_ring s here))
-        | inr other ↦ put_apart w.lengths [] s other ∙ stands.lengths s ∙ sym (ap (λ (y : RingView). y.lengths) (view_same s other))
-      ];
-      command = (put_apart w.events [] (command_id h) no_command, put_apart w.reported 0 (command_id h) no_command);
-      had = λ s i x at. let other = not_had s i x at in (put_apart w.events [] x other, put_apart w.reported 0 x other);
-      free = λ s other free. free_still s free;
-    }
-
-    pub gone_ring_agrees : (unread : List Block) → Agrees h k unread w → Agrees (without_ring h id) (forgotten k id) unread (emptied w id)
-    unfolding without_ring forgotten emptied
-    gone_ring_agrees unread a = other_worlds_agree h (filter keep h.rings) k views w v.queue v.lengths v.events v.reported d others (takes a.stands) unread a
+  pub gone_ring_agrees : (w : World) (unread : List Block) → Agrees h k unread w → Agrees (without_ring h id) (forgotten k id) unread (emptied w id)
+  unfolding without_ring forgotten emptied
+  gone_ring_agrees w unread a = forgetting_agrees h (filter keep h.rings) k id shape_same no_command not_had w d others unread a

@@ -1,5 +1,5 @@
 -- Lists of rings that may stand together, with one more and with some left out
-use Rattle.safety.proofs.Words.{◌≡◌, ◌*◌, ◌<◌, ◌||◌, ◌++◌, ◌∷◌, ◌∙◌, not, Bool, true, false, List, [], Some, None, find, filter, nat_lt, arith, refl, sym, ap, inl, inr, lt-ltb, Segment, rings_overlap, segments_overlap, cases_Bool, list_all, list_any, list_any-append, and_from, and_parts, or_from, cond-true, cond-false, false≢true, false_from_ne_true, none-some, not_from_false, not-true, any_of, some_of, from_filter, IsIn, Shape, Ring, clash, may_stand_together}
+use Rattle.safety.proofs.Words.{rules, [], ◌≡◌, ◌*◌, ◌<◌, ◌||◌, ◌++◌, ◌∷◌, ◌∙◌, not, Bool, true, false, List, Some, None, find, filter, nat_lt, arith, refl, sym, ap, inl, inr, lt-ltb, Segment, rings_overlap, segments_overlap, cases_Bool, list_all, list_any, list_any-append, and_from, and_parts, or_from, cond-true, cond-false, false≢true, false_from_ne_true, none-some, not_from_false, not-true, any_of, some_of, from_filter, IsIn, Shape, Ring, clash, may_stand_together}
 use Rattle.segments.specs.Places.{overlap, touches}
 use Rattle.safety.proofs.AreaFacts.{overlap_turned}
 
@@ -21,28 +21,17 @@ module _ (keep : Ring → Bool) where
   all_kept p (y ∷ ys) all =
       let parts = and_parts (p y) (list_all p ys) all in
       let rest = all_kept p ys parts.1 in
-      elim (cases_Bool (keep y)) [
-        | inl stays ↦ ap (list_all p) (cond-true (keep y) (y ∷ filter keep ys) (filter keep ys) stays) ∙ and_from (p y) (list_all p (filter keep ys)) parts.0 rest
-        | inr goes ↦ ap (list_all p) (cond-false (keep y) (y ∷ filter keep ys) (filter keep ys) goes) ∙ rest
-      ]
+      elim (cases_Bool (keep y)) [ inl stays ↦ simp (stays, parts.0) rest | inr goes ↦ simp goes rest ]
 
-  none_clash : (y : Ring) (ys : List Ring) → list_any (clash y) ys ≡ false → list_any (clash y) (filter keep ys) ≡ false
-  none_clash y ys none =
-      false_from_ne_true (list_any (clash y) (filter keep ys)) (λ t.
-      let q = some_of (clash y) (filter keep ys) t in
-      false≢true (sym none ∙ any_of (clash y) ys q.0 (from_filter keep ys q.0 q.1).0 q.2))
+  pub none_kept : (p : Ring → Bool) (rs : List Ring) → list_any p rs ≡ false → list_any p (filter keep rs) ≡ false
+  none_kept p rs none = search (rules, false_from_ne_true, some_of, false≢true, any_of, from_filter)
 
   pub together_kept : (rs : List Ring) → may_stand_together rs ≡ true → may_stand_together (filter keep rs) ≡ true
   together_kept [] together = refl
   together_kept (y ∷ ys) together =
       let parts = and_parts (not (list_any (clash y) ys)) (may_stand_together ys) together in
       let rest = together_kept ys parts.1 in
-      elim (cases_Bool (keep y)) [
-        | inl stays ↦
-            ap may_stand_together (cond-true (keep y) (y ∷ filter keep ys) (filter keep ys) stays)
-            ∙ and_from (not (list_any (clash y) (filter keep ys))) (may_stand_together (filter keep ys)) (not_from_false _ (none_clash y ys (not-true (list_any (clash y) ys) parts.0))) rest
-        | inr goes ↦ ap may_stand_together (cond-false (keep y) (y ∷ filter keep ys) (filter keep ys) goes) ∙ rest
-      ]
+      elim (cases_Bool (keep y)) [ inl stays ↦ simp (stays, none_kept (clash y) ys (not-true (list_any (clash y) ys) parts.0)) rest | inr goes ↦ simp goes rest ]
 
 -- what isn't found passes nowhere
 pub none_found : (p : Ring → Bool) (rs : List Ring) → find p rs ≡ None → (q : Ring) → IsIn q rs → p q ≡ false
@@ -62,8 +51,7 @@ overlaps_none a b some apart =
     false_from_ne_true (rings_overlap a b) (λ o.
     let s = some_of (λ s. list_any (segments_overlap s) b.segments) a.segments o in
     let t = some_of (segments_overlap s.0) b.segments s.2 in
-    let many = some t.0 t.1 in
-    let low : nat_lt 0 (16 * t.0.count) ≡ true = lt-ltb 0 (16 * t.0.count) (omega (arith, many)) in
+    let low : nat_lt 0 (16 * t.0.count) ≡ true = lt-ltb 0 (16 * t.0.count) (omega (arith, (some t.0 t.1))) in
     let turned = overlap_turned t.0.base (16 * t.0.count) s.0.base (16 * s.0.count)
     (false_from_ne_true _ (λ over. false≢true (sym (apart t.0 t.1) ∙ and_from _ _ low (any_of (λ x. overlap t.0.base (16 * t.0.count) x.base (16 * x.count)) a.segments s.0 s.1 over)))) in
     false≢true (sym turned ∙ t.2))

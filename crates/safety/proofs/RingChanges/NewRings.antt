@@ -1,16 +1,8 @@
 -- A ring that comes: what a driver keeps it keeps still
-use Rattle.safety.proofs.Words.{◌≡◌, ◌≢◌, ◌+◌, ◌-◌, ◌*◌, ◌%◌, ◌<◌, ◌≤◌, ◌==◌, ◌&&◌, ◌||◌, ◌++◌, ◌∷◌, ◌∙◌, ℕ, Bool, true, false, List, [], Option, Some, None, find, get_or, is_some, arith, refl, sym, ap, subst, inl, inr, eq-eqb, ne_eqb, add-zero, lt-ltb, nat_lt, rules, option_or, find-append, Segment, new_ring, crossing_positive, link_address_is, crossed_link, crosses, link_aligned, crossing_due_is, new_ring_keeps, rings_overlap, IsComing, with_ring, is_bad_ring, is_bad_segment, list_all, and_from, and_right, clash, is_shape, may_stand_together, Block, World, FreeRing, state_of, Agrees, Data, Evt, Shape, list_any, list_any-append, cases_eq, cases_option, cond-true, cond-false, false≢true, none-some, or_parts, or_from, is_inside, place_count, address_of, cycle_of, link_address, RingKeeps, address_inside, link_address_inside, address_aligned, cycle_of-first, place_count_pos, due_is, Xfer, device_context_bytes, input_context_bytes, Header, Ring, IsHeader, is_command_kind, is_event_kind, is_transfer_kind, ring_with, shape_of, shape_or, command_ring, command_id, event_ring, event_shape, event_size, ring_having, id_of, id_or_none, touches_ring, Known, entry_of, Binding, binds, ring_bound, covers, open_ranges, overlap, IsIn, IsDriverRing, IsTransferRing, DriverKeeps}
+use Rattle.safety.proofs.Words.{[], ◌≡◌, ◌≢◌, ◌+◌, ◌-◌, ◌*◌, ◌%◌, ◌<◌, ◌≤◌, ◌==◌, ◌&&◌, ◌++◌, ◌∷◌, ◌∙◌, ℕ, Bool, true, false, List, Option, Some, None, find, get_or, is_some, arith, refl, sym, ap, subst, inl, inr, eq-eqb, ne_eqb, add-zero, lt-ltb, nat_lt, rules, option_or, find-append, Segment, new_ring, crossing_positive, link_address_is, crossed_link, crosses, link_aligned, crossing_due_is, new_ring_keeps, rings_overlap, IsComing, with_ring, is_bad_ring, is_bad_segment, list_all, and_from, and_right, clash, is_shape, may_stand_together, Block, World, FreeRing, state_of, Agrees, Data, Evt, Shape, list_any, list_any-append, cases_eq, cases_option, cond-true, cond-false, false≢true, none-some, or_parts, or_from, is_inside, place_count, address_of, cycle_of, link_address, RingKeeps, address_inside, link_address_inside, address_aligned, cycle_of-first, place_count_pos, due_is, Xfer, device_context_bytes, input_context_bytes, Header, Ring, IsHeader, is_command_kind, is_event_kind, is_transfer_kind, ring_with, shape_of, shape_or, command_ring, command_id, event_ring, event_shape, event_size, ring_having, id_of, id_or_none, touches_ring, Known, entry_of, Binding, binds, ring_bound, covers, open_ranges, overlap, IsIn, IsDriverRing, IsTransferRing, DriverKeeps}
 use Rattle.segments.specs.Places.{touches}
-use Rattle.safety.proofs.Areas.{context_lies, ring_untouched}
-use Rattle.safety.proofs.AreaFacts.{context_free, device_free, entry_free}
-use Rattle.safety.proofs.DriverRings.{transfer_ring}
-use Rattle.safety.proofs.Headers.{command_named, header_parts, shape_is}
+use Rattle.safety.proofs.LowerLaws.{context_lies, ring_untouched, context_free, device_free, entry_free, transfer_ring, command_named, header_parts, shape_is, having_transfer, free_new, other_worlds_agree, OtherRings, IsAsBefore, BindsAsBefore, other_rings_keep, block_shows, each_good, segment_some, touches_none, words_clean, all_more, none_found, overlaps_none, together_more}
 use Rattle.safety.proofs.KeptCommandRing.{command_with}
-use Rattle.safety.proofs.RingIds.{having_transfer}
-use Rattle.safety.proofs.RingChanges.OtherWorlds.{free_new, other_worlds_agree}
-use Rattle.safety.proofs.RingChanges.OtherRings.{OtherRings, IsAsBefore, BindsAsBefore, other_rings_keep}
-use Rattle.safety.proofs.RingChanges.Segments.{block_shows, each_good, segment_some, touches_none, words_clean}
-use Rattle.safety.proofs.RingChanges.ListedRings.{all_more, none_found, overlaps_none, together_more}
 
 -- ---- one ring more in a list
 
@@ -142,10 +134,7 @@ module _ (h : Header) (is : IsHeader h) (k : Known) (d : DriverKeeps h k) (r : R
 
   shape_apart : (from len : ℕ) → ((s : Segment) → IsIn s r.shape.segments → overlap s.base (16 * s.count) from len ≡ false) → touches_ring h from len ≡ false → touches_ring g from len ≡ false
   unfolding touches_ring
-  shape_apart from len apart before =
-      list_any-append (λ q. touches q.shape from len) h.rings (r ∷ [])
-      ∙ or_from (list_any (λ q. touches q.shape from len) h.rings) (touches r.shape from len || false) before
-      (or_from (touches r.shape from len) false (touches_none h k r.shape coming.shape coming.kind parts.1 from len apart) refl)
+  shape_apart from len apart before = search (rules, list_any-append, touches, or_from, list_any, touches_none, parts)
 
   -- ---- what a binding names
 

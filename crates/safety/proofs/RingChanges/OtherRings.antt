@@ -1,6 +1,7 @@
 -- What a driver keeps is kept where other rings are there, so long as those that endpoints and commands speak of are as they were
-use Rattle.safety.proofs.Words.{◌≡◌, ◌≢◌, ◌≤◌, ◌+◌, ◌%◌, ◌^◌, ◌<◌, ◌&&◌, ◌||◌, ◌⊎◌, ◌∷◌, ◌∙◌, ℕ, not, Bool, true, false, List, [], map, All, Option, Some, None, nat_lt, option_and_then, slice_get, is_none, refl, sym, ap, subst, inl, inr, rules, IsRestored, new_ring, Dcbaap, device_named, is_soiled, overlap, list_any-append, is_at_rest, drops, context_pointer, context_cycle, base_address, table_bytes, list_any, flat_map, false≢true, or_parts, or_from, cases_option, All-head, All-tail, All-cons, All-nil, RingView, is_inside, ceiling, floor_number, is_move, RingKeeps, Command, AddressDevice, ConfigureEndpoint, StopEndpoint, SetTrDequeue, command_of, is_stop_of, named_slot, named_endpoint, named_context, device_context_bytes, input_context_bytes, Header, Ring, shape_of, command_id, event_shape, event_size, touches_ring, is_ring, Known, entry_of, command_at, next_command, may_be_taken, is_stopping_now, device_ranges, range_of_device, slots, covers, lease_start, lease_bytes, is_bad_area, Binding, binds, binding_in, ring_bound, binds_ring, has_repeats, is_placed, is_bad_dequeue, is_bad_move, IsDriverRing, IsTransferRing, IsUnfinished, was_stop_seen, CommandRingKeeps, CommandRingNamed, StatesKeep, Unstarted, DeviceKeeps, Stays, StaysIf, MovesIf, CommandKeeps, DriverKeeps}
-use Rattle.ownership_rules.specs.Commands as commands
+use Rattle.safety.proofs.Words.{arith, put, cases_eq, [], ◌≡◌, ◌≢◌, ◌≤◌, ◌+◌, ◌%◌, ◌^◌, ◌<◌, ◌&&◌, ◌||◌, ◌⊎◌, ◌∷◌, ◌∙◌, ℕ, not, Bool, true, false, List, map, All, Option, Some, None, nat_lt, option_and_then, slice_get, is_none, refl, sym, ap, subst, inl, inr, rules, IsRestored, new_ring, Dcbaap, device_named, is_soiled, overlap, list_any-append, is_at_rest, drops, context_pointer, context_cycle, base_address, table_bytes, list_any, flat_map, false≢true, or_parts, or_from, cases_option, All-head, All-tail, All-cons, All-nil, RingView, is_inside, ceiling, floor_number, is_move, RingKeeps, Command, AddressDevice, ConfigureEndpoint, StopEndpoint, SetTrDequeue, command_of, is_stop_of, named_slot, named_endpoint, named_context, device_context_bytes, input_context_bytes, Header, Ring, shape_of, command_id, event_shape, event_size, touches_ring, is_ring, Known, entry_of, command_at, next_command, may_be_taken, is_stopping_now, device_ranges, range_of_device, slots, covers, lease_start, lease_bytes, is_bad_area, Binding, binds, binding_in, ring_bound, binds_ring, has_repeats, is_placed, is_bad_dequeue, is_bad_move, IsDriverRing, IsTransferRing, IsUnfinished, was_stop_seen, CommandRingKeeps, CommandRingNamed, StatesKeep, Unstarted, DeviceKeeps, Stays, StaysIf, MovesIf, CommandKeeps, DriverKeeps, adds_streams, has_bad_content, has_bad_context, has_bad_entry, is_bad_added, is_bad_command, is_bad_device, names_disabled_endpoint, names_disabled_slot, streams_in, takes_bad_device, type_in, next_take, Block, block_at, address_of, Spot, Shape, AreInOrder, World, RingEvent, UnderWay, Stands, EventsStand, RingState, state_of, RingMatches, BoundRing, FreeRing, EndpointRing, UnderWayMatches, TakenCommand, IsUnchanged, Matches, Agrees, has_other_words, is_out_of_order}
+use Rattle.world_state.specs.World.{event_at}
+use Rattle.safety.proofs.LookKinds.{put_at, put_off}
 
 -- where a list is mapped alike, what passes of it is the same
 any_map : {X Y : Type 0} (f : X → Y) (t : Y → Bool) (xs : List X) → list_any (λ x. t (f x)) xs ≡ list_any t (map f xs)
@@ -9,6 +10,12 @@ any_map f t (x ∷ xs) = ap (λ b. t (f x) || b) (any_map f t xs)
 
 same_any : {X Y : Type 0} (f g : X → Y) (t : Y → Bool) (xs : List X) → map f xs ≡ map g xs → list_any (λ x. t (f x)) xs ≡ list_any (λ x. t (g x)) xs
 same_any f g t xs same = any_map f t xs ∙ ap (list_any t) same ∙ sym (any_map g t xs)
+
+-- a ring on which nothing happened
+pub free_new : (shape : Shape) (ring_of : ℕ → ℕ → Option ℕ) (y : RingView) (s : RingState) (r : ℕ) → ((t i : ℕ) → ring_of t i ≢ Some r) → s.active ≡ false → s.events ≡ [] → y ≡ new_ring →
+    FreeRing shape ring_of y s r
+unfolding is_out_of_order has_other_words next_take
+free_new shape ring_of y s r none inactive empty new = search rules
 
 module _ (h : Header) (rings : List Ring) (k : Known) (views : ℕ → RingView) where
   -- the header and the knowledge with other rings
@@ -58,9 +65,7 @@ module _ (h : Header) (rings : List Ring) (k : Known) (views : ℕ → RingView)
 
     stopping_same : (s i : ℕ) → is_stopping_now g l s i ≡ is_stopping_now h k s i
     unfolding is_stopping_now may_be_taken next_command command_at
-    stopping_same s i =
-        λ j. nat_lt (floor_number (o.command_view j)) (ceiling (o.command_shape j) (o.command_view j))
-        && is_stop_of s i (option_and_then command_of (slice_get (o.command_view j).queue (floor_number (o.command_view j))))
+    stopping_same s i = search (rules, nat_lt, floor_number, ceiling, is_stop_of, option_and_then, command_of, slice_get)
 
     states_keep : StatesKeep g l
     states_keep =
@@ -135,44 +140,44 @@ module _ (h : Header) (rings : List Ring) (k : Known) (views : ℕ → RingView)
         (or_from (nat_lt (2 ^ 64) (from + len)) (touches_ring g from len) (or_parts _ _ parts.0).0 apart)
         (devices_cover from len slots ∙ parts.1)
 
-    context_good : (n : Option ℕ) → ((a : ℕ) → n ≡ Some a → touches_ring g a (input_context_bytes h.context_size) ≡ false) → commands.has_bad_context h k n ≡ false →
-        commands.has_bad_context g l n ≡ false
-    unfolding commands.has_bad_context is_soiled
+    context_good : (n : Option ℕ) → ((a : ℕ) → n ≡ Some a → touches_ring g a (input_context_bytes h.context_size) ≡ false) → has_bad_context h k n ≡ false →
+        has_bad_context g l n ≡ false
+    unfolding has_bad_context is_soiled
     context_good None apart good = search rules
     context_good (Some a) apart good = search (rules, g, l, or_parts, or_from, area_same)
 
     -- an Address Device that is unfinished has its device context
-    content_good : (c : Command) → ((s n : ℕ) (bsr : Bool) → c ≡ AddressDevice s bsr n → k.device s ≢ None) → commands.has_bad_content h k c ≡ false →
-        commands.has_bad_content g l c ≡ false
-    unfolding commands.has_bad_content commands.is_bad_added commands.type_in commands.takes_bad_device device_named
+    content_good : (c : Command) → ((s n : ℕ) (bsr : Bool) → c ≡ AddressDevice s bsr n → k.device s ≢ None) → has_bad_content h k c ≡ false →
+        has_bad_content g l c ≡ false
+    unfolding has_bad_content is_bad_added type_in takes_bad_device device_named
     content_good (AddressDevice s bsr n) device good =
-        or_from _ (commands.takes_bad_device g l s n) (or_parts _ (commands.takes_bad_device h k s n) good).0
+        or_from _ (takes_bad_device g l s n) (or_parts _ (takes_bad_device h k s n) good).0
         (elim (cases_option (k.device s)) [
           | inl none ↦ absurd (device s n bsr refl none)
-          | inr some ↦ ap (λ (a : Option ℕ). is_none a && (is_none (k.register Dcbaap) || commands.has_bad_entry g l s || commands.is_bad_device g l s n (device_named k s))) some.1
+          | inr some ↦ ap (λ (a : Option ℕ). is_none a && (is_none (k.register Dcbaap) || has_bad_entry g l s || is_bad_device g l s n (device_named k s))) some.1
         ])
     content_good (ConfigureEndpoint s false n) device good = good
     content_good _ device good = refl
 
-    slot_same : (n : Option ℕ) → commands.names_disabled_slot l n ≡ commands.names_disabled_slot k n
-    unfolding commands.names_disabled_slot
+    slot_same : (n : Option ℕ) → names_disabled_slot l n ≡ names_disabled_slot k n
+    unfolding names_disabled_slot
     slot_same None = refl
     slot_same (Some s) = refl
 
-    endpoint_same : (n : Option (ℕ × ℕ)) → commands.names_disabled_endpoint l n ≡ commands.names_disabled_endpoint k n
-    unfolding commands.names_disabled_endpoint
+    endpoint_same : (n : Option (ℕ × ℕ)) → names_disabled_endpoint l n ≡ names_disabled_endpoint k n
+    unfolding names_disabled_endpoint
     endpoint_same None = refl
     endpoint_same (Some e) = refl
 
-    good_still : (p : ℕ) (c : Command) → IsUnfinished h k p c → CommandKeeps h k p c → commands.is_bad_command g l c ≡ false
-    unfolding commands.is_bad_command
+    good_still : (p : ℕ) (c : Command) → IsUnfinished h k p c → CommandKeeps h k p c → is_bad_command g l c ≡ false
+    unfolding is_bad_command
     good_still p c u keeps =
-        let content = or_parts _ (commands.has_bad_content h k c) keeps.good in
-        let context = or_parts _ (commands.has_bad_context h k (named_context c)) content.0 in
-        let names = or_parts (commands.names_disabled_slot k (named_slot c)) (commands.names_disabled_endpoint k (named_endpoint c)) context.0 in
-        or_from _ (commands.has_bad_content g l c)
-        (or_from _ (commands.has_bad_context g l (named_context c))
-        (or_from (commands.names_disabled_slot l (named_slot c)) (commands.names_disabled_endpoint l (named_endpoint c))
+        let content = or_parts _ (has_bad_content h k c) keeps.good in
+        let context = or_parts _ (has_bad_context h k (named_context c)) content.0 in
+        let names = or_parts (names_disabled_slot k (named_slot c)) (names_disabled_endpoint k (named_endpoint c)) context.0 in
+        or_from _ (has_bad_content g l c)
+        (or_from _ (has_bad_context g l (named_context c))
+        (or_from (names_disabled_slot l (named_slot c)) (names_disabled_endpoint l (named_endpoint c))
         (slot_same (named_slot c) ∙ names.0) (endpoint_same (named_endpoint c) ∙ names.1))
         (context_good (named_context c) (λ a at. o.contexts p a c u at) context.1))
         (content_good c keeps.device content.1)
@@ -241,8 +246,8 @@ module _ (h : Header) (rings : List Ring) (k : Known) (views : ℕ → RingView)
     drops_same (ConfigureEndpoint t false n) s i = refl
     drops_same _ s i = refl
 
-    streams_same : (c : Command) → commands.adds_streams g l c ≡ commands.adds_streams h k c
-    unfolding commands.adds_streams commands.streams_in
+    streams_same : (c : Command) → adds_streams g l c ≡ adds_streams h k c
+    unfolding adds_streams streams_in
     streams_same (AddressDevice s bsr n) = refl
     streams_same _ = refl
 
@@ -283,3 +288,122 @@ module _ (h : Header) (rings : List Ring) (k : Known) (views : ℕ → RingView)
       devices = λ s e at. device_keeps s e (d.devices s e at) at;
       unfinished = λ p c u. command_keeps p c (unfinished_before p c u);
     }
+
+  -- ---- a world agrees with what is known still, so long as the rings that endpoints have are as they were
+
+  module _ (w : World) (queue : ℕ → List Block) (lengths : ℕ → List ℕ) (events : ℕ → List RingEvent) (reported : ℕ → ℕ) where
+    -- the world with other declarations, takes and reports
+    abbrev pub v : World
+    v = record w { queue = queue; lengths = lengths; events = events; reported = reported }
+
+    pub record OtherTakes : Type 0 where
+      pub queues : (r : ℕ) → queue r ≡ (views r).queue
+      pub counts : (r : ℕ) → lengths r ≡ (views r).lengths
+      -- of the command ring and of rings that endpoints have the same was taken and reported
+      pub command : (events (command_id h) ≡ w.events (command_id h)) × (reported (command_id h) ≡ w.reported (command_id h))
+      pub had : (s i r : ℕ) → k.ring_of s i ≡ Some r → (events r ≡ w.events r) × (reported r ≡ w.reported r)
+      pub free : (r : ℕ) → r ≢ command_id h → FreeRing (shape_of h r) k.ring_of (k.ring r) (state_of w r) r → FreeRing (shape_of g r) k.ring_of (views r) (state_of v r) r
+
+    module _ (d : DriverKeeps h k) (o : OtherRings) (x : OtherTakes) where
+      state_same : (r : ℕ) → events r ≡ w.events r → reported r ≡ w.reported r → state_of v r ≡ state_of w r
+      state_same r taken told = λ j. record { pointer = w.pointer_of r; cycle = w.cycle_state r; active = w.is_active r; events = taken j; reported = told j }
+
+      command_state : state_of v (command_id g) ≡ state_of w (command_id h)
+      command_state = ap (λ n. state_of v n) o.command ∙ state_same (command_id h) x.command.0 x.command.1
+
+      stands_still : Stands h k w → Stands g l v
+      stands_still s = search (rules, g, l, v)
+
+      events_stand_still : (unread : List Block) → EventsStand h w unread → EventsStand g v unread
+      unfolding event_at
+      events_stand_still unread e = record {
+        order = subst (λ n. AreInOrder n (record { posted = w.posted; reads = w.reads; dequeue = w.dequeue })) (sym o.size) e.order;
+        count = e.count;
+        places = λ i b at. ap (λ shape. block_at w.memory (address_of shape (w.reads + i))) o.events ∙ e.places i b at;
+        started = e.started;
+        ring = λ some. subst (λ n. 0 < n) (sym o.size) (e.ring some);
+      }
+
+      ring_still : (r : ℕ) → r ≢ command_id h → EndpointRing h k w r → EndpointRing g l v r
+      ring_still r other (inl bound) =
+          let same : IsAsBefore r = o.had bound.slot bound.index r bound.bound in
+          let taken = x.had bound.slot bound.index r bound.bound in
+          inl (subst (λ s. BoundRing (shape_of g r) k.ring_of (views r) s r) (sym (state_same r taken.0 taken.1))
+          (subst (λ y. BoundRing (shape_of g r) k.ring_of y (state_of w r) r) (sym same.view) (subst (λ y. BoundRing y k.ring_of (k.ring r) (state_of w r) r) (sym same.shape) bound)))
+      ring_still r other (inr free) = inr (x.free r other free)
+
+      next_same : next_command g l ≡ next_command h k
+      unfolding next_command
+      next_same = ap (λ (y : RingView). floor_number y) o.command_view
+
+      taken_still : (u : UnderWay) → TakenCommand h k u → TakenCommand g l u
+      unfolding next_command command_at
+      taken_still u t = search (rules, g, l, slice_get, option_and_then, stop_seen_same)
+
+      under_way_still : (t : Spot) (u : Option UnderWay) → UnderWayMatches h k t u → UnderWayMatches g l t u
+      under_way_still t None m = (m.0 ∙ sym next_same, m.1)
+      under_way_still t (Some u) m = (m.0 ∙ ap (λ n. n + 1) (sym next_same), taken_still u m.1)
+
+      unchanged_still : (at : ℕ) (c : Option ℕ) → IsUnchanged h w at c → IsUnchanged g v at c
+      unchanged_still at None same = tt
+      unchanged_still at (Some c) same = same
+
+      matches_still : Matches h k w → Matches g l v
+      matches_still m = record {
+        slots = m.slots;
+        endpoints = m.endpoints;
+        ring_of = m.ring_of;
+        rings = λ r other. let apart : r ≢ command_id h = λ same. other (same ∙ sym o.command) in ring_still r apart (m.rings r apart);
+        before = λ off. let b = m.before off in record {
+          inactive = ap w.is_active o.command ∙ b.inactive;
+          no_events = ap events o.command ∙ x.command.0 ∙ b.no_events;
+          none = b.none;
+        };
+        command = λ on. let c = m.command on in record {
+          spot = c.spot;
+          ring = subst (λ s. RingMatches (shape_of g (command_id g)) (views (command_id g)) s c.spot) (sym command_state)
+              (subst (λ y. RingMatches (shape_of g (command_id g)) y (state_of w (command_id h)) c.spot) (sym o.command_view)
+              (subst (λ y. RingMatches y (k.ring (command_id h)) (state_of w (command_id h)) c.spot) (sym o.command_shape) c.ring));
+          under_way = under_way_still c.spot w.under_way c.under_way;
+        };
+        scribbles = m.scribbles;
+        contexts = λ p c u.
+            unchanged_still (address_of (shape_of g (command_id g)) p) (named_context c)
+            (subst (λ shape. IsUnchanged h w (address_of shape p) (named_context c)) (sym o.command_shape) (m.contexts p c (unfinished_before d o p c u)));
+        inside = m.inside;
+      }
+
+      pub other_worlds_agree : (unread : List Block) → Agrees h k unread w → Agrees g l unread v
+      other_worlds_agree unread a = search (rules, stands_still, events_stand_still, matches_still)
+
+-- ---- a world that forgets a ring, of which nothing is known any more
+
+module _ (h : Header) (rings : List Ring) (k : Known) (id : ℕ) (shapes : (s : ℕ) → s ≢ id → shape_of (record h { rings = rings }) s ≡ shape_of h s) (no_command : command_id h ≢ id)
+    (not_had : (s i x : ℕ) → k.ring_of s i ≡ Some x → x ≢ id) (w : World) where
+  abbrev views_left : ℕ → RingView
+  views_left = put k.ring id new_ring
+
+  abbrev forgets : World
+  forgets = record w { queue = put w.queue id []; lengths = put w.lengths id []; events = put w.events id []; reported = put w.reported id 0 }
+
+  there : {X : Type 0} (f : ℕ → X) (x : X) (s : ℕ) → s ≡ id → put f id x s ≡ x
+  there f x s same = ap (λ n. put f id x n) same ∙ put_at f id x
+
+  state_apart : (s : ℕ) → s ≢ id → state_of forgets s ≡ state_of w s
+  state_apart s other =
+      λ j. record { pointer = w.pointer_of s; cycle = w.cycle_state s; active = w.is_active s; events = put_off w.events id [] s other j; reported = put_off w.reported id 0 s other j }
+
+  free_still : (s : ℕ) → FreeRing (shape_of h s) k.ring_of (k.ring s) (state_of w s) s → FreeRing (shape_of (record h { rings = rings }) s) k.ring_of (views_left s) (state_of forgets s) s
+  free_still s free = elim (cases_eq s id) [
+    | inl here ↦ free_new _ k.ring_of (views_left s) (state_of forgets s) s free.none free.rests.inactive (there w.events [] s here) (there k.ring new_ring s here)
+    | inr other ↦
+        subst (λ x. FreeRing (shape_of (record h { rings = rings }) s) k.ring_of (views_left s) x s) (sym (state_apart s other))
+        (subst (λ y. FreeRing (shape_of (record h { rings = rings }) s) k.ring_of y (state_of w s) s) (sym (put_off k.ring id new_ring s other)) (subst (λ y. FreeRing y k.ring_of (k.ring s) (state_of w s) s) (sym (shapes s other)) free))
+  ]
+
+  takes : Stands h k w → OtherTakes h rings k views_left w forgets.queue forgets.lengths forgets.events forgets.reported
+  takes stands = search (rules, cases_eq, there, new_ring, put_off, command_id, free_still)
+
+  pub forgetting_agrees : DriverKeeps h k → OtherRings h rings k views_left → (unread : List Block) → Agrees h k unread w →
+      Agrees (record h { rings = rings }) (record k { ring = views_left }) unread forgets
+  forgetting_agrees d o unread a = other_worlds_agree h rings k views_left w forgets.queue forgets.lengths forgets.events forgets.reported d o (takes a.stands) unread a

@@ -1,10 +1,8 @@
 -- What is read is possible, and learned, as it was where other rings are there
-use Rattle.safety.proofs.Words.{◌≡◌, ◌+◌, ◌-◌, ◌==◌, ◌&&◌, ◌||◌, if◌then◌else◌, ◌∷◌, ◌∙◌, ℕ, not, Bool, true, false, List, [], map, All, Option, Some, None, nat_lt, option_and_then, slice_get, refl, sym, ap, subst, rules, or_parts, false≢true, cond-true, All-head, All-tail, Block, BlockKind, TransferEvent, CommandCompletion, kind, code, slot, endpoint, pointer, is_success, is_halting, is_trb_error, is_command_completion, Spot, after, floor_number, address_of, RingView, Reaches, ceiling, is_data_below, is_open, is_stop_spot, Command, NoOp, DisableSlot, AddressDevice, ConfigureEndpoint, EvaluateContext, StopEndpoint, SetTrDequeue, ResetDevice, command_of, is_stop_of, is_off, is_running, may_answer_slot, can_succeed, Config, register_or_zero, placed_by_context, changes, added_endpoints, Header, Read, IsHeader, Ring, shape_of, command_id, Known, RingSpot, on_ring, event_at, command_at, next_command, succeeded, stop_ended, finished, completed, event_read, learned, Binding, binding_in, binds, can_finish, may_be_taken, is_stopping_now, is_working, can_report, can_report_at, is_in_profile, is_impossible_transfer, is_impossible_completion, is_impossible_by_kind, is_past_room, is_impossible, event_tests, lenient_tests, lenient, changed_by, is_bad_command, names_disabled_endpoint, IsUnfinished, DriverKeeps}
-use Rattle.safety.proofs.CleanRows.{EventFacts, event_facts}
-use Rattle.safety.proofs.KeptRings.{CompletionFacts, completion_facts, next_unfinished}
-use Rattle.safety.proofs.TransferFrames.{transfer_slots}
-use Rattle.safety.proofs.RingChanges.OtherRings.{stop_seen_same}
-use Rattle.safety.proofs.RingChanges.EventsAlike.{ChangesAlike, HasKept, HavesAlike, KeepsRings, changes_alike, event_at_alike, event_kept, on_alike, other, transfer_alike}
+use Rattle.safety.proofs.Words.{[], ◌≡◌, ◌+◌, ◌==◌, ◌&&◌, ◌||◌, if◌then◌else◌, ◌∷◌, ◌∙◌, ℕ, not, Bool, true, false, List, map, All, Option, Some, None, nat_lt, option_and_then, slice_get, refl, sym, ap, subst, rules, or_parts, false≢true, cond-true, All-head, All-tail, Block, BlockKind, TransferEvent, CommandCompletion, kind, code, slot, endpoint, pointer, is_success, is_halting, is_trb_error, is_command_completion, Spot, after, floor_number, address_of, RingView, Reaches, ceiling, is_data_below, is_open, is_stop_spot, Command, NoOp, DisableSlot, AddressDevice, ConfigureEndpoint, EvaluateContext, StopEndpoint, SetTrDequeue, ResetDevice, command_of, is_stop_of, is_off, is_running, may_answer_slot, can_succeed, Config, register_or_zero, placed_by_context, changes, added_endpoints, Header, Read, IsHeader, Ring, shape_of, command_id, Known, RingSpot, on_ring, event_at, command_at, next_command, succeeded, stop_ended, finished, completed, event_read, learned, Binding, binding_in, binds, can_finish, may_be_taken, is_stopping_now, is_working, can_report, can_report_at, is_in_profile, is_impossible_transfer, is_impossible_completion, is_impossible_by_kind, is_past_room, is_impossible, event_tests, lenient_tests, lenient, changed_by, is_bad_command, names_disabled_endpoint, IsUnfinished, DriverKeeps}
+use Rattle.safety.proofs.LowerLaws.{EventFacts, event_facts, transfer_slots, stop_seen_same, ChangesAlike, HasKept, HavesAlike, changes_alike, event_at_alike, event_kept, on_alike, other, transfer_alike}
+use Rattle.safety.proofs.KeptRings.{completion_facts, next_unfinished}
+use Rattle.safety.proofs.RingChanges.EventsAlike.{KeepsRings}
 
 module _ (h : Header) (rings : List Ring) (over : (ℕ → RingView) → ℕ → RingView) (Kept : ℕ → Type 0) (o : KeepsRings h rings over Kept) where
   abbrev g : Header
@@ -76,9 +74,7 @@ module _ (h : Header) (rings : List Ring) (over : (ℕ → RingView) → ℕ →
 
   completion_possible : (k : Known) (b : Block) → is_impossible_completion g (l k) b ≡ is_impossible_completion h k b
   unfolding is_impossible_completion
-  completion_possible k b =
-      let finish = ap (can_finish (l k) b) (next_is k) ∙ finish_alike k b (command_at h k (next_command h k)) in
-      λ j. not (taken_alike k j) || not (pointer b == address_of (command_shape j) (next_alike k j)) || code b == 0 || not (finish j)
+  completion_possible k b = search (rules, can_finish, l, next_is, finish_alike, command_at, next_command, not, taken_alike, pointer, address_of, command_shape, next_alike, code)
 
   kind_possible : (k : Known) (n : BlockKind) (b : Block) → Has k → is_impossible_by_kind g (l k) n b ≡ is_impossible_by_kind h k n b
   unfolding is_impossible_by_kind
@@ -172,8 +168,7 @@ module _ (h : Header) (rings : List Ring) (over : (ℕ → RingView) → ℕ →
       unfolding event_read
       read_kind TransferEvent at = (transfer_alike h rings over Kept o k b kept, λ s i r has. kept s i r (ap (λ f. f s i) (sym (transfer_slots h k b).ring_of) ∙ has))
       read_kind CommandCompletion at =
-          let finish : CompletionFacts h k b = completion_facts h k b (ap is_command_completion at) facts.possible in
-          completed_alike b (λ c here. (next_command h k, next_unfinished h is k d facts.started finish.below c here))
+          completed_alike b (λ c here. (next_command h k, next_unfinished h is k d facts.started (completion_facts h k b (ap is_command_completion at) facts.possible).below c here))
       read_kind _ at = (refl, kept)
 
       -- the event is learned, and endpoints have kept rings still

@@ -1,17 +1,70 @@
 -- A ring that a row starts or moves is restored first: all of it stands as declared, and nothing of it is free any more
-use Rattle.safety.proofs.Words.{◌≡◌, ◌≢◌, ◌||◌, ◌∷◌, ◌∙◌, ℕ, not, Bool, false, [], List, Option, None, Some, option_and_then, slice_get, refl, sym, ap, subst, inl, inr, rules, is_not_restored, Restores, restores_keeps, is_left, restored, restored_on, ring_moved, ring_restored, some_flips, command_of, flat_map, or_parts, Ring, list_any, none-some, same_Some, Block, block_at, RingView, IsRestored, address_of, cycle_of, positions_given, flips_passed, unrestored, is_declared_as, Command, SetTrDequeue, Header, Row, Write, Bell, Read, IsHeader, shape_of, command_id, driver_rings, World, Known, on_ring, command_at, command_given, learned, lenient, MayCome, MovesRestored, KeepsPassed, IsTransferRing, DriverKeeps, Runs}
-use Rattle.safety.specs.RingsKeep.{IsDriverRing}
-use Rattle.safety.proofs.DriverRings.{driver_test}
-use Rattle.safety.proofs.DriverRows.{ring_elsewhere, ring_here}
-use Rattle.safety.proofs.EventBehind.{behind_kept, event_behind}
-use Rattle.safety.proofs.Headers.{ring_shape, transfer_driver, transfer_not_command}
-use Rattle.safety.proofs.HeldFurther.{read_same}
-use Rattle.safety.proofs.LeasesBehind.{none_fewer}
+use Rattle.safety.proofs.Words.{[], ◌≡◌, ◌∷◌, ◌∙◌, ℕ, ◌≢◌, false, List, refl, sym, ap, Block, RingChange, Header, Read, IsHeader, command_id, World, Known, on_ring, learned, lenient, DriverKeeps, HeldMore, Agrees, ArePossible, Runs, all_read, ◌||◌, not, Bool, Option, None, Some, option_and_then, slice_get, subst, inl, inr, rules, is_not_restored, Restores, restores_keeps, is_left, restored, restored_on, ring_moved, ring_restored, some_flips, command_of, flat_map, or_parts, Ring, list_any, none-some, same_Some, block_at, IsRestored, address_of, cycle_of, positions_given, flips_passed, unrestored, is_declared_as, Command, SetTrDequeue, Row, Write, Bell, shape_of, driver_rings, command_at, command_given, MayCome, MovesRestored, KeepsPassed, IsTransferRing}
+use Rattle.safety.proofs.DriverHistories.{kept_driver}
+use Rattle.safety.proofs.MiddleLaws.{more_law, read_on, behind_kept, event_behind, read_same, none_fewer, quiet_keeps, restored_agrees}
+use Rattle.safety.proofs.LowerLaws.{held_more_same, held_more_twice, weaker, driver_test, ring_elsewhere, ring_here, ring_shape, transfer_driver, transfer_not_command, HasRing, has_ring, none_of_ring}
+use Rattle.safety.proofs.RingChanges.QuietKeeps.{QuietSquare, quiet_square, IsQuiet}
 use Rattle.safety.proofs.PassedBehind.{unrestored_before}
-use Rattle.safety.proofs.RingsOfHeader.{HasRing, has_ring, none_of_ring}
-use Rattle.safety.proofs.RingChanges.QuietKeeps.{quiet_keeps}
-use Rattle.safety.proofs.RingChanges.QuietRuns.{IsGood, quiet_runs}
-use Rattle.safety.proofs.RingChanges.QuietWorlds.{restored_agrees}
+
+-- A descriptor that is withdrawn, or a ring that is restored, beneath all events that aren't read yet: the run goes on
+
+-- Good is what the change rests on: it stays behind an event, and where it holds the change keeps what a driver keeps
+pub record IsGood (h : Header) (r : ℕ) (change : RingChange) (Good : Known → Type 0) : Type 0 where
+  pub quiet : IsQuiet change
+  pub other : r ≢ command_id h
+  pub keeps : (k : Known) → DriverKeeps h k → Good k → DriverKeeps h (on_ring h k r change)
+  pub behind : (k : Known) (e : Block) → DriverKeeps h k → lenient h k (Read e) ≡ [] → Good k → Good (learned h k (Read e))
+
+module _ (h : Header) (is : IsHeader h) (r : ℕ) (change : RingChange) (Good : Known → Type 0) (g : IsGood h r change Good) where
+  abbrev d : Known → Known
+  d k = on_ring h k r change
+
+  d_stopped : (k : Known) → (d k).stopped ≡ k.stopped
+  unfolding on_ring
+  d_stopped k = refl
+
+  -- what is known, and what is known with the change somewhere beneath
+  record Beside (k m : Known) : Type 0 where
+    pub keeps : DriverKeeps h k
+    pub keeps_beneath : DriverKeeps h m
+    pub good : Good k
+    pub on : k.stopped ≡ false
+    pub held : HeldMore (d k) m
+
+  one_on : (k m : Known) (e : Block) → lenient h k (Read e) ≡ [] → Beside k m → (lenient h m (Read e) ≡ []) × Beside (learned h k (Read e)) (learned h m (Read e))
+  one_on k m e event b =
+      let s : QuietSquare h r change g.quiet g.other k e = quiet_square h r change g.quiet g.other is k b.keeps e event in
+      let both = more_law h (d k) m e (g.keeps k b.keeps b.good) b.keeps_beneath b.held s.event in (
+        both.0,
+        record {
+          keeps = kept_driver h is k (Read e) b.keeps (event, tt) (read_on h k e ∙ b.on);
+          keeps_beneath = kept_driver h is m (Read e) b.keeps_beneath (both.0, tt) (read_on h m e ∙ sym (ap (λ x. x.stopped) b.held.rest) ∙ d_stopped k ∙ b.on);
+          good = g.behind k e b.keeps event b.good;
+          on = read_on h k e ∙ b.on;
+          held = held_more_twice (d (learned h k (Read e))) (learned h (d k) (Read e)) (learned h m (Read e)) s.after both.1;
+        },
+      )
+
+  all_on : (unread : List Block) (k m : Known) → ArePossible h k unread → Beside k m → ArePossible h m unread × Beside (all_read h k unread) (all_read h m unread)
+  all_on [] k m possible b = (tt, b)
+  all_on (e ∷ rest) k m possible b =
+      let one = one_on k m e possible.0 b in
+      let later = all_on rest (learned h k (Read e)) (learned h m (Read e)) possible.1 one.1 in
+      ((one.0, later.0), later.1)
+
+  -- the run goes on, where the change agrees with the world
+  pub quiet_runs : (now : Known) (w v : World) → DriverKeeps h now → Good now → (run : Runs h now w) →
+      ((later : Known) → DriverKeeps h later → Agrees h later run.unread w → Agrees h (d later) run.unread v) → Runs h (d now) v
+  quiet_runs now w v keeps good run agrees =
+      let b = all_on run.unread now (d now) run.possible (record { keeps = keeps; keeps_beneath = g.keeps now keeps good; good = good; on = run.on; held = held_more_same (d now) }) in
+      let later : Known = all_read h now run.unread in
+      record {
+        unread = run.unread;
+        possible = b.0;
+        blocks = run.blocks;
+        on = d_stopped now ∙ run.on;
+        agrees = weaker h (d later) (all_read h (d now) run.unread) b.1.held run.unread v (agrees later b.1.keeps run.agrees);
+      }
 
 -- a list is the lists of its elements alone, one after the other
 each_alone : (test : Ring → Bool) (xs : List Ring) → list_any test (flat_map (λ q. q ∷ []) xs) ≡ list_any test xs
@@ -38,14 +91,13 @@ module _ (h : Header) (is : IsHeader h) (r : ℕ) (transfer : IsTransferRing h r
   unfolding is_not_restored
   behind k e d may stands =
       let l : Known = learned h k (Read e) in
-      let driver : IsDriverRing h r = driver_test h r (transfer_driver h r transfer) in
       let test : (ℕ → ℕ) → List Block → ℕ → Bool = λ m q p. not (is_declared_as (block_at m (address_of (shape_of h r) p)) (cycle_of (shape_of h r) p) (slice_get q p)) in
       elim ((event_behind h is k d e may).rings r) [
         | inl same ↦ (λ j. list_any (test ((event_behind h is k d e may).driver.memory j) (same j).queue) (unrestored (shape_of h r) (same j))) ∙ stands
         | inr on ↦
             (λ j. list_any (test ((event_behind h is k d e may).driver.memory j) (((read_same h k e).rings r).queue j)) (unrestored (shape_of h r) (l.ring r)))
             ∙ none_fewer (test k.memory (k.ring r).queue) (unrestored (shape_of h r) (k.ring r)) (unrestored (shape_of h r) (l.ring r))
-            (unrestored_before (shape_of h r) k.memory (k.ring r) (l.ring r) on.1 (behind_kept h is k d e may r driver).passes) stands
+            (unrestored_before (shape_of h r) k.memory (k.ring r) (l.ring r) on.1 (behind_kept h is k d e may r (driver_test h r (transfer_driver h r transfer))).passes) stands
       ]
 
   good : IsGood h r Restores Stands
@@ -121,14 +173,11 @@ module _ (h : Header) (is : IsHeader h) (k : Known) (d : DriverKeeps h k) where
 
   given_same : (row : Row) (a w : ℕ) → command_given h (restored h k row) a w ≡ command_given h k a w
   unfolding command_given command_at
-  given_same row a w =
-      ap (λ (v : RingView). option_and_then (λ p. option_and_then command_of (slice_get v.queue p)) (slice_get (positions_given (shape_of h (command_id h)) v a w) 0)) (command_ring_same row)
+  given_same row a w = search (rules, option_and_then, command_of, slice_get, positions_given, shape_of, command_id, command_ring_same)
 
   moved_restored : (a w : ℕ) (c : Command) → command_given h k a w ≡ Some c → MovesRestored (restored h k (Write a w)) c
   unfolding ring_restored ring_moved
-  moved_restored a w c given s i p cycle at r has =
-      none_free (ring_restored h k (Write a w)) r
-      (ap (ring_moved k) (given ∙ ap (λ x. Some x) at) ∙ sym (ap (λ f. f s i) (ring_of_same (ring_restored h k (Write a w)))) ∙ has)
+  moved_restored a w c given s i p cycle at r has = search (rules, none_free, ring_restored, ring_moved, ring_of_same)
 
   bell_restored : (s t r : ℕ) → (restored h k (Bell s t)).ring_of s t ≡ Some r → IsRestored ((restored h k (Bell s t)).ring r)
   unfolding ring_restored

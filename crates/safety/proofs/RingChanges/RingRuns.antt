@@ -1,9 +1,8 @@
 -- Behind a ring that comes or goes the run goes on, whatever is unread
-use Rattle.safety.proofs.Words.{◌≡◌, ◌++◌, ◌∷◌, ◌∙◌, ℕ, false, List, [], filter, Option, Some, None, option_and_then, slice_get, is_some, refl, sym, ap, subst, inl, inr, ◌||◌, ◌==◌, ◌*◌, eq-eqb, new_ring, IsComing, emptied, forgotten, is_bad_free, is_bad_ring, is_bad_segment, shows_first_lap, with_ring, without_ring, fun_ext, range_of_entry, entry_of, slots, cond-true, Erstba, segment_ranges, table_range, entry_ranges, device_ranges, touches_ring, is_soiled, cases_option, false≢true, flat_map, list_any, or_parts, Block, RingView, due_positions, shape_of, command_of, Header, Read, Ring, IsHeader, ring_with, command_id, World, counted, Known, command_at, unfinished_positions, learned, lenient, open_ranges, context_ranges, range_of_command, covers, is_in_range_lease, DriverKeeps, Agrees, ArePossible, Runs, all_read}
+use Rattle.safety.proofs.Words.{rules, [], ◌≡◌, ◌∷◌, ◌∙◌, ℕ, false, List, filter, Option, Some, None, option_and_then, slice_get, is_some, refl, sym, ap, subst, ◌||◌, ◌==◌, ◌*◌, eq-eqb, new_ring, IsComing, emptied, forgotten, is_bad_free, is_bad_ring, is_bad_segment, shows_first_lap, with_ring, without_ring, fun_ext, range_of_entry, entry_of, slots, cond-true, segment_ranges, table_range, entry_ranges, device_ranges, touches_ring, is_soiled, cases_option, false≢true, flat_map, list_any, or_parts, Block, RingView, due_positions, shape_of, command_of, Header, Read, Ring, IsHeader, ring_with, command_id, World, counted, Known, command_at, unfinished_positions, learned, lenient, open_ranges, context_ranges, range_of_command, covers, is_in_range_lease, DriverKeeps, Agrees, ArePossible, Runs, all_read}
 use Rattle.safety.proofs.DriverHistories.{kept_driver}
-use Rattle.safety.proofs.RowBeneath.{read_on}
+use Rattle.safety.proofs.MiddleLaws.{read_on, gone_ring_agrees}
 use Rattle.safety.proofs.RingChanges.Forgotten.{forgotten_agrees, forgotten_keeps, forgotten_learned, forgotten_read}
-use Rattle.safety.proofs.RingChanges.GoneRings.{gone_ring_agrees}
 use Rattle.safety.proofs.RingChanges.NewRings.{new_ring_agrees, new_ring_kept, new_ring_header}
 use Rattle.safety.proofs.RingChanges.Squares.{cleared, cleared_apart, cleared_here, learned_with, learned_without, read_with, read_without, still_comes, still_goes}
 use Rattle.safety.proofs.RingChanges.Forgotten as forgets
@@ -14,9 +13,7 @@ use Rattle.safety.proofs.RowRegister.{agrees_once_counted}
 module _ (h : Header) (is : IsHeader h) (r : Ring) (coming : IsComing r) where
   pub no_ring : (k : Known) → is_bad_ring h k r ≡ false → ring_with h r.id ≡ None
   unfolding is_bad_ring
-  no_ring k good =
-      let none = (or_parts (is_some (ring_with h r.id)) (list_any (is_bad_segment h k) r.shape.segments) good).0 in
-      elim (cases_option (ring_with h r.id)) [ inl absent ↦ absent | inr some ↦ absurd (false≢true (sym none ∙ ap (λ o. is_some o) some.1)) ]
+  no_ring k good = search (rules, or_parts, is_some, ring_with, list_any, is_bad_segment, cases_option, false≢true)
 
   -- the rule doesn't read what is known of its ID
   contexts_same : (k : Known) (view : RingView) → (k.ring (command_id h) ≡ view) →
@@ -46,10 +43,7 @@ module _ (h : Header) (is : IsHeader h) (r : Ring) (coming : IsComing r) where
 
     ranges_same : open_ranges h f ≡ open_ranges h k
     unfolding open_ranges forgotten device_ranges
-    ranges_same =
-        let view : cleared r.id k.ring (command_id h) ≡ k.ring (command_id h) = cleared_apart r.id k.ring (command_id h) (forgets.no_command h is k d r.id coming.low absent) in
-        let contexts : context_ranges h f ≡ context_ranges h k = contexts_same (forgotten k r.id) (k.ring (command_id h)) view ∙ sym (contexts_same k (k.ring (command_id h)) refl) in
-        λ j. segment_ranges h ++ table_range h (k.register Erstba) ++ contexts j ++ entries_same j ++ device_ranges h k
+    ranges_same = search (rules, cleared, command_id, cleared_apart, forgets.no_command, context_ranges, f, contexts_same, forgotten, segment_ranges, table_range, entries_same, device_ranges)
 
     pub bad_same : is_bad_ring h f r ≡ is_bad_ring h k r
     unfolding is_bad_ring is_bad_segment is_in_range_lease is_soiled shows_first_lap forgotten
@@ -87,9 +81,7 @@ module _ (h : Header) (is : IsHeader h) (r : Ring) (coming : IsComing r) where
       }
 
   pub comes_keeps : (k : Known) → DriverKeeps h k → is_bad_ring h k r ≡ false → DriverKeeps (with_ring h r) (forgotten k r.id)
-  comes_keeps k d good =
-      let absent = no_ring k good in
-      new_ring_kept h is (forgotten k r.id) (f_keeps k d absent) r coming (fresh k d absent) (bad_same k d absent ∙ good)
+  comes_keeps k d good = search (rules, no_ring, new_ring_kept, forgotten, f_keeps, fresh, bad_same)
 
   pub comes_header : (k : Known) → DriverKeeps h k → is_bad_ring h k r ≡ false → IsHeader (with_ring h r)
   comes_header k d good =
@@ -155,12 +147,11 @@ module _ (h : Header) (is : IsHeader h) (id : ℕ) where
   goes_runs k w d good run =
       let c : Gone k run.unread = gone run.unread k d good run.possible run.on in
       let later : Known = all_read h k run.unread in
-      let there : Agrees (without_ring h id) (forgotten later id) run.unread (emptied w id) = gone_ring_agrees h is later c.keeps id c.good w run.unread run.agrees in
       record {
         unread = run.unread;
         possible = c.possible;
         blocks = run.blocks;
         on = stopped_still k ∙ run.on;
         agrees = subst (λ x. Agrees (without_ring h id) x run.unread (counted (without_ring h id) (emptied w id))) (sym c.same)
-            (agrees_once_counted (without_ring h id) (forgotten later id) run.unread (emptied w id) there);
+            (agrees_once_counted (without_ring h id) (forgotten later id) run.unread (emptied w id) (gone_ring_agrees h is later c.keeps id c.good w run.unread run.agrees));
       }

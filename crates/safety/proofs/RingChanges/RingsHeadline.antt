@@ -1,33 +1,19 @@
 -- The headline where rings come and go: behind each step of each run beside rows that break no rule the world is safe
-use Rattle.std.proofs.Common.{◌≡◌, ◌∷◌, ◌++◌, ◌∙◌, false, List, [], Option, Some, All, reverse, option_map, refl, sym, ap, subst, inl, inr, append_assoc, append-nil, rules}
-use Rattle.safety.proofs.Words.{opening, TraceRow, AreKept, IsKept, FitsFields, RingsHeadline, Scene, header_after, header_now, known_after, known_now, row_made, row_next, scene_reached, step_made, restored, ring_restored, Row, cond-true, false≢true, reverse-append, All-cons, All-head, All-tail, none-some, same_Some, Header, Step, NextRow, Look, Report, Finish, Other, Scribble, IsHeader, IsStep, World, IsSafe, Known, DriverKeeps, Runs}
-use Rattle.controller_model.specs.Finishes as finishes
-use Rattle.controller_model.specs.Looks as looks
-use Rattle.controller_model.specs.Posts as posts
+use Rattle.std.proofs.Common.{[], ◌≡◌, ◌∷◌, ◌++◌, ◌∙◌, false, List, Some, All, reverse, option_map, refl, sym, ap, subst, inl, inr, append_assoc, append-nil, rules}
+use Rattle.safety.proofs.Words.{opening, TraceRow, AreKept, IsKept, FitsFields, RingsHeadline, Scene, header_after, header_now, known_after, known_now, row_made, row_next, scene_reached, step_made, restored, ring_restored, Row, false≢true, reverse-append, All-cons, All-head, All-tail, none-some, same_Some, Header, Step, NextRow, IsHeader, IsStep, World, IsSafe, Known, DriverKeeps, Runs}
 use Rattle.controller_model.specs.Steps as steps
 use Rattle.safety.specs.Invariant.{Holds}
 use Rattle.safety.proofs.DriverHistories.{kept_driver, run_keeps}
-use Rattle.safety.proofs.FinishRuns.{finish_runs}
-use Rattle.safety.proofs.HeadlineFrom.{RowLaw, row_holds, running_is}
-use Rattle.safety.proofs.HeldFurther.{more_law}
-use Rattle.safety.proofs.LookRuns.{look_runs}
-use Rattle.safety.proofs.NothingKept.{nothing_kept}
-use Rattle.safety.proofs.Opens.{opens}
-use Rattle.safety.proofs.Other.{other_runs}
-use Rattle.safety.proofs.ReportRuns.{report_runs}
+use Rattle.safety.proofs.MiddleLaws.{more_law, nothing_kept, gone_ring_header, gone_ring_kept, mapped, some_then}
+use Rattle.safety.proofs.HeadlineFrom.{RowLaw, row_holds, step_goes, runs_on}
+use Rattle.safety.proofs.LowerLaws.{opens, safe, clean_tests}
 use Rattle.safety.proofs.RowRuns.{row_runs}
-use Rattle.safety.proofs.Safe.{safe}
-use Rattle.safety.proofs.Scribble.{scribble_runs}
 use Rattle.safety.proofs.Squares.{square_law}
 use Rattle.safety.proofs.StillRings.{still_rings}
-use Rattle.safety.proofs.TestsPassed.{clean_tests}
 use Rattle.traces.specs.declared.trace_row.TraceRow.TheVariants.{Comes, Goes, Plain, Withdraws}
 use Rattle.safety.proofs.RingChanges.Restored.{row_comes, row_keeps, row_runs as restored_row_runs, stopped_still}
 use Rattle.safety.proofs.RingChanges.Withdrawn.{withdraw_keeps, withdraw_runs}
-use Rattle.safety.proofs.RingChanges.GoneRings.{gone_ring_header, gone_ring_kept}
 use Rattle.safety.proofs.RingChanges.RingRuns.{comes_header, comes_keeps, comes_runs, goes_runs}
-use Rattle.safety.proofs.ReportSuccess.{mapped}
-use Rattle.safety.proofs.FinishSlots.{some_then}
 
 -- ---- one row, one step, where the header is that of the rings that are there
 
@@ -37,47 +23,7 @@ module _ (h : Header) (is : IsHeader h) (k : Known) (keeps : DriverKeeps h k) wh
 
   row_goes : (row : TraceRow) (w v : World) → FitsFields row → Runs h k w → IsKept h k row → row_made h w row ≡ Some v → Holds (header_after h row) (known_after h k row) (steps.counted h v)
   row_goes (Plain row) w v is_row run kept at = search (rules, row_holds, law, row_keeps, restored_row_runs, row_comes, same_Some)
-  row_goes (Withdraws r p) w v is_row run kept at = search (rules, row_holds, law, row_keeps, restored_row_runs, row_comes, same_Some, withdraw_runs, comes_runs, goes_runs)
-  row_goes (Comes b) w v coming run kept at = search (rules, row_holds, law, row_keeps, restored_row_runs, row_comes, same_Some, withdraw_runs, comes_runs, goes_runs)
-  row_goes (Goes id) w v is_row run kept at = search (rules, row_holds, law, row_keeps, restored_row_runs, row_comes, same_Some, withdraw_runs, comes_runs, goes_runs)
-
-  record StepGoes (w u : World) : Type 0 where
-    pub running : w.stopped ≡ false
-    pub goes : Runs h k w → Runs h k (steps.counted h u)
-
-  -- a step of the controller
-  step_goes : (w u : World) (s : Step) → IsStep s → steps.made h w s ≡ Some u → (s ≡ NextRow → ⊥) → StepGoes w u
-  unfolding steps.made
-  step_goes w u NextRow is_step at other = absurd (other refl)
-  step_goes w u (Look r) is_step at other =
-      let g = running_is h is law w u (looks.looked h w r) at in
-      record { running = g.0; goes = λ run. look_runs h is k w u r run (run_keeps h is k w keeps run) g.1 }
-  step_goes w u (Report b) is_step at other =
-      let g = running_is h is law w u (posts.reported h w b) at in
-      record { running = g.0; goes = λ run. report_runs h is k w u b is_step g.0 run (run_keeps h is k w keeps run) g.1 }
-  step_goes w u (Finish b) is_step at other =
-      let g = running_is h is law w u (finishes.finished h w b) at in
-      record { running = g.0; goes = λ run. finish_runs h is k w u b is_step g.0 run (run_keeps h is k w keeps run) g.1 }
-  step_goes w u (Other b) is_step at other =
-      let g = running_is h is law w u (posts.other_posted h w b) at in
-      record { running = g.0; goes = λ run. other_runs h is k w u b is_step g.0 run (run_keeps h is k w keeps run) g.1 }
-  step_goes w u (Scribble a x) is_step at other =
-      let g = running_is h is law w u (steps.scribbled h w a x) at in
-      record { running = g.0; goes = λ run. scribble_runs h is k w u a x run (run_keeps h is k w keeps run) g.1 }
-
-running : (h : Header) (w u : World) (o : Option World) → steps.while_running h w o ≡ Some u → w.stopped ≡ false
-unfolding steps.while_running
-running h w u o at = search (rules, none-some, cond-true)
-
--- a step of the controller is made before a stop alone
-runs_on : (h : Header) (w u : World) (s : Step) → steps.made h w s ≡ Some u → (s ≡ NextRow → ⊥) → w.stopped ≡ false
-unfolding steps.made
-runs_on h w u NextRow at other = absurd (other refl)
-runs_on h w u (Look r) at other = running h w u (looks.looked h w r) at
-runs_on h w u (Report b) at other = running h w u (posts.reported h w b) at
-runs_on h w u (Finish b) at other = running h w u (finishes.finished h w b) at
-runs_on h w u (Other b) at other = running h w u (posts.other_posted h w b) at
-runs_on h w u (Scribble a x) at other = running h w u (steps.scribbled h w a x) at
+  row_goes _ w v is_row run kept at = search (rules, row_holds, law, row_keeps, restored_row_runs, row_comes, same_Some, withdraw_runs, comes_runs, goes_runs)
 
 -- a row that is kept isn't behind a stop
 row_off : (h : Header) (k : Known) (row : Row) → IsKept h k (Plain row) → k.stopped ≡ false
@@ -181,9 +127,7 @@ module _ (h : Header) (is : IsHeader h) where
         kept = c.kept;
         header = refl;
         holds = elim c.holds [
-          | inl run ↦
-              let p = here past x c run in
-              inl ((step_goes (header_now h past) p.headed (known_now h past) p.keeps x.world there.0 s is_step there.1 other).goes run)
+          | inl run ↦ let p = here past x c run in inl (step_goes (header_now h past) p.headed (known_now h past) p.keeps x.world there.0 s is_step there.1 other run)
           | inr over ↦ absurd (false≢true (sym (runs_on (header_now h past) x.world there.0 s there.1 other) ∙ over.also))
         ];
       })
@@ -196,11 +140,7 @@ module _ (h : Header) (is : IsHeader h) where
 
       by : (s : Step) → IsStep s → step_made (record { header = header_now h past; rows = x.rows; world = x.world }) s ≡ Some y → (now : List TraceRow) × CameTo now y
       by NextRow is_step at = let n = next past x y x.rows refl c at in (n.0 ∷ past, n.1)
-      by (Look r) is_step at = (past, stays past x y (Look r) is_step (λ e. cc) c at)
-      by (Report b) is_step at = (past, stays past x y (Report b) is_step (λ e. cc) c at)
-      by (Finish b) is_step at = (past, stays past x y (Finish b) is_step (λ e. cc) c at)
-      by (Other b) is_step at = (past, stays past x y (Other b) is_step (λ e. cc) c at)
-      by (Scribble a w) is_step at = (past, stays past x y (Scribble a w) is_step (λ e. cc) c at)
+      by s is_step at = (past, stays past x y s is_step (λ e. cc) c at)
 
   first : (rows : List TraceRow) → All FitsFields rows → AreKept h (reverse rows) → CameTo [] (record { header = h; rows = rows; world = opening [] })
   first rows are kept = search (rules, reverse, append-nil, opens)

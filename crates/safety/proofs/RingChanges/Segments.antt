@@ -24,10 +24,7 @@ pub record HasByte (shape : Shape) (a : ℕ) : Type 0 where
   pub to : a < segment.base + 16 * segment.count
 
 pub has_byte : (shape : Shape) (a : ℕ) → is_inside shape a ≡ true → HasByte shape a
-has_byte shape a inside =
-    let s = some_of (segment_has a) shape.segments inside in
-    let parts = and_parts (nat_le s.0.base a) (nat_lt a (s.0.base + 16 * s.0.count)) s.2 in
-    record { segment = s.0; at = s.1; from = leb-true s.0.base a parts.0; to = ltb-true a (s.0.base + 16 * s.0.count) parts.1 }
+has_byte shape a inside = search (rules, some_of, segment_has, and_parts, nat_le, nat_lt, leb-true, ltb-true)
 
 -- what a segment that is good satisfies
 pub record IsGood (h : Header) (k : Known) (s : Segment) : Type 0 where
@@ -52,9 +49,8 @@ module _ (h : Header) (k : Known) where
         let aligned = segment_aligned shape is kind b.segment b.at in
         let i : ℕ = (a - b.segment.base) / 4 in
         let from = b.from in
-        let to = b.to in
         let same : b.segment.base + 4 * i ≡ a = omega (arith, word, aligned, from) in
-        ap k.soiled (sym same) ∙ clean_word k b.segment.base (16 * b.segment.count) i (each_good b.segment b.at).clean (omega (arith, to, from, aligned, word))
+        ap k.soiled (sym same) ∙ clean_word k b.segment.base (16 * b.segment.count) i (each_good b.segment b.at).clean (omega (arith, b.to, from, aligned, word))
 
     -- no control word shows the cycle of the first lap
     pub block_shows : (a : ℕ) → a % 16 ≡ 0 → is_inside shape a ≡ true → (k.memory (a + 12) % 2 == 1) ≡ false
@@ -64,10 +60,8 @@ module _ (h : Header) (k : Known) where
         let aligned = segment_aligned shape is kind b.segment b.at in
         let i : ℕ = (a - b.segment.base) / 16 in
         let from = b.from in
-        let to = b.to in
-        let same : b.segment.base + 16 * i ≡ a = omega (arith, block, aligned, from) in
-        let low : i < b.segment.count = omega (arith, to, from, aligned, block) in
-        ap (λ x. k.memory (x + 12) % 2 == 1) (sym same)
+        let low : i < b.segment.count = omega (arith, b.to, from, aligned, block) in
+        ap (λ x. k.memory (x + 12) % 2 == 1) (sym (omega (arith, block, aligned, from)))
         ∙ fails_in (λ i. k.memory (b.segment.base + 16 * i + 12) % 2 == 1) (range_with_len 0 b.segment.count) i (each_good b.segment b.at).shows (in_range 0 b.segment.count i (omega arith) (omega (arith, low)))
 
     -- it touches no range that it doesn't overlap with a segment

@@ -1,14 +1,10 @@
 -- A ring that comes or goes beneath an event that isn't read yet: the two may change places
-use Rattle.safety.proofs.Words.{◌≡◌, ◌≢◌, ◌*◌, ◌==◌, ◌||◌, ◌++◌, ◌∷◌, ◌∙◌, ℕ, not, Bool, true, false, [], Some, filter, get_or, is_some, refl, sym, ap, inl, inr, eq-eqb, ne_eqb, rules, put, Segment, new_ring, IsComing, forgotten, is_bad_free, is_bad_ring, is_bad_segment, is_had, shows_first_lap, with_ring, without_ring, cases_eq, cases_option, cond-true, cond-false, false≢true, false_from_ne_true, or_from, fun_ext, All-weaker, All-get_or, some_of, range_with_len, list_any, Block, RingView, Header, Read, IsHeader, Ring, ring_with, ring_having, touches_ring, is_in_range_lease, is_soiled, open_ranges, covers, is_ring, is_being_bound, Known, learned, lenient, Binding, binds, ring_bound, is_placed, DriverKeeps, is_transfer_ring}
+use Rattle.safety.proofs.Words.{[], ◌≡◌, ◌≢◌, ◌*◌, ◌==◌, ◌||◌, ◌++◌, ◌∷◌, ◌∙◌, ℕ, not, Bool, true, false, Some, filter, get_or, is_some, refl, sym, ap, inl, inr, eq-eqb, ne_eqb, rules, put, Segment, new_ring, IsComing, forgotten, is_bad_free, is_bad_ring, is_bad_segment, is_had, shows_first_lap, with_ring, without_ring, cases_eq, cases_option, cond-true, cond-false, false≢true, false_from_ne_true, or_from, fun_ext, All-weaker, All-get_or, some_of, range_with_len, list_any, Block, RingView, Header, Read, IsHeader, Ring, ring_with, ring_having, touches_ring, is_in_range_lease, is_soiled, open_ranges, covers, is_ring, is_being_bound, Known, learned, lenient, Binding, binds, ring_bound, is_placed, DriverKeeps, is_transfer_ring}
 use Rattle.safety.proofs.BoundBehind.{bound_before}
-use Rattle.safety.proofs.BoundRings.{ring_is}
-use Rattle.safety.proofs.DriverRings.{transfer_ring}
-use Rattle.safety.proofs.EventBehind.{event_behind}
-use Rattle.safety.proofs.LeasesBehind.{Behind, none_fewer, ranges_fewer}
-use Rattle.safety.proofs.RingIds.{having_transfer}
-use Rattle.safety.proofs.RingChanges.EventsAlike.{HasKept, HavesAlike, KeepsRings}
-use Rattle.safety.proofs.RingChanges.ReadAlike.{BindsAlike, read_alike, read_possible}
-use Rattle.safety.proofs.RingChanges.Segments.{IsGood, each_good}
+use Rattle.safety.proofs.LowerLaws.{ring_is, transfer_ring, having_transfer, HasKept, HavesAlike, IsGood, each_good}
+use Rattle.safety.proofs.MiddleLaws.{event_behind, Behind, none_fewer, ranges_fewer, BindsAlike, read_possible}
+use Rattle.safety.proofs.RingChanges.EventsAlike.{KeepsRings}
+use Rattle.safety.proofs.RingChanges.ReadAlike.{read_alike}
 use Rattle.safety.proofs.RingChanges.NewRings as new
 use Rattle.safety.proofs.RingChanges.GoneRings as gone
 
@@ -29,10 +25,7 @@ module _ (id : ℕ) where
 
   -- one that is as new is cleared already
   cleared_new : (m : ℕ → RingView) → m id ≡ new_ring → cleared m ≡ m
-  cleared_new m new = fun_ext (λ r. elim (cases_eq r id) [
-    | inl here ↦ ap (cleared m) here ∙ cleared_here m ∙ sym new ∙ sym (ap m here)
-    | inr other ↦ cleared_apart m r other
-  ])
+  cleared_new m new = search (rules, fun_ext, cases_eq, cleared, cleared_here, cleared_apart)
 
   pub cleared_put : (m : ℕ → RingView) (r : ℕ) (v : RingView) → r ≢ id → cleared (put m r v) ≡ put (cleared m) r v
   cleared_put m r v other = search (rules, cleared, ne_eqb, cond-true, eq-eqb, cond-false, cleared_apart)
@@ -45,26 +38,10 @@ module _ (h : Header) (is : IsHeader h) (k : Known) (d : DriverKeeps h k) (r : R
   l = learned h k (Read e)
 
   rings_new : KeepsRings h (h.rings ++ r ∷ []) (cleared r.id) (Other r.id)
-  rings_new = record {
-    shape = new.shape_same h is k d r coming fresh good;
-    view = cleared_apart r.id;
-    changes = cleared_put r.id;
-    command = new.command_same h is k d r coming fresh good;
-    command_kept = new.no_command h is k d r coming fresh good;
-    events = new.events_same h is k d r coming fresh good;
-    size = new.size_same h is k d r coming fresh good;
-  }
+  rings_new = search (rules, new.shape_same, cleared_apart, cleared_put, new.command_same, new.no_command, new.events_same, new.size_same)
 
   rings_old : KeepsRings h h.rings (cleared r.id) (Other r.id)
-  rings_old = record {
-    shape = λ s other. refl;
-    view = cleared_apart r.id;
-    changes = cleared_put r.id;
-    command = refl;
-    command_kept = new.no_command h is k d r coming fresh good;
-    events = refl;
-    size = refl;
-  }
+  rings_old = search (rules, cleared_apart, cleared_put, new.no_command)
 
   has_others : (s i x : ℕ) → k.ring_of s i ≡ Some x → x ≢ r.id
   has_others s i x at = let ring = d.states.transfer s i x at in new.another h is k d r coming fresh good x ring.ring ring.found

@@ -1,18 +1,11 @@
 -- A descriptor that is withdrawn of a ring whose endpoint has stopped: what a driver keeps stays, and the row may be made behind any event
 -- that isn't read yet
-use Rattle.safety.proofs.Words.{◌≡◌, ◌≢◌, ◌==◌, ◌&&◌, ◌||◌, ◌∙◌, ℕ, not, Bool, true, false, [], None, Some, refl, sym, ap, subst, inl, inr, eq-eqb, arith, rules, length_from, Withdraws, withdraws_keeps, has_stopped, is_bad_withdraw, rests_with, without_descriptor, cases_eq, list_any, range_with_len, or_parts, or_from, and_parts, and_from, not-false, not_from_true, not_from_false, not-true, false≢true, false_from_ne_true, Block, RingView, IsRestored, is_open, descriptor_length, Command, EndpointState, Running, Stopped, is_stopped, Header, Read, IsHeader, is_ring, shape_of, command_id, Known, on_ring, learned, is_touched, lenient, IsIn, some_of, any_of, MovesRestored, IsTransferRing, IsUnfinished, DriverKeeps, World, counted, Agrees, Runs}
-use Rattle.safety.proofs.BoundRings.{ring_is}
-use Rattle.safety.proofs.CommandsRung.{set_touches}
-use Rattle.safety.proofs.DriverRows.{ring_elsewhere}
-use Rattle.safety.proofs.Headers.{ring_shape, transfer_not_command}
+use Rattle.safety.proofs.Words.{[], ◌≡◌, ◌≢◌, ◌==◌, ◌&&◌, ◌||◌, ◌∙◌, ℕ, not, Bool, true, false, None, Some, refl, sym, ap, subst, inl, inr, eq-eqb, arith, rules, length_from, Withdraws, withdraws_keeps, has_stopped, is_bad_withdraw, rests_with, without_descriptor, cases_eq, list_any, range_with_len, or_parts, or_from, and_parts, and_from, not-false, not_from_true, not_from_false, not-true, false≢true, false_from_ne_true, Block, RingView, IsRestored, is_open, descriptor_length, Command, EndpointState, Running, Stopped, is_stopped, Header, Read, IsHeader, is_ring, shape_of, command_id, Known, on_ring, learned, is_touched, lenient, IsIn, some_of, any_of, MovesRestored, IsTransferRing, IsUnfinished, DriverKeeps, World, counted, Agrees, Runs}
+use Rattle.safety.proofs.LowerLaws.{ring_is, ring_elsewhere, ring_shape, transfer_not_command, open_held, agrees_counted}
+use Rattle.safety.proofs.MiddleLaws.{set_touches, read_same, withdrawn_agrees, quiet_keeps}
 use Rattle.safety.proofs.HeldBehind.{read_holds}
-use Rattle.safety.proofs.HeldFurther.{read_same}
-use Rattle.safety.proofs.OpenRings.{open_held}
 use Rattle.safety.proofs.StillRings.{untouched_behind}
-use Rattle.safety.proofs.Counted.{agrees_counted}
-use Rattle.safety.proofs.RingChanges.QuietWorlds.{withdrawn_agrees}
-use Rattle.safety.proofs.RingChanges.QuietKeeps.{quiet_keeps}
-use Rattle.safety.proofs.RingChanges.QuietRuns.{IsGood, quiet_runs}
+use Rattle.safety.proofs.RingChanges.Restored.{IsGood, quiet_runs}
 
 stopped_is : (e : EndpointState) → is_stopped e ≡ true → e ≡ Stopped
 stopped_is Stopped stopped = refl
@@ -62,9 +55,7 @@ module _ (h : Header) (r p : ℕ) where
 
   parts : (k : Known) → is_bad_withdraw h k r p ≡ false → HasStopped k × (cut (k.ring r) ≡ false)
   unfolding is_bad_withdraw
-  parts k good =
-      let both = or_parts (not (has_stopped h k r)) (cut (k.ring r)) good in
-      (stopped_with k (not-false (has_stopped h k r) both.0), both.1)
+  parts k good = search (rules, or_parts, not, has_stopped, cut, stopped_with, not-false)
 
   module _ (is : IsHeader h) where
     module _ (k : Known) (d : DriverKeeps h k) (s : HasStopped k) where
@@ -110,8 +101,7 @@ module _ (h : Header) (r p : ℕ) where
 
     cut_same : (v w : RingView) → w.lengths ≡ v.lengths → w.withdrawn ≡ v.withdrawn → cut v ≡ false → cut w ≡ false
     unfolding descriptor_length
-    cut_same v w lengths withdrawn good =
-        (λ j. (length_from (lengths j) 0 p == 0 || list_any (withdrawn j) (range_with_len p (length_from (lengths j) 0 p)))) ∙ good
+    cut_same v w lengths withdrawn good = search (rules, length_from, list_any, range_with_len)
 
     behind : (k : Known) (e : Block) → DriverKeeps h k → lenient h k (Read e) ≡ [] → is_bad_withdraw h k r p ≡ false → is_bad_withdraw h (learned h k (Read e)) r p ≡ false
     unfolding is_bad_withdraw

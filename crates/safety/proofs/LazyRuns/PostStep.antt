@@ -1,0 +1,258 @@
+-- The step of a row that reads an event: the lazy run posts it directly before, whichever step it is that posts it
+use Rattle.safety.proofs.LazyRuns.Words.{[], ◌≡◌, ◌+◌, ◌<◌, ◌∷◌, ◌++◌, ◌∙◌, true, false, List, reverse, Some, arith, refl, sym, ap, subst, inl, reverse-append, Block, IsBlock, block_at, kind, same_words, address_of, Header, Read, Step, NextRow, TraceRow, Plain, IsHeader, event_shape, World, event_at, read_made, learned, Runs, words_itself, post_keeps, read_runs, Option, stored, stored_block, driver_event_read, row_done, can_post, posted as posts_posted, counted, made as steps_made, while_running, pointers_after, post_of, steps_before, ◌≢◌, ◌&&◌, ℕ, inr, cases_eq, cond-false, false≢true, code, slot, is_transfer_event, is_command_completion, Spot, is_open, Report, command_id, Known, command_at, next_command, lenient, event_facts, run_keeps, report_runs, report_is, transfer_kind, reported, made, brought, goals, is_placed, is_placed_by, ◌||◌, Bool, or_cases, BlockKind, is_other_event, None, rules, and_from, cond-true, Other, learned_read, says_nothing, other_runs, with_reads, PortStatusChange, other_posted, goals as lazy_goals}
+use Rattle.safety.proofs.UpperLaws.{step_reached, agrees_now, next_reached, Follows, Carries, Leads, Past, looks_for, StandsAt, IsActiveIfOpen, Traced, AreTimely, EventLaw, is_event_read, may_post}
+
+module _ (h : Header) where
+  -- a step that posts b leads from w to u
+  pub record IsPosted (past : Past h) (w u : World) (b : Block) : Type 0 where
+    pub can : can_post h w b ≡ true
+    pub memory : u.memory ≡ (posts_posted h w b).memory
+    pub posted : u.posted ≡ w.posted + 1
+    pub reads : u.reads ≡ w.reads
+    pub runs : Runs h past.known (counted h u)
+
+  -- the world behind the step and the event's row
+  abbrev pub behind_read : World → World
+  behind_read u = counted h (record (counted h u) { reads = (counted h u).reads + 1 })
+
+  pub posts_last : (b : Block) (past : Past h) (later : List TraceRow) (s : Step) → post_of h (kind b) b ≡ s →
+      NextRow ∷ reverse (steps_before h past.known past.pointers (Read b) later) ++ past.made ≡ NextRow ∷ s ∷ (reverse (looks_for h past later b) ++ past.made)
+  unfolding steps_before
+  posts_last b past later s same = search (rules, reverse, looks_for, reverse-append)
+
+  module _ (is : IsHeader h) (past : Past h) (later : List TraceRow) (b : Block) (block : IsBlock b) (w : World) (run : Runs h past.known w) (all_read : w.posted ≡ w.reads) where
+    pub running_now : w.stopped ≡ false
+    running_now = (agrees_now h past.known w run all_read).stands.stopped ∙ run.on
+
+    module _ (u : World) (p : IsPosted past w u b) where
+      there : event_at h (counted h u) (counted h u).reads ≡ b
+      unfolding counted event_at posts_posted stored_block stored
+      there =
+          let q = post_keeps h is past.known [] w b block past.keeps (agrees_now h past.known w run all_read) p.can in
+          let first : block_at (posts_posted h w b).memory (address_of (event_shape h) (w.reads + 0)) ≡ b = q.events.places 0 b refl in
+          let same : u.reads ≡ w.reads + 0 = omega (arith, p.reads) in
+          ap (λ m. block_at m (address_of (event_shape h) u.reads)) p.memory ∙ ap (λ n. block_at (posts_posted h w b).memory (address_of (event_shape h) n)) same ∙ first
+
+      unread : (counted h u).reads < (counted h u).posted
+      unfolding counted
+      unread = omega (arith, all_read, p.posted, p.reads)
+
+      reads_it : driver_event_read h (counted h u) b ≡ Some (record (counted h u) { reads = (counted h u).reads + 1 })
+      reads_it = read_made h (counted h u) b unread (subst (λ e. same_words e b ≡ true) (sym there) (words_itself b))
+
+      pub runs_behind : Runs h (learned h past.known (Read b)) (behind_read u)
+      runs_behind = read_runs h past.known b (counted h u) (record (counted h u) { reads = (counted h u).reads + 1 }) block p.runs reads_it
+
+      pub all_read_behind : (behind_read u).posted ≡ (behind_read u).reads
+      unfolding counted
+      all_read_behind = omega (arith, all_read, p.posted, p.reads)
+
+      pub event_step : (s : Step) (mid : List Step) (o : Option World) → (s ≡ NextRow → ⊥) → steps_made h w s ≡ while_running h w o → o ≡ Some u →
+          NextRow ∷ reverse (steps_before h past.known past.pointers (Read b) later) ++ past.made ≡ NextRow ∷ s ∷ mid →
+          Follows h (learned h past.known (Read b)) (pointers_after h past.known past.pointers (Read b) later) (behind_read u) →
+          Leads h past mid (Plain (Read b) ∷ later) w → Carries h past (Read b) later
+      unfolding row_done
+      event_step s mid o other made at same follows leads = record {
+        world = behind_read u;
+        run = subst (λ made. Leads h past made later (behind_read u)) (sym same)
+            (next_reached h past (s ∷ mid) (counted h u) (record (counted h u) { reads = (counted h u).reads + 1 }) (Read b) later (step_reached h past (Plain (Read b) ∷ later) mid w u s o other made leads running_now at) reads_it);
+        goes = inl follows;
+      }
+
+-- A Transfer Event: behind its looks the lazy run reports it, and then it is read. What the report and the row leave as it was
+
+module _ (h : Header) where
+  -- the report of an event on ring r moves no pointer, and ends no activity but that of r
+  pub record ReportLeaves (w v : World) (b : Block) (r : ℕ) : Type 0 where
+    pub memory : v.memory ≡ (posts_posted h w b).memory
+    pub posted : v.posted ≡ w.posted + 1
+    pub reads : v.reads ≡ w.reads
+    pub pointers : v.pointer_of ≡ w.pointer_of
+    pub cycles : v.cycle_state ≡ w.cycle_state
+    pub events : v.events ≡ w.events
+    pub active : (q : ℕ) → q ≢ r → v.is_active q ≡ w.is_active q
+
+  -- an event brings the floor of ring r to a spot, and leaves the other rings
+  pub record EventLearns (k l : Known) (r : ℕ) (t : Spot) : Type 0 where
+    pub ring_of : l.ring_of ≡ k.ring_of
+    pub started : l.started ≡ k.started
+    pub floor : (l.ring r).floor ≡ t
+    pub others : (q : ℕ) → q ≢ r → l.ring q ≡ k.ring q
+
+  -- ---- the schedule's steps
+
+  pub pointers_transfer : (b : Block) (past : Past h) (later : List TraceRow) (r : ℕ) → is_transfer_event (kind b) ≡ true →
+      pointers_after h past.known past.pointers (Read b) later r ≡ brought h past.pointers (goals h past.known later (kind b) b) r
+  unfolding pointers_after is_placed
+  pointers_transfer b past later r transfer = search (rules, is_placed, is_command_completion, code, is_placed_by, slot, command_at, next_command, transfer_kind, kind, cond-false, learned)
+
+  -- ---- the world behind the report and the row
+
+  module _ (is : IsHeader h) (past : Past h) (later : List TraceRow) (b : Block) (pointers : ℕ → Spot) (w u : World) (r : ℕ) (t : Spot) (block : IsBlock b) (clean : lenient h past.known (Read b) ≡ [])
+      (transfer : is_transfer_event (kind b) ≡ true) (trace : Traced h past.known pointers w) (at : reported h w b ≡ Some u) (leaves : ReportLeaves w u b r)
+      (learns : EventLearns past.known (learned h past.known (Read b)) r t) where
+    abbrev l : Known
+    l = learned h past.known (Read b)
+
+    -- the world behind the row
+    abbrev v : World
+    v = behind_read h u
+
+    running : w.stopped ≡ false
+    running = running_now h is past later b block w trace.runs trace.all_read
+
+    posted : IsPosted h past w u b
+    posted = record {
+      can = (report_is h w u b at).can;
+      memory = leaves.memory;
+      posted = leaves.posted;
+      reads = leaves.reads;
+      runs = report_runs h is past.known w u b block running trace.runs (run_keeps h is past.known w past.keeps trace.runs) at;
+    }
+
+    stands : (q : ℕ) (s : Spot) → StandsAt h w q s → StandsAt h v q s
+    unfolding counted
+    stands q s here = search rules
+
+    had : (s i q : ℕ) → l.ring_of s i ≡ Some q → past.known.ring_of s i ≡ Some q
+    had s i q there = ap (λ g. g s i) (sym learns.ring_of) ∙ there
+
+    started : past.known.started ≡ true
+    started = (event_facts h past.known b clean).started
+
+    module _ (no_command : r ≢ command_id h) (here : pointers r ≡ t) (others : (s i q : ℕ) → past.known.ring_of s i ≡ Some q → q ≢ r → pointers q ≡ (past.known.ring q).floor)
+        (after : (q : ℕ) → pointers_after h past.known past.pointers (Read b) later q ≡ pointers q) (still : IsActiveIfOpen (learned h past.known (Read b)) u r) where
+      pointers_are : (s i q : ℕ) → l.ring_of s i ≡ Some q → pointers q ≡ (l.ring q).floor
+      pointers_are s i q there =
+          elim (cases_eq q r) [
+            | inl same ↦ subst (λ n. pointers n ≡ (l.ring n).floor) (sym same) (here ∙ sym learns.floor)
+            | inr other ↦ others s i q (had s i q there) other ∙ ap (λ e. e.floor) (sym (learns.others q other))
+          ]
+
+      active : (q : ℕ) → IsActiveIfOpen past.known w q → IsActiveIfOpen l v q
+      unfolding counted
+      active q was opened =
+          elim (cases_eq q r) [
+            | inl same ↦ subst (λ n. u.is_active n ≡ true) (sym same) (still (subst (λ n. is_open (l.ring n) ≡ true) same opened))
+            | inr other ↦ leaves.active q other ∙ was (subst (λ e. is_open e ≡ true) (learns.others q other) opened)
+          ]
+
+      follows : Follows h (learned h past.known (Read b)) (pointers_after h past.known past.pointers (Read b) later) v
+      unfolding counted
+      follows = record {
+        runs = runs_behind h is past later b block w trace.runs trace.all_read u posted;
+        all_read = all_read_behind h is past later b block w trace.runs trace.all_read u posted;
+        floors = λ s i q there. subst (λ e. StandsAt h v q e) (pointers_are s i q there) (stands q (pointers q) (trace.rings s i q (had s i q there)));
+        traced = λ s i q there. after q ∙ pointers_are s i q there;
+        active = λ s i q there. active q (trace.active s i q (had s i q there));
+        before = λ off. absurd (false≢true (sym off ∙ learns.started ∙ started));
+        command = λ on. subst (λ e. StandsAt h v (command_id h) e) (sym (after (command_id h))) (stands (command_id h) (pointers (command_id h)) (trace.command started));
+        command_active = active (command_id h) trace.command_active;
+      }
+
+      pub report_step : Leads h past (reverse (looks_for h past later b) ++ past.made) (Plain (Read b) ∷ later) w → Carries h past (Read b) later
+      unfolding post_of made
+      report_step run =
+          event_step h is past later b block w trace.runs trace.all_read u posted (Report b) (reverse (looks_for h past later b) ++ past.made) (reported h w b) (λ e. cc) refl at
+          (posts_last h b past later (Report b) (ap (λ t. post_of h t b) (transfer_kind (kind b) transfer))) follows run
+
+-- An event of the controller itself: the lazy run posts it directly before it is read, and needs no look for it
+module _ (h : Header) where
+  -- what the schedule does for such an event
+  record NeedsNothing (k : Known) (later : List TraceRow) (b : Block) (t : BlockKind) : Type 0 where
+    goals : lazy_goals h k later t b ≡ []
+    post : post_of h t b ≡ Other b
+    no_completion : is_command_completion t ≡ false
+
+  needs_nothing : (k : Known) (later : List TraceRow) (b : Block) (t : BlockKind) → is_other_event t ≡ true → NeedsNothing k later b t
+  unfolding lazy_goals post_of
+  needs_nothing k later b PortStatusChange other = record { goals = refl; post = refl; no_completion = refl }
+  needs_nothing k later b _ other = search (rules, false≢true)
+
+  lazy_event : (b : Block) (past : Past h) (later : List TraceRow) → is_other_event (kind b) ≡ true →
+      NextRow ∷ reverse (steps_before h past.known past.pointers (Read b) later) ++ past.made ≡ NextRow ∷ Other b ∷ past.made
+  unfolding steps_before
+  lazy_event b past later other = search (rules, reverse, needs_nothing)
+
+  pointers_same : (b : Block) (past : Past h) (later : List TraceRow) (r : ℕ) → is_other_event (kind b) ≡ true →
+      pointers_after h past.known past.pointers (Read b) later r ≡ past.pointers r
+  unfolding pointers_after brought is_placed
+  pointers_same b past later r other = search (rules, needs_nothing, cond-false)
+
+  post_made : (w : World) (b : Block) → can_post h w b ≡ true → is_other_event (kind b) ≡ true → other_posted h w b ≡ Some (posts_posted h w b)
+  unfolding other_posted
+  post_made w b can other = cond-true (can_post h w b && is_other_event (kind b)) (Some (posts_posted h w b)) None (and_from (can_post h w b) (is_other_event (kind b)) can other)
+
+  module _ (is : IsHeader h) (past : Past h) (later : List TraceRow) (b : Block) (w : World) (block : IsBlock b) (clean : lenient h past.known (Read b) ≡ []) (other : is_other_event (kind b) ≡ true)
+      (f : Follows h past.known past.pointers w) where
+    abbrev read_known : Known
+    read_known = learned h past.known (Read b)
+
+    can : can_post h w b ≡ true
+    can = may_post h is past.known w b past.keeps (agrees_now h past.known w f.runs f.all_read) clean
+
+    runs_now : w.stopped ≡ false
+    runs_now = running_now h is past later b block w f.runs f.all_read
+
+    same : read_known ≡ with_reads past.known (past.known.reads + 1)
+    same = learned_read h past.known b ∙ ap (λ m. with_reads m (past.known.reads + 1)) (says_nothing h past.known b (kind b) other).read
+
+    -- the world behind the row
+    abbrev behind : World
+    behind = behind_read h (posts_posted h w b)
+
+    post : IsPosted h past w (posts_posted h w b) b
+    unfolding posts_posted stored_block stored
+    post = record {
+      can = can;
+      memory = refl;
+      posted = refl;
+      reads = refl;
+      runs = other_runs h is past.known w (posts_posted h w b) b block runs_now f.runs (run_keeps h is past.known w past.keeps f.runs) (post_made w b can other);
+    }
+
+    had_before : (s i r : ℕ) → read_known.ring_of s i ≡ Some r → past.known.ring_of s i ≡ Some r
+    had_before s i r at = ap (λ (m : Known). m.ring_of s i) (sym same) ∙ at
+
+    stands_on : (r : ℕ) (t : Spot) → StandsAt h w r t → StandsAt h behind r t
+    unfolding counted posts_posted stored_block stored
+    stands_on r t at = record { is_spot = at.is_spot; pointer = at.pointer; cycle = at.cycle; next = at.next }
+
+    follows_on : Follows h (learned h past.known (Read b)) (pointers_after h past.known past.pointers (Read b) later) behind
+    unfolding counted posts_posted stored_block stored
+    follows_on = record {
+      runs = runs_behind h is past later b block w f.runs f.all_read (posts_posted h w b) post;
+      all_read = all_read_behind h is past later b block w f.runs f.all_read (posts_posted h w b) post;
+      floors = λ s i r at. subst (λ t. StandsAt h behind r t) (ap (λ (m : Known). (m.ring r).floor) (sym same)) (stands_on r (past.known.ring r).floor (f.floors s i r (had_before s i r at)));
+      traced = λ s i r at. pointers_same b past later r other ∙ f.traced s i r (had_before s i r at) ∙ ap (λ (m : Known). (m.ring r).floor) (sym same);
+      active = λ s i r at opened. f.active s i r (had_before s i r at) (ap (λ (m : Known). is_open (m.ring r)) (sym same) ∙ opened);
+      before = λ off. pointers_same b past later (command_id h) other ∙ f.before (ap (λ (m : Known). m.started) (sym same) ∙ off);
+      command = λ on.
+          subst (λ t. StandsAt h behind (command_id h) t) (sym (pointers_same b past later (command_id h) other))
+          (stands_on (command_id h) (past.pointers (command_id h)) (f.command (ap (λ (m : Known). m.started) (sym same) ∙ on)));
+      command_active = λ opened. f.command_active (ap (λ (m : Known). is_open (m.ring (command_id h))) (sym same) ∙ opened);
+    }
+
+    pub other_step : Leads h past past.made (Plain (Read b) ∷ later) w → Carries h past (Read b) later
+    unfolding made
+    other_step =
+        event_step h is past later b block w f.runs f.all_read (posts_posted h w b) post (Other b) past.made (other_posted h w b) (λ e. cc) refl (post_made w b can other)
+        (lazy_event b past later other) follows_on
+
+module _ (h : Header) where
+  -- the step of a row that reads an event of some kinds
+  abbrev pub EventLawOf : (BlockKind → Bool) → Type 0
+  EventLawOf is_kind =
+      (past : Past h) (later : List TraceRow) (b : Block) (w : World) → is_kind (kind b) ≡ true → IsHeader h → IsBlock b → lenient h past.known (Read b) ≡ [] →
+      AreTimely h past.known (Plain (Read b) ∷ later) → Leads h past past.made (Plain (Read b) ∷ later) w →
+      Follows h past.known past.pointers w → Carries h past (Read b) later
+
+  pub event_law : EventLawOf is_transfer_event → EventLawOf is_command_completion → EventLaw h
+  event_law transfer completion past later b w is block clean timely run f =
+      elim (or_cases (is_transfer_event (kind b) || is_command_completion (kind b)) (is_other_event (kind b)) (is_event_read h past.known b clean)) [
+        | inl ring ↦ elim (or_cases (is_transfer_event (kind b)) (is_command_completion (kind b)) ring) [
+          | inl one ↦ transfer past later b w one is block clean timely run f
+          | inr two ↦ completion past later b w two is block clean timely run f
+        ]
+        | inr other ↦ other_step h is past later b w block clean other f run
+      ]
