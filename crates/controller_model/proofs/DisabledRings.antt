@@ -15,15 +15,7 @@ rings_off h w s i rings nothing f = record {
       let old = f.each r x at in
       let had = λ (t j : ℕ). is_ring r (w.ring_of t j) in
       let P : (ℕ → ℕ → Bool) → Type 0 = λ test. FollowsHolder test x.holder in
-      record {
-        declared = old.declared;
-        history = old.history;
-        pointer = old.pointer;
-        cycle = old.cycle;
-        active = old.active;
-        harms = old.harms;
-        holder = subst P (sym (put_pair_map (is_ring r) w.ring_of s i None)) (holder_still had x.holder s i (nothing r) old.holder);
-      };
+      assumption (subst P (sym (put_pair_map (is_ring r) w.ring_of s i None)) (holder_still had x.holder s i (nothing r) old.holder));
 }
 
 -- only the endpoints below 32 matter

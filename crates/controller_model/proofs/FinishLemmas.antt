@@ -1,14 +1,8 @@
 -- A finish is a completion that is posted
 use Rattle.std.proofs.Common.{rules}
-use Rattle.controller_model.proofs.Words.{◌≡◌, ◌==◌, ◌&&◌, ◌∙◌, not, Bool, true, false, Option, Some, None, Ok, Err, option_map, ap, sym, subst, refl, cond-true, cond-false, Block, code, kind, pointer, slot, is_command_completion, command_of, may_answer_slot, Header, World, UnderWay, Seen, StepFault, NotPossible, can_post, ended, ended_with, finished, finished_as, IsPart, completed, completed_with, IsStep}
+use Rattle.controller_model.proofs.Words.{◌≡◌, ◌==◌, ◌&&◌, ◌∙◌, not, Bool, true, false, Option, Some, None, Ok, Err, option_map, ap, refl, cond-true, cond-false, Block, code, kind, pointer, slot, is_command_completion, command_of, may_answer_slot, Header, World, UnderWay, Seen, StepFault, can_post, ended, ended_with, finished, finished_as, IsPart, completed, completed_with, IsStep}
 use Rattle.controller_model.proofs.ChangeLemmas.{Made}
 use Rattle.controller_model.proofs.ReportPosts.{map_choice}
-
-pub part_made : (A : Type 0) (x : A) (o : Option World) (w : World) (P : World → Type 0) → o ≡ Some w → P w → IsPart (Ok x) o P
-part_made A x o w P made holds = let Q : Option World → Type 0 = λ v. IsPart (Ok x) v P in subst Q (sym made) holds
-
-pub part_refused : (A : Type 0) (o : Option World) (P : World → Type 0) → o ≡ None → IsPart {A = A} (Err NotPossible) o P
-part_refused A o P none = let Q : Option World → Type 0 = λ v. IsPart {A = A} (Err NotPossible) v P in subst Q (sym none) tt
 
 pub made_of_part : (A : Type 0) (x : A) (o : Option World) (P : World → Type 0) → IsPart (Ok x) o P → Made o P
 made_of_part A x None P made = absurd made

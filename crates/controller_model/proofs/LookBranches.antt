@@ -1,17 +1,6 @@
 -- Which way a look goes
-use Rattle.controller_model.proofs.Words.{◌≡◌, ◌==◌, ◌||◌, ◌&&◌, ◌∙◌, ◌↔◌, ℕ, not, Bool, true, false, Option, Some, None, Ok, Err, is_some, option_map, ap, sym, subst, refl, Result, cond-true, cond-false, Block, block_at, cycle, kind, is_link, Command, AddressDevice, result_ok, Header, command_id, World, Seen, Waited, Crossed, StepFault, NotPossible, looked_at, looked, seen_by_look, crossed, taken, taken_on, command_begun, may_scribble, look_shows, IsStep, addressed, is_it, under_way_of, Pending}
+use Rattle.controller_model.proofs.Words.{◌≡◌, ◌==◌, ◌||◌, ◌&&◌, ◌∙◌, ◌↔◌, ℕ, not, Bool, true, false, Option, Some, None, Ok, Err, is_some, option_map, ap, sym, refl, Result, cond-true, cond-false, Block, block_at, cycle, kind, is_link, Command, AddressDevice, result_ok, Header, command_id, World, Waited, Crossed, looked_at, looked, seen_by_look, crossed, taken, taken_on, command_begun, may_scribble, look_shows, addressed, is_it, under_way_of, Pending}
 use Rattle.controller_model.specs.declared.seen.Seen.TheVariants.{Took}
-
--- a step as the definitions give it
-pub step_made : (o : Option World) (w : World) (seen shown : Seen) (P : World → Type 0) → o ≡ Some w → seen ≡ shown → P w → IsStep (Ok seen) o shown P
-step_made o w seen shown P made same holds =
-    let Q : Option World → Type 0 = λ v. IsStep (Ok seen) v shown P in
-    subst Q (sym made) (same, holds)
-
-pub step_refused : (o : Option World) (shown : Seen) (P : World → Type 0) → o ≡ None → IsStep (Err NotPossible) o shown P
-step_refused o shown P none =
-    let Q : Option World → Type 0 = λ v. IsStep (Err NotPossible) v shown P in
-    subst Q (sym none) tt
 
 module _ (h : Header) (w : World) (r : ℕ) (b : Block) where
   pub waits : (cycle b == w.cycle_state r) ≡ false → looked_at h w r b ≡ Some (seen_by_look h w r)
@@ -77,12 +66,6 @@ looked_inactive h w r e = cond-false (w.is_active r) _ None e
 pub looked_active : (h : Header) (w : World) (r : ℕ) (b : Block) → w.is_active r ≡ true → block_at w.memory (w.pointer_of r) ≡ b → looked h w r ≡ looked_at h w r b
 unfolding looked
 looked_active h w r b e at = cond-true (w.is_active r) _ None e ∙ ap (λ c. looked_at h w r c) at
-
-pub step_along : (a : Result Seen StepFault) (o v : Option World) (shown told : Seen) (P : World → Type 0) → o ≡ v → shown ≡ told → IsStep a v told P → IsStep a o shown P
-step_along a o v shown told P same shows made =
-    let Q : Option World → Type 0 = λ u. IsStep a u shown P in
-    let R : Seen → Type 0 = λ s. IsStep a v s P in
-    subst Q (sym same) (subst R (sym shows) made)
 
 pub is_some-map : {A B : Type 0} (f : A → B) (o : Option A) → is_some (option_map f o) ≡ is_some o
 is_some-map f None = refl

@@ -1,5 +1,5 @@
 -- The rows that are left, and how one of them is made
-use Rattle.controller_model.proofs.Words.{TraceRow, header_after, row_made, Scene, row_next, step_made, ◌≡◌, ◌≢◌, ◌∙◌, ◌∷◌, List, [], slice_get, Option, Some, None, Ok, Err, Result, option_map, ap, sym, subst, refl, Header, Step, NextRow, Look, Report, Finish, Other, Scribble, World, counted, made, stepped, Seen, StepFault, NotPossible, Spent, Memory, IsStep}
+use Rattle.controller_model.proofs.Words.{TraceRow, header_after, row_made, Scene, row_next, step_made, ◌≡◌, ◌≢◌, ◌∙◌, ◌∷◌, List, [], slice_get, Option, Some, None, Ok, Err, Result, option_map, ap, refl, Header, Step, NextRow, Look, Report, Finish, Other, Scribble, World, counted, made, stepped, Seen, StepFault, NotPossible, Spent, Memory, IsStep}
 
 pub nothing_left : {X : Type 0} (xs : List X) → slice_get xs 0 ≡ None → xs ≡ []
 nothing_left [] e = refl
@@ -18,18 +18,6 @@ step_mapped (Err NotPossible) None g shown P Q more step = tt
 step_mapped (Err NotPossible) (Some x) g shown P Q more step = absurd step
 step_mapped (Err Memory) o g shown P Q more step = tt
 step_mapped (Err Spent) o g shown P Q more step = absurd step
-
--- the same step by another name
-pub step_same : {X : Type 0} (r : Result Seen StepFault) (o v : Option X) (shown told : Seen) (P : X → Type 0) → o ≡ v → shown ≡ told → IsStep r v told P → IsStep r o shown P
-step_same {X = X} r o v shown told P same is step =
-    let R : Option X → Type 0 = λ u. IsStep r u shown P in
-    let S : Seen → Type 0 = λ z. IsStep r v z P in
-    subst R (sym same) (subst S (sym is) step)
-
-pub step_none : {X : Type 0} (o : Option X) (shown : Seen) (P : X → Type 0) → o ≡ None → IsStep (Err NotPossible) o shown P
-step_none {X = X} o shown P none =
-    let R : Option X → Type 0 = λ u. IsStep (Err NotPossible) u shown P in
-    subst R (sym none) tt
 
 -- where a step failed nothing is said of what comes of it
 pub step_failed : {X Y : Type 0} (fault : StepFault) (o : Option X) (g : X → Y) (shown : Seen) (P : X → Type 0) (Q : Y → Type 0) →

@@ -1,5 +1,6 @@
 -- One ring's state is changed
-use Rattle.controller_model.proofs.Words.{◌≡◌, ◌≢◌, ◌<◌, ◌==◌, ◌∙◌, ◌∷◌, ℕ, zero, suc, ap, refl, sym, List, [], Some, length, slice_get, get_or, set, subst, inl, inr, arith, eq-eqb, ne_eqb, cases_eq, cond-true, cond-false, slice_get-get_or, put, Header, RingState, RingHeld, FollowsRing, FollowsRings}
+use Rattle.std.proofs.Common.{rules}
+use Rattle.controller_model.proofs.Words.{◌≡◌, ◌≢◌, ◌<◌, ◌==◌, ◌∙◌, ◌∷◌, ℕ, zero, suc, ap, refl, sym, List, [], Some, length, slice_get, get_or, set, subst, inl, inr, arith, eq-eqb, ne_eqb, cases_eq, cond-true, cond-false, slice_get-get_or, put, Header, RingState, RingHeld, FollowsRing, FollowsRings, Follows, FollowsSlots, FollowsEndpoints, ring_held, ring_with, shape_of, Row, Kept, World}
 
 pub put_same : {A : Type 0} (f : ℕ → A) (n : ℕ) (x : A) → put f n x n ≡ x
 put_same f n x = cond-true (n == n) x (f n) (eq-eqb n n refl)
@@ -24,27 +25,40 @@ pub read_at : {X : Type 0} (xs : List X) (i r : ℕ) (x : X) → i ≡ r → r <
 read_at xs i r x same h value =
     slice_get-get_or xs r x h ∙ ap (λ n. Some (get_or xs n x)) (sym same) ∙ ap (λ y. Some y) (sym value)
 
--- the state of ring r is replaced, and the world has the same of the other rings
-pub follows_set : (h : Header) (before after : ℕ → RingHeld) (rings : List RingState) (i r : ℕ) (x : RingState) → i ≡ r → FollowsRings h before rings →
-    ((q : ℕ) → q ≢ r → after q ≡ before q) → FollowsRing h r (after r) x → FollowsRings h after (set rings i x)
-follows_set h before after rings i r x index f others here = record {
-  each = λ q y at. elim (cases_eq q r) [
+follows_alike : (h g : Header) (q : ℕ) (held : RingHeld) (y : RingState) → ring_with g q ≡ ring_with h q → FollowsRing h q held y → FollowsRing g q held y
+unfolding shape_of
+follows_alike h g q held y same f = search rules
+
+-- the state of ring r is replaced, and the world has the same of the other rings, which are the same by another header
+pub ring_changed : {h g : Header} {before after : ℕ → RingHeld} {rings : List RingState} {i r : ℕ} {y x : RingState} {now : RingHeld} → i ≡ r → r < 256 →
+    length rings ≡ 256 → y ≡ get_or rings i y → ((q : ℕ) → q ≢ r → ring_with g q ≡ ring_with h q) → FollowsRings h before rings →
+    ((q : ℕ) → q ≢ r → after q ≡ before q) → after r ≡ now → (FollowsRing h r (before r) y → FollowsRing g r now x) → FollowsRings g after (set rings i x)
+ring_changed {h = h} {g = g} {before = before} {after = after} {rings = rings} {i = i} {r = r} {y = y} {x = x} index low many value alike f others made turns = record {
+  each = λ q z at. elim (cases_eq q r) [
     | inl same ↦
-        let P : ℕ → Type 0 = λ n. slice_get (set rings n x) r ≡ Some y in
-        let R : ℕ → Type 0 = λ n. slice_get (set rings i x) n ≡ Some y in
-        let new : x ≡ y = slice_get-set_same rings r x y (subst P index (subst R same at)) in
-        let Q : ℕ → Type 0 = λ n. FollowsRing h n (after n) y in
-        let S : RingState → Type 0 = λ z. FollowsRing h r (after r) z in
-        subst Q (sym same) (subst S new here)
+        let P : ℕ → Type 0 = λ n. slice_get (set rings n x) r ≡ Some z in
+        let R : ℕ → Type 0 = λ n. slice_get (set rings i x) n ≡ Some z in
+        let new : x ≡ z = slice_get-set_same rings r x z (subst P index (subst R same at)) in
+        let Q : ℕ → Type 0 = λ n. FollowsRing g n (after n) z in
+        let S : RingState → Type 0 = λ u. FollowsRing g r (after r) u in
+        let T : RingHeld → Type 0 = λ held. FollowsRing g r held x in
+        subst Q (sym same) (subst S new (subst T (sym made) (turns (f.each r y (read_at rings i r y index (omega arith) value)))))
     | inr apart ↦
-        let P : RingHeld → Type 0 = λ held. FollowsRing h q held y in
-        subst P (sym (others q apart)) (f.each q y (sym (slice_get-set_other rings i q x (λ e. apart (e ∙ index))) ∙ at))
+        let P : RingHeld → Type 0 = λ held. FollowsRing g q held z in
+        subst P (sym (others q apart))
+        (follows_alike h g q (before q) z (alike q apart) (f.each q z (sym (slice_get-set_other rings i q x (λ e. apart (e ∙ index))) ∙ at)))
   ];
 }
 
--- the same, with what the world has of ring r told by an equation
-pub follows_change : (h : Header) (before after : ℕ → RingHeld) (rings : List RingState) (i r : ℕ) (x : RingState) (now : RingHeld) → i ≡ r → FollowsRings h before rings →
-    ((q : ℕ) → q ≢ r → after q ≡ before q) → after r ≡ now → FollowsRing h r now x → FollowsRings h after (set rings i x)
-follows_change h before after rings i r x now index f others made here =
-    let P : RingHeld → Type 0 = λ held. FollowsRing h r held x in
-    follows_set h before after rings i r x index f others (subst P (sym made) here)
+-- one part of what is kept is changed
+pub with_rings : {h : Header} {rows : List Row} {words : ℕ → ℕ} {k : Kept} {w : World} → FollowsRings h (ring_held w) k.rings.items →
+    (FollowsRings h (ring_held w) k.rings.items → Follows h rows words k w) → Follows h rows words k w
+with_rings rings whole = whole rings
+
+pub with_slots : {h : Header} {rows : List Row} {words : ℕ → ℕ} {k : Kept} {w : World} → FollowsSlots k.slots.items w.slot_state w.scribbles →
+    (FollowsSlots k.slots.items w.slot_state w.scribbles → Follows h rows words k w) → Follows h rows words k w
+with_slots slots whole = whole slots
+
+pub with_endpoints : {h : Header} {rows : List Row} {words : ℕ → ℕ} {k : Kept} {w : World} → FollowsEndpoints k.endpoints.items w.endpoint_state w.ring_of →
+    (FollowsEndpoints k.endpoints.items w.endpoint_state w.ring_of → Follows h rows words k w) → Follows h rows words k w
+with_endpoints endpoints whole = whole endpoints

@@ -1,7 +1,7 @@
 -- Rings that come and go: what is kept of the others
 use Rattle.std.proofs.Common.{rules}
-use Rattle.controller_model.proofs.Words.{position_or_len, remove, position-Some, fails_before_first, emptied, with_ring, without_descriptor, without_ring, length_from, no_ops, split_at, ◌≡◌, ◌≢◌, ◌==◌, ◌∷◌, ◌++◌, ◌<◌, ◌≤◌, ◌∙◌, if◌then◌else◌, ℕ, zero, suc, true, false, [], List, Some, None, not, find, filter, get_or, length, position, arith, common_steps, ap, sym, subst, refl, inl, inr, cases_eq, cond-true, cond-false, eq-eqb, ne_eqb, slice_get, set, Header, Ring, ring_with, shape_of, World, RingHeld, ring_held, RingState, FollowsRing, FollowsRings}
-use Rattle.controller_model.proofs.RingLemmas.{put_same, put_other, slice_get-set_same, slice_get-set_other}
+use Rattle.controller_model.proofs.Words.{position_or_len, remove, position-Some, fails_before_first, emptied, with_ring, without_descriptor, without_ring, length_from, no_ops, split_at, ◌≡◌, ◌≢◌, ◌==◌, ◌∷◌, ◌++◌, ◌<◌, ◌≤◌, ◌∙◌, if◌then◌else◌, ℕ, zero, suc, true, false, [], List, Some, None, not, find, filter, get_or, length, position, arith, common_steps, ap, sym, refl, inl, inr, cases_eq, cond-true, cond-false, eq-eqb, ne_eqb, Header, Ring, ring_with, World, ring_held}
+use Rattle.controller_model.proofs.RingLemmas.{put_same, put_other}
 
 -- ---- the rings that are there
 
@@ -63,32 +63,6 @@ nothing_listed (y ∷ ys) none = absurd (omega arith)
 pub without_is : (h : Header) (id : ℕ) (rings : List Ring) → rings ≡ filter (λ r. not (r.id == id)) h.rings → ◌≡◌ {A = Header} (record h { rings = rings }) (without_ring h id)
 unfolding without_ring
 without_is h id rings same = (λ i. record h { rings = same i })
-
--- ---- what is kept of a ring, by another header in which it is the same
-
-follows_alike : (h g : Header) (q : ℕ) (held : RingHeld) (y : RingState) → ring_with g q ≡ ring_with h q → FollowsRing h q held y → FollowsRing g q held y
-unfolding shape_of
-follows_alike h g q held y same f = search rules
-
-pub follows_other : (h g : Header) (before after : ℕ → RingHeld) (rings : List RingState) (i r : ℕ) (x : RingState) (now : RingHeld) → i ≡ r →
-    ((q : ℕ) → q ≢ r → ring_with g q ≡ ring_with h q) → FollowsRings h before rings → ((q : ℕ) → q ≢ r → after q ≡ before q) → after r ≡ now →
-    FollowsRing g r now x → FollowsRings g after (set rings i x)
-follows_other h g before after rings i r x now index alike f others made here = record {
-  each = λ q y at. elim (cases_eq q r) [
-    | inl same ↦
-        let P : ℕ → Type 0 = λ n. slice_get (set rings n x) r ≡ Some y in
-        let R : ℕ → Type 0 = λ n. slice_get (set rings i x) n ≡ Some y in
-        let new : x ≡ y = slice_get-set_same rings r x y (subst P index (subst R same at)) in
-        let Q : ℕ → Type 0 = λ n. FollowsRing g n (after n) y in
-        let S : RingState → Type 0 = λ z. FollowsRing g r (after r) z in
-        let T : RingHeld → Type 0 = λ held. FollowsRing g r held x in
-        subst Q (sym same) (subst S new (subst T (sym made) here))
-    | inr apart ↦
-        let P : RingHeld → Type 0 = λ held. FollowsRing g q held y in
-        subst P (sym (others q apart))
-        (follows_alike h g q (before q) y (alike q apart) (f.each q y (sym (slice_get-set_other rings i q x (λ e. apart (e ∙ index))) ∙ at)))
-  ];
-}
 
 -- ---- the world
 

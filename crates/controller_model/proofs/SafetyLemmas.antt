@@ -84,9 +84,9 @@ module _ (h : Header) (w : World) where
   abbrev pub context_harm : Bool
   context_harm = has_changed_context h w w.under_way
 
-  pub harm_is : (a b c d e f : Bool) → order_harm ≡ a → words_harm ≡ b → waits_harm ≡ c → w.looked_outside ≡ d → posts_harm ≡ e → context_harm ≡ f → harm_of h w ≡ least a b c d e f
+  pub harm_is : {a b c d e f : Bool} → order_harm ≡ a → words_harm ≡ b → waits_harm ≡ c → w.looked_outside ≡ d → posts_harm ≡ e → context_harm ≡ f → harm_of h w ≡ least a b c d e f
   unfolding harm_of harms
-  harm_is a b c d e f p q r s t u = (λ i. least (p i) (q i) (r i) (s i) (t i) (u i))
+  harm_is p q r s t u = (λ i. least (p i) (q i) (r i) (s i) (t i) (u i))
 
 pub take_past : {X : Type 0} (xs : List X) (n : ℕ) → length xs ≤ n → take n xs ≡ xs
 take_past [] zero l = refl

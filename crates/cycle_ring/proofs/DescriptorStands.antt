@@ -1,6 +1,6 @@
 -- Played into memory, the writes of a descriptor that is shorter than a lap put its blocks and the Links before them at
 -- their places, and no other word
-use Rattle.cycle_ring.proofs.Words.{◌≡◌, ◌+◌, ◌-◌, ◌*◌, ◌%◌, ◌<◌, ◌≤◌, ◌∷◌, ◌++◌, ◌∙◌, ℕ, zero, suc, Bool, false, List, [], take, drop, length, arith, refl, ap, sym, inl, inr, Some, Option, nat_lt, get_or, lit<, Contains, slice_get, take-append-drop, length-append, cases_lt, slice_get_within, slice_get-get_or, Contains-append_left, Contains-append_cases, take-append-le, Block, word, Place, Data, Link, Shape, IsShape, place_at, address_of, cycle_of, link_crossed, link_address, place_count, same_position_near, same_crossing, is_crossing-from, place_at-address_of, place_at-link_address, link_block, low_writes, control_write, block_at_position, way_writes, later_writes, writes_of, played, BlocksStand, LinksStand, OthersStay, GivenLast}
+use Rattle.cycle_ring.proofs.Words.{suc, common_steps, rules, ◌≡◌, ◌+◌, ◌-◌, ◌*◌, ◌%◌, ◌<◌, ◌≤◌, ◌∷◌, ◌++◌, ◌∙◌, ℕ, Bool, false, List, [], take, drop, length, arith, refl, ap, sym, inl, inr, Some, Option, nat_lt, get_or, lit<, Contains, slice_get, take-append-drop, length-append, cases_lt, slice_get_within, slice_get-get_or, Contains-append_left, Contains-append_cases, take-append-le, Block, word, Place, Data, Link, Shape, IsShape, place_at, address_of, cycle_of, link_crossed, link_address, place_count, same_position_near, same_crossing, is_crossing-from, place_at-address_of, place_at-link_address, link_block, low_writes, control_write, block_at_position, way_writes, later_writes, writes_of, played, BlocksStand, LinksStand, OthersStay, GivenLast}
 use Rattle.cycle_ring.proofs.PlayedLemmas.{played-written, played-elsewhere, block_at-words, same_address}
 use Rattle.cycle_ring.proofs.WrittenWords.{IsWordOf, IsWordOfLink, IsWordAt, IsWritten, way_writes-words, later_writes-words, writes_of-words, word_of_descriptor_written}
 
@@ -16,14 +16,10 @@ link_parts i j v w same = (cc, cc)
 module _ (shape : Shape) (is_shape : IsShape shape) where
   -- a word of the block at a position, and one of a Link, by the place that has it
   block_place : (q : ℕ) (b : Block) (x v : ℕ) → (of : IsWordOf (address_of shape q) b x v) → place_at shape x ≡ Some (Data (q % place_count shape) of.w)
-  block_place q b x v of =
-      let at : x ≡ address_of shape q + 4 * of.w = of.at in
-      rw at (place_at-address_of shape is_shape q of.w of.small)
+  block_place q b x v of = search (rules, place_at-address_of)
 
   link_place : (q : ℕ) (chain : Bool) (x v : ℕ) → (is : IsWordOfLink shape q chain x v) → place_at shape x ≡ Some (Link is.i is.of.w)
-  link_place q chain x v is =
-      let at : x ≡ link_address shape q + 4 * is.of.w = is.of.at in
-      rw at (place_at-link_address shape is_shape q is.i is.of.w is.crossed is.of.small)
+  link_place q chain x v is = search (rules, place_at-link_address)
 
   -- two words of blocks at one address: they have one number, their positions are one, and so are they
   same_number :
@@ -196,10 +192,7 @@ module _ (shape : Shape) (is_shape : IsShape shape) where
         control = record { w = 3; small = lit< tt; at = refl; value = refl }
 
         not_low : (a : ℕ) (c : Block) (v : ℕ) → Contains (low_writes a c) (a + 12, v) → ⊥
-        not_low a c v (zero, within, same) = let at : a + 12 ≡ a = same_address (a, word c 0) (a + 12, v) same in omega arith
-        not_low a c v (suc zero, within, same) = let at : a + 12 ≡ a + 4 = same_address (a + 4, word c 1) (a + 12, v) same in omega arith
-        not_low a c v (suc (suc zero), within, same) = let at : a + 12 ≡ a + 8 = same_address (a + 8, word c 2) (a + 12, v) same in omega arith
-        not_low a c v (suc (suc (suc k)), within, same) = omega arith
+        not_low a c v x3 = search (rules, same_address)
 
         not_later : IsWritten shape first (first + 1) rest (address_of shape first + 12) u → ⊥
         not_later h =

@@ -1,14 +1,12 @@
 -- What enqueue appends, played into memory
-use Rattle.cycle_ring.proofs.Words.{◌≡◌, ◌+◌, ◌-◌, ◌^◌, ◌<◌, ◌≤◌, ◌&&◌, ◌++◌, ◌∙◌, ℕ, nat_le, nat_lt, true, List, length, arith, subst, sym, ap, None, drop-append_seam, nat_tests, Block, fault_of, IsShape, place_count, place_count_pos, Progress, has_room, writes_of, appended, BlocksStand, LinksStand, OthersStay, GivenLast, MayBeDeclared, KeepTheRing}
+use Rattle.cycle_ring.proofs.Words.{rules, ◌≡◌, ◌+◌, ◌-◌, ◌^◌, ◌<◌, ◌≤◌, ◌&&◌, ◌++◌, ℕ, nat_le, nat_lt, true, List, length, arith, subst, None, drop-append_seam, nat_tests, Block, fault_of, IsShape, place_count, place_count_pos, Progress, has_room, writes_of, appended, BlocksStand, LinksStand, OthersStay, GivenLast, MayBeDeclared, KeepTheRing}
 use Rattle.cycle_ring.proofs.Declared.{may_be_declared}
 use Rattle.cycle_ring.proofs.KeepsTheRing.{keep_the_ring}
 use Rattle.cycle_ring.proofs.DescriptorStands.{blocks_stand, links_stand, others_stay, given_last}
 
 -- blocks for which there is room are fewer than the places
 pub in_lap : (p : Progress) (n : ℕ) → IsShape p.shape → p.retired ≤ p.enqueued → has_room p n ≡ true → n < place_count p.shape
-in_lap p n is_shape in_order room =
-    let some : 0 < place_count p.shape = place_count_pos p.shape is_shape in
-    by_tests p.enqueued p.retired (place_count p.shape) n some in_order room
+in_lap p n is_shape in_order room = search (rules, place_count_pos)
   where
     by_tests :
         (e r places m : ℕ) → 0 < places → r ≤ e → (nat_le (e + m - r) (places - 1) && nat_lt (e + m) (2 ^ 64)) ≡ true → m < places
@@ -22,29 +20,19 @@ module _ (p seen : Progress) (is_seen : p ≡ seen) (in_order : p.retired ≤ p.
   fewer = in_lap seen (length blocks) is_shape (subst (λ (q : Progress). q.retired ≤ q.enqueued) is_seen in_order) room
 
   appended_writes : writes_of seen.shape seen.enqueued blocks ≡ appended old new
-  appended_writes =
-      let as_seen = ap (λ (q : Progress). writes_of q.shape q.enqueued blocks) is_seen in
-      sym (rw is_new (drop-append_seam old writes) ∙ are_writes ∙ as_seen)
+  appended_writes = search (rules, drop-append_seam)
 
   pub appended_blocks : BlocksStand seen.shape seen.enqueued blocks (appended old new)
-  appended_blocks =
-      subst (λ (ws : List (ℕ × ℕ)). BlocksStand seen.shape seen.enqueued blocks ws) appended_writes
-      (blocks_stand seen.shape is_shape seen.enqueued blocks fewer)
+  appended_blocks = search (rules, appended_writes, blocks_stand, fewer)
 
   pub appended_links : LinksStand seen.shape seen.enqueued blocks (appended old new)
-  appended_links =
-      subst (λ (ws : List (ℕ × ℕ)). LinksStand seen.shape seen.enqueued blocks ws) appended_writes
-      (links_stand seen.shape is_shape seen.enqueued blocks fewer)
+  appended_links = search (rules, appended_writes, links_stand, fewer)
 
   pub appended_others : OthersStay seen.shape seen.enqueued blocks (appended old new)
-  appended_others =
-      subst (λ (ws : List (ℕ × ℕ)). OthersStay seen.shape seen.enqueued blocks ws) appended_writes
-      (others_stay seen.shape is_shape seen.enqueued blocks fewer)
+  appended_others = search (rules, appended_writes, others_stay, fewer)
 
   pub appended_last : GivenLast seen.shape seen.enqueued (appended old new)
-  appended_last =
-      subst (λ (ws : List (ℕ × ℕ)). GivenLast seen.shape seen.enqueued ws) appended_writes
-      (given_last seen.shape is_shape seen.enqueued blocks fewer)
+  appended_last = search (rules, appended_writes, given_last, fewer)
 
   -- and where they are a descriptor, they keep the rules of the ring
   module _ (no_fault : fault_of seen.shape.kind blocks ≡ None) where

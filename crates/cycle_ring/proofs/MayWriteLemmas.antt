@@ -1,5 +1,5 @@
 -- When a word may be written on a ring, by what it touches and what it gives
-use Rattle.cycle_ring.proofs.Words.{IsRestored, no_flips, ◌≡◌, ◌+◌, ◌*◌, ◌%◌, ◌<◌, ◌≤◌, ◌∙◌, ℕ, true, false, List, nat_lt, All, Contains, slice_index, arith, sym, ap, ltb-true, and_parts, false_from_ne_true, All-weaker, All-contains_itself, Shape, IsShape, data_places, links, place_count, address_of, is_crossing, link_address, overlap, RingView, floor_number, is_due, positions_given, crossings_given, leased_positions, leased_crossings, is_other_than_declared, is_not_declared, is_not_whole, leads_wrong, interrupts, MayWrite, place_not_link, link_aligned, links_apart, place_below, same_place_of, same_position_near, crosses, crossed_link, link_address_is, same_crossing_at, Gives, GivesCrossing, gives_is, gives_crossing_is, leased_position_is, leased_crossing_is, position_given_is, crossing_given_is}
+use Rattle.cycle_ring.proofs.Words.{common_steps, rules, IsRestored, no_flips, ◌≡◌, ◌+◌, ◌*◌, ◌%◌, ◌<◌, ◌≤◌, ◌∙◌, ℕ, true, false, List, All, Contains, slice_index, arith, sym, ap, and_parts, false_from_ne_true, All-weaker, All-contains_itself, Shape, IsShape, data_places, links, place_count, address_of, is_crossing, link_address, overlap, RingView, floor_number, is_due, positions_given, crossings_given, leased_positions, leased_crossings, is_other_than_declared, is_not_declared, is_not_whole, leads_wrong, interrupts, MayWrite, place_not_link, link_aligned, links_apart, place_below, same_place_of, same_position_near, crosses, crossed_link, link_address_is, same_crossing_at, Gives, GivesCrossing, gives_is, gives_crossing_is, leased_position_is, leased_crossing_is, position_given_is, crossing_given_is}
 
 all_in : (P : ℕ → Type 0) (xs : List ℕ) → ((x : ℕ) → Contains xs x → P x) → All P xs
 all_in P xs each = All-weaker (Contains xs) P each xs (All-contains_itself xs)
@@ -47,15 +47,11 @@ may_write_from shape m v a w restored blocks links positions crossings =
 -- ---- words of blocks and Links that lie apart
 
 overlap_is : (a b : ℕ) → overlap a 4 b 16 ≡ true → (a < b + 16) × (b < a + 4)
-overlap_is a b h =
-    let parts = and_parts (nat_lt a (b + 16)) (nat_lt b (a + 4)) h in
-    (ltb-true a (b + 16) parts.0, ltb-true b (a + 4) parts.1)
+overlap_is a b h = search (rules, and_parts)
 
 module _ (shape : Shape) (is : IsShape shape) where
   pub link_address_aligned : (q : ℕ) → is_crossing shape q ≡ true → link_address shape q % 16 ≡ 0
-  link_address_aligned q crossing =
-      let found = crossed_link shape q crossing in
-      ap (λ a. a % 16) (link_address_is shape q found.0 found.1) ∙ link_aligned shape is found.0 (crosses shape q found.0 found.1).link
+  link_address_aligned q crossing = grind (arith, common_steps, crossed_link, link_address_is, link_aligned, crosses)
 
   pub same_link_address :
       (r q : ℕ) → is_crossing shape r ≡ true → is_crossing shape q ≡ true

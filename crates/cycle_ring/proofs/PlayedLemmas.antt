@@ -1,5 +1,5 @@
 -- What memory holds at an address after writes
-use Rattle.cycle_ring.proofs.Words.{◌≡◌, ◌≢◌, ◌+◌, ◌∷◌, ◌∙◌, ◌==◌, ◌⊎◌, ℕ, zero, suc, List, [], arith, refl, ap, sym, inl, inr, Contains, eqb-true, cases_Bool, nat_tests, put, Block, block_at, played}
+use Rattle.cycle_ring.proofs.Words.{rules, ◌≡◌, ◌≢◌, ◌+◌, ◌∷◌, ◌∙◌, ◌==◌, ◌⊎◌, ℕ, suc, List, [], arith, refl, ap, sym, inl, inr, Contains, eqb-true, cases_Bool, nat_tests, put, Block, block_at, played}
 
 -- an element is contained in front of others, and behind another
 pub Contains-here : {A : Type 0} (x : A) (xs : List A) → Contains (x ∷ xs) x
@@ -9,8 +9,7 @@ pub Contains-there : {A : Type 0} (y : A) (xs : List A) (x : A) → Contains xs 
 Contains-there y xs x (k, within, same) = (suc k, omega arith, same)
 
 pub Contains-cons : {A : Type 0} (y : A) (xs : List A) (x : A) → Contains (y ∷ xs) x → (y ≡ x) ⊎ Contains xs x
-Contains-cons y xs x (zero, within, same) = inl same
-Contains-cons y xs x (suc k, within, same) = inr (k, omega arith, same)
+Contains-cons y xs x x3 = search rules
 
 -- equal writes have one address and one word
 pub same_address : (p q : ℕ × ℕ) → p ≡ q → q.0 ≡ p.0

@@ -1,7 +1,5 @@
 -- What stands once blocks are retired: xHCI 4.9.2
-use Rattle.segments.proofs.Reaching.{reaches_keeps}
-use Rattle.cycle_ring.specs.RingRules.{FollowsPassed}
-use Rattle.cycle_ring.proofs.Words.{ℕ, IsShape, Progress}
+use Rattle.cycle_ring.proofs.Words.{reaches_keeps, FollowsPassed, ℕ, IsShape, Progress}
 
 pub follows_passed : (p : Progress) (count : ℕ) → IsShape p.shape → FollowsPassed p count (record p { retired = count })
 follows_passed p count is =

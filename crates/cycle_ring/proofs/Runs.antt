@@ -1,5 +1,5 @@
 -- The writes of a descriptor, one after another, keep the rules of the ring
-use Rattle.cycle_ring.proofs.Words.{◌≡◌, ◌+◌, ◌-◌, ◌<◌, ◌≤◌, ◌⊎◌, ◌∷◌, ◌++◌, ◌∙◌, ℕ, suc, Bool, true, false, List, [], length, Some, Option, slice_get, is_some, arith, refl, sym, ap, subst, inl, inr, append_assoc, put, Block, word, Shape, IsShape, address_of, cycle_of, link_crossed, link_address, RingView, Writes, changed, RingKeeps, cases_option, is_crossing-from, writes_keeps, link_block, low_writes, block_writes, block_at_position, way_writes, later_writes, played, viewed, AllMayWrite, AllWithoutInterrupt}
+use Rattle.cycle_ring.proofs.Words.{rules, common_steps, ◌≡◌, ◌+◌, ◌-◌, ◌<◌, ◌≤◌, ◌⊎◌, ◌∷◌, ◌++◌, ◌∙◌, ℕ, suc, Bool, true, false, List, [], length, Some, Option, slice_get, is_some, arith, refl, sym, ap, subst, inl, inr, append_assoc, put, Block, word, Shape, IsShape, address_of, cycle_of, link_crossed, link_address, RingView, Writes, changed, RingKeeps, cases_option, is_crossing-from, writes_keeps, link_block, low_writes, block_writes, block_at_position, way_writes, later_writes, played, viewed, AllMayWrite, AllWithoutInterrupt}
 use Rattle.cycle_ring.proofs.MayWriteLemmas.{MayPut}
 use Rattle.cycle_ring.proofs.Stages.{Stage, low_word, later_control, link_low_word, link_control_word, no_way}
 use Rattle.cycle_ring.proofs.LinkBlocks.{link_cycle, leads_right, cycle_written, four_puts}
@@ -29,12 +29,10 @@ all_append shape m v (x ∷ rest) ys first second =
     (first.0, all_append shape (put m x.0 x.1) (changed shape v (Writes x.0 x.1)) rest ys first.1 second)
 
 pub viewed_append : (shape : Shape) (v : RingView) (xs ys : List (ℕ × ℕ)) → viewed shape v (xs ++ ys) ≡ viewed shape (viewed shape v xs) ys
-viewed_append shape v [] ys = refl
-viewed_append shape v (x ∷ rest) ys = viewed_append shape (changed shape v (Writes x.0 x.1)) rest ys
+viewed_append shape v xs ys = grind (arith, common_steps)
 
 pub played_append : (m : ℕ → ℕ) (xs ys : List (ℕ × ℕ)) → played m (xs ++ ys) ≡ played (played m xs) ys
-played_append m [] ys = refl
-played_append m (x ∷ rest) ys = played_append (put m x.0 x.1) rest ys
+played_append m xs ys = grind (arith, common_steps)
 
 pub all_keep :
     (shape : Shape) (m : ℕ → ℕ) (v : RingView) (writes : List (ℕ × ℕ)) → RingKeeps shape m v → AllMayWrite shape m v writes

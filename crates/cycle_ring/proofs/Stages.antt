@@ -1,5 +1,5 @@
 -- How far the writes of a descriptor are, and what each further one gives
-use Rattle.cycle_ring.proofs.Words.{IsRestored, ◌≡◌, ◌+◌, ◌-◌, ◌*◌, ◌%◌, ◌<◌, ◌≤◌, ◌⊎◌, ◌==◌, ◌||◌, ◌∙◌, ℕ, true, false, List, nat_le, Some, slice_get, arith, refl, sym, ap, inl, inr, subst, eq-eqb, leb-true, cases_lt, cases_order, false≢true, or_cases, or_left, or_right, false_from_ne_true, not_from_true, Block, block_at, with_cycle, same_words, word, put, Shape, IsShape, place_count, address_of, cycle_of, is_crossing, link_address, overlap, RingView, Writes, changed, declared, floor_number, is_due, is_crossing_due, gives, gives_crossing, descriptor_length, is_other_than_declared, is_declared_as, is_not_declared, is_not_whole, leads_wrong, interrupts, address_aligned, same_position_near, crossing_positive, same_crossing_at, data_not_link, Gives, GivesCrossing, due_is, due_from, crossing_due_from, gives_is, gives_crossing_is, gives_from, gives_crossing_from, whole_from, step_from}
+use Rattle.cycle_ring.proofs.Words.{rules, IsRestored, ◌≡◌, ◌+◌, ◌-◌, ◌*◌, ◌%◌, ◌<◌, ◌≤◌, ◌⊎◌, ◌||◌, ◌∙◌, ℕ, true, false, List, Some, slice_get, arith, refl, sym, ap, inl, inr, subst, cases_lt, cases_order, or_cases, or_left, or_right, false_from_ne_true, not_from_true, Block, block_at, with_cycle, same_words, word, put, Shape, IsShape, place_count, address_of, cycle_of, is_crossing, link_address, overlap, RingView, Writes, changed, declared, floor_number, is_due, is_crossing_due, gives, gives_crossing, descriptor_length, is_other_than_declared, is_declared_as, is_not_declared, is_not_whole, leads_wrong, interrupts, address_aligned, same_position_near, crossing_positive, same_crossing_at, data_not_link, Gives, GivesCrossing, due_is, due_from, crossing_due_from, gives_is, gives_crossing_is, gives_from, gives_crossing_from, whole_from, step_from}
 use Rattle.cycle_ring.proofs.MayWriteLemmas.{MayGive, MayPut, may_write_from, link_address_aligned, block_word_no_block, block_word_no_link, link_word_no_block, link_word_no_link}
 
 -- a descriptor of count blocks is declared last, from position first on; given are all before it, its own blocks behind the first
@@ -29,14 +29,11 @@ declared_right shape v m a w p d at stands =
     ∙ ap (λ b. same_words b (with_cycle d (cycle_of shape p))) stands ∙ itself (with_cycle d (cycle_of shape p)))
   where
     itself : (b : Block) → same_words b b ≡ true
-    itself b =
-        let e : (n : ℕ) → (n == n) ≡ true = λ n. eq-eqb n n refl in
-        rw (e (word b 0), e (word b 1), e (word b 2), e (word b 3)) refl
+    itself b = search rules
 
 not_declared_false : (v : RingView) (p : ℕ) → p < declared v → is_not_declared v p ≡ false
 unfolding is_not_declared
-not_declared_false v p below =
-    false_from_ne_true (nat_le (declared v) p) (λ h. let above = leb-true (declared v) p h in omega arith)
+not_declared_false v p below = search (rules, false_from_ne_true)
 
 module _ (shape : Shape) (is : IsShape shape) (first count : ℕ) (queue : List Block) (next way : ℕ) (m : ℕ → ℕ) (v : RingView)
     (s : Stage shape first count queue next way v) where
@@ -90,14 +87,7 @@ module _ (shape : Shape) (is : IsShape shape) (first count : ℕ) (queue : List 
 
   module _ (q : ℕ) (from : first ≤ q) (within : q < first + count) (new : (q ≡ first) ⊎ (next ≤ q)) where
     not_this : (p : ℕ) → v.given p ≡ true → p ≡ q → ⊥
-    not_this p given same =
-        elim (s.given_only p given) [
-          | inl before ↦ absurd (omega arith)
-          | inr between ↦ elim new [
-            | inl here ↦ absurd (omega (arith, between.0))
-            | inr beyond ↦ absurd (omega (arith, between.1))
-          ]
-        ]
+    not_this p given same = search rules
 
     free_of_blocks :
         (x k : ℕ) → k < 4 → x ≡ address_of shape q + 4 * k
@@ -125,8 +115,7 @@ module _ (shape : Shape) (is : IsShape shape) (first count : ℕ) (queue : List 
 
     -- the control word gives this position alone
     gives_this : (w p : ℕ) → Gives shape v.floor p (address_of shape q + 12) w → p ≡ q
-    gives_this w p g =
-        same_position_near shape is p q (omega (arith, g.within, s.low)) (omega (arith, g.from, s.room)) (omega (arith, g.at))
+    gives_this w p g = search (rules, same_position_near)
 
     gives_no_link : (w r : ℕ) → GivesCrossing shape v.floor r (address_of shape q + 12) w → ⊥
     gives_no_link w r g = data_not_link shape is q r g.due.crossing (omega (arith, g.at))
@@ -201,23 +190,10 @@ module _ (shape : Shape) (is : IsShape shape) (first count : ℕ) (queue : List 
       ]
 
   pub first_given_only : (w p : ℕ) → 0 < count → next ≤ first + count → (v.given p || gives shape v.floor p (address_of shape first + 12) w) ≡ true → p < first + count
-  first_given_only w p some up g =
-      elim (or_cases (v.given p) (gives shape v.floor p (address_of shape first + 12) w) g) [
-        | inl was ↦ elim (s.given_only p was) [
-          | inl before ↦ omega arith
-          | inr between ↦ omega (arith, between.1)
-        ]
-        | inr now ↦
-            let same = gives_this first (omega arith) (omega arith) (inl refl) w p (gives_is shape v.floor p (address_of shape first + 12) w now) in
-            omega arith
-      ]
+  first_given_only w p some up g = search (rules, or_cases, gives_this, gives_is)
 
   pub first_crossed_only : (w q : ℕ) → 0 < count → way ≤ first + count → (v.crossed q || gives_crossing shape v.floor q (address_of shape first + 12) w) ≡ true → (is_crossing shape q ≡ true) × (q < first + count)
-  first_crossed_only w q some up g =
-      elim (or_cases (v.crossed q) (gives_crossing shape v.floor q (address_of shape first + 12) w) g) [
-        | inl was ↦ let before = s.crossed_only q was in (before.0, omega (arith, before.1))
-        | inr now ↦ absurd (gives_no_link first (omega arith) (omega arith) (inl refl) w q (gives_crossing_is shape v.floor q (address_of shape first + 12) w now))
-      ]
+  first_crossed_only w q some up g = search (rules, or_cases, gives_no_link, gives_crossing_is)
 
   -- ---- the Link that is crossed on the way to the position way
 
@@ -247,14 +223,7 @@ module _ (shape : Shape) (is : IsShape shape) (first count : ℕ) (queue : List 
 
     -- the control word gives this crossing alone
     gives_this_crossing : (w r : ℕ) → GivesCrossing shape v.floor r (link_address shape way + 12) w → r ≡ way
-    gives_this_crossing w r g =
-        let some = crossing_positive shape way crossing in
-        let same : link_address shape r ≡ link_address shape way = omega (arith, g.at) in
-        elim (cases_lt r way) [
-          | inl lower ↦ same_crossing_at shape is r way (omega arith) (omega (arith, s.room, g.due.from)) g.due.crossing crossing same
-          | inr above ↦ sym (same_crossing_at shape is way r above
-              (elim g.due.within [ inl below ↦ omega (arith, s.low) | inr end ↦ omega (arith, end.0, end.1) ]) crossing g.due.crossing (sym same))
-        ]
+    gives_this_crossing w r g = search (rules, crossing_positive, cases_lt, same_crossing_at)
 
     gives_no_block : (w p : ℕ) → Gives shape v.floor p (link_address shape way + 12) w → ⊥
     gives_no_block w p g = data_not_link shape is p way crossing (omega (arith, g.at))
@@ -285,21 +254,4 @@ module _ (shape : Shape) (is : IsShape shape) (first count : ℕ) (queue : List 
 
   -- where no Link is crossed on the way
   pub no_way : is_crossing shape way ≡ false → Stage shape first count queue next (way + 1) v
-  no_way none =
-      record {
-        low = s.low;
-        room = s.room;
-        all = s.all;
-        queue_is = s.queue_is;
-        begins = s.begins;
-        inner = s.inner;
-        given_only = s.given_only;
-        given = s.given;
-        given_later = s.given_later;
-        crossed_only = λ q g. let before = s.crossed_only q g in (before.0, omega (arith, before.1));
-        crossed = λ q crossing below. elim (cases_lt q way) [
-          | inl was ↦ s.crossed q crossing was
-          | inr not_below ↦ let same : q ≡ way = omega arith in absurd (false≢true (sym none ∙ ap (λ n. is_crossing shape n) (sym same) ∙ crossing))
-        ];
-        restored = s.restored;
-      }
+  no_way none = search (rules, cases_lt)

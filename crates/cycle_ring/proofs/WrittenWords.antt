@@ -1,5 +1,5 @@
 -- Which words a descriptor's writes write: those of its blocks and of the Links before them, and each of these
-use Rattle.cycle_ring.proofs.Words.{◌≡◌, ◌+◌, ◌-◌, ◌*◌, ◌<◌, ◌∷◌, ◌++◌, ◌⊎◌, ℕ, zero, suc, Bool, true, false, List, [], arith, refl, subst, inl, inr, Some, nat_lt, Contains, slice_get, nat_tests, Contains-append_left, Contains-append_right, Contains-append_cases, Block, word, Shape, address_of, cycle_of, link_crossed, link_address, cases_option, link_block, low_writes, control_write, block_writes, block_at_position, way_writes, later_writes, writes_of}
+use Rattle.cycle_ring.proofs.Words.{rules, ◌≡◌, ◌+◌, ◌-◌, ◌*◌, ◌<◌, ◌∷◌, ◌++◌, ◌⊎◌, ℕ, zero, suc, Bool, true, false, List, [], arith, refl, subst, inl, inr, Some, nat_lt, Contains, slice_get, nat_tests, Contains-append_left, Contains-append_right, Contains-append_cases, Block, word, Shape, address_of, cycle_of, link_crossed, link_address, cases_option, link_block, low_writes, control_write, block_writes, block_at_position, way_writes, later_writes, writes_of}
 use Rattle.cycle_ring.proofs.PlayedLemmas.{same_address, same_word}
 
 -- v is word w of block b at a, and x is its address
@@ -11,26 +11,13 @@ pub record IsWordOf (a : ℕ) (b : Block) (x v : ℕ) : Type 0 where
 
 -- a block's writes write its words
 pub low_writes-words : (a : ℕ) (b : Block) (x v : ℕ) → Contains (low_writes a b) (x, v) → IsWordOf a b x v
-low_writes-words a b x v (zero, within, same) =
-    let first : x ≡ a = same_address (a, word b 0) (x, v) same in
-    record { w = 0; small = omega arith; at = omega arith; value = same_word (a, word b 0) (x, v) same }
-low_writes-words a b x v (suc zero, within, same) =
-    record { w = 1; small = omega arith; at = same_address (a + 4, word b 1) (x, v) same; value = same_word (a + 4, word b 1) (x, v) same }
-low_writes-words a b x v (suc (suc zero), within, same) =
-    record { w = 2; small = omega arith; at = same_address (a + 8, word b 2) (x, v) same; value = same_word (a + 8, word b 2) (x, v) same }
-low_writes-words a b x v (suc (suc (suc k)), within, same) = absurd (omega arith)
+low_writes-words a b x v x4 = search (rules, same_address, same_word)
 
 pub control_write-words : (a : ℕ) (b : Block) (x v : ℕ) → Contains (control_write a b) (x, v) → IsWordOf a b x v
-control_write-words a b x v (zero, within, same) =
-    record { w = 3; small = omega arith; at = same_address (a + 12, word b 3) (x, v) same; value = same_word (a + 12, word b 3) (x, v) same }
-control_write-words a b x v (suc k, within, same) = absurd (omega arith)
+control_write-words a b x v x4 = search (rules, same_address, same_word)
 
 pub block_writes-words : (a : ℕ) (b : Block) (x v : ℕ) → Contains (block_writes a b) (x, v) → IsWordOf a b x v
-block_writes-words a b x v contained =
-    elim (Contains-append_cases (low_writes a b) (control_write a b) (x, v) contained) [
-      | inl low ↦ low_writes-words a b x v low
-      | inr control ↦ control_write-words a b x v control
-    ]
+block_writes-words a b x v contained = search (rules, Contains-append_cases, low_writes-words, control_write-words)
 
 -- and each of them: words 0 to 2 first, word 3 last
 pub word_written : (a : ℕ) (b : Block) (x v : ℕ) → IsWordOf a b x v → Contains (low_writes a b) (x, v) ⊎ Contains (control_write a b) (x, v)
@@ -44,11 +31,7 @@ word_written a b x v is_word = by_number is_word.w is_word.small is_word.at is_w
     by_number (suc (suc (suc (suc w)))) small at value = absurd (omega arith)
 
 pub block_word_written : (a : ℕ) (b : Block) (x v : ℕ) → IsWordOf a b x v → Contains (block_writes a b) (x, v)
-block_word_written a b x v is_word =
-    elim (word_written a b x v is_word) [
-      | inl low ↦ Contains-append_left (low_writes a b) (control_write a b) (x, v) low
-      | inr control ↦ Contains-append_right (low_writes a b) (control_write a b) (x, v) control
-    ]
+block_word_written a b x v is_word = search (rules, word_written, Contains-append_left, Contains-append_right)
 
 -- v is a word of the Link that is crossed on the way to position q
 pub record IsWordOfLink (shape : Shape) (q : ℕ) (chain : Bool) (x v : ℕ) : Type 0 where
@@ -57,23 +40,10 @@ pub record IsWordOfLink (shape : Shape) (q : ℕ) (chain : Bool) (x v : ℕ) : T
   pub of : IsWordOf (link_address shape q) (link_block shape i (cycle_of shape (q - 1)) chain) x v
 
 pub way_writes-words : (shape : Shape) (q : ℕ) (chain : Bool) (x v : ℕ) → Contains (way_writes shape q chain) (x, v) → IsWordOfLink shape q chain x v
-way_writes-words shape q chain x v contained =
-    elim (cases_option (link_crossed shape q)) [
-      | inl none ↦ let empty : way_writes shape q chain ≡ [] = rw none refl in absurd (omega (arith, (rw empty at contained).1))
-      | inr (i, some) ↦
-          let is_link : way_writes shape q chain ≡ block_writes (link_address shape q) (link_block shape i (cycle_of shape (q - 1)) chain) = rw some refl in
-          record {
-            i = i;
-            crossed = some;
-            of = block_writes-words (link_address shape q) (link_block shape i (cycle_of shape (q - 1)) chain) x v (rw is_link at contained);
-          }
-    ]
+way_writes-words shape q chain x v contained = search (rules, cases_option, block_writes-words)
 
 pub link_word_written : (shape : Shape) (q : ℕ) (chain : Bool) (x v : ℕ) → IsWordOfLink shape q chain x v → Contains (way_writes shape q chain) (x, v)
-link_word_written shape q chain x v is_word =
-    let crossed : link_crossed shape q ≡ Some is_word.i = is_word.crossed in
-    let is_link : way_writes shape q chain ≡ block_writes (link_address shape q) (link_block shape is_word.i (cycle_of shape (q - 1)) chain) = rw crossed refl in
-    rw is_link (block_word_written (link_address shape q) (link_block shape is_word.i (cycle_of shape (q - 1)) chain) x v is_word.of)
+link_word_written shape q chain x v is_word = search (rules, block_word_written)
 
 -- v is a word of the block at position q, or of the Link before it
 abbrev pub IsWordAt : Shape → ℕ → Bool → Block → ℕ → ℕ → Type 0

@@ -1,6 +1,5 @@
 -- Marks that are cleared in turn
-use Rattle.std.proofs.Common.{rules}
-use Rattle.ring_knowledge.proofs.Words.{◌≡◌, ◌+◌, ◌%◌, ◌≤◌, ◌∷◌, ℕ, suc, zero, subst, List, [], Bool, false, refl, arith, get_or, set, get_or-set_other, length-set, cases_lt, AreCleared}
+use Rattle.ring_knowledge.proofs.Words.{◌≡◌, ◌+◌, ◌%◌, ◌≤◌, ◌∷◌, ℕ, suc, zero, List, [], Bool, false, refl, arith, get_or, set, get_or-set_other, length-set, cases_lt, AreCleared, rules}
 
 -- a cleared mark
 cleared_at : (marks : List Bool) (j : ℕ) → get_or (set marks j false) j false ≡ false
@@ -28,9 +27,7 @@ module _ (R : ℕ → ℕ → Type 0) (old : List Bool) (from : ℕ) where
 -- the same with equal numbers
 pub same_places : (old new : List Bool) (count count' from from' to to' : ℕ) → count ≡ count' → from ≡ from' → to ≡ to' →
     AreCleared (λ p i. p % count ≡ i) old new from to → AreCleared (λ p i. p % count' ≡ i) old new from' to'
-same_places old new count count' from from' to to' e f g cleared =
-    subst (λ (n : ℕ). AreCleared (λ p i. p % n ≡ i) old new from' to') e
-    (subst (λ (n : ℕ). AreCleared (λ p i. p % count ≡ i) old new n to') f (subst (λ (n : ℕ). AreCleared (λ p i. p % count ≡ i) old new from n) g cleared))
+same_places old new count count' from from' to to' e f g cleared = rw (← e, ← f, ← g) cleared
 
 pub same_numbers : (R : ℕ → ℕ → Type 0) (old new : List Bool) (from from' to to' : ℕ) → from ≡ from' → to ≡ to' → AreCleared R old new from to → AreCleared R old new from' to'
-same_numbers R old new from from' to to' f g cleared = subst (λ (n : ℕ). AreCleared R old new n to') f (subst (λ (n : ℕ). AreCleared R old new from n) g cleared)
+same_numbers R old new from from' to to' f g cleared = rw (← f, ← g) cleared

@@ -1,6 +1,5 @@
 -- A block as it is declared
-use Rattle.ring_knowledge.proofs.Words.{cycle_of_bit, same_words, with_cycle, ◌≡◌, ◌<◌, ◌==◌, ℕ, if◌then◌else◌, arith, nat_tests, Shape, cycle_of, true, Some, None, ap, sym, Block, is_declared_as}
-use Rattle.std.specs.Prelude.{Option}
+use Rattle.ring_knowledge.proofs.Words.{rules, cycle_of_bit, same_words, with_cycle, ◌≡◌, ◌==◌, ℕ, if◌then◌else◌, nat_tests, Shape, cycle_of, true, Some, None, ap, sym, Block, is_declared_as, Option}
 
 pub nothing_declared : (b : Block) (cycle : ℕ) (o : Option Block) → o ≡ None → true ≡ is_declared_as b cycle o
 unfolding is_declared_as
@@ -12,7 +11,4 @@ declared_here b d cycle o here = sym (ap (λ e. is_declared_as b cycle e) here)
 
 -- the Cycle bit as a number
 pub cycle_bit : (shape : Shape) (p : ℕ) → (if cycle_of shape p == 1 then 1 else 0) ≡ cycle_of shape p
-cycle_bit shape p = by (cycle_of shape p) (cycle_of_bit shape p)
-  where
-    by : (n : ℕ) → n < 2 → (if n == 1 then 1 else 0) ≡ n
-    by n low = grind (arith, nat_tests, low)
+cycle_bit shape p = search (rules, cycle_of, cycle_of_bit, nat_tests)

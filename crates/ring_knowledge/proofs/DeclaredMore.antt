@@ -1,7 +1,6 @@
 -- A record with one descriptor more follows what is declared with it
-use Rattle.std.proofs.Common.{rules}
 use Rattle.ring_knowledge.proofs.Forgotten.{drop_append}
-use Rattle.ring_knowledge.proofs.Words.{length_from-push, drop, ◌≡◌, ◌+◌, ◌-◌, ◌<◌, ◌≤◌, ◌∷◌, ◌++◌, ◌∙◌, ◌==◌, ℕ, suc, zero, List, [], true, false, refl, ap, sym, arith, length, set, length-append, not, sum, slice_index, replicate, nat_le, take, ltb-false, lt-ltb, le-ltb, le-leb, sum_by-cons, cases_lt, lt-leb, nat_tests, common_steps, Block, Shape, place_count, place_count_pos, RingView, Declares, changed, declared, floor_number, length_from, has_no_room, RingRecord, ArePositive, FollowsMarks, contains, nat_cmp}
+use Rattle.ring_knowledge.proofs.Words.{length_from-push, drop, ◌≡◌, ◌+◌, ◌-◌, ◌<◌, ◌≤◌, ◌∷◌, ◌++◌, ◌==◌, ℕ, suc, zero, List, [], true, false, refl, ap, arith, length, set, length-append, not, sum, slice_index, replicate, nat_le, take, ltb-false, lt-ltb, le-ltb, le-leb, sum_by-cons, cases_lt, lt-leb, nat_tests, common_steps, Block, Shape, place_count, place_count_pos, RingView, Declares, changed, declared, floor_number, length_from, has_no_room, RingRecord, ArePositive, FollowsMarks, contains, nat_cmp, rules}
 
 pub sum-cons : (d : ℕ) (ds : List ℕ) → sum (d ∷ ds) ≡ d + sum ds
 sum-cons d ds = sum_by-cons (λ x. x) d ds
@@ -12,11 +11,7 @@ unfolding length_from
 at_end [] n start p pos h =
     let here : (start == p) ≡ true = grind (arith, nat_tests, h) in
     rw here refl
-at_end (d ∷ ds) n start p pos h =
-    let some = pos.0 in
-    let all = sum-cons d ds in
-    let there : (start == p) ≡ false = grind (arith, nat_tests, h, some, all) in
-    rw there (at_end ds n (start + d) p pos.1 (omega arith))
+at_end (d ∷ ds) n start p pos h = search (rules, sum-cons, nat_tests, at_end ds n (start + d) p pos.1)
 
 -- and none begins later
 past_end : (ds : List ℕ) (n start p : ℕ) → start + sum ds < p → length_from (ds ++ n ∷ []) start p ≡ 0
@@ -24,10 +19,7 @@ unfolding length_from
 past_end [] n start p h =
     let there : (start == p) ≡ false = grind (arith, nat_tests, h) in
     rw there refl
-past_end (d ∷ ds) n start p h =
-    let all = sum-cons d ds in
-    let there : (start == p) ≡ false = grind (arith, nat_tests, h, all) in
-    rw there (past_end ds n (start + d) p (omega arith))
+past_end (d ∷ ds) n start p h = search (rules, sum-cons, nat_tests, past_end ds n (start + d) p)
 
 positive_push : (ds : List ℕ) (n : ℕ) → ArePositive ds → 0 < n → ArePositive (ds ++ n ∷ [])
 positive_push [] n pos h = (h, tt)
@@ -63,8 +55,7 @@ module _ (shape : Shape) (v : RingView) (r : RingRecord) (follows : FollowsMarks
   room_left : has_no_room shape v (length blocks) ≡ false → length v.queue + length blocks + 1 ≤ floor_number v + place_count shape
   unfolding has_no_room
   room_left fits =
-      let most = ltb-false (place_count shape - 1 + floor_number v) (declared v + length blocks) fits in
-      omega (arith, follows.room, place_count_pos shape follows.allowed)
+      omega (arith, ltb-false (place_count shape - 1 + floor_number v) (declared v + length blocks) fits, follows.room, place_count_pos shape follows.allowed)
 
   begins_now : (ls : List ℕ) → 0 < length blocks → ls ≡ r.lengths.items ++ (length blocks ∷ replicate (length blocks - 1) 0) → (p : ℕ) → r.forgotten ≤ p →
       length_from (v.lengths ++ length blocks ∷ []) 0 p ≡ slice_index ls (p - r.forgotten)
@@ -76,48 +67,12 @@ module _ (shape : Shape) (v : RingView) (r : RingRecord) (follows : FollowsMarks
       → n.given.items ≡ r.given.items → n.crossed.items ≡ r.crossed.items → n.floor ≡ r.floor → n.held ≡ r.held → n.withdrawn ≡ r.withdrawn → n.free ≡ r.free → n.forgotten ≡ r.forgotten
       → FollowsMarks shape (changed shape v (Declares blocks)) n
   declared_marks fits some n more lengths given crossed floor held withdrawn free forgotten =
-      let many : length n.blocks.items ≡ length r.blocks.items + length blocks = ap length more ∙ length-append r.blocks.items blocks in
-      let long : length n.lengths.items ≡ length r.lengths.items + length blocks =
-      ap length lengths ∙ length-append r.lengths.items (length blocks ∷ replicate (length blocks - 1) 0) ∙ grind (arith, common_steps, some) in
-      let room : length v.queue + length blocks + 1 ≤ floor_number v + place_count shape = room_left fits in
-      let all : length (v.queue ++ blocks) ≡ length v.queue + length blocks = length-append v.queue blocks in
-      let before = follows.count in
-      let as_many = follows.as_many in
-      let whole = follows.whole in
-      record {
-        allowed = follows.allowed;
-        passed = rw forgotten follows.passed;
-        queue = ap (λ k. drop k (v.queue ++ blocks)) forgotten ∙ drop_append v.queue blocks r.forgotten (omega (arith, before)) ∙ ap (λ q. q ++ blocks) follows.queue ∙ sym more;
-        count = omega (arith, forgotten);
-        floor = follows.floor ∙ sym floor;
-        held = follows.held ∙ sym held;
-        begins = rw forgotten (begins_now n.lengths.items some lengths);
-        as_many = omega arith;
-        whole = sum_push v.lengths (length blocks) ∙ ap (λ n. n + length blocks) follows.whole ∙ sym all;
-        positive = positive_push v.lengths (length blocks) follows.positive some;
-        room = omega arith;
-        places = ap length given ∙ follows.places;
-        given = rw given follows.given;
-        segments = rw crossed follows.segments;
-        crossed = rw crossed follows.crossed;
-        withdrawn = λ p kept. follows.withdrawn p (omega (arith, forgotten, kept)) ∙ ap (λ s. contains nat_cmp s p) (sym withdrawn);
-        free = λ p. follows.free p ∙ ap (λ s. contains nat_cmp s p) (sym free);
-        free_withdrawn = follows.free_withdrawn;
-        free_given = follows.free_given;
-      }
+      search (rules, length, length-append, replicate, common_steps, floor_number, place_count, room_left, drop, drop_append, begins_now, sum_push, positive_push, contains, nat_cmp)
 
 -- the lengths as the code makes them
 pub lengths_grown : (ls ms : List ℕ) (start len n : ℕ) → start ≡ len → len ≡ length ls → 0 < n → ms ≡ take (start + n) ls ++ replicate (start + n - len) 0 →
     set ms start n ≡ ls ++ (n ∷ replicate (n - 1) 0)
-lengths_grown ls ms start len n same all some e =
-    let whole : take (start + n) ls ≡ ls = take-all ls (start + n) (omega arith) in
-    let zeros : start + n - len ≡ n = omega arith in
-    let end : start ≡ length ls = same ∙ all in
-    ap (λ xs. set xs start n) (e ∙ ap (λ xs. xs ++ replicate (start + n - len) 0) whole ∙ ap (λ k. ls ++ replicate k 0) zeros)
-    ∙ ap (λ k. set (ls ++ replicate n 0) k n) end ∙ lengths_more ls n some
-  where
-    take-all : (xs : List ℕ) (k : ℕ) → length xs ≤ k → take k xs ≡ xs
-    take-all xs k h = grind (arith, common_steps, h)
+lengths_grown ls ms start len n same all some e = search (rules, take, length, set, replicate, lengths_more, common_steps)
 
 -- whether there is room, as the code tests it
 pub room_test : (shape : Shape) (v : RingView) (r : RingRecord) → FollowsMarks shape v r → (count len most : ℕ) → len ≡ declared v →

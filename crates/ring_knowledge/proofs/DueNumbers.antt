@@ -1,6 +1,5 @@
 -- The number that is due at a place, and the crossing that is due at a Link
-use Rattle.std.proofs.Common.{rules}
-use Rattle.ring_knowledge.proofs.Words.{◌≡◌, ◌+◌, ◌-◌, ◌*◌, ◌/◌, ◌%◌, ◌<◌, ◌≤◌, ℕ, refl, arith, inl, inr, length, slice_index, Some, max, cases_lt, mod-mul-add, mod-lt, div-add-mod', Shape, IsShape, place_count, links, ends, link_crossed, link_of, same_in_lap, crosses-from, end_in_lap, same_crossing}
+use Rattle.ring_knowledge.proofs.Words.{◌≡◌, ◌+◌, ◌-◌, ◌*◌, ◌/◌, ◌%◌, ◌<◌, ◌≤◌, ℕ, refl, arith, inl, inr, length, slice_index, Some, max, cases_lt, mod-mul-add, mod-lt, div-add-mod', Shape, IsShape, place_count, links, ends, link_crossed, link_of, same_in_lap, crosses-from, end_in_lap, same_crossing, rules}
 
 -- the least number from another one on with a remainder, on this side of the next multiple and behind it
 pub rest_here : (least count rest : ℕ) → rest < count → least % count ≤ rest → (least + (rest - least % count)) % count ≡ rest

@@ -1,16 +1,12 @@
 -- What a write would give of a ring, by the place of its address: xHCI 4.9.2
-use Rattle.std.proofs.Common.{rules}
-use Rattle.ring_knowledge.proofs.Words.{◌≡◌, ◌≢◌, ◌+◌, ◌-◌, ◌*◌, ◌%◌, ◌<◌, ◌≤◌, ◌∙◌, ◌==◌, ◌&&◌, ◌||◌, ℕ, Bool, true, false, Some, None, refl, ap, sym, arith, inl, inr, max, nat_lt, nat_le, lt-ltb, le-ltb, le-leb, eq-eqb, ne_eqb, eqb-true, ltb-true, leb-true, cases_lt, cases_eq, and_parts, or_cases, and_from, Place, AtData, AtLink, Spot, Shape, IsShape, place_count, address_of, cycle_of, link_crossed, is_crossing, link_address, place_at, number, is_due, is_crossing_due, gives, gives_crossing, place_count_pos, address_of-mod, place_at-Data, place_at-Link, place_at-address_of, place_at-link_address, crossed_link, crossing_positive, is_crossing-from, link_address_is, is_the}
+use Rattle.ring_knowledge.proofs.Words.{none-some, ◌≡◌, ◌≢◌, ◌+◌, ◌-◌, ◌*◌, ◌%◌, ◌<◌, ◌≤◌, ◌∙◌, ◌==◌, ◌&&◌, ◌||◌, ℕ, Bool, true, false, Some, None, refl, ap, sym, arith, inl, inr, max, nat_lt, nat_le, lt-ltb, le-ltb, le-leb, eq-eqb, ne_eqb, eqb-true, ltb-true, leb-true, cases_lt, cases_eq, and_parts, or_cases, and_from, Place, AtData, AtLink, Spot, Shape, IsShape, place_count, address_of, cycle_of, link_crossed, is_crossing, link_address, place_at, number, is_due, is_crossing_due, gives, gives_crossing, place_count_pos, address_of-mod, place_at-Data, place_at-Link, place_at-address_of, place_at-link_address, crossed_link, crossing_positive, is_crossing-from, link_address_is, is_the, rules}
 use Rattle.ring_knowledge.proofs.Noted.{false_unless}
 use Rattle.ring_knowledge.proofs.DueNumbers.{same_due, same_due_crossing}
 
-pub none_some : (x : Place) → None ≡ Some x → ⊥
-none_some x e = cc
-
-data_is : (i v j w : ℕ) → Some (AtData i v) ≡ Some (AtData j w) → (i ≡ j) × (v ≡ w)
+pub data_is : (i v j w : ℕ) → Some (AtData i v) ≡ Some (AtData j w) → (i ≡ j) × (v ≡ w)
 data_is i v j w e = (cc, cc)
 
-link_is : (i v j w : ℕ) → Some (AtLink i v) ≡ Some (AtLink j w) → (i ≡ j) × (v ≡ w)
+pub link_is : (i v j w : ℕ) → Some (AtLink i v) ≡ Some (AtLink j w) → (i ≡ j) × (v ≡ w)
 link_is i v j w e = (cc, cc)
 
 pub data_no_link : (i v j w : ℕ) → Some (AtData i v) ≡ Some (AtLink j w) → ⊥
@@ -72,14 +68,7 @@ module _ (shape : Shape) (allowed : IsShape shape) (floor : Spot) where
       )
     where
       ends_within : (nat_lt q (number floor + place_count shape) || (q == place_count shape && number floor == 0)) ≡ true → q < max (number floor) 1 + place_count shape
-      ends_within h =
-          elim (or_cases (nat_lt q (number floor + place_count shape)) (q == place_count shape && number floor == 0) h) [
-            | inl below ↦ let less = ltb-true q (number floor + place_count shape) below in omega arith
-            | inr last ↦
-                let both = and_parts (q == place_count shape) (number floor == 0) last in
-                let end = eqb-true q (place_count shape) both.0 in
-                omega arith
-          ]
+      ends_within h = search (rules, or_cases, nat_lt, number, place_count, ltb-true, eqb-true, and_parts)
 
   -- ---- by the place of the address
 
@@ -87,25 +76,24 @@ module _ (shape : Shape) (allowed : IsShape shape) (floor : Spot) where
   module _ (a w i v : ℕ) (at : place_at shape a ≡ Some (AtData i v)) where
     pub gives-data : (q : ℕ) → v ≡ 3 → number floor ≤ q → q < number floor + place_count shape → q % place_count shape ≡ i → w % 2 ≡ cycle_of shape q →
         (p : ℕ) → gives shape floor p a w ≡ is_the (Some q) p
-    gives-data q third low high here cycle p =
-        elim (cases_eq p q) [
-          | inl same ↦
-              let word_is : a ≡ address_of shape q + 12 = omega (arith, (place_at-Data shape allowed a i v at).2, ap (λ n. address_of shape n) here, address_of-mod shape allowed q) in
-              let one : (p == q) ≡ true = eq-eqb p q same in
-              let late : nat_le (number floor) q ≡ true = le-leb (number floor) q low in
-              let early : nat_lt q (number floor + place_count shape) ≡ true = lt-ltb q (number floor + place_count shape) high in
-              let there : (a == address_of shape q + 12) ≡ true = eq-eqb a (address_of shape q + 12) word_is in
-              let bit : (w % 2 == cycle_of shape q) ≡ true = eq-eqb (w % 2) (cycle_of shape q) cycle in
-              ap (λ n. gives shape floor n a w) same
-              ∙ and_from (is_due shape floor q && (a == address_of shape q + 12)) (w % 2 == cycle_of shape q) (and_from (is_due shape floor q) (a == address_of shape q + 12) (and_from _ _ late early) there) bit
-              ∙ sym one
-          | inr other ↦
-              false_unless (gives shape floor p a w) (λ h.
-              let g : Gives p a w = gives-true p a w h in
-              let place_is = data_is i v (p % place_count shape) 3 (sym at ∙ g.word_at) in
-              other (same_due (number floor) (place_count shape) p q (place_count_pos shape allowed) g.from g.within low high (sym place_is.0 ∙ sym here)))
-              ∙ sym (ne_eqb p q other)
-        ]
+    gives-data q third low high here cycle p = elim (cases_eq p q) [
+      | inl same ↦
+          let word_is : a ≡ address_of shape q + 12 = omega (arith, (place_at-Data shape allowed a i v at).2, ap (λ n. address_of shape n) here, address_of-mod shape allowed q) in
+          let one : (p == q) ≡ true = eq-eqb p q same in
+          let late : nat_le (number floor) q ≡ true = le-leb (number floor) q low in
+          let early : nat_lt q (number floor + place_count shape) ≡ true = lt-ltb q (number floor + place_count shape) high in
+          let there : (a == address_of shape q + 12) ≡ true = eq-eqb a (address_of shape q + 12) word_is in
+          let bit : (w % 2 == cycle_of shape q) ≡ true = eq-eqb (w % 2) (cycle_of shape q) cycle in
+          ap (λ n. gives shape floor n a w) same
+          ∙ and_from (is_due shape floor q && (a == address_of shape q + 12)) (w % 2 == cycle_of shape q) (and_from (is_due shape floor q) (a == address_of shape q + 12) (and_from _ _ late early) there) bit
+          ∙ sym one
+      | inr other ↦
+          false_unless (gives shape floor p a w) (λ h.
+          let g : Gives p a w = gives-true p a w h in
+          let place_is = data_is i v (p % place_count shape) 3 (sym at ∙ g.word_at) in
+          other (same_due (number floor) (place_count shape) p q (place_count_pos shape allowed) g.from g.within low high (sym place_is.0 ∙ sym here)))
+          ∙ sym (ne_eqb p q other)
+    ]
 
     -- another word than the control word gives nothing
     pub gives-other_word : v ≢ 3 → (p : ℕ) → gives shape floor p a w ≡ false
@@ -131,29 +119,27 @@ module _ (shape : Shape) (allowed : IsShape shape) (floor : Spot) where
 
     pub gives_crossing-link : (q : ℕ) → v ≡ 3 → max (number floor) 1 ≤ q → q < max (number floor) 1 + place_count shape → link_crossed shape q ≡ Some j →
         w % 2 ≡ cycle_of shape (q - 1) → (r : ℕ) → gives_crossing shape floor r a w ≡ is_the (Some q) r
-    gives_crossing-link q third low high over cycle r =
-        elim (cases_eq r q) [
-          | inl same ↦
-              let word_is : a ≡ link_address shape q + 12 = omega (arith, (place_at-Link shape allowed a j v at).2, link_address_is shape q j over) in
-              let there : (a == link_address shape q + 12) ≡ true = eq-eqb a (link_address shape q + 12) word_is in
-              let bit : (w % 2 == cycle_of shape (q - 1)) ≡ true = eq-eqb (w % 2) (cycle_of shape (q - 1)) cycle in
-              let least : nat_le (number floor) q ≡ true = le-leb (number floor) q (omega arith) in
-              let due : is_crossing_due shape floor q ≡ true = and_from (is_crossing shape q && nat_le (number floor) q) _ (and_from (is_crossing shape q) (nat_le (number floor) q) (is_crossing-from shape q j over) least) late in
-              ap (λ n. gives_crossing shape floor n a w) same
-              ∙ and_from (is_crossing_due shape floor q && (a == link_address shape q + 12)) (w % 2 == cycle_of shape (q - 1)) (and_from (is_crossing_due shape floor q) (a == link_address shape q + 12) due there) bit
-              ∙ sym (eq-eqb r q same)
-          | inr other ↦ false_unless (gives_crossing shape floor r a w) (λ h. other (same_here q r low high over (gives_crossing-true r a w h))) ∙ sym (ne_eqb r q other)
-        ]
+    gives_crossing-link q third low high over cycle r = elim (cases_eq r q) [
+      | inl same ↦
+          let word_is : a ≡ link_address shape q + 12 = omega (arith, (place_at-Link shape allowed a j v at).2, link_address_is shape q j over) in
+          let there : (a == link_address shape q + 12) ≡ true = eq-eqb a (link_address shape q + 12) word_is in
+          let bit : (w % 2 == cycle_of shape (q - 1)) ≡ true = eq-eqb (w % 2) (cycle_of shape (q - 1)) cycle in
+          let least : nat_le (number floor) q ≡ true = le-leb (number floor) q (omega arith) in
+          let due : is_crossing_due shape floor q ≡ true = and_from (is_crossing shape q && nat_le (number floor) q) _ (and_from (is_crossing shape q) (nat_le (number floor) q) (is_crossing-from shape q j over) least) late in
+          ap (λ n. gives_crossing shape floor n a w) same
+          ∙ and_from (is_crossing_due shape floor q && (a == link_address shape q + 12)) (w % 2 == cycle_of shape (q - 1)) (and_from (is_crossing_due shape floor q) (a == link_address shape q + 12) due there) bit
+          ∙ sym (eq-eqb r q same)
+      | inr other ↦ false_unless (gives_crossing shape floor r a w) (λ h. other (same_here q r low high over (gives_crossing-true r a w h))) ∙ sym (ne_eqb r q other)
+    ]
       where
         late : (nat_lt q (number floor + place_count shape) || (q == place_count shape && number floor == 0)) ≡ true
-        late =
-            elim (cases_lt q (number floor + place_count shape)) [
-              | inl below ↦ rw (lt-ltb q (number floor + place_count shape) below) refl
-              | inr last ↦
-                  let end : q ≡ place_count shape = omega arith in
-                  let start : number floor ≡ 0 = omega arith in
-                  rw (le-ltb q (number floor + place_count shape) last) (and_from (q == place_count shape) (number floor == 0) (eq-eqb q (place_count shape) end) (eq-eqb (number floor) 0 start))
-            ]
+        late = elim (cases_lt q (number floor + place_count shape)) [
+          | inl below ↦ rw (lt-ltb q (number floor + place_count shape) below) refl
+          | inr last ↦
+              let end : q ≡ place_count shape = omega arith in
+              let start : number floor ≡ 0 = omega arith in
+              rw (le-ltb q (number floor + place_count shape) last) (and_from (q == place_count shape) (number floor == 0) (eq-eqb q (place_count shape) end) (eq-eqb (number floor) 0 start))
+        ]
 
     pub gives_crossing-other_word : v ≢ 3 → (q : ℕ) → gives_crossing shape floor q a w ≡ false
     gives_crossing-other_word other q = search (rules, false_unless, found, gives_crossing-true, link_is)
@@ -176,7 +162,7 @@ module _ (shape : Shape) (allowed : IsShape shape) (floor : Spot) where
   module _ (a w : ℕ) (at : place_at shape a ≡ None) where
     pub no_position_elsewhere : (p : ℕ) → gives shape floor p a w ≡ false
     no_position_elsewhere p =
-        false_unless (gives shape floor p a w) (λ h. let g : Gives p a w = gives-true p a w h in none_some (AtData (p % place_count shape) 3) (sym at ∙ g.word_at))
+        false_unless (gives shape floor p a w) (λ h. let g : Gives p a w = gives-true p a w h in none-some (AtData (p % place_count shape) 3) (sym at ∙ g.word_at))
 
     pub no_crossing_elsewhere : (q : ℕ) → gives_crossing shape floor q a w ≡ false
-    no_crossing_elsewhere q = search (rules, false_unless, found, gives_crossing-true, none_some)
+    no_crossing_elsewhere q = search (rules, false_unless, found, gives_crossing-true, none-some)

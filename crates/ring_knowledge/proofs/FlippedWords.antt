@@ -1,11 +1,9 @@
 -- Which words flip the Cycle bit of what is free and may be passed
-use Rattle.ring_knowledge.proofs.Words.{◌≡◌, ◌+◌, ◌*◌, ◌%◌, ◌∙◌, ◌==◌, ◌&&◌, ℕ, Bool, true, false, Some, None, refl, ap, sym, arith, not, nat_lt, list_any, range_with_len, and_parts, eq-eqb, eqb-true, AtData, Shape, place_count, place_count_pos, address_of, address_of-mod, cycle_of, place_at, place_at-Data, place_at-address_of, RingView, floor_number, ceiling, unrestored, due_positions, flips_passed, RingRecord, FollowsMarks}
+use Rattle.ring_knowledge.proofs.Words.{◌≡◌, ◌+◌, ◌*◌, ◌%◌, ◌∙◌, ◌==◌, ◌&&◌, ℕ, Bool, true, false, Some, refl, ap, sym, arith, not, nat_lt, list_any, range_with_len, and_parts, eq-eqb, eqb-true, AtData, Shape, place_count, place_count_pos, address_of, address_of-mod, cycle_of, place_at, place_at-Data, place_at-address_of, RingView, floor_number, ceiling, unrestored, due_positions, flips_passed, RingRecord, FollowsMarks}
 use Rattle.ring_knowledge.proofs.Noted.{false_unless}
 use Rattle.ring_knowledge.proofs.Ranges.{any_filtered, any_none, any_only}
+use Rattle.ring_knowledge.proofs.DueWrites.{data_is}
 use Rattle.ring_knowledge.proofs.DueNumbers.{IsDue, same_due}
-
-pub data_is : (i v j w : ℕ) → Some (AtData i v) ≡ Some (AtData j w) → i ≡ j
-data_is i v j w e = cc
 
 module _ (shape : Shape) (v : RingView) (r : RingRecord) (follows : FollowsMarks shape v r) (a w : ℕ) where
   abbrev flips : ℕ → Bool
@@ -39,7 +37,7 @@ module _ (shape : Shape) (v : RingView) (r : RingRecord) (follows : FollowsMarks
       sym (flips_are
       ∙ any_only flips (floor_number v) (place_count shape) p due.from due.within
       (λ n low high other. false_unless (flips n) (λ h. other (same_due (floor_number v) (place_count shape) n p (place_count_pos shape follows.allowed) low high due.from due.within
-      (data_is (n % place_count shape) 3 i 3 (sym (word_at n h) ∙ at) ∙ sym due.rest_is))))
+      ((data_is (n % place_count shape) 3 i 3 (sym (word_at n h) ∙ at)).0 ∙ sym due.rest_is))))
       ∙ ap (λ b. v.free p && (nat_lt p (ceiling shape v) && b && not (w % 2 == cycle_of shape p))) here ∙ and_true (v.free p) (nat_lt p (ceiling shape v)) (not (w % 2 == cycle_of shape p)))
     where
       and_true : (f x y : Bool) → (f && (x && true && y)) ≡ (f && (x && y))
@@ -60,10 +58,3 @@ module _ (shape : Shape) (v : RingView) (r : RingRecord) (follows : FollowsMarks
     pub passed_at : v.free p ≡ true → nat_lt p (ceiling shape v) ≡ true → not (w % 2 == cycle_of shape p) ≡ flips_passed shape v a w
     passed_at free below =
         sym (ap (λ b. b && (nat_lt p (ceiling shape v) && not (w % 2 == cycle_of shape p))) free ∙ ap (λ b. b && not (w % 2 == cycle_of shape p)) below) ∙ flip_at i p at due
-
--- words of other places
-pub other_word : (i v j w : ℕ) → Some (AtData i v) ≡ Some (AtData j w) → v ≡ w
-other_word i v j w e = cc
-
-pub no_place : (i v : ℕ) → None ≡ Some (AtData i v) → ⊥
-no_place i v e = cc

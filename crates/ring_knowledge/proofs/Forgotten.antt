@@ -1,5 +1,5 @@
 -- Lists whose first parts are forgotten
-use Rattle.ring_knowledge.proofs.Words.{slice_get, ◌≡◌, ◌+◌, ◌-◌, ◌≤◌, ◌∷◌, ◌++◌, ◌∙◌, ℕ, suc, zero, List, [], refl, ap, sym, arith, length, drop, Block, no_ops}
+use Rattle.ring_knowledge.proofs.Words.{slice_get, ◌≡◌, ◌-◌, ◌≤◌, ◌∷◌, ◌++◌, ◌∙◌, ℕ, suc, zero, List, [], refl, ap, sym, arith, length, drop, Block, no_ops}
 
 module _ {A : Type 0} where
   pub drop_append : (xs ys : List A) (k : ℕ) → k ≤ length xs → drop k (xs ++ ys) ≡ drop k xs ++ ys

@@ -1,5 +1,5 @@
 -- The free positions of a ring that a record follows, as its set has them
-use Rattle.ring_knowledge.proofs.Words.{slice_get, block_at, BTreeSet, IsOrdered, AllByRecursion, IsStrictlySortedBy, Less, nat_cmp_total, IsStrictlySortedBy-filter, btree_set_from_contains, exact_unsigned, any-filter_same, ◌-◌, ◌≤◌, leb-true, ◌≡◌, ◌≢◌, ◌+◌, ◌<◌, ◌∷◌, ◌∙◌, ◌&&◌, ◌||◌, ℕ, suc, zero, List, [], Bool, true, false, refl, ap, sym, arith, inl, inr, length, filter, not, nat_le, nat_lt, cases_lt, cases_eq, cases_Bool, false≢true, nat_tests, list_any, range_with_len, contains, is_at, nat_cmp, Shape, place_count, RingView, floor_number, unrestored, due_positions, is_not_restored, is_declared_as, address_of, cycle_of, ◌++◌, common_steps, FollowsMarks, RingRecord, ◌%◌}
+use Rattle.ring_knowledge.proofs.Words.{rules, slice_get, block_at, BTreeSet, IsOrdered, AllByRecursion, IsStrictlySortedBy, Less, nat_cmp_total, IsStrictlySortedBy-filter, btree_set_from_contains, exact_unsigned, any-filter_same, ◌-◌, ◌≤◌, leb-true, ◌≡◌, ◌≢◌, ◌+◌, ◌<◌, ◌∷◌, ◌∙◌, ◌&&◌, ◌||◌, ℕ, suc, zero, List, [], Bool, true, false, refl, ap, sym, arith, length, filter, not, nat_le, nat_lt, cases_lt, cases_eq, cases_Bool, false≢true, nat_tests, list_any, range_with_len, contains, is_at, nat_cmp, Shape, place_count, RingView, floor_number, unrestored, due_positions, is_not_restored, is_declared_as, address_of, cycle_of, ◌++◌, common_steps, FollowsMarks, RingRecord}
 use Rattle.ring_knowledge.proofs.Noted.{noted_past}
 use Rattle.ring_knowledge.proofs.Forgotten.{get_kept}
 use Rattle.ring_knowledge.proofs.Ranges.{any_filtered, any_same}
@@ -25,11 +25,7 @@ some_in s some = by s.keys some
 
 -- an empty one has none
 pub none_in : (s : BTreeSet ℕ) → length s.keys ≡ 0 → (p : ℕ) → contains nat_cmp s p ≡ false
-none_in s none p = by s.keys none
-  where
-    by : (ks : List ℕ) → length ks ≡ 0 → list_any (is_at (nat_cmp p)) ks ≡ false
-    by [] none = refl
-    by (k ∷ ks) none = absurd (omega arith)
+none_in s none p = grind (arith, common_steps, length, list_any, is_at, nat_cmp)
 
 -- ---- runs of numbers
 
@@ -44,12 +40,7 @@ run_sorted a (suc n) = (above a (a + 1) n (omega arith), run_sorted (a + 1) n)
 
 in_run : (a n q : ℕ) → list_any (is_at (nat_cmp q)) (range_with_len a n) ≡ (nat_le a q && nat_lt q (a + n))
 in_run a zero q = grind (arith, nat_tests)
-in_run a (suc n) q =
-    let rest = in_run (a + 1) n q in
-    elim (cases_eq q a) [
-      | inl same ↦ grind (arith, nat_tests, same)
-      | inr other ↦ ap (λ b. b || list_any (is_at (nat_cmp q)) (range_with_len (a + 1) n)) (at_other q a other) ∙ rest ∙ grind (arith, nat_tests, other)
-    ]
+in_run a (suc n) q = search (rules, cases_eq, nat_tests, list_any, is_at, nat_cmp, range_with_len, at_other, in_run (a + 1) n q)
 
 -- a filter keeps of a number what the test says of it
 in_filter : (f : ℕ → Bool) (q : ℕ) (ks : List ℕ) → list_any (is_at (nat_cmp q)) (filter f ks) ≡ (f q && list_any (is_at (nat_cmp q)) ks)
@@ -57,16 +48,10 @@ in_filter f q ks = any-filter_same (is_at (nat_cmp q)) f (f q) (λ k at. ap f (s
 
 module _ (shape : Shape) (v : RingView) (r : RingRecord) (follows : FollowsMarks shape v r) where
   within : (q : ℕ) → v.free q ≡ true → q < floor_number v + place_count shape
-  within q free = elim (cases_lt q (floor_number v + place_count shape)) [
-    | inl below ↦ below
-    | inr past ↦ absurd (false≢true (sym (follows.given q ∙ noted_past (floor_number v) (place_count shape) r.given.items (q % place_count shape) q past) ∙ follows.free_given q free))
-  ]
+  within q free = search (rules, cases_lt, floor_number, place_count, false≢true, noted_past)
 
   same_ends : (q : ℕ) → (v.free q && (nat_le (floor_number v) q && nat_lt q (floor_number v + place_count shape))) ≡ (nat_le (floor_number v) q && contains nat_cmp r.free q)
-  same_ends q = elim (cases_Bool (v.free q)) [
-    | inl free ↦ let high = within q free in let is = sym (follows.free q) ∙ free in grind (arith, nat_tests, free, high, is)
-    | inr kept ↦ let is = sym (follows.free q) ∙ kept in grind (arith, nat_tests, kept, is)
-  ]
+  same_ends q = search (rules, cases_Bool, within, nat_tests)
 
   -- in ascending order they are the numbers of the set from the floor on
   pub unrestored_is : IsOrdered nat_cmp r.free → unrestored shape v ≡ filter (nat_le (floor_number v)) r.free.keys

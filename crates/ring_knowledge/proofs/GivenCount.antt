@@ -1,6 +1,5 @@
 -- How many positions are given without a gap
-use Rattle.std.proofs.Common.{rules}
-use Rattle.ring_knowledge.proofs.Words.{◌≡◌, ◌+◌, ◌<◌, ◌≤◌, ◌∙◌, ◌%◌, ℕ, suc, zero, List, true, false, refl, ap, sym, arith, inl, inr, cond, cases_lt, cases_eq, false≢true, Block, Spot, Shape, place_count, RingView, Declares, Writes, Reaches, Opens, Holds, changed, new_ring, floor_number, is_step_given, is_way_given, first_not_given, given_count, RingRecord, FollowsMarks, FollowsRing}
+use Rattle.ring_knowledge.proofs.Words.{◌≡◌, ◌+◌, ◌<◌, ◌≤◌, ◌∙◌, ◌%◌, ℕ, suc, zero, true, false, refl, sym, arith, inl, inr, cases_lt, cases_eq, false≢true, Shape, place_count, RingView, Writes, changed, new_ring, floor_number, is_step_given, is_way_given, first_not_given, given_count, RingRecord, FollowsMarks, FollowsRing, rules}
 use Rattle.ring_knowledge.proofs.Noted.{noted_past}
 use Rattle.ring_knowledge.proofs.WholeDescriptors.{step_not_given}
 
@@ -9,13 +8,7 @@ counted : (shape : Shape) (v : RingView) (n q g : ℕ) → q ≤ g → g ≤ q +
     first_not_given shape v n q ≡ g
 unfolding first_not_given
 counted shape v zero q g low high steps stop = omega arith
-counted shape v (suc n) q g low high steps stop =
-    elim (cases_eq q g) [
-      | inl same ↦ ap (λ b. cond b (first_not_given shape v n (q + 1)) q) (ap (λ r. is_step_given shape v r) same ∙ stop) ∙ same
-      | inr other ↦
-          ap (λ b. cond b (first_not_given shape v n (q + 1)) q) (steps q (omega arith) (omega arith))
-          ∙ counted shape v n (q + 1) g (omega arith) (omega arith) (λ r l u. steps r (omega arith) u) stop
-    ]
+counted shape v (suc n) q g low high steps stop = search (rules, cases_eq, first_not_given, is_step_given, counted shape v n (q + 1) g)
 
 -- no step is given that is a lap from the floor
 pub past_not_given : (shape : Shape) (v : RingView) (r : RingRecord) → FollowsMarks shape v r → (q : ℕ) → floor_number v + place_count shape ≤ q → is_step_given shape v q ≡ false
@@ -36,23 +29,6 @@ count_is shape v r known =
 pub new_stop : (shape : Shape) → is_step_given shape new_ring 0 ≡ false
 unfolding is_step_given
 new_stop shape = refl
-
--- a declaration, a floor that moves on, and a ring that is opened or held leave what is given
-pub declared_step : (shape : Shape) (v : RingView) (blocks : List Block) (q : ℕ) → is_step_given shape (changed shape v (Declares blocks)) q ≡ is_step_given shape v q
-unfolding is_step_given is_way_given
-declared_step shape v blocks q = refl
-
-pub reached_step : (shape : Shape) (v : RingView) (spot : Spot) (q : ℕ) → is_step_given shape (changed shape v (Reaches spot)) q ≡ is_step_given shape v q
-unfolding is_step_given is_way_given
-reached_step shape v spot q = refl
-
-pub opened_step : (shape : Shape) (v : RingView) (q : ℕ) → is_step_given shape (changed shape v Opens) q ≡ is_step_given shape v q
-unfolding is_step_given is_way_given
-opened_step shape v q = refl
-
-pub held_step : (shape : Shape) (v : RingView) (n q : ℕ) → is_step_given shape (changed shape v (Holds n)) q ≡ is_step_given shape v q
-unfolding is_step_given is_way_given
-held_step shape v n q = refl
 
 -- what is given stays given at a write
 pub written_step : (shape : Shape) (v : RingView) (a w q : ℕ) → is_step_given shape v q ≡ true → is_step_given shape (changed shape v (Writes a w)) q ≡ true

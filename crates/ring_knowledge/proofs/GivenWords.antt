@@ -1,17 +1,10 @@
 -- What a write gives of a ring that a record follows
-use Rattle.std.proofs.Common.{rules}
-use Rattle.ring_knowledge.proofs.Words.{IsFromFloor, RingGiving, List, Contains, nat_le, nat_lt, leb-true, subst, gives_is, position_given_is, ◌≡◌, ◌+◌, ◌%◌, ◌<◌, ◌≤◌, ◌∷◌, ◌∙◌, ◌&&◌, ℕ, [], Bool, true, false, Option, None, Some, refl, ap, sym, arith, get_or, cond, not, max, option_map, IfSome, eq-eqb, ne_eqb, and_parts, AtData, AtLink, Shape, place_count, link_crossed, place_at, number, RingView, floor_number, gives, gives_crossing, due_positions, due_crossings, positions_given, crossings_given, link_of, is_crossing-from, RingRecord, is_noted, Position, Crossing, FollowsMarks, is_the, least_crossing, positions_of, crossings_of}
+use Rattle.ring_knowledge.proofs.Words.{not-true, IsFromFloor, RingGiving, List, Contains, nat_le, nat_lt, leb-true, subst, gives_is, position_given_is, ◌≡◌, ◌+◌, ◌%◌, ◌<◌, ◌≤◌, ◌∷◌, ◌∙◌, ◌&&◌, ℕ, [], true, false, Option, None, Some, refl, ap, sym, arith, get_or, cond, not, max, option_map, IfSome, eq-eqb, ne_eqb, and_parts, AtData, AtLink, Shape, place_count, link_crossed, place_at, number, RingView, floor_number, gives, gives_crossing, due_positions, due_crossings, positions_given, crossings_given, link_of, is_crossing-from, RingRecord, is_noted, Position, Crossing, FollowsMarks, is_the, least_crossing, positions_of, crossings_of, rules}
+use Rattle.std.proofs.lemmas.Bool.{and_right, both_ways}
 use Rattle.ring_knowledge.proofs.Noted.{noted_due, false_unless}
 use Rattle.ring_knowledge.proofs.Ranges.{filter_none, filter_only}
 use Rattle.ring_knowledge.proofs.DueNumbers.{link_of-crossed}
-use Rattle.ring_knowledge.proofs.DueWrites.{Gives, gives-true, GivesCrossing, gives_crossing-true}
-use Rattle.ring_knowledge.proofs.FlippedWords.{data_is}
-
-pub link_is : (i v j w : ℕ) → Some (AtLink i v) ≡ Some (AtLink j w) → i ≡ j
-link_is i v j w e = cc
-
-yes_no : (b : Bool) → not b ≡ true → b ≡ true → ⊥
-yes_no b n y = cc
+use Rattle.ring_knowledge.proofs.DueWrites.{data_is, link_is, Gives, gives-true, GivesCrossing, gives_crossing-true}
 
 module _ (shape : Shape) (v : RingView) (r : RingRecord) (follows : FollowsMarks shape v r) where
   -- the mark of a due position
@@ -20,10 +13,7 @@ module _ (shape : Shape) (v : RingView) (r : RingRecord) (follows : FollowsMarks
 
   -- the mark of a due crossing
   pub crossed_due : (q j : ℕ) → least_crossing v ≤ q → q < least_crossing v + place_count shape → link_crossed shape q ≡ Some j → v.crossed q ≡ get_or r.crossed.items j false
-  crossed_due q j low high over =
-      follows.crossed q ∙ ap (λ b. b && is_noted (least_crossing v) (place_count shape) r.crossed.items (link_of shape q) q) (is_crossing-from shape q j over)
-      ∙ noted_due (least_crossing v) (place_count shape) r.crossed.items (link_of shape q) q low high
-      ∙ ap (λ n. get_or r.crossed.items n false) (link_of-crossed shape q j over)
+  crossed_due q j low high over = search (rules, is_noted, least_crossing, place_count, link_of, is_crossing-from, noted_due, get_or, link_of-crossed)
 
   module _ (a w : ℕ) where
     -- no position is given where none would be
@@ -43,8 +33,8 @@ module _ (shape : Shape) (v : RingView) (r : RingRecord) (follows : FollowsMarks
         (λ p low high. false_unless (not (v.given p) && gives shape v.floor p a w) (λ h.
         let parts = and_parts (not (v.given p)) (gives shape v.floor p a w) h in
         let g : Gives shape follows.allowed v.floor p a w = gives-true shape follows.allowed v.floor p a w parts.1 in
-        let here = data_is (p % place_count shape) 3 i u (sym g.word_at ∙ at) in
-        yes_no (v.given p) parts.0 (given_due p low high ∙ ap (λ n. get_or r.given.items n false) here ∙ marked)))
+        let here = (data_is (p % place_count shape) 3 i u (sym g.word_at ∙ at)).0 in
+        both_ways (v.given p) (not-true (v.given p) parts.0) (given_due p low high ∙ ap (λ n. get_or r.given.items n false) here ∙ marked)))
 
     pub crossings_marked : (j u : ℕ) → place_at shape a ≡ Some (AtLink j u) → get_or r.crossed.items j false ≡ true → crossings_given shape v a w ≡ []
     unfolding crossings_given due_crossings
@@ -55,8 +45,8 @@ module _ (shape : Shape) (v : RingView) (r : RingRecord) (follows : FollowsMarks
         let found = gives_crossing-true shape follows.allowed v.floor q a w parts.1 in
         let i : ℕ = found.0 in
         let g : GivesCrossing shape follows.allowed v.floor q i a w = found.1 in
-        let here = link_is i 3 j u (sym g.word_at ∙ at) in
-        yes_no (v.crossed q) parts.0 (crossed_due q i g.from g.within g.over ∙ ap (λ n. get_or r.crossed.items n false) here ∙ marked)))
+        let here = (link_is i 3 j u (sym g.word_at ∙ at)).0 in
+        both_ways (v.crossed q) (not-true (v.crossed q) parts.0) (crossed_due q i g.from g.within g.over ∙ ap (λ n. get_or r.crossed.items n false) here ∙ marked)))
 
     -- a position that isn't given yet
     pub positions_one : (i q : ℕ) → get_or r.given.items i false ≡ false → number r.floor ≤ q → q < number r.floor + place_count shape → q % place_count shape ≡ i →
@@ -70,12 +60,8 @@ module _ (shape : Shape) (v : RingView) (r : RingRecord) (follows : FollowsMarks
         let one : (not (v.given q) && gives shape v.floor q a w) ≡ true =
         ap (λ b. not b && gives shape v.floor q a w) not_given ∙ ap (λ f. gives shape f q a w) follows.floor ∙ gives_it q ∙ eq-eqb q q refl in
         filter_only (λ p. not (v.given p) && gives shape v.floor p a w) (floor_number v) (place_count shape) q low' high'
-        (λ p l u other. ap (λ b. not (v.given p) && b) (ap (λ f. gives shape f p a w) follows.floor ∙ gives_it p ∙ ne_eqb p q other) ∙ and_false (not (v.given p)))
+        (λ p l u other. and_right (not (v.given p)) (gives shape v.floor p a w) (ap (λ f. gives shape f p a w) follows.floor ∙ gives_it p ∙ ne_eqb p q other))
         ∙ ap (λ b. cond b (q ∷ []) []) one
-      where
-        and_false : (b : Bool) → (b && false) ≡ false
-        and_false true = refl
-        and_false false = refl
 
     -- a crossing that isn't given yet
     pub crossings_one : (j q : ℕ) → get_or r.crossed.items j false ≡ false → max (number r.floor) 1 ≤ q → q < max (number r.floor) 1 + place_count shape → link_crossed shape q ≡ Some j →
@@ -89,12 +75,8 @@ module _ (shape : Shape) (v : RingView) (r : RingRecord) (follows : FollowsMarks
         let one : (not (v.crossed q) && gives_crossing shape v.floor q a w) ≡ true =
         ap (λ b. not b && gives_crossing shape v.floor q a w) not_crossed ∙ ap (λ f. gives_crossing shape f q a w) follows.floor ∙ gives_it q ∙ eq-eqb q q refl in
         filter_only (λ n. not (v.crossed n) && gives_crossing shape v.floor n a w) (floor_number v) (place_count shape + 1) q (omega arith) (omega arith)
-        (λ n l u other. ap (λ b. not (v.crossed n) && b) (ap (λ f. gives_crossing shape f n a w) follows.floor ∙ gives_it n ∙ ne_eqb n q other) ∙ and_false (not (v.crossed n)))
+        (λ n l u other. and_right (not (v.crossed n)) (gives_crossing shape v.floor n a w) (ap (λ f. gives_crossing shape f n a w) follows.floor ∙ gives_it n ∙ ne_eqb n q other))
         ∙ ap (λ b. cond b (q ∷ []) []) one
-      where
-        and_false : (b : Bool) → (b && false) ≡ false
-        and_false true = refl
-        and_false false = refl
 
     -- what is given of a place that isn't given yet: o is what the write would give
     pub positions_found : (i : ℕ) (o : Option ℕ) → get_or r.given.items i false ≡ false → ((p : ℕ) → gives shape r.floor p a w ≡ is_the o p) →

@@ -36,28 +36,17 @@ last_place shape is j h =
     word_of : (x : ℕ) → x % 16 ≡ 0 → (x - 16) % 4 ≡ 0
     word_of x h = omega arith
 
-data_is : (p : Place) (i v j w : ℕ) → Some (AtData i v) ≡ Some p → p ≡ AtData j w → i ≡ j
-data_is p i v j w e f = cc
-
 -- so a search at that address finds it
 pub last_found : (shape : Shape) (j word : ℕ) → IsLast shape j word → (x i v : ℕ) (p : Place) → x ≡ slice_index (links shape) j - 16 →
     place_at shape x ≡ Some p → p ≡ AtData i v → i + 1 ≡ slice_index (ends shape) j
 last_found shape j word last x i v p address found is_data =
-    let same : slice_index (ends shape) j - 1 ≡ i = data_is p (slice_index (ends shape) j - 1) word i v (sym last.at ∙ ap (λ a. place_at shape a) (sym address) ∙ found) is_data in
+    let same : slice_index (ends shape) j - 1 ≡ i = cc in
     omega (arith, last.some)
-
-data_no_link : (p : Place) (i v j w : ℕ) → Some (AtData i v) ≡ Some p → p ≡ AtLink j w → ⊥
-data_no_link p i v j w e f = cc
-
-data_not_none : (i v : ℕ) → Some (AtData i v) ≡ None → ⊥
-data_not_none i v e = cc
 
 -- and neither a Link nor nothing
 pub last_no_link : (shape : Shape) (j word : ℕ) → IsLast shape j word → (x i v : ℕ) (p : Place) → x ≡ slice_index (links shape) j - 16 →
     place_at shape x ≡ Some p → p ≡ AtLink i v → ⊥
-last_no_link shape j word last x i v p address found is_link =
-    data_no_link p (slice_index (ends shape) j - 1) word i v (sym last.at ∙ ap (λ a. place_at shape a) (sym address) ∙ found) is_link
+last_no_link shape j word last x i v p address found is_link = cc
 
 pub last_somewhere : (shape : Shape) (j word : ℕ) → IsLast shape j word → (x : ℕ) → x ≡ slice_index (links shape) j - 16 → place_at shape x ≡ None → ⊥
-last_somewhere shape j word last x address none =
-    data_not_none (slice_index (ends shape) j - 1) word (sym last.at ∙ ap (λ a. place_at shape a) (sym address) ∙ none)
+last_somewhere shape j word last x address none = cc

@@ -1,29 +1,22 @@
 -- The test of a move, at the one spot that a pointer and a cycle state name
-use Rattle.ring_knowledge.proofs.Words.{◌≡◌, ◌+◌, ◌-◌, ◌<◌, ◌≤◌, ◌∷◌, ◌∙◌, ◌&&◌, ◌||◌, ℕ, List, [], Bool, true, false, Some, None, refl, ap, sym, arith, inl, inr, All, find, list_any, flat_map, range_with_len, cases_Bool, cond-true, cond-false, and_parts, or_cases, false≢true, none-some, All-head, All-tail, All-weaker, Spot, Data, Link, Shape, IsShape, place_count, number, RingView, is_target, spots_between, may_move_to, is_move, found_is, between}
+use Rattle.ring_knowledge.proofs.Words.{rules, ◌≡◌, ◌+◌, ◌-◌, ◌<◌, ◌≤◌, ◌∷◌, ◌∙◌, ◌&&◌, ◌||◌, ℕ, List, [], Bool, true, false, Some, None, refl, ap, sym, arith, inl, inr, All, find, list_any, flat_map, range_with_len, cases_Bool, cond-true, cond-false, and_parts, or_cases, false≢true, none-some, All-head, All-tail, All-weaker, Spot, Data, Link, Shape, IsShape, place_count, number, RingView, is_target, spots_between, may_move_to, is_move, found_is, between}
 use Rattle.ring_knowledge.proofs.SpotsBetween.{target_parts, one_between}
 
 module _ (f g : Spot → Bool) where
   -- where none passes the first test, none passes both
   any_none : (xs : List Spot) → find f xs ≡ None → list_any (λ u. f u && g u) xs ≡ false
   any_none [] none = refl
-  any_none (x ∷ rest) none =
-      elim (cases_Bool (f x)) [
-        | inl passes ↦ absurd (none-some x (sym none ∙ cond-true (f x) (Some x) (find f rest) passes))
-        | inr fails ↦
-            ap (λ b. (b && g x) || list_any (λ u. f u && g u) rest) fails
-            ∙ any_none rest (sym (cond-false (f x) (Some x) (find f rest) fails) ∙ none)
-      ]
+  any_none (x ∷ rest) none = search (rules, cases_Bool, none-some, cond-true, find, list_any, cond-false, any_none rest)
 
   module _ (t : Spot) where
     any_passes : (xs : List Spot) → All (λ u. f u ≡ true → u ≡ t) xs → list_any (λ u. f u && g u) xs ≡ true → g t ≡ true
     any_passes [] only any = absurd (false≢true any)
-    any_passes (x ∷ rest) only any =
-        elim (or_cases (f x && g x) (list_any (λ u. f u && g u) rest) any) [
-          | inl here ↦
-              let parts = and_parts (f x) (g x) here in
-              ap g (sym (All-head (λ u. f u ≡ true → u ≡ t) x rest only parts.0)) ∙ parts.1
-          | inr later ↦ any_passes rest (All-tail (λ u. f u ≡ true → u ≡ t) x rest only) later
-        ]
+    any_passes (x ∷ rest) only any = elim (or_cases (f x && g x) (list_any (λ u. f u && g u) rest) any) [
+      | inl here ↦
+          let parts = and_parts (f x) (g x) here in
+          ap g (sym (All-head (λ u. f u ≡ true → u ≡ t) x rest only parts.0)) ∙ parts.1
+      | inr later ↦ any_passes rest (All-tail (λ u. f u ≡ true → u ≡ t) x rest only) later
+    ]
 
     or_same : (a b : Bool) → (b ≡ true → a ≡ true) → (a || b) ≡ a
     or_same true b h = refl

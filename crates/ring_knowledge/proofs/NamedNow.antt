@@ -1,18 +1,16 @@
 -- What an event names, and where a pointer and a cycle state stand, by the first spot at an address
-use Rattle.std.proofs.Common.{rules}
-use Rattle.ring_knowledge.proofs.Words.{◌≡◌, ◌≢◌, ◌<◌, ◌≤◌, ◌∙◌, ◌^◌, ℕ, Bool, Option, Some, None, ap, sym, arith, inl, inr, subst, IfSome, find, Spot, Shape, IsSpot, number, spot_address, named_spot, RingView, declared, floor_number, named, is_target, spots_between, target, cases_option, rank_least, rank_most, IsNamed, named_spot-Some, named_spot-is, IsFirstAt}
+use Rattle.ring_knowledge.proofs.Words.{◌≡◌, ◌≢◌, ◌<◌, ◌≤◌, ◌∙◌, ◌^◌, ℕ, Bool, Option, Some, None, ap, sym, arith, inl, inr, subst, IfSome, find, Spot, Shape, IsSpot, number, spot_address, named_spot, RingView, declared, floor_number, named, is_target, spots_between, target, cases_option, rank_least, rank_most, IsNamed, named_spot-Some, named_spot-is, IsFirstAt, rules}
 
 module _ (shape : Shape) (v : RingView) (is : IsSpot shape v.floor) (address : ℕ) where
   -- no spot lies at the address
   pub named_nowhere : ((t : Spot) → IsSpot shape t → spot_address shape t ≢ address) → None ≡ named shape v address
   unfolding named
-  named_nowhere nowhere =
-      elim (cases_option (named_spot shape v.floor (declared v) address)) [
-        | inl none ↦ sym none
-        | inr some ↦
-            let found : IsNamed shape v.floor (declared v) address some.0 = named_spot-Some shape v.floor (declared v) address some.0 is some.1 in
-            absurd (nowhere some.0 found.spot found.at)
-      ]
+  named_nowhere nowhere = elim (cases_option (named_spot shape v.floor (declared v) address)) [
+    | inl none ↦ sym none
+    | inr some ↦
+        let found : IsNamed shape v.floor (declared v) address some.0 = named_spot-Some shape v.floor (declared v) address some.0 is some.1 in
+        absurd (nowhere some.0 found.spot found.at)
+  ]
 
   module _ (floor : Spot) (same : v.floor ≡ floor) (t : Spot) (at : IsFirstAt shape floor address t) where
     first : IsFirstAt shape v.floor address t
@@ -26,14 +24,12 @@ module _ (shape : Shape) (v : RingView) (is : IsSpot shape v.floor) (address : �
     -- or it isn't
     pub named_beyond : declared v < number t → None ≡ named shape v address
     unfolding named
-    named_beyond past =
-        elim (cases_option (named_spot shape v.floor (declared v) address)) [
-          | inl none ↦ sym none
-          | inr some ↦
-              let found : IsNamed shape v.floor (declared v) address some.0 = named_spot-Some shape v.floor (declared v) address some.0 is some.1 in
-              let low = first.least some.0 found.spot found.from found.at in
-              absurd (omega (arith, found.within, rank_most some.0, rank_least t))
-        ]
+    named_beyond past = elim (cases_option (named_spot shape v.floor (declared v) address)) [
+      | inl none ↦ sym none
+      | inr some ↦
+          let found : IsNamed shape v.floor (declared v) address some.0 = named_spot-Some shape v.floor (declared v) address some.0 is some.1 in
+          absurd (omega (arith, first.least some.0 found.spot found.from found.at, found.within, rank_most some.0, rank_least t))
+    ]
 
 -- the target is looked for from the floor's number up to what is declared
 pub target_is : (shape : Shape) (v : RingView) (address : ℕ) (cycle : Bool) (least most : ℕ) → least ≡ floor_number v → most ≡ declared v →

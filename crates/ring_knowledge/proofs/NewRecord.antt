@@ -1,6 +1,5 @@
 -- A new record follows a ring on which nothing happened
-use Rattle.std.proofs.Common.{rules}
-use Rattle.ring_knowledge.proofs.Words.{drop, slice_index, ◌-◌, ◌≡◌, ◌+◌, ◌-◌, ◌*◌, ◌≤◌, ◌%◌, ◌∙◌, ◌&&◌, ℕ, List, [], Bool, true, false, Some, refl, ap, sym, arith, length, get_or, replicate, cases_lt, common_steps, length-map, RingKind, Evt, Segment, Data, Shape, IsShape, place_count, links_of, is_crossing, new_ring, length_from, link_of, crossing_positive, RingRecord, is_noted, FollowsMarks, list_any, is_at, nat_cmp, false≢true}
+use Rattle.ring_knowledge.proofs.Words.{drop, slice_index, ◌-◌, ◌≡◌, ◌+◌, ◌-◌, ◌*◌, ◌≤◌, ◌&&◌, ℕ, List, [], Bool, true, false, Some, refl, arith, length, get_or, replicate, cases_lt, common_steps, length-map, RingKind, Evt, Segment, Data, Shape, IsShape, place_count, links_of, is_crossing, new_ring, length_from, link_of, crossing_positive, RingRecord, is_noted, FollowsMarks, list_any, is_at, nat_cmp, false≢true, rules}
 use Rattle.ring_knowledge.proofs.Noted.{noted_due, noted_past}
 
 -- no more Links than segments
@@ -27,24 +26,5 @@ pub new_marks : (shape : Shape) → IsShape shape → 2 ≤ place_count shape �
     → r.given.items ≡ replicate (place_count shape) false → r.crossed.items ≡ replicate (length shape.segments) false
     → r.floor ≡ Data 0 → r.held ≡ Some 0 → r.withdrawn.keys ≡ [] → r.free.keys ≡ [] → FollowsMarks shape new_ring r
 unfolding length_from
-new_marks shape allowed two r none_forgotten no_blocks no_lengths none_given no_crossings floor held none_withdrawn none_free = record {
-  allowed = allowed;
-  passed = omega (arith, none_forgotten);
-  queue = ap (λ k. drop k []) none_forgotten ∙ sym no_blocks;
-  count = omega (arith, none_forgotten, ap length no_blocks);
-  floor = sym floor;
-  held = sym held;
-  begins = λ p kept. sym (ap (λ ls. slice_index ls (p - r.forgotten)) no_lengths);
-  as_many = grind (arith, common_steps, no_blocks, no_lengths);
-  whole = refl;
-  positive = tt;
-  room = omega (arith, two);
-  places = grind (arith, common_steps, none_given);
-  given = λ p. sym (none_noted 0 (place_count shape) r.given.items (place_count shape) (p % place_count shape) p none_given (omega arith));
-  segments = grind (arith, common_steps, no_crossings, few_links shape.kind shape.segments);
-  crossed = λ q. none_crossed shape r.crossed.items (length shape.segments) q no_crossings;
-  withdrawn = λ p kept. sym (ap (λ ks. list_any (is_at (nat_cmp p)) ks) none_withdrawn);
-  free = λ p. sym (ap (λ ks. list_any (is_at (nat_cmp p)) ks) none_free);
-  free_withdrawn = λ p free. absurd (false≢true free);
-  free_given = λ p free. absurd (false≢true free);
-}
+new_marks shape allowed two r none_forgotten no_blocks no_lengths none_given no_crossings floor held none_withdrawn none_free =
+    search (rules, drop, length, slice_index, common_steps, none_noted, place_count, few_links, none_crossed, list_any, is_at, nat_cmp, false≢true)

@@ -1,6 +1,5 @@
 -- A record with the mark of what a write gives follows what is known after the write
-use Rattle.std.proofs.Common.{rules}
-use Rattle.ring_knowledge.proofs.Words.{drop, ◌≡◌, ◌+◌, ◌%◌, ◌<◌, ◌≤◌, ◌∷◌, ◌∙◌, ◌==◌, ◌&&◌, ◌||◌, ℕ, List, [], Bool, true, false, None, Some, refl, get_or, ap, sym, arith, inl, inr, length, set, subst, Contains, eq-eqb, ne_eqb, length-set, mod-lt, cases_Bool, false≢true, Shape, place_count, links, link_crossed, is_crossing, RingView, Writes, changed, floor_number, gives, gives_crossing, positions_given, crossings_given, is_step_given, is_way_given, link_of, place_count_pos, crossed_link, is_crossing-from, gives_is, position_given, position_given_is, crossing_given, crossing_given_is, RingRecord, is_noted, FollowsMarks, FollowsRing, least_crossing, contains, nat_cmp, or_left}
+use Rattle.ring_knowledge.proofs.Words.{none-some, drop, ◌≡◌, ◌+◌, ◌%◌, ◌<◌, ◌≤◌, ◌∷◌, ◌∙◌, ◌==◌, ◌&&◌, ◌||◌, ℕ, List, [], Bool, true, false, None, Some, refl, get_or, ap, sym, arith, inl, inr, length, set, subst, Contains, eq-eqb, ne_eqb, length-set, mod-lt, cases_Bool, false≢true, Shape, place_count, links, link_crossed, is_crossing, RingView, Writes, changed, floor_number, gives, gives_crossing, positions_given, crossings_given, is_step_given, is_way_given, link_of, place_count_pos, crossed_link, is_crossing-from, gives_is, position_given, position_given_is, crossing_given, crossing_given_is, RingRecord, is_noted, FollowsMarks, FollowsRing, least_crossing, contains, nat_cmp, or_left, rules}
 use Rattle.ring_knowledge.proofs.Noted.{false_unless, noted_more}
 use Rattle.ring_knowledge.proofs.DueNumbers.{same_due, same_due_crossing, link_of-crossed}
 use Rattle.ring_knowledge.proofs.DueWrites.{GivesCrossing, gives_crossing-true}
@@ -11,16 +10,10 @@ none_in n c = omega (arith, c.1)
 one_in : (m n : ℕ) → Contains (m ∷ []) n → n ≡ m
 one_in m n c = search (rules, length, get_or)
 
-none_some : (j : ℕ) → None ≡ Some j → ⊥
-none_some j e = cc
-
 -- the numbers that are given behind a write, where those of the list are given by it
 module _ (given gives_it : ℕ → Bool) (now : List ℕ) (there : (n : ℕ) → given n ≡ false → gives_it n ≡ true → Contains now n) where
   pub none_more : now ≡ [] → (n : ℕ) → (given n || gives_it n) ≡ given n
-  none_more none n = elim (cases_Bool (given n)) [
-    | inl old ↦ rw old refl
-    | inr new ↦ rw (new, false_unless (gives_it n) (λ e. none_in n (subst (λ xs. Contains xs n) none (there n new e)))) refl
-  ]
+  none_more none n = search (rules, cases_Bool, false_unless, none_in)
 
   pub one_more : (m : ℕ) → now ≡ m ∷ [] → gives_it m ≡ true → (n : ℕ) → (given n || gives_it n) ≡ (given n || (n == m))
   one_more m one is n = search (rules, eq-eqb, false_unless, one_in, ne_eqb)
@@ -110,7 +103,7 @@ module _ (shape : Shape) (v : RingView) (a w : ℕ) where
     pub over_a_link : (m : ℕ) → crossings_given shape v a w ≡ m ∷ [] → link_crossed shape m ≡ None → ⊥
     over_a_link m one none =
         let found = gives_crossing-true shape follows.allowed v.floor m a w (crossing_gives m one) in
-        none_some found.0 (sym none ∙ found.1.over)
+        none-some found.0 (sym none ∙ found.1.over)
 
     -- a write that gives crossing m, over the Link of segment j
     pub crossing_noted : (j m : ℕ) → j < length (links shape) → link_crossed shape m ≡ Some j → positions_given shape v a w ≡ [] → crossings_given shape v a w ≡ m ∷ [] →

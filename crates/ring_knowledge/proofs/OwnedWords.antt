@@ -1,16 +1,17 @@
 -- Which words of a ring its controller may own, by the place of the address
-use Rattle.std.proofs.Common.{rules}
-use Rattle.ring_knowledge.proofs.Words.{◌≡◌, ◌+◌, ◌/◌, ◌%◌, ◌<◌, ◌≤◌, ◌∙◌, ◌&&◌, ◌||◌, ℕ, Bool, true, false, Some, None, refl, ap, sym, arith, length, slice_index, get_or, nat_lt, lt-ltb, ltb-true, list_any, range_with_len, and_parts, and_from, AtData, AtLink, Shape, place_count, address_of, links, link_crossed, is_crossing, link_address, overlap, place_at, RingView, floor_number, due_positions, due_crossings, leased_positions, leased_crossings, is_handed_over, contains, nat_cmp, not, link_of, place_count_pos, place_below, address_aligned, address_of-first, address_of-mod, link_aligned, crosses, crossed_link, crossing_positive, is_crossing-from, link_address_is, place_at-data, place_at-link, place_at-Data, place_at-Link, RingRecord, is_noted, FollowsMarks, least_crossing}
+use Rattle.ring_knowledge.proofs.Words.{none-some, ◌≡◌, ◌+◌, ◌/◌, ◌%◌, ◌<◌, ◌≤◌, ◌∙◌, ◌&&◌, ◌||◌, ℕ, Bool, true, false, Some, None, refl, ap, sym, arith, length, slice_index, get_or, nat_lt, lt-ltb, ltb-true, list_any, range_with_len, and_parts, and_from, AtData, AtLink, Shape, place_count, address_of, links, link_crossed, is_crossing, link_address, overlap, place_at, RingView, floor_number, due_positions, due_crossings, leased_positions, leased_crossings, is_handed_over, contains, nat_cmp, not, link_of, place_count_pos, place_below, address_aligned, address_of-first, address_of-mod, link_aligned, crosses, crossed_link, crossing_positive, is_crossing-from, link_address_is, place_at-data, place_at-link, place_at-Data, place_at-Link, RingRecord, is_noted, FollowsMarks, least_crossing, rules}
 use Rattle.ring_knowledge.proofs.Noted.{noted_due, noted_within, false_unless}
 use Rattle.ring_knowledge.proofs.Ranges.{any_filtered, any_none, any_only, or_false}
 use Rattle.ring_knowledge.proofs.DueNumbers.{IsDue, link_of-crossed, due_number, same_due, due_crossing, same_due_crossing}
-use Rattle.ring_knowledge.proofs.DueWrites.{data_no_link, none_some}
-use Rattle.ring_knowledge.proofs.FlippedWords.{data_is}
-use Rattle.ring_knowledge.proofs.GivenWords.{link_is}
+use Rattle.ring_knowledge.proofs.DueWrites.{data_is, data_no_link, link_is}
 
 -- a word and a block with a byte in common: the word is one of the block's
 word_inside : (a b : ℕ) → a % 4 ≡ 0 → b % 16 ≡ 0 → a < b + 16 → b < a + 4 → b ≤ a
 word_inside a b word block near far = omega arith
+
+and_true : (b : Bool) → (b && true) ≡ b
+and_true true = refl
+and_true false = refl
 
 module _ (shape : Shape) (v : RingView) (r : RingRecord) (follows : FollowsMarks shape v r) (a : ℕ) (word : a % 4 ≡ 0) where
   -- a word with a byte of a position's block is a word of its place
@@ -74,15 +75,10 @@ module _ (shape : Shape) (v : RingView) (r : RingRecord) (follows : FollowsMarks
       ∙ any_only (λ n. is_handed_over v n && overlap a 4 (address_of shape n) 16) (floor_number v) (place_count shape) p due.from due.within
       (λ n low high other. false_unless (is_handed_over v n && overlap a 4 (address_of shape n) 16)
       (λ h. other (same_due (floor_number v) (place_count shape) n p (place_count_pos shape follows.allowed) low high due.from due.within
-      (data_is (n % place_count shape) (a % 16 / 4) i w (sym (of_place n (and_parts (is_handed_over v n) (overlap a 4 (address_of shape n) 16) h).1) ∙ at) ∙ sym due.rest_is))))
+      ((data_is (n % place_count shape) (a % 16 / 4) i w (sym (of_place n (and_parts (is_handed_over v n) (overlap a 4 (address_of shape n) 16) h).1) ∙ at)).0 ∙ sym due.rest_is))))
       ∙ ap (λ b. is_handed_over v p && b) here ∙ and_true (is_handed_over v p) in
-      let none = no_crossings (λ j u e. data_no_link i w j u (sym at ∙ e)) in
       sym (ap (λ b. b || list_any (λ q. overlap a 4 (link_address shape q) 16) (leased_crossings shape v)) only
-      ∙ ap (λ b. is_handed_over v p || b) none ∙ or_false (is_handed_over v p))
-    where
-      and_true : (b : Bool) → (b && true) ≡ b
-      and_true true = refl
-      and_true false = refl
+      ∙ ap (λ b. is_handed_over v p || b) (no_crossings (λ j u e. data_no_link i w j u (sym at ∙ e))) ∙ or_false (is_handed_over v p))
 
   -- it is given as its place's mark says
   given_here : (i p : ℕ) → IsDue (floor_number v) (place_count shape) i p → v.given p ≡ get_or r.given.items i false
@@ -127,10 +123,6 @@ module _ (shape : Shape) (v : RingView) (r : RingRecord) (follows : FollowsMarks
       let none = no_positions (λ i u e. data_no_link i u j w (sym e ∙ at)) in
       sym (ap (λ b. b || list_any (λ n. overlap a 4 (link_address shape n) 16) (leased_crossings shape v)) none ∙ only)
     where
-      and_true : (b : Bool) → (b && true) ≡ b
-      and_true true = refl
-      and_true false = refl
-
       same_there : (n q : ℕ) → floor_number v ≤ n → least_crossing v ≤ q → q < least_crossing v + place_count shape → link_crossed shape q ≡ Some j →
           ((is_crossing shape n && v.crossed n) && overlap a 4 (link_address shape n) 16) ≡ true → n ≡ q
       same_there n q low low' high' over h =
@@ -140,13 +132,13 @@ module _ (shape : Shape) (v : RingView) (r : RingRecord) (follows : FollowsMarks
           let high = noted_within (least_crossing v) (place_count shape) r.crossed.items (link_of shape n) n noted in
           let positive = crossing_positive shape n both.0 in
           let there = crossed_link shape n both.0 in
-          let segment : there.0 ≡ j = link_is there.0 (a % 16 / 4) j w (sym (of_link n there.0 there.1 parts.1) ∙ at) in
+          let segment : there.0 ≡ j = (link_is there.0 (a % 16 / 4) j w (sym (of_link n there.0 there.1 parts.1) ∙ at)).0 in
           same_due_crossing shape follows.allowed (least_crossing v) j n q (omega arith) high low' high' (there.1 ∙ ap (λ i. Some i) segment) over
 
   -- elsewhere
   pub owned_nowhere : place_at shape a ≡ None → false
       ≡ (list_any (λ p. overlap a 4 (address_of shape p) 16) (leased_positions shape v) || list_any (λ q. overlap a 4 (link_address shape q) 16) (leased_crossings shape v))
   owned_nowhere at =
-      let positions = no_positions (λ j u e. none_some (AtData j u) (sym at ∙ e)) in
-      let crossings = no_crossings (λ j u e. none_some (AtLink j u) (sym at ∙ e)) in
+      let positions = no_positions (λ j u e. none-some (AtData j u) (sym at ∙ e)) in
+      let crossings = no_crossings (λ j u e. none-some (AtLink j u) (sym at ∙ e)) in
       sym (ap (λ b. b || list_any (λ q. overlap a 4 (link_address shape q) 16) (leased_crossings shape v)) positions ∙ crossings)

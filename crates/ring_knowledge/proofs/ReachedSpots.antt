@@ -1,6 +1,5 @@
 -- A record whose floor has moved on: the marks of what the controller has passed are cleared
-use Rattle.std.proofs.Common.{rules}
-use Rattle.ring_knowledge.proofs.Words.{in_range_all, drop, ◌≡◌, ◌+◌, ◌-◌, ◌%◌, ◌<◌, ◌≤◌, ◌∙◌, ◌&&◌, ◌||◌, ℕ, List, Bool, true, false, Some, ap, sym, arith, inl, inr, length, not, max, cases_lt, cases_Bool, and_parts, false≢true, add-mod_right, Spot, Data, Link, Shape, place_count, link_crossed, is_crossing, number, RingView, Reaches, changed, floor_number, is_way_given, is_reached, are_given, are_ways_given, link_of, place_count_pos, crossed_link, crossing_positive, is_crossing-from, link_crossed-lap, RingRecord, AreCleared, is_noted, FollowsMarks, least_crossing}
+use Rattle.ring_knowledge.proofs.Words.{in_range_all, drop, ◌≡◌, ◌+◌, ◌-◌, ◌%◌, ◌<◌, ◌≤◌, ◌∙◌, ◌&&◌, ◌||◌, ℕ, List, Bool, true, false, Some, ap, sym, arith, inl, inr, length, not, max, cases_lt, cases_Bool, and_parts, false≢true, add-mod_right, Spot, Data, Link, Shape, place_count, link_crossed, is_crossing, number, RingView, Reaches, changed, floor_number, is_way_given, is_reached, are_given, are_ways_given, link_of, place_count_pos, crossed_link, crossing_positive, is_crossing-from, link_crossed-lap, RingRecord, AreCleared, is_noted, FollowsMarks, least_crossing, rules}
 use Rattle.ring_knowledge.proofs.Noted.{noted_below, noted_due, noted_past}
 use Rattle.ring_knowledge.proofs.DueNumbers.{same_due, same_due_crossing, link_of-crossed}
 
@@ -10,21 +9,17 @@ unfolding is_reached are_given
 reached_given shape v (Data q) reached p below = in_range_all v.given 0 q (and_parts (are_given v q) (are_ways_given shape v q) reached).0 p (omega arith) (omega arith)
 reached_given shape v (Link q) reached p below = in_range_all v.given 0 q (and_parts (are_given v q) (are_ways_given shape v (q - 1)) reached).0 p (omega arith) (omega arith)
 
+is_crossed : (c x : Bool) → c ≡ true → (not c || x) ≡ true → x ≡ true
+is_crossed true x c h = h
+is_crossed false x c h = absurd (false≢true c)
+
 -- and all crossings
 pub reached_crossed : (shape : Shape) (v : RingView) (spot : Spot) → is_reached shape v spot ≡ true → (q : ℕ) → is_crossing shape q ≡ true → 0 < q → q < number spot → v.crossed q ≡ true
 unfolding is_reached are_ways_given is_way_given
 reached_crossed shape v (Data n) reached q crossing positive below =
     is_crossed (is_crossing shape q) (v.crossed q) crossing (in_range_all (is_way_given shape v) 1 n (and_parts (are_given v n) (are_ways_given shape v n) reached).1 q positive (omega arith))
-  where
-    is_crossed : (c x : Bool) → c ≡ true → (not c || x) ≡ true → x ≡ true
-    is_crossed true x c h = h
-    is_crossed false x c h = absurd (false≢true c)
 reached_crossed shape v (Link n) reached q crossing positive below =
     is_crossed (is_crossing shape q) (v.crossed q) crossing (in_range_all (is_way_given shape v) 1 (n - 1) (and_parts (are_given v n) (are_ways_given shape v (n - 1)) reached).1 q positive (omega arith))
-  where
-    is_crossed : (c x : Bool) → c ≡ true → (not c || x) ≡ true → x ≡ true
-    is_crossed true x c h = h
-    is_crossed false x c h = absurd (false≢true c)
 
 -- a record with another floor and other marks, and all else the same
 pub record HasFloor (r n : RingRecord) (spot : Spot) : Type 0 where
@@ -40,28 +35,27 @@ module _ (shape : Shape) (v : RingView) (r : RingRecord) (follows : FollowsMarks
   -- a position's note with the new floor and marks
   given_now : (marks : List Bool) → AreCleared (λ p i. p % place_count shape ≡ i) r.given.items marks (floor_number v) (number spot) →
       (p : ℕ) → v.given p ≡ is_noted (number spot) (place_count shape) marks (p % place_count shape) p
-  given_now marks cleared p =
-      elim (cases_lt p (number spot)) [
-        | inl passed ↦ reached_given shape v spot reached p passed ∙ sym (noted_below (number spot) (place_count shape) marks (p % place_count shape) p passed)
-        | inr from ↦ elim (cases_lt p (number spot + place_count shape)) [
-          | inr past ↦
-              follows.given p ∙ noted_past (floor_number v) (place_count shape) r.given.items (p % place_count shape) p (omega arith)
-              ∙ sym (noted_past (number spot) (place_count shape) marks (p % place_count shape) p past)
-          | inl within ↦
-              let now = noted_due (number spot) (place_count shape) marks (p % place_count shape) p from within in
-              elim (cases_lt p (floor_number v + place_count shape)) [
-                | inl due ↦
-                    follows.given p ∙ noted_due (floor_number v) (place_count shape) r.given.items (p % place_count shape) p (omega arith) due
-                    ∙ sym (cleared.kept (p % place_count shape) (λ q l u same.
-                    let one : q ≡ p = same_due (floor_number v) (place_count shape) q p (place_count_pos shape follows.allowed) l (omega arith) (omega arith) due same in absurd (omega arith)))
-                    ∙ sym now
-                | inr next ↦
-                    let lap : (p - place_count shape) % place_count shape ≡ p % place_count shape = lap_before p (place_count shape) (omega arith) in
-                    follows.given p ∙ noted_past (floor_number v) (place_count shape) r.given.items (p % place_count shape) p next
-                    ∙ sym (cleared.cleared (p - place_count shape) (p % place_count shape) (omega arith) (omega arith) lap) ∙ sym now
-              ]
-        ]
-      ]
+  given_now marks cleared p = elim (cases_lt p (number spot)) [
+    | inl passed ↦ reached_given shape v spot reached p passed ∙ sym (noted_below (number spot) (place_count shape) marks (p % place_count shape) p passed)
+    | inr from ↦ elim (cases_lt p (number spot + place_count shape)) [
+      | inr past ↦
+          follows.given p ∙ noted_past (floor_number v) (place_count shape) r.given.items (p % place_count shape) p (omega arith)
+          ∙ sym (noted_past (number spot) (place_count shape) marks (p % place_count shape) p past)
+      | inl within ↦
+          let now = noted_due (number spot) (place_count shape) marks (p % place_count shape) p from within in
+          elim (cases_lt p (floor_number v + place_count shape)) [
+            | inl due ↦
+                follows.given p ∙ noted_due (floor_number v) (place_count shape) r.given.items (p % place_count shape) p (omega arith) due
+                ∙ sym (cleared.kept (p % place_count shape) (λ q l u same.
+                let one : q ≡ p = same_due (floor_number v) (place_count shape) q p (place_count_pos shape follows.allowed) l (omega arith) (omega arith) due same in absurd (omega arith)))
+                ∙ sym now
+            | inr next ↦
+                let lap : (p - place_count shape) % place_count shape ≡ p % place_count shape = lap_before p (place_count shape) (omega arith) in
+                follows.given p ∙ noted_past (floor_number v) (place_count shape) r.given.items (p % place_count shape) p next
+                ∙ sym (cleared.cleared (p - place_count shape) (p % place_count shape) (omega arith) (omega arith) lap) ∙ sym now
+          ]
+    ]
+  ]
     where
       lap_before : (p n : ℕ) → n ≤ p → (p - n) % n ≡ p % n
       lap_before p n h = let e : p - n + n ≡ p = omega arith in sym (add-mod_right (p - n) n) ∙ ap (λ x. x % n) e
@@ -69,17 +63,15 @@ module _ (shape : Shape) (v : RingView) (r : RingRecord) (follows : FollowsMarks
   -- and a crossing's
   crossed_now : (marks : List Bool) → AreCleared (λ q j. link_crossed shape q ≡ Some j) r.crossed.items marks (floor_number v) (number spot) →
       (q : ℕ) → v.crossed q ≡ (is_crossing shape q && is_noted (max (number spot) 1) (place_count shape) marks (link_of shape q) q)
-  crossed_now marks cleared q =
-      elim (cases_Bool (is_crossing shape q)) [
-        | inr none ↦
-            follows.crossed q ∙ ap (λ b. b && is_noted (least_crossing v) (place_count shape) r.crossed.items (link_of shape q) q) none
-            ∙ sym (ap (λ b. b && is_noted (max (number spot) 1) (place_count shape) marks (link_of shape q) q) none)
-        | inl crossing ↦
-            let over = crossed_link shape q crossing in
-            let positive = crossing_positive shape q crossing in
-            was crossing ∙ same_note over.0 over.1 crossing positive
-            ∙ sym (ap (λ b. b && is_noted (max (number spot) 1) (place_count shape) marks (link_of shape q) q) crossing)
-      ]
+  crossed_now marks cleared q = elim (cases_Bool (is_crossing shape q)) [
+    | inr none ↦
+        follows.crossed q ∙ ap (λ b. b && is_noted (least_crossing v) (place_count shape) r.crossed.items (link_of shape q) q) none
+        ∙ sym (ap (λ b. b && is_noted (max (number spot) 1) (place_count shape) marks (link_of shape q) q) none)
+    | inl crossing ↦
+        let over = crossed_link shape q crossing in
+        was crossing ∙ same_note over.0 over.1 crossing (crossing_positive shape q crossing)
+        ∙ sym (ap (λ b. b && is_noted (max (number spot) 1) (place_count shape) marks (link_of shape q) q) crossing)
+  ]
     where
       was : is_crossing shape q ≡ true → v.crossed q ≡ is_noted (least_crossing v) (place_count shape) r.crossed.items (link_of shape q) q
       was crossing = follows.crossed q ∙ ap (λ b. b && is_noted (least_crossing v) (place_count shape) r.crossed.items (link_of shape q) q) crossing

@@ -1,6 +1,5 @@
 -- What a record of the registers holds after one is written
-use Rattle.std.proofs.Common.{rules}
-use Rattle.ring_knowledge.proofs.Words.{◌≡◌, ◌<◌, ◌∷◌, ◌==◌, ◌&&◌, ◌||◌, if◌then◌else◌, ℕ, List, [], false, Option, Some, None, refl, length, set, get_or, inl, inr, get_or-set_other, get_or-set_same, not, eqb-true, length-set, cases_Bool, nat_tests, Header, Register, Usbcmd, ordinal, with_register, run_bit, reset_bit, Known, nothing, register_written, run_or_stop, valued, FollowsRegisters, RegisterRecord}
+use Rattle.ring_knowledge.proofs.Words.{◌≡◌, ◌<◌, ◌∷◌, ◌==◌, ◌&&◌, ◌||◌, if◌then◌else◌, ℕ, List, [], false, Option, Some, None, refl, length, set, get_or, get_or-set_other, get_or-set_same, not, eqb-true, length-set, cases_Bool, nat_tests, Header, Register, Usbcmd, ordinal, with_register, run_bit, reset_bit, Known, nothing, register_written, run_or_stop, valued, FollowsRegisters, RegisterRecord, rules}
 
 value_at : (values : List (Option ℕ)) (n m : ℕ) (x : Option ℕ) → n < length values → get_or (set values n x) m None ≡ (if m == n then x else get_or values m None)
 value_at values n m x below = search (rules, length, get_or, set, eqb-true, get_or-set_same, get_or-set_other, nat_tests)
@@ -9,17 +8,11 @@ value_at values n m x below = search (rules, length, get_or, set, eqb-true, get_
 module _ (k : Known) (v : ℕ) where
   runs_registers : (run_or_stop k v).register ≡ k.register
   unfolding run_or_stop
-  runs_registers = elim (cases_Bool k.started) [
-    | inl on ↦ elim (cases_Bool (not (run_bit v) || reset_bit v)) [ inl stops ↦ rw (on, stops) refl | inr goes ↦ rw (on, goes) refl ]
-    | inr off ↦ elim (cases_Bool (run_bit v && not (reset_bit v))) [ inl starts ↦ rw (off, starts) refl | inr stays ↦ rw (off, stays) refl ]
-  ]
+  runs_registers = search (rules, cases_Bool, not, run_bit, reset_bit)
 
   pub runs_started : (run_or_stop k v).started ≡ (k.started || (run_bit v && not (reset_bit v)))
   unfolding run_or_stop
-  runs_started = elim (cases_Bool k.started) [
-    | inl on ↦ elim (cases_Bool (not (run_bit v) || reset_bit v)) [ inl stops ↦ rw (on, stops) refl | inr goes ↦ rw (on, goes) refl ]
-    | inr off ↦ elim (cases_Bool (run_bit v && not (reset_bit v))) [ inl starts ↦ rw (off, starts) refl | inr stays ↦ rw (off, stays) refl ]
-  ]
+  runs_started = search (rules, cases_Bool, not, run_bit, reset_bit)
 
   runs_stopped : (run_or_stop k v).stopped ≡ (k.stopped || (k.started && (not (run_bit v) || reset_bit v)))
   unfolding run_or_stop

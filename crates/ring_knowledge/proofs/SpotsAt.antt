@@ -1,6 +1,5 @@
 -- The first spot from another one on at an address, by the place of the address
-use Rattle.std.proofs.Common.{rules}
-use Rattle.ring_knowledge.proofs.Words.{◌≡◌, ◌≢◌, ◌+◌, ◌%◌, ◌<◌, ◌≤◌, ◌∙◌, ℕ, Some, None, refl, ap, sym, arith, inl, inr, slice_index, cases_lt, AtData, AtLink, Spot, Data, Link, Shape, IsShape, place_count, address_of, links, link_crossed, link_address, place_at, IsSpot, number, rank, spot_address, link_aligned, address_aligned, address_of-mod, same_position, place_at-Data, place_at-Link, place_at-None, place_at-None_link, crosses, crossed_link, crossing_positive, is_crossing-from, link_address_is, same_crossing_at, rank_least, rank_most, data_not_link, IsFirstAt}
+use Rattle.ring_knowledge.proofs.Words.{◌≡◌, ◌≢◌, ◌+◌, ◌%◌, ◌<◌, ◌≤◌, ◌∙◌, ℕ, Some, None, refl, ap, sym, arith, inl, inr, slice_index, cases_lt, AtData, AtLink, Spot, Data, Link, Shape, IsShape, place_count, address_of, links, link_crossed, link_address, place_at, IsSpot, number, rank, spot_address, link_aligned, address_aligned, address_of-mod, same_position, place_at-Data, place_at-Link, place_at-None, place_at-None_link, crosses, crossed_link, crossing_positive, is_crossing-from, link_address_is, same_crossing_at, rank_least, rank_most, data_not_link, IsFirstAt, rules}
 
 module _ (shape : Shape) (is : IsShape shape) (address : ℕ) where
   -- no spot lies off the boundaries of blocks
@@ -40,14 +39,12 @@ module _ (shape : Shape) (is : IsShape shape) (address : ℕ) where
     least_crossing_at : (passed q : ℕ) → ((r : ℕ) → 0 < r → rank from ≤ rank (Link r) → passed < r) → q ≤ passed + place_count shape → IsSpot shape (Link q) →
         link_address shape q ≡ address → (u : Spot) → IsSpot shape u → rank from ≤ rank u → spot_address shape u ≡ address → rank (Link q) ≤ rank u
     least_crossing_at passed q behind near crossing at (Data p) spot later same = absurd (data_not_link shape is p q crossing (same ∙ sym at))
-    least_crossing_at passed q behind near crossing at (Link r) spot later same =
-        elim (cases_lt r q) [
-          | inl before ↦
-              let low : passed < r = behind r (crossing_positive shape r spot) later in
-              let one : r ≡ q = same_crossing_at shape is r q (omega arith) (omega arith) spot crossing (same ∙ sym at) in
-              absurd (omega arith)
-          | inr after ↦ omega arith
-        ]
+    least_crossing_at passed q behind near crossing at (Link r) spot later same = elim (cases_lt r q) [
+      | inl before ↦
+          let low : passed < r = behind r (crossing_positive shape r spot) later in
+          absurd (omega (arith, same_crossing_at shape is r q (omega arith) (omega arith) spot crossing (same ∙ sym at)))
+      | inr after ↦ omega arith
+    ]
 
     -- the first crossing of the Link at an address
     pub first_crossing_at : (segment word passed q : ℕ) → place_at shape address ≡ Some (AtLink segment word) →
@@ -55,7 +52,6 @@ module _ (shape : Shape) (is : IsShape shape) (address : ℕ) where
         passed < q → q ≤ passed + place_count shape → link_crossed shape q ≡ Some segment → IsFirstAt shape from address (Link q)
     first_crossing_at segment word passed q found behind ahead low near over =
         let here = place_at-Link shape is address segment word found in
-        let aligned = link_aligned shape is segment here.0 in
-        let at : link_address shape q ≡ address = link_address_is shape q segment over ∙ omega (arith, here.1, here.2) in
+        let at : link_address shape q ≡ address = link_address_is shape q segment over ∙ omega (arith, link_aligned shape is segment here.0, here.1, here.2) in
         let crossing = is_crossing-from shape q segment over in
         record { spot = crossing; later = ahead q low; at = at; least = least_crossing_at passed q behind near crossing at }

@@ -1,6 +1,5 @@
 -- The one spot, with a number between two that are less than a lap apart, at which a pointer and a cycle state stand
-use Rattle.std.proofs.Common.{rules}
-use Rattle.ring_knowledge.proofs.Words.{◌≡◌, ◌≢◌, ◌+◌, ◌-◌, ◌<◌, ◌≤◌, ◌∷◌, ◌∙◌, ◌==◌, ◌&&◌, if◌then◌else◌, ℕ, suc, zero, List, [], refl, Bool, true, false, Some, None, ap, sym, arith, inl, inr, find, eqb-true, eq-eqb, flat_map, range_with_len, cases_lt, cases_eq, cases_Bool, cond-true, cond-false, and_parts, and_from, false≢true, false_from_ne_true, Spot, Data, Link, Shape, IsShape, place_count, IsSpot, is_spot, number, rank, spot_address, spot_cycle, is_target, spots_between, rank_least, rank_most, same_spot, IsFirstAt}
+use Rattle.ring_knowledge.proofs.Words.{◌≡◌, ◌≢◌, ◌+◌, ◌-◌, ◌<◌, ◌≤◌, ◌∷◌, ◌∙◌, ◌==◌, ◌&&◌, if◌then◌else◌, ℕ, suc, zero, [], refl, Bool, true, false, Some, None, ap, sym, arith, find, eqb-true, eq-eqb, flat_map, range_with_len, cases_lt, cases_eq, cases_Bool, cond-true, cond-false, and_parts, and_from, false≢true, false_from_ne_true, Spot, Data, Link, Shape, IsShape, place_count, IsSpot, is_spot, number, rank, spot_address, spot_cycle, is_target, spots_between, rank_least, rank_most, same_spot, IsFirstAt, rules}
 
 -- ---- a search among the spots with n numbers from a on
 
@@ -8,11 +7,7 @@ use Rattle.ring_knowledge.proofs.Words.{◌≡◌, ◌≢◌, ◌+◌, ◌-◌, 
 find_none : (f : Spot → Bool) (a n : ℕ) → ((u : Spot) → a ≤ number u → number u < a + n → f u ≡ true → ⊥) →
     find f (flat_map (λ q. Link q ∷ Data q ∷ []) (range_with_len a n)) ≡ None
 find_none f a zero none = refl
-find_none f a (suc n) none =
-    let rest : List Spot = flat_map (λ q. Link q ∷ Data q ∷ []) (range_with_len (a + 1) n) in
-    cond-false (f (Link a)) (Some (Link a)) (find f (Data a ∷ rest)) (false_from_ne_true (f (Link a)) (none (Link a) (omega arith) (omega arith)))
-    ∙ cond-false (f (Data a)) (Some (Data a)) (find f rest) (false_from_ne_true (f (Data a)) (none (Data a) (omega arith) (omega arith)))
-    ∙ find_none f (a + 1) n (λ u low high. none u (omega arith) (omega arith))
+find_none f a (suc n) none = search (rules, flat_map, range_with_len, cond-false, find, false_from_ne_true, find_none f (a + 1) n)
 
 not_here : (f : Spot → Bool) (a : ℕ) (t : Spot) → f (Link a) ≡ false → f (Data a) ≡ false → f t ≡ true → number t ≢ a
 not_here f a (Data q) no_link no_block passes same = false≢true (sym no_block ∙ ap (λ n. f (Data n)) (sym same) ∙ passes)
@@ -22,32 +17,13 @@ not_here f a (Link q) no_link no_block passes same = false≢true (sym no_link �
 find_only : (f : Spot → Bool) (a n : ℕ) (t : Spot) → a ≤ number t → number t < a + n → f t ≡ true →
     ((u : Spot) → a ≤ number u → number u < a + n → f u ≡ true → u ≡ t) → find f (flat_map (λ q. Link q ∷ Data q ∷ []) (range_with_len a n)) ≡ Some t
 find_only f a zero t low high passes only = absurd (omega arith)
-find_only f a (suc n) t low high passes only =
-    let rest : List Spot = flat_map (λ q. Link q ∷ Data q ∷ []) (range_with_len (a + 1) n) in
-    elim (cases_Bool (f (Link a))) [
-      | inl link ↦ cond-true (f (Link a)) (Some (Link a)) (find f (Data a ∷ rest)) link ∙ ap (λ u. Some u) (only (Link a) (omega arith) (omega arith) link)
-      | inr no_link ↦
-          let first = cond-false (f (Link a)) (Some (Link a)) (find f (Data a ∷ rest)) no_link in
-          elim (cases_Bool (f (Data a))) [
-            | inl block ↦ first ∙ cond-true (f (Data a)) (Some (Data a)) (find f rest) block ∙ ap (λ u. Some u) (only (Data a) (omega arith) (omega arith) block)
-            | inr no_block ↦
-                let other = not_here f a t no_link no_block passes in
-                first ∙ cond-false (f (Data a)) (Some (Data a)) (find f rest) no_block
-                ∙ find_only f (a + 1) n t (next (number t) low other) (omega arith) passes (λ u from to. only u (omega arith) (omega arith))
-          ]
-    ]
-  where
-    next : (m : ℕ) → a ≤ m → m ≢ a → a + 1 ≤ m
-    next m low other = elim (cases_eq m a) [ inl same ↦ absurd (other same) | inr differs ↦ omega arith ]
+find_only f a (suc n) t low high passes only = search (rules, flat_map, range_with_len, cases_Bool, cond-true, find, cond-false, not_here, number, cases_eq, find_only f (a + 1) n t)
 
 -- ---- the targets of a pointer and a cycle state
 
 pub target_parts : (shape : Shape) (address : ℕ) (cycle : Bool) (t : Spot) → is_target shape address cycle t ≡ true → IsSpot shape t × (spot_address shape t ≡ address)
 unfolding is_target
-target_parts shape address cycle t h =
-    let parts = and_parts (is_spot shape t) (spot_address shape t == address)
-    (and_parts (is_spot shape t && spot_address shape t == address) (spot_cycle shape t == (if cycle then 1 else 0)) h).0 in
-    (parts.0, eqb-true (spot_address shape t) address parts.1)
+target_parts shape address cycle t h = search (rules, and_parts, is_spot, spot_address, spot_cycle, eqb-true)
 
 target_test : (shape : Shape) (address : ℕ) (cycle : Bool) (t : Spot) → IsSpot shape t → spot_address shape t ≡ address →
     (spot_cycle shape t == (if cycle then 1 else 0)) ≡ true → is_target shape address cycle t ≡ true
@@ -76,10 +52,7 @@ module _ (shape : Shape) (is : IsShape shape) (address : ℕ) (cycle : Bool) (le
   module _ (near : most < least + place_count shape) (t : Spot) (first : IsFirstAt shape (Link least) address t) where
     -- only the first spot from the least number on can be it
     only_first : (u : Spot) → least ≤ number u → number u ≤ most → is_target shape address cycle u ≡ true → u ≡ t
-    only_first u from to passes =
-        let at = target_parts shape address cycle u passes in
-        let low : rank t ≤ rank u = first.least u at.0 (omega (arith, rank_least u)) at.1 in
-        sym (same_spot shape is t u first.spot at.0 low (omega (arith, rank_most u, first.later)) (first.at ∙ sym at.1))
+    only_first u from to passes = search (rules, target_parts, rank, rank_least, same_spot, rank_most)
 
     -- it is near enough and has the cycle
     pub first_between : number t ≤ most → (spot_cycle shape t == (if cycle then 1 else 0)) ≡ true → Some t ≡ find (is_target shape address cycle) (spots_between least most)

@@ -1,6 +1,5 @@
 -- A spot at which a controller may have stopped is one before which all is given, on a ring that a record follows
-use Rattle.std.proofs.Common.{rules}
-use Rattle.ring_knowledge.proofs.Words.{in_range_all, all_in_range, ◌≡◌, ◌≢◌, ◌+◌, ◌-◌, ◌<◌, ◌≤◌, ◌∙◌, ◌&&◌, ◌||◌, ℕ, suc, zero, Bool, true, false, None, Some, refl, ap, sym, arith, inl, inr, not, is_some, nat_lt, nat_le, lt-ltb, le-ltb, le-leb, leb-true, ltb-true, eq-eqb, eqb-true, ne_eqb, cases_lt, and_parts, and_from, or_cases, or_left, or_right, false≢true, Spot, Data, Link, Shape, place_count, is_crossing, link_crossed, RingView, is_way_given, is_step_given, given_count, is_stop_spot, stopped_number, is_reached, are_given, are_ways_given, link_of, is_crossing-from, RingRecord, is_noted, FollowsMarks, FollowsRing, least_crossing}
+use Rattle.ring_knowledge.proofs.Words.{in_range_all, all_in_range, ◌≡◌, ◌≢◌, ◌+◌, ◌-◌, ◌<◌, ◌≤◌, ◌∙◌, ◌||◌, ℕ, suc, zero, Bool, true, false, None, Some, refl, ap, sym, arith, inl, inr, not, is_some, nat_lt, nat_le, lt-ltb, le-ltb, le-leb, leb-true, ltb-true, eq-eqb, eqb-true, ne_eqb, cases_lt, and_parts, and_from, or_cases, or_left, or_right, false≢true, Spot, Data, Link, Shape, place_count, is_crossing, link_crossed, RingView, is_way_given, is_step_given, given_count, is_stop_spot, stopped_number, is_reached, are_given, are_ways_given, link_of, is_crossing-from, RingRecord, is_noted, FollowsMarks, FollowsRing, least_crossing, rules}
 use Rattle.ring_knowledge.proofs.DueNumbers.{link_of-crossed}
 use Rattle.ring_knowledge.proofs.GivenCount.{count_is}
 
@@ -20,10 +19,7 @@ way_without_link shape v q none = sym (ap (λ o. not (is_some o) || v.crossed q)
 pub way_with_link : (shape : Shape) (v : RingView) (r : RingRecord) → FollowsMarks shape v r → (q j : ℕ) → link_crossed shape q ≡ Some j →
     is_noted (least_crossing v) (place_count shape) r.crossed.items j q ≡ is_way_given shape v q
 unfolding is_way_given
-way_with_link shape v r follows q j over =
-    sym (ap (λ b. not b || v.crossed q) (is_crossing-from shape q j over) ∙ follows.crossed q
-    ∙ ap (λ b. b && is_noted (least_crossing v) (place_count shape) r.crossed.items (link_of shape q) q) (is_crossing-from shape q j over)
-    ∙ ap (λ i. is_noted (least_crossing v) (place_count shape) r.crossed.items i q) (link_of-crossed shape q j over))
+way_with_link shape v r follows q j over = search (rules, not, is_crossing-from, is_noted, least_crossing, place_count, link_of, link_of-crossed)
 
 pub way_without : (shape : Shape) (v : RingView) (q : ℕ) → is_crossing shape q ≡ false → is_way_given shape v q ≡ true
 unfolding is_way_given
@@ -114,17 +110,11 @@ module _ (shape : Shape) (v : RingView) (r : RingRecord) (known : FollowsRing sh
 
   link_stop : (q : ℕ) → is_reached shape v (Link q) ≡ true → is_stop_spot shape v (Link q) ≡ true
   unfolding is_stop_spot
-  link_stop q reached =
-      let count = count_is shape v r known in
-      let near = within_count q (steps_to_link shape v q reached) in
-      le-leb q (given_count shape v) (omega arith)
+  link_stop q reached = le-leb q (given_count shape v) (omega (arith, within_count q (steps_to_link shape v q reached), count_is shape v r known))
 
   link_reached : (q : ℕ) → is_stop_spot shape v (Link q) ≡ true → is_reached shape v (Link q) ≡ true
   unfolding is_stop_spot
-  link_reached q stop =
-      let count = count_is shape v r known in
-      let near = leb-true q (given_count shape v) stop in
-      reached_link shape v q (λ p h. known.steps p (omega arith))
+  link_reached q stop = reached_link shape v q (λ p h. known.steps p (omega (arith, leb-true q (given_count shape v) stop, count_is shape v r known)))
 
   pub stop_reached : (t : Spot) → is_stop_spot shape v t ≡ is_reached shape v t
   stop_reached (Data q) = same_tests (is_stop_spot shape v (Data q)) (is_reached shape v (Data q)) (block_reached q) (block_stop q)

@@ -1,7 +1,6 @@
 -- A record that follows a ring of which a descriptor is withdrawn, or what is free is restored
-use Rattle.std.proofs.Common.{rules}
 use Rattle.ring_knowledge.proofs.Forgotten.{drop_no_ops}
-use Rattle.ring_knowledge.proofs.Words.{length-no_ops, split_sum, drop, ◌-◌, ◌≡◌, ◌+◌, ◌<◌, ◌≤◌, ◌∷◌, ◌++◌, ◌∙◌, ◌==◌, ◌&&◌, ◌||◌, ℕ, suc, zero, List, [], Bool, true, false, refl, ap, sym, arith, inl, inr, length, slice_index, replicate, sum, not, set, nat_le, nat_lt, if◌then◌else◌, cases_eq, cases_lt, cases_Bool, eq-eqb, ne_eqb, nat_tests, common_steps, and_parts, or_cases, Block, Shape, RingView, length_from, descriptor_length, no_ops, split_at, FollowsMarks, FollowsRing, RingRecord, ArePositive, ◌%◌, no_op, is_in, place_count, floor_number, is_step_given, is_way_given, changed, Withdraws, Restores, list_any, range_with_len, contains, nat_cmp, is_noted, false≢true, or_left, or_right, leb-true, ltb-true}
+use Rattle.ring_knowledge.proofs.Words.{length-no_ops, split_sum, drop, ◌-◌, ◌≡◌, ◌+◌, ◌<◌, ◌≤◌, ◌∷◌, ◌++◌, ◌∙◌, ◌&&◌, ◌||◌, ℕ, suc, zero, List, [], Bool, true, false, refl, ap, sym, arith, inl, inr, length, slice_index, replicate, sum, not, set, nat_le, nat_lt, if◌then◌else◌, cases_eq, cases_lt, cases_Bool, eq-eqb, ne_eqb, nat_tests, common_steps, and_parts, or_cases, Block, Shape, RingView, length_from, descriptor_length, no_ops, split_at, FollowsMarks, FollowsRing, RingRecord, ArePositive, ◌%◌, no_op, is_in, place_count, floor_number, is_step_given, is_way_given, changed, Withdraws, Restores, list_any, range_with_len, contains, nat_cmp, is_noted, false≢true, or_left, or_right, leb-true, ltb-true, rules}
 use Rattle.ring_knowledge.proofs.Ranges.{none_each}
 use Rattle.ring_knowledge.proofs.Noted.{false_unless}
 use Rattle.ring_knowledge.proofs.DeclaredMore.{sum-cons}
@@ -40,75 +39,20 @@ back old mid new false same none is = search rules
 -- descriptors of one block begin at each of their blocks
 ones_begin : (n : ℕ) (rest : List ℕ) (start q : ℕ) → length_from (replicate n 1 ++ rest) start q ≡ (if is_in q start n then 1 else length_from rest (start + n) q)
 unfolding length_from
-ones_begin zero rest start q =
-    let out : is_in q start 0 ≡ false = grind (arith, nat_tests) in
-    let same : start + 0 ≡ start = omega arith in
-    rw (out, same) refl
-ones_begin (suc n) rest start q =
-    let next : start + 1 + n ≡ start + suc n = omega arith in
-    let rest_is : length_from (replicate n 1 ++ rest) (start + 1) q ≡ (if is_in q (start + 1) n then 1 else length_from rest (start + suc n) q) =
-    ones_begin n rest (start + 1) q ∙ ap (λ s. if is_in q (start + 1) n then 1 else length_from rest s q) next in
-    elim (cases_eq start q) [
-      | inl here ↦
-          let first : (start == q) ≡ true = eq-eqb start q here in
-          let inside : is_in q start (suc n) ≡ true = grind (arith, nat_tests, here) in
-          rw (first, inside) refl
-      | inr past ↦
-          let later : (start == q) ≡ false = ne_eqb start q past in
-          let same : is_in q (start + 1) n ≡ is_in q start (suc n) = grind (arith, nat_tests, past) in
-          rw later (rest_is ∙ ap (λ b. if b then 1 else length_from rest (start + suc n) q) same)
-    ]
+ones_begin zero rest start q = search (rules, is_in, nat_tests)
+ones_begin (suc n) rest start q = search (rules, length_from, replicate, is_in, cases_eq, eq-eqb, nat_tests, ne_eqb, ones_begin n rest (start + 1) q)
 
 -- none begins before the first
 begins_from : (ls : List ℕ) (start p : ℕ) → 0 < length_from ls start p → start ≤ p
 unfolding length_from
 begins_from [] start p some = absurd (omega arith)
-begins_from (n ∷ rest) start p some =
-    elim (cases_eq start p) [
-      | inl here ↦ omega arith
-      | inr past ↦
-          let later : (start == p) ≡ false = ne_eqb start p past in
-          let more : 0 < length_from rest (start + n) p = rw later at some in
-          let behind = begins_from rest (start + n) p more in
-          omega arith
-    ]
+begins_from (n ∷ rest) start p some = search (rules, cases_eq, ne_eqb, length_from, begins_from rest (start + n) p)
 
 -- of the descriptor that begins at p each block is one then, and all others begin where they began
 split_begins : (ls : List ℕ) (start p q : ℕ) → ArePositive ls → length_from (split_at ls start p) start q ≡ (if is_in q p (length_from ls start p) then 1 else length_from ls start q)
 unfolding length_from split_at
-split_begins [] start p q positive =
-    let out : is_in q p 0 ≡ false = grind (arith, nat_tests) in
-    rw out refl
-split_begins (n ∷ rest) start p q positive =
-    let some = positive.0 in
-    elim (cases_eq start p) [
-      | inl here ↦
-          let first : (start == p) ≡ true = eq-eqb start p here in
-          let ones = ones_begin n rest start q in
-          let at : is_in q start n ≡ is_in q p n = ap (λ s. is_in q s n) here in
-          rw first (ones ∙ ap (λ b. if b then 1 else length_from rest (start + n) q) at ∙ elim (cases_Bool (is_in q p n)) [
-            | inl inside ↦ rw inside refl
-            | inr outside ↦
-                let other : (start == q) ≡ false = grind (arith, nat_tests, outside, here, some) in
-                rw (outside, other) refl
-          ])
-      | inr past ↦
-          let later : (start == p) ≡ false = ne_eqb start p past in
-          let rest_is = split_begins rest (start + n) p q positive.1 in
-          rw later (elim (cases_eq start q) [
-            | inl here ↦
-                let first : (start == q) ≡ true = eq-eqb start q here in
-                let out : is_in q p (length_from rest (start + n) p) ≡ false = before (length_from rest (start + n) p) (begins_from rest (start + n) p) here some in
-                rw (first, out) refl
-            | inr behind ↦
-                let other : (start == q) ≡ false = ne_eqb start q behind in
-                rw other rest_is
-          ])
-    ]
-  where
-    before : (m : ℕ) → (0 < m → start + n ≤ p) → start ≡ q → 0 < n → is_in q p m ≡ false
-    before zero from here some = grind (arith, nat_tests)
-    before (suc m) from here some = let low = from (omega arith) in grind (arith, nat_tests, low, here, some)
+split_begins [] start p q positive = search (rules, is_in, nat_tests)
+split_begins (n ∷ rest) start p q positive = search (rules, cases_eq, eq-eqb, ones_begin, is_in, length_from, cases_Bool, nat_tests, ne_eqb, begins_from, split_begins rest (start + n) p q positive.1)
 
 ones_positive : (n : ℕ) (rest : List ℕ) → ArePositive rest → ArePositive (replicate n 1 ++ rest)
 ones_positive zero rest positive = positive
@@ -117,32 +61,13 @@ ones_positive (suc n) rest positive = (omega arith, ones_positive n rest positiv
 split_positive : (ls : List ℕ) (start p : ℕ) → ArePositive ls → ArePositive (split_at ls start p)
 unfolding split_at
 split_positive [] start p positive = positive
-split_positive (n ∷ rest) start p positive =
-    elim (cases_eq start p) [
-      | inl here ↦
-          let first : (start == p) ≡ true = eq-eqb start p here in
-          rw first (ones_positive n rest positive.1)
-      | inr past ↦
-          let later : (start == p) ≡ false = ne_eqb start p past in
-          rw later (positive.0, split_positive rest (start + n) p positive.1)
-    ]
+split_positive (n ∷ rest) start p positive = search (rules, cases_eq, eq-eqb, ones_positive, ne_eqb, split_positive rest (start + n) p positive.1)
 
 -- a descriptor that begins has its blocks among the declared ones
 ends_within : (ls : List ℕ) (start p : ℕ) → 0 < length_from ls start p → p + length_from ls start p ≤ start + sum ls
 unfolding length_from
 ends_within [] start p some = absurd (omega arith)
-ends_within (n ∷ rest) start p some =
-    let all = sum-cons n rest in
-    elim (cases_eq start p) [
-      | inl here ↦
-          let first : (start == p) ≡ true = eq-eqb start p here in
-          rw first (omega arith)
-      | inr past ↦
-          let later : (start == p) ≡ false = ne_eqb start p past in
-          let more : 0 < length_from rest (start + n) p = rw later at some in
-          let behind = ends_within rest (start + n) p more in
-          rw later (omega arith)
-    ]
+ends_within (n ∷ rest) start p some = search (rules, sum-cons, cases_eq, eq-eqb, ne_eqb, length_from, ends_within rest (start + n) p)
 
 -- whether a number is one of some, behind so many that are forgotten
 moved_in : (q p n k : ℕ) → k ≤ p → k ≤ q → is_in q p n ≡ is_in (q - k) (p - k) n
@@ -166,28 +91,13 @@ module _ (shape : Shape) (v : RingView) (r : RingRecord) (known : FollowsRing sh
     pub ends : 0 < count → p - r.forgotten + count ≤ length r.lengths.items
     ends some =
         let same : length_from v.lengths 0 p ≡ count = follows.begins p kept in
-        let within = ends_within v.lengths 0 p (omega arith) in
-        omega (arith, follows.whole, follows.count, follows.as_many)
+        omega (arith, ends_within v.lengths 0 p (omega arith), follows.whole, follows.count, follows.as_many)
 
     -- so their lengths are among those that are kept
     pub begins_at : (ls : List ℕ) → length ls ≡ length r.lengths.items →
         ((q : ℕ) → q < length r.lengths.items → slice_index ls q ≡ (if is_in q (p - r.forgotten) count then 1 else slice_index r.lengths.items q)) →
         (q : ℕ) → slice_index ls q ≡ (if is_in q (p - r.forgotten) count then 1 else slice_index r.lengths.items q)
-    begins_at ls many here q =
-        elim (cases_lt q (length r.lengths.items)) [
-          | inl below ↦ here q below
-          | inr past ↦
-              let out : is_in q (p - r.forgotten) count ≡ false = beyond count ends q past in
-              index_past ls q (omega arith) ∙ sym (index_past r.lengths.items q past)
-              ∙ sym (ap (λ b. if b then 1 else slice_index r.lengths.items q) out)
-        ]
-      where
-        index_past : (xs : List ℕ) (q : ℕ) → length xs ≤ q → slice_index xs q ≡ 0
-        index_past xs q h = grind (arith, common_steps, h)
-
-        beyond : (n : ℕ) → (0 < n → p - r.forgotten + n ≤ length r.lengths.items) → (q : ℕ) → length r.lengths.items ≤ q → is_in q (p - r.forgotten) n ≡ false
-        beyond zero within q past = grind (arith, nat_tests)
-        beyond (suc n) within q past = let end = within (omega arith) in grind (arith, nat_tests, end, past)
+    begins_at ls many here q = search (rules, cases_lt, length, is_in, count, ends, slice_index, common_steps, nat_tests)
 
     -- No Ops in their place, and those that were given are free
     pub withdrawn_here : (n : RingRecord) → n.forgotten ≡ r.forgotten → n.blocks.items ≡ no_ops r.blocks.items (p - r.forgotten) count → length n.lengths.items ≡ length r.lengths.items →
@@ -244,9 +154,8 @@ module _ (shape : Shape) (v : RingView) (r : RingRecord) (known : FollowsRing sh
     pub none_before : list_any v.withdrawn (range_with_len p (descriptor_length v p)) ≡ false → (q : ℕ) → is_in q p count ≡ true → v.withdrawn q ≡ false
     unfolding descriptor_length
     none_before none q inside =
-        let same : length_from v.lengths 0 p ≡ count = follows.begins p kept in
         let parts = and_parts (nat_le p q) (nat_lt q (p + count)) inside in
-        none_each v.withdrawn p (length_from v.lengths 0 p) none q (leb-true p q parts.0) (omega (arith, ltb-true q (p + count) parts.1))
+        none_each v.withdrawn p (length_from v.lengths 0 p) none q (leb-true p q parts.0) (omega (arith, follows.begins p kept, ltb-true q (p + count) parts.1))
 
     pub none_free_before : list_any v.withdrawn (range_with_len p (descriptor_length v p)) ≡ false → (q : ℕ) → is_in q p count ≡ true → v.free q ≡ false
     none_free_before none q inside = false_unless (v.free q) (λ free. false≢true (sym (none_before none q inside) ∙ follows.free_withdrawn q free))

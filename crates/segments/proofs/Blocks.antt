@@ -45,23 +45,22 @@ in_rest kind s rest i h =
 pub place_lies : (kind : RingKind) (ss : List Segment) (i : ℕ) → i < length (places_of kind ss) →
     (j : ℕ) × (k : ℕ) × LiesAt kind ss i j k
 place_lies kind [] i h = absurd (omega arith)
-place_lies kind (s ∷ rest) i h =
-    elim (cases_lt i (data_count kind s)) [
-      | inl here ↦ (0, i, record { segment = omega arith; block = here; number = omega arith; address = in_first kind s rest i here })
-      | inr there ↦
-          let inside : i - data_count kind s < length (places_of kind rest) = omega (arith, length-places_of-cons kind s rest) in
-          let found = place_lies kind rest (i - data_count kind s) inside in
-          let lies : LiesAt kind rest (i - data_count kind s) found.0 found.1 = found.2 in (
-            suc found.0,
-            found.1,
-            record {
-              segment = omega (arith, lies.segment);
-              block = lies.block;
-              number = omega (arith, lies.number);
-              address = in_rest kind s rest i there ∙ lies.address;
-            },
-          )
-    ]
+place_lies kind (s ∷ rest) i h = elim (cases_lt i (data_count kind s)) [
+  | inl here ↦ (0, i, record { segment = omega arith; block = here; number = omega arith; address = in_first kind s rest i here })
+  | inr there ↦
+      let inside : i - data_count kind s < length (places_of kind rest) = omega (arith, length-places_of-cons kind s rest) in
+      let found = place_lies kind rest (i - data_count kind s) inside in
+      let lies : LiesAt kind rest (i - data_count kind s) found.0 found.1 = found.2 in (
+        suc found.0,
+        found.1,
+        record {
+          segment = omega (arith, lies.segment);
+          block = lies.block;
+          number = omega (arith, lies.number);
+          address = in_rest kind s rest i there ∙ lies.address;
+        },
+      )
+]
 
 drop_first : (a b k : ℕ) → a + b + k - a ≡ b + k
 drop_first a b k = omega arith

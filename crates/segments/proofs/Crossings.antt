@@ -77,8 +77,7 @@ end_in_lap shape is j h =
         | inl below ↦ let later = before_below shape is (j + 1) (length shape.segments) below (omega arith) in omega arith
         | inr last ↦
             let here : j + 1 ≡ length shape.segments = omega (arith, link.segment) in
-            let ends_there = ap (λ n. before shape.kind shape.segments n) here in
-            omega arith
+            omega (arith, ap (λ n. before shape.kind shape.segments n) here)
       ],
     )
 
@@ -158,11 +157,10 @@ link_crossed-same shape is p q hp hq same =
     ∙ sym (link_crossed-pos shape q hq)
   where
     one_before : (n p q : ℕ) → 0 < n → 0 < p → 0 < q → p % n ≡ q % n → (p - 1) % n + 1 ≡ (q - 1) % n + 1
-    one_before n p q pos hp hq same =
-        elim (cases_eq (p % n) 0) [
-          | inl end ↦ before_zero n p pos hp end ∙ sym (before_zero n q pos hq (sym same ∙ end))
-          | inr more ↦ before_more n p pos hp (omega arith) ∙ same ∙ sym (before_more n q pos hq (omega arith))
-        ]
+    one_before n p q pos hp hq same = elim (cases_eq (p % n) 0) [
+      | inl end ↦ before_zero n p pos hp end ∙ sym (before_zero n q pos hq (sym same ∙ end))
+      | inr more ↦ before_more n p pos hp (omega arith) ∙ same ∙ sym (before_more n q pos hq (omega arith))
+    ]
 
 pub is_crossing-lap : (shape : Shape) (q : ℕ) → 0 < q → is_crossing shape (q + place_count shape) ≡ is_crossing shape q
 is_crossing-lap shape q h = ap (λ o. is_some o) (link_crossed-lap shape q h)
@@ -190,9 +188,8 @@ pub last_crossing : (shape : Shape) → IsShape shape → (shape.kind ≡ Evt �
 last_crossing shape is other =
     let some : 0 < length shape.segments = some_segment shape.kind shape.segments (place_count_pos shape is) in
     let all : length shape.segments - 1 + 1 ≡ length shape.segments = omega arith in
-    let last = first_crossing shape is (length shape.segments - 1) (omega (arith, length-links shape other)) in
     let at : before shape.kind shape.segments (length shape.segments - 1 + 1) ≡ place_count shape = ap (λ n. before shape.kind shape.segments n) all ∙ before-all shape.kind shape.segments in
-    rw at at last
+    rw at at (first_crossing shape is (length shape.segments - 1) (omega (arith, length-links shape other)))
   where
     some_segment : (kind : RingKind) (ss : List Segment) → 0 < length (places_of kind ss) → 0 < length ss
     some_segment kind [] h = absurd (omega arith)
@@ -256,7 +253,6 @@ pub position_behind : (shape : Shape) → IsShape shape → (q i : ℕ) → link
     q % place_count shape ≡ before shape.kind shape.segments ((i + 1) % length shape.segments)
 position_behind shape is q i h =
     let c = crosses shape q i h in
-    let link = link_is shape is i c.link in
     let at = end_is shape i c.link in
     let turn = toggles-crossed shape is q i h in
     elim (cases_eq (i + 1) (length shape.segments)) [
@@ -266,7 +262,7 @@ position_behind shape is q i h =
           end ∙ sym (before-zero shape.kind shape.segments) ∙ ap (λ n. before shape.kind shape.segments n) (sym zero_next)
       | inr inner ↦
           let more : q % place_count shape ≢ 0 = λ e. inner (eqb-true (i + 1) (length shape.segments) (turn ∙ eq-eqb (q % place_count shape) 0 e)) in
-          let low : (i + 1) % length shape.segments ≡ i + 1 = mod-eq_of_lt (omega (arith, link.segment)) in
+          let low : (i + 1) % length shape.segments ≡ i + 1 = mod-eq_of_lt (omega (arith, (link_is shape is i c.link).segment)) in
           within q (place_count shape) (place_count_pos shape is) c.positive more ∙ sym c.end ∙ at ∙ ap (λ n. before shape.kind shape.segments n) (sym low)
     ]
   where
@@ -282,13 +278,9 @@ position_behind shape is q i h =
 -- the position behind a crossed Link lies where the Link leads
 pub link_target-crossed : (shape : Shape) → IsShape shape → (q i : ℕ) → link_crossed shape q ≡ Some i → address_of shape q ≡ link_target shape i
 link_target-crossed shape is q i h =
-    let c = crosses shape q i h in
-    let link = link_is shape is i c.link in
-    let some : 0 < length shape.segments = omega (arith, link.segment) in
+    let some : 0 < length shape.segments = omega (arith, (link_is shape is i (crosses shape q i h).link).segment) in
     let next : (i + 1) % length shape.segments < length shape.segments = mod-lt (i + 1) some in
-    let at = position_behind shape is q i h in
-    let start = segment_start shape is ((i + 1) % length shape.segments) next in
-    ap (λ n. slice_index (data_places shape) n) at ∙ start.1
+    ap (λ n. slice_index (data_places shape) n) (position_behind shape is q i h) ∙ (segment_start shape is ((i + 1) % length shape.segments) next).1
     ∙ sym (get_or-map (λ s. s.base) shape.segments ((i + 1) % length shape.segments) (record { base = 0; count = 0 }) 0 next)
 
 -- a crossed Link lies right behind the place of the position before
@@ -332,8 +324,7 @@ address_of-behind shape is other q h =
           let end = end_is shape j link in
           let one : q + 1 - 1 ≡ q = omega arith in
           let at : slice_index (ends shape) j ≡ (q + 1 - 1) % place_count shape + 1 = rw one (omega (arith, place.number, place.block)) in
-          let crossing = crosses-from shape is (q + 1) j (record { positive = omega arith; link = link; end = at }) in
-          absurd (false≢true (sym h ∙ is_crossing-from shape (q + 1) j crossing))
+          absurd (false≢true (sym h ∙ is_crossing-from shape (q + 1) j (crosses-from shape is (q + 1) j (record { positive = omega arith; link = link; end = at }))))
     ]
   where
     one_on : (a k x : ℕ) → x ≡ a + 16 * k → a + 16 * (k + 1) ≡ x + 16

@@ -1,6 +1,5 @@
 -- Where data places and Links of a ring lie: on 16 byte boundaries, inside its segments, and apart
-use Rattle.std.proofs.Common.{rules}
-use Rattle.segments.proofs.Words.{◌≡◌, ◌+◌, ◌-◌, ◌*◌, ◌%◌, ◌^◌, ◌<◌, ◌≤◌, ◌∷◌, ◌∙◌, ℕ, suc, true, List, [], length, slice_index, arith, ap, get_or, add-zero, le-leb, lt-ltb, cases_lt, and_from, length-map, get_or-map, list_any_at, RingKind, Cmd, Evt, Xfer, Segment, Shape, data_count, data_places, place_count, links_of, links, segment_has, is_inside, IsShape, are_apart}
+use Rattle.segments.proofs.Words.{◌≡◌, ◌+◌, ◌*◌, ◌%◌, ◌^◌, ◌<◌, ◌≤◌, ◌∷◌, ◌∙◌, ℕ, suc, true, List, [], length, slice_index, arith, ap, get_or, add-zero, le-leb, lt-ltb, cases_lt, and_from, length-map, get_or-map, list_any_at, RingKind, Cmd, Evt, Xfer, Segment, Shape, data_count, data_places, place_count, links_of, links, segment_has, is_inside, IsShape, are_apart, rules}
 use Rattle.segments.proofs.Blocks.{segment_at, places_of, before, LiesAt, place_lies, block_lies, same_segment, length-places_of-cons}
 use Rattle.segments.proofs.ShapeFacts.{IsSegment, shape_facts}
 
@@ -180,8 +179,7 @@ place_not_link shape is i j hi hj near far =
   where
     not_data : (kind : RingKind) (ss : List Segment) (i j k : ℕ) → k < data_count kind (segment_at ss i) → i ≡ j → k ≡ data_count kind (segment_at ss j) → ⊥
     not_data kind ss i j k l same all =
-        let counts = ap (λ n. data_count kind (segment_at ss n)) same in
-        omega arith
+        omega (arith, ap (λ n. data_count kind (segment_at ss n)) same)
 
 -- there are at most 64 times 4,096 of them
 pub place_count_most : (shape : Shape) → IsShape shape → place_count shape ≤ 64 * 4096

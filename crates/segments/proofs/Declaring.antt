@@ -17,14 +17,12 @@ slice_get-append xs ys p h =
 -- what is declared then is what was declared, or is declared now
 declared_now : (P : Block → Type 0) (xs ys : List Block) (p : ℕ) (d : Block) → ((p : ℕ) (d : Block) → slice_get xs p ≡ Some d → P d) → All P ys →
     slice_get (xs ++ ys) p ≡ Some d → P d
-declared_now P xs ys p d old new at =
-    elim (cases_lt p (length xs)) [
-      | inl was ↦ old p d (sym (slice_get-append xs ys p was) ∙ at)
-      | inr is ↦
-          let inside = slice_get_within (xs ++ ys) p d at in
-          let there : get_or ys (p - length xs) d ≡ d = sym (get_or-append_right xs ys (length xs) p d refl is) ∙ get_or_from_slice_get (xs ++ ys) p d d at in
-          subst P there (All-get_or P ys (p - length xs) d (omega (arith, length-append xs ys)) new)
-    ]
+declared_now P xs ys p d old new at = elim (cases_lt p (length xs)) [
+  | inl was ↦ old p d (sym (slice_get-append xs ys p was) ∙ at)
+  | inr is ↦
+      let there : get_or ys (p - length xs) d ≡ d = sym (get_or-append_right xs ys (length xs) p d refl is) ∙ get_or_from_slice_get (xs ++ ys) p d d at in
+      subst P there (All-get_or P ys (p - length xs) d (omega (arith, slice_get_within (xs ++ ys) p d at, length-append xs ys)) new)
+]
 
 length_kept : (shape : Shape) (v : RingView) (blocks : List Block) (p : ℕ) → sum v.lengths ≡ declared v → p < declared v →
     descriptor_length (changed shape v (Declares blocks)) p ≡ descriptor_length v p

@@ -15,26 +15,24 @@ pub border_or_inside : (lengths : List ℕ) (start q : ℕ) → All (λ n. 0 < n
     (is_border lengths start q ≡ true) ⊎ ((p : ℕ) × IsInside lengths start p q)
 unfolding is_border length_from
 border_or_inside [] start q some low high = inl (eq-eqb start q (omega arith))
-border_or_inside (n ∷ rest) start q some low high =
-    elim (cases_eq start q) [
-      | inl here ↦ inl (or_left (start == q) (is_border rest (start + n) q) (eq-eqb start q here))
-      | inr past ↦
-          let first : 0 < n = All-head (λ n. 0 < n) n rest some in
-          elim (cases_lt q (start + n)) [
-            | inl within ↦
-                let long : length_from (n ∷ rest) start start ≡ n = cond-true (start == start) n (length_from rest (start + n) start) (eq-eqb start start refl) in
-                inr (start, record { from = omega arith; above = omega arith; below = omega (arith, long) })
-            | inr beyond ↦
-                elim (border_or_inside rest (start + n) q (All-tail (λ n. 0 < n) n rest some) beyond (omega (arith, sum_by-cons (λ x. x) n rest))) [
-                  | inl border ↦ inl (or_right (start == q) (is_border rest (start + n) q) border)
-                  | inr inside ↦
-                      let in_rest : IsInside rest (start + n) inside.0 q = inside.1 in
-                      let same : length_from (n ∷ rest) start inside.0 ≡ length_from rest (start + n) inside.0 =
-                      cond-false (start == inside.0) n (length_from rest (start + n) inside.0) (ne_eqb start inside.0 (λ e. absurd (omega (arith, in_rest.from)))) in
-                      inr (inside.0, record { from = omega (arith, in_rest.from); above = in_rest.above; below = omega (arith, in_rest.below, same) })
-                ]
-          ]
-    ]
+border_or_inside (n ∷ rest) start q some low high = elim (cases_eq start q) [
+  | inl here ↦ inl (or_left (start == q) (is_border rest (start + n) q) (eq-eqb start q here))
+  | inr past ↦
+      let first : 0 < n = All-head (λ n. 0 < n) n rest some in
+      elim (cases_lt q (start + n)) [
+        | inl within ↦
+            let long : length_from (n ∷ rest) start start ≡ n = cond-true (start == start) n (length_from rest (start + n) start) (eq-eqb start start refl) in
+            inr (start, record { from = omega arith; above = omega arith; below = omega (arith, long) })
+        | inr beyond ↦ elim (border_or_inside rest (start + n) q (All-tail (λ n. 0 < n) n rest some) beyond (omega (arith, sum_by-cons (λ x. x) n rest))) [
+          | inl border ↦ inl (or_right (start == q) (is_border rest (start + n) q) border)
+          | inr inside ↦
+              let in_rest : IsInside rest (start + n) inside.0 q = inside.1 in
+              let same : length_from (n ∷ rest) start inside.0 ≡ length_from rest (start + n) inside.0 =
+              cond-false (start == inside.0) n (length_from rest (start + n) inside.0) (ne_eqb start inside.0 (λ e. absurd (omega (arith, in_rest.from)))) in
+              inr (inside.0, record { from = omega (arith, in_rest.from); above = in_rest.above; below = omega (arith, in_rest.below, same) })
+        ]
+      ]
+]
 
 pub length_is : (v : RingView) (p : ℕ) → descriptor_length v p ≡ length_from v.lengths 0 p
 unfolding descriptor_length

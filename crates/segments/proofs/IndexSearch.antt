@@ -1,6 +1,5 @@
 -- A segment is found by a search through how many data places lie before each, or through where each starts
-use Rattle.std.proofs.Common.{rules}
-use Rattle.segments.proofs.Words.{AreFirsts, AreStarts, IsIndex, IsLastOf, IsLastStart, IsSegmentOf, IsStart, SegmentIndex, Start, ◌≡◌, ◌+◌, ◌-◌, ◌<◌, ◌≤◌, ◌==◌, ◌∷◌, ◌∙◌, ℕ, suc, zero, true, false, List, [], Some, None, length, get_or, ap, sym, arith, inl, inr, leb-true, leb-false, eqb-true, leb, cases_lt, list_any, list_any_at, Any-from_list_any, get_or_from_slice_get, slice_get-get_or, get_or_append_left, get_or-append_right, length-append, ◌++◌, refl, subst, nat_tests, All, All-permutation, list_any-IsPermutation, IsPermutation, IsNonDecreasingBy, IsNonDecreasingBy-from_default, IsPartitionPoint, RingKind, Segment}
+use Rattle.segments.proofs.Words.{AreFirsts, AreStarts, IsIndex, IsLastOf, IsLastStart, IsSegmentOf, IsStart, SegmentIndex, Start, ◌≡◌, ◌+◌, ◌-◌, ◌<◌, ◌≤◌, ◌==◌, ◌∷◌, ◌∙◌, ℕ, suc, zero, true, false, List, [], Some, None, length, get_or, ap, sym, arith, inl, inr, leb-true, leb-false, eqb-true, leb, cases_lt, list_any, list_any_at, Any-from_list_any, get_or_from_slice_get, slice_get-get_or, get_or_append_left, get_or-append_right, length-append, ◌++◌, refl, subst, nat_tests, All, All-permutation, list_any-IsPermutation, IsPermutation, IsNonDecreasingBy, IsNonDecreasingBy-from_default, IsPartitionPoint, RingKind, Segment, rules}
 use Rattle.segments.proofs.Blocks.{segment_at, before, before-zero}
 
 -- more segments have no fewer data places before them

@@ -1,6 +1,5 @@
 -- What is looked up on a ring once the segment is found. The look-ups see the segments as a list of their own
-use Rattle.std.proofs.Common.{rules}
-use Rattle.segments.proofs.Words.{add-mod-mod, add-mul-mod_self_left, mod-add-div, mul_assoc, AreMultiples, IsLastStart, IsNear, IsSegmentOf, ◌≡◌, ◌≢◌, ◌+◌, ◌-◌, ◌*◌, ◌/◌, ◌%◌, ◌<◌, ◌≤◌, if◌then◌else◌, ◌∙◌, ℕ, suc, zero, nat_lt, true, false, List, length, slice_index, Option, Some, None, arith, add-zero, mod-eq_of_lt, refl, sym, ap, inl, inr, false≢true, false_from_ne_true, cases_lt, RingKind, Evt, Segment, Shape, data_count, place_count, address_of, links, ends, link_crossed, is_in, place_at, IsShape}
+use Rattle.segments.proofs.Words.{IsIndex, SegmentIndex, get_or, get_or_read, mod-lt, add-mod-mod, add-mul-mod_self_left, mod-add-div, mul_assoc, AreMultiples, IsLastStart, IsNear, IsSegmentOf, ◌≡◌, ◌≢◌, ◌+◌, ◌-◌, ◌*◌, ◌/◌, ◌%◌, ◌<◌, ◌≤◌, if◌then◌else◌, ◌∙◌, ℕ, suc, zero, nat_lt, true, false, List, length, slice_index, Option, Some, None, arith, add-zero, mod-eq_of_lt, refl, sym, ap, inl, inr, false≢true, false_from_ne_true, cases_lt, RingKind, Evt, Segment, Shape, data_count, place_count, address_of, links, ends, link_crossed, is_in, place_at, IsShape, rules}
 use Rattle.segments.specs.declared.place.Place.TheVariants.{Data, Link}
 use Rattle.segments.proofs.Blocks.{segment_at, places_of, before, before-next, before-all, before-zero, before_within, block_lies, same_segment}
 use Rattle.segments.proofs.DataPlaces.{link_is, length-links}
@@ -29,8 +28,7 @@ pub ahead_here : (shape : Shape) (kind : RingKind) (segments : List Segment) (pl
     j < length segments → IsAhead kind segments j k (p % places) → n ≡ data_count kind (segment_at segments j) → k < n →
     (segment_at segments j).base + 16 * k ≡ address_of shape p
 ahead_here shape kind segments places j k n p sees h ahead e l =
-    let lies = block_lies kind segments j k h (omega arith) in
-    sym (rw (← sees.places_are, sees.kind_is, sees.segments_are, ← ahead) lies.1.address)
+    sym (rw (← sees.places_are, sees.kind_is, sees.segments_are, ← ahead) (block_lies kind segments j k h (omega arith)).1.address)
 
 -- ---- the Link on the way to a position
 
@@ -64,18 +62,16 @@ crossed_here shape is kind segments places j end n q sees other some h past e he
 
 pub crossed_nowhere : (shape : Shape) → IsShape shape → (kind : RingKind) (segments : List Segment) (places j end q : ℕ) → Sees shape kind segments places →
     q ≢ 0 → length segments ≤ j → IsPast kind segments j end ((q - 1) % places + 1) → link_crossed shape q ≡ None
-crossed_nowhere shape is kind segments places j end q sees some all past =
-    elim (cases_option (link_crossed shape q)) [
-      | inl none ↦ none
-      | inr found ↦
-          let i : ℕ = found.0 in
-          let c = crosses shape q i found.1 in
-          let link = link_is shape is i c.link in
-          let many : length shape.segments ≡ length segments = ap length sees.segments_are in
-          let at : slice_index (ends shape) i ≡ before kind segments (i + 1) =
-          end_is shape i c.link ∙ ap (λ k. before k shape.segments (i + 1)) sees.kind_is ∙ ap (λ ss. before kind ss (i + 1)) sees.segments_are in
-          absurd (past.missed i (omega (arith, link.segment)) (sym at ∙ c.end ∙ ap (λ n. (q - 1) % n + 1) (sym sees.places_are)))
-    ]
+crossed_nowhere shape is kind segments places j end q sees some all past = elim (cases_option (link_crossed shape q)) [
+  | inl none ↦ none
+  | inr found ↦
+      let i : ℕ = found.0 in
+      let c = crosses shape q i found.1 in
+      let many : length shape.segments ≡ length segments = ap length sees.segments_are in
+      let at : slice_index (ends shape) i ≡ before kind segments (i + 1) =
+      end_is shape i c.link ∙ ap (λ k. before k shape.segments (i + 1)) sees.kind_is ∙ ap (λ ss. before kind ss (i + 1)) sees.segments_are in
+      absurd (past.missed i (omega (arith, (link_is shape is i c.link).segment)) (sym at ∙ c.end ∙ ap (λ n. (q - 1) % n + 1) (sym sees.places_are)))
+]
 
 -- ---- the word with an address
 
@@ -97,12 +93,21 @@ place_nowhere shape is kind segments places j count address sees all outside = s
 
 -- ---- what a search finds
 
--- a data place of the lap comes before the end of the segments
-pub lap_within : (kind : RingKind) (segments : List Segment) (places r : ℕ) → places ≡ place_count (record { kind = kind; segments = segments }) → r < places →
-    r < before kind segments (length segments)
-lap_within kind segments places r count low =
-    let all : before kind segments (length segments) ≡ place_count (record { kind = kind; segments = segments }) = before-all kind segments in
-    omega arith
+-- the place that a position has in its lap comes before the end of the segments
+pub lap_place : (kind : RingKind) (segments : List Segment) (places p : ℕ) → IsShape (record { kind = kind; segments = segments }) → places ≡ place_count (record { kind = kind; segments = segments }) →
+    p % places < before kind segments (length segments)
+lap_place kind segments places p is count =
+    let facts = shape_facts (record { kind = kind; segments = segments }) is in
+    let pos : 0 < places = omega (arith, facts.several) in
+    omega (arith, mod-lt p pos, before-all kind segments)
+
+-- what the index has of segment j: how many data places lie before it
+pub first_is : (kind : RingKind) (segments : List Segment) (index : SegmentIndex) → IsIndex kind segments index → (j n : ℕ) → j < length segments →
+    n ≡ get_or index.firsts.items j n → n ≡ before kind segments j
+first_is kind segments index is j n h read = get_or_read index.firsts.items j n (omega (arith, is.firsts.many)) read 0 ∙ is.firsts.each j h
+
+pub segment_is : (segments : List Segment) (j : ℕ) (s : Segment) → j < length segments → s ≡ get_or segments j s → s ≡ segment_at segments j
+segment_is segments j s h read = get_or_read segments j s h read (record { base = 0; count = 0 })
 
 -- no Link before the segment of a data place comes right behind that place
 pub past_before : (kind : RingKind) (segments : List Segment) (last j : ℕ) → IsSegmentOf kind segments last j → IsPast kind segments j (before kind segments j) (last + 1)
@@ -120,8 +125,7 @@ past_all kind segments last j of other = search (rules, length, cases_lt, before
 pub near_from_last : (kind : RingKind) (segments : List Segment) → IsShape (record { kind = kind; segments = segments }) → (address : ℕ) (o : Option ℕ) →
     IsLastStart segments address o → IsNear segments address o
 near_from_last kind segments is address None above = λ k l. false_from_ne_true _ (λ has.
-    let parts = is_in-parts address (segment_at segments k).base (16 * (segment_at segments k).count) has in
-    absurd (omega (arith, parts.0, above k l)))
+    absurd (omega (arith, (is_in-parts address (segment_at segments k).base (16 * (segment_at segments k).count) has).0, above k l)))
 near_from_last kind segments is address (Some j) of = (
   of.number,
   λ k l has.
@@ -160,18 +164,17 @@ before_multiple kind ss step are (suc j) h =
 
 -- and no Link is crossed where the position isn't such a multiple
 pub crossed_between : (shape : Shape) → IsShape shape → (step q : ℕ) → AreMultiples shape.kind shape.segments step → q % step ≢ 0 → link_crossed shape q ≡ None
-crossed_between shape is step q are between =
-    elim (cases_option (link_crossed shape q)) [
-      | inl none ↦ none
-      | inr found ↦
-          let i : ℕ = found.0 in
-          let c = crosses shape q i found.1 in
-          let link = link_is shape is i c.link in
-          let end : (q - 1) % place_count shape + 1 ≡ before shape.kind shape.segments (i + 1) = sym c.end ∙ end_is shape i c.link in
-          let here : before shape.kind shape.segments (i + 1) % step ≡ 0 = before_multiple shape.kind shape.segments step are (i + 1) (omega (arith, link.segment)) in
-          let lap : place_count shape % step ≡ 0 = rw (← before-all shape.kind shape.segments) (before_multiple shape.kind shape.segments step are (length shape.segments) (omega arith)) in
-          absurd (between (multiple_behind (place_count shape) q step c.positive lap (ap (λ n. n % step) end ∙ here)))
-    ]
+crossed_between shape is step q are between = elim (cases_option (link_crossed shape q)) [
+  | inl none ↦ none
+  | inr found ↦
+      let i : ℕ = found.0 in
+      let c = crosses shape q i found.1 in
+      let link = link_is shape is i c.link in
+      let end : (q - 1) % place_count shape + 1 ≡ before shape.kind shape.segments (i + 1) = sym c.end ∙ end_is shape i c.link in
+      let here : before shape.kind shape.segments (i + 1) % step ≡ 0 = before_multiple shape.kind shape.segments step are (i + 1) (omega (arith, link.segment)) in
+      let lap : place_count shape % step ≡ 0 = rw (← before-all shape.kind shape.segments) (before_multiple shape.kind shape.segments step are (length shape.segments) (omega arith)) in
+      absurd (between (multiple_behind (place_count shape) q step c.positive lap (ap (λ n. n % step) end ∙ here)))
+]
   where
     multiple_behind : (p q s : ℕ) → 0 < q → p % s ≡ 0 → ((q - 1) % p + 1) % s ≡ 0 → q % s ≡ 0
     multiple_behind p q s some hp he =

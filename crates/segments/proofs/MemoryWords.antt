@@ -1,6 +1,5 @@
 -- Words of a block before and after a write
-use Rattle.std.proofs.Common.{rules}
-use Rattle.segments.proofs.Words.{◌≡◌, ◌≢◌, ◌+◌, ◌<◌, ◌==◌, ◌∷◌, ◌∙◌, ℕ, true, false, [], nat_lt, arith, refl, sym, ap, add-zero, eq-eqb, ne_eqb, eqb-true, lt-ltb, cond-true, cond-false, and_from, and_parts, false≢true, put, Block, block_at, same_words, with_cycle, overlap}
+use Rattle.segments.proofs.Words.{◌≡◌, ◌≢◌, ◌+◌, ◌<◌, ◌==◌, ◌∷◌, ◌∙◌, ℕ, true, false, [], nat_lt, arith, refl, sym, ap, add-zero, eq-eqb, ne_eqb, eqb-true, lt-ltb, cond-true, cond-false, and_from, and_parts, false≢true, put, Block, block_at, same_words, with_cycle, overlap, rules}
 
 pub put_here : (memory : ℕ → ℕ) (a w : ℕ) → put memory a w a ≡ w
 put_here memory a w = cond-true (a == a) w (memory a) (eq-eqb a a refl)

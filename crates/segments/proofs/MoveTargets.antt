@@ -1,6 +1,5 @@
 -- The spot that a pointer and a cycle state name is the one to which the ring may be moved
-use Rattle.std.proofs.Common.{rules}
-use Rattle.segments.proofs.Words.{◌≡◌, ◌+◌, ◌-◌, ◌≤◌, ◌==◌, ◌&&◌, if◌then◌else◌, ◌∷◌, ◌∙◌, ℕ, suc, zero, Bool, true, List, [], All, Some, arith, sym, ap, subst, inl, inr, eqb-true, range_with_len, flat_map, cases_lt, and_parts, All-nil, All-cons, All-get_or, Any-from_list_any, Spot, Data, Link, Shape, IsSpot, is_spot, number, spot_address, spot_cycle, IsShape, RingView, declared, floor_number, is_border, is_target, spots_between, target, is_reached, may_move_to, is_move, RingKeeps}
+use Rattle.segments.proofs.Words.{◌≡◌, ◌+◌, ◌-◌, ◌≤◌, ◌==◌, ◌&&◌, if◌then◌else◌, ◌∷◌, ◌∙◌, ℕ, suc, zero, Bool, true, List, [], All, Some, arith, sym, ap, subst, inl, inr, eqb-true, range_with_len, flat_map, cases_lt, and_parts, All-nil, All-cons, All-get_or, Any-from_list_any, Spot, Data, Link, Shape, IsSpot, is_spot, number, spot_address, spot_cycle, IsShape, RingView, declared, floor_number, is_border, is_target, spots_between, target, is_reached, may_move_to, is_move, RingKeeps, rules}
 use Rattle.segments.proofs.SpotOrder.{rank_least, rank_most, same_spot}
 use Rattle.segments.proofs.Named.{found_is}
 
@@ -21,14 +20,13 @@ spots_within least most a (suc n) low high =
 
 pub between : (least most : ℕ) → All (λ t. (least ≤ number t) × (number t ≤ most)) (spots_between least most)
 unfolding spots_between
-between least most =
-    elim (cases_lt most least) [
-      | inl none ↦
-          let empty : 0 ≡ most + 1 - least = omega arith in
-          subst (λ n. All (λ t. (least ≤ number t) × (number t ≤ most)) (flat_map (λ q. Link q ∷ Data q ∷ []) (range_with_len least n))) empty
-          (All-nil (λ t. (least ≤ number t) × (number t ≤ most)))
-      | inr some ↦ spots_within least most least (most + 1 - least) (omega arith) (omega arith)
-    ]
+between least most = elim (cases_lt most least) [
+  | inl none ↦
+      let empty : 0 ≡ most + 1 - least = omega arith in
+      subst (λ n. All (λ t. (least ≤ number t) × (number t ≤ most)) (flat_map (λ q. Link q ∷ Data q ∷ []) (range_with_len least n))) empty
+      (All-nil (λ t. (least ≤ number t) × (number t ≤ most)))
+  | inr some ↦ spots_within least most least (most + 1 - least) (omega arith) (omega arith)
+]
 
 target_at : (shape : Shape) (address : ℕ) (cycle : Bool) (least most : ℕ) (t : Spot) → is_target shape address cycle t ≡ true → (least ≤ number t) × (number t ≤ most) →
     IsAt shape address least most t

@@ -1,6 +1,5 @@
 -- A spot to which a ring may be moved stays one, whatever is declared, written or reached since
-use Rattle.std.proofs.Common.{rules}
-use Rattle.segments.proofs.Words.{◌≡◌, ◌+◌, ◌-◌, ◌<◌, ◌≤◌, ◌==◌, ◌&&◌, ◌||◌, ◌∷◌, ◌++◌, ◌∙◌, ℕ, suc, zero, Bool, true, List, [], length, arith, sym, ap, subst, inl, inr, list_any, range_with_len, flat_map, cases_eq, and_parts, and_from, or_cases, or_left, or_right, All-get_or, Any-from_list_any, Block, Spot, Data, Link, Shape, number, RingView, floor_number, ceiling, Declares, Writes, changed, is_way_given, is_border, is_target, spots_between, are_given, are_ways_given, is_reached, may_move_to, is_move, is_placement}
+use Rattle.segments.proofs.Words.{◌≡◌, ◌+◌, ◌-◌, ◌<◌, ◌≤◌, ◌==◌, ◌&&◌, ◌||◌, ◌∷◌, ◌++◌, ◌∙◌, ℕ, suc, zero, Bool, true, List, [], length, arith, sym, ap, subst, inl, inr, list_any, range_with_len, flat_map, cases_eq, and_parts, and_from, or_cases, or_left, or_right, All-get_or, Any-from_list_any, Block, Spot, Data, Link, Shape, number, RingView, floor_number, ceiling, Declares, Writes, changed, is_way_given, is_border, is_target, spots_between, are_given, are_ways_given, is_reached, may_move_to, is_move, is_placement, rules}
 use Rattle.segments.proofs.StepFacts.{GivesMore, in_range_all, all_in_range}
 use Rattle.segments.proofs.Writing.{writes_more}
 use Rattle.segments.proofs.MoveTargets.{between}
@@ -9,11 +8,10 @@ use Rattle.segments.proofs.MoveTargets.{between}
 pub is_border-push : (lengths : List ℕ) (n start q : ℕ) → is_border lengths start q ≡ true → is_border (lengths ++ n ∷ []) start q ≡ true
 unfolding is_border
 is_border-push [] n start q h = or_left (start == q) (start + n == q) h
-is_border-push (m ∷ rest) n start q h =
-    elim (or_cases (start == q) (is_border rest (start + m) q) h) [
-      | inl here ↦ or_left (start == q) (is_border (rest ++ n ∷ []) (start + m) q) here
-      | inr later ↦ or_right (start == q) (is_border (rest ++ n ∷ []) (start + m) q) (is_border-push rest n (start + m) q later)
-    ]
+is_border-push (m ∷ rest) n start q h = elim (or_cases (start == q) (is_border rest (start + m) q) h) [
+  | inl here ↦ or_left (start == q) (is_border (rest ++ n ∷ []) (start + m) q) here
+  | inr later ↦ or_right (start == q) (is_border (rest ++ n ∷ []) (start + m) q) (is_border-push rest n (start + m) q later)
+]
 
 -- a spot between the bounds is among those between them
 any_between : (test : Spot → Bool) (a n : ℕ) (u : Spot) → a ≤ number u → number u < a + n → test u ≡ true →

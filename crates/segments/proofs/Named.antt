@@ -39,13 +39,12 @@ named_ahead shape memory v k address t h =
 -- what is found passes, and is as all are
 pub found_is : (test : Spot → Bool) (P : Spot → Type 0) (ts : List Spot) (t : Spot) → find test ts ≡ Some t → All P ts → (test t ≡ true) × P t
 found_is test P [] t found all = absurd (none-some t found)
-found_is test P (u ∷ rest) t found all =
-    elim (cases_Bool (test u)) [
-      | inl here ↦
-          let same : u ≡ t = same_Some u t (sym (cond-true (test u) (Some u) (find test rest) here) ∙ found) in
-          (ap test (sym same) ∙ here, subst P same (All-head P u rest all))
-      | inr later ↦ found_is test P rest t (sym (cond-false (test u) (Some u) (find test rest) later) ∙ found) (All-tail P u rest all)
-    ]
+found_is test P (u ∷ rest) t found all = elim (cases_Bool (test u)) [
+  | inl here ↦
+      let same : u ≡ t = same_Some u t (sym (cond-true (test u) (Some u) (find test rest) here) ∙ found) in
+      (ap test (sym same) ∙ here, subst P same (All-head P u rest all))
+  | inr later ↦ found_is test P rest t (sym (cond-false (test u) (Some u) (find test rest) later) ∙ found) (All-tail P u rest all)
+]
 
 spots_ahead : (least a n : ℕ) → least ≤ a → All (λ t. least ≤ number t) (flat_map (λ q. Link q ∷ Data q ∷ []) (range_with_len a n))
 spots_ahead least a zero low = All-nil (λ t. least ≤ number t)

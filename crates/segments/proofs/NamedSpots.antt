@@ -1,6 +1,5 @@
 -- Which spot an event names: the least one from a spot on with this address
-use Rattle.std.proofs.Common.{rules}
-use Rattle.segments.proofs.Words.{◌≡◌, ◌≢◌, ◌+◌, ◌-◌, ◌*◌, ◌<◌, ◌≤◌, ◌==◌, ◌&&◌, ◌∙◌, ℕ, suc, zero, Bool, true, false, nat_le, Some, None, find, arith, sym, ap, refl, subst, inl, inr, eqb-true, eq-eqb, leb-true, le-leb, cases_Bool, cond-true, cond-false, false≢true, and_parts, and_from, none-some, same_Some, Spot, Shape, place_count, IsSpot, rank, number, next, spot_address, spots_from, named_spot, IsShape}
+use Rattle.segments.proofs.Words.{◌≡◌, ◌≢◌, ◌+◌, ◌-◌, ◌*◌, ◌<◌, ◌≤◌, ◌==◌, ◌&&◌, ◌∙◌, ℕ, suc, zero, Bool, true, false, nat_le, Some, None, find, arith, sym, ap, refl, subst, inl, inr, eqb-true, eq-eqb, leb-true, le-leb, cases_Bool, cond-true, cond-false, false≢true, and_parts, and_from, none-some, same_Some, Spot, Shape, place_count, IsSpot, rank, number, next, spot_address, spots_from, named_spot, IsShape, rules}
 use Rattle.segments.proofs.Search.{cases_option}
 use Rattle.segments.proofs.SpotOrder.{rank_least, rank_most, same_rank, next_is_spot, next_later, next_least, same_spot}
 
@@ -18,35 +17,31 @@ beyond shape p s u is fails passes from = search (rules, false≢true, same_rank
 -- what the walk finds is the least spot that passes
 find_first : (shape : Shape) (p : Spot → Bool) (n : ℕ) (s t : Spot) → IsSpot shape s → find p (spots_from shape s n) ≡ Some t → IsFirst shape p s t
 find_first shape p zero s t is h = absurd (none-some t h)
-find_first shape p (suc n) s t is h =
-    elim (cases_Bool (p s)) [
-      | inl here ↦
-          let same : s ≡ t = same_Some s t (sym (cond-true (p s) (Some s) (find p (spots_from shape (next shape s) n)) here) ∙ h) in
-          subst (λ u. IsFirst shape p s u) same (record { spot = is; from = omega arith; passes = here; least = λ u _ from _. from })
-      | inr elsewhere ↦
-          let inner : IsFirst shape p (next shape s) t =
-          find_first shape p n (next shape s) t (next_is_spot shape s) (sym (cond-false (p s) (Some s) (find p (spots_from shape (next shape s) n)) elsewhere) ∙ h) in
-          let later = next_later shape s in
-          record {
-            spot = inner.spot;
-            from = omega (arith, inner.from);
-            passes = inner.passes;
-            least = λ u spot from passes. inner.least u spot (beyond shape p s u spot elsewhere passes from) passes;
-          }
-    ]
+find_first shape p (suc n) s t is h = elim (cases_Bool (p s)) [
+  | inl here ↦
+      let same : s ≡ t = same_Some s t (sym (cond-true (p s) (Some s) (find p (spots_from shape (next shape s) n)) here) ∙ h) in
+      subst (λ u. IsFirst shape p s u) same (record { spot = is; from = omega arith; passes = here; least = λ u _ from _. from })
+  | inr elsewhere ↦
+      let inner : IsFirst shape p (next shape s) t =
+      find_first shape p n (next shape s) t (next_is_spot shape s) (sym (cond-false (p s) (Some s) (find p (spots_from shape (next shape s) n)) elsewhere) ∙ h) in
+      record {
+        spot = inner.spot;
+        from = omega (arith, next_later shape s, inner.from);
+        passes = inner.passes;
+        least = λ u spot from passes. inner.least u spot (beyond shape p s u spot elsewhere passes from) passes;
+      }
+]
 
 -- where n steps find nothing, no spot that near passes
 find_nowhere : (shape : Shape) (p : Spot → Bool) (n : ℕ) (s u : Spot) → find p (spots_from shape s n) ≡ None → IsSpot shape u →
     rank s ≤ rank u → rank u < rank s + n → p u ≡ true → ⊥
 find_nowhere shape p zero s u h is from near passes = omega arith
-find_nowhere shape p (suc n) s u h is from near passes =
-    elim (cases_Bool (p s)) [
-      | inl here ↦ none-some s (sym h ∙ cond-true (p s) (Some s) (find p (spots_from shape (next shape s) n)) here)
-      | inr elsewhere ↦
-          let later = next_later shape s in
-          find_nowhere shape p n (next shape s) u (sym (cond-false (p s) (Some s) (find p (spots_from shape (next shape s) n)) elsewhere) ∙ h) is
-          (beyond shape p s u is elsewhere passes from) (omega arith) passes
-    ]
+find_nowhere shape p (suc n) s u h is from near passes = elim (cases_Bool (p s)) [
+  | inl here ↦ none-some s (sym h ∙ cond-true (p s) (Some s) (find p (spots_from shape (next shape s) n)) here)
+  | inr elsewhere ↦
+      find_nowhere shape p n (next shape s) u (sym (cond-false (p s) (Some s) (find p (spots_from shape (next shape s) n)) elsewhere) ∙ h) is
+      (beyond shape p s u is elsewhere passes from) (omega (arith, next_later shape s)) passes
+]
 
 -- t is the least spot from s on with this address, and its number is at most last
 pub record IsNamed (shape : Shape) (s : Spot) (last address : ℕ) (t : Spot) : Type 0 where
@@ -84,25 +79,21 @@ named_spot-None shape s last address u h is from within at = search (rules, rank
 -- that spot is the answer
 pub named_spot-is : (shape : Shape) (s : Spot) (last address : ℕ) (t : Spot) → IsSpot shape s → IsNamed shape s last address t →
     named_spot shape s last address ≡ Some t
-named_spot-is shape s last address t is named =
-    elim (cases_option (named_spot shape s last address)) [
-      | inl none ↦ absurd (named_spot-None shape s last address t none named.spot named.from named.within named.at)
-      | inr some ↦
-          let found : IsNamed shape s last address some.0 = named_spot-Some shape s last address some.0 is some.1 in
-          let low = named.least some.0 found.spot found.from found.within found.at in
-          let high = found.least t named.spot named.from named.within named.at in
-          some.1 ∙ ap (λ u. Some u) (same_rank some.0 t (omega arith))
-    ]
+named_spot-is shape s last address t is named = elim (cases_option (named_spot shape s last address)) [
+  | inl none ↦ absurd (named_spot-None shape s last address t none named.spot named.from named.within named.at)
+  | inr some ↦
+      let found : IsNamed shape s last address some.0 = named_spot-Some shape s last address some.0 is some.1 in
+      let high = found.least t named.spot named.from named.within named.at in
+      some.1 ∙ ap (λ u. Some u) (same_rank some.0 t (omega (arith, named.least some.0 found.spot found.from found.within found.at)))
+]
 
 -- a spot less than a lap behind s is the one that its address names
 pub named_spot-near : (shape : Shape) → IsShape shape → (s : Spot) (last : ℕ) (t : Spot) → IsSpot shape s → IsSpot shape t → rank s ≤ rank t →
     rank t < rank s + 2 * place_count shape → number t ≤ last → named_spot shape s last (spot_address shape t) ≡ Some t
-named_spot-near shape is s last t a b from near within =
-    elim (cases_option (named_spot shape s last (spot_address shape t))) [
-      | inl none ↦ absurd (named_spot-None shape s last (spot_address shape t) t none b from within refl)
-      | inr some ↦
-          let found : IsNamed shape s last (spot_address shape t) some.0 = named_spot-Some shape s last (spot_address shape t) some.0 a some.1 in
-          let low = found.least t b from within refl in
-          let same = same_spot shape is some.0 t found.spot b low (omega (arith, found.from)) found.at in
-          some.1 ∙ ap (λ u. Some u) same
-    ]
+named_spot-near shape is s last t a b from near within = elim (cases_option (named_spot shape s last (spot_address shape t))) [
+  | inl none ↦ absurd (named_spot-None shape s last (spot_address shape t) t none b from within refl)
+  | inr some ↦
+      let found : IsNamed shape s last (spot_address shape t) some.0 = named_spot-Some shape s last (spot_address shape t) some.0 a some.1 in
+      let low = found.least t b from within refl in
+      some.1 ∙ ap (λ u. Some u) (same_spot shape is some.0 t found.spot b low (omega (arith, found.from)) found.at)
+]

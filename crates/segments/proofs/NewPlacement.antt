@@ -1,6 +1,5 @@
 -- A ring on which nothing happened stands still at its first block with cycle state 1, and nowhere else
-use Rattle.segments.proofs.Words.{◌≡◌, ◌==◌, ◌&&◌, ◌||◌, if◌then◌else◌, ◌∷◌, ◌∙◌, ℕ, Bool, true, false, List, [], Some, arith, refl, ap, Data, Shape, number, address_of, cycle_of, IsShape, RingView, floor_number, given_count, ceiling, is_border, is_target, spots_between, are_given, are_ways_given, is_reached, may_move_to, is_move, is_placement}
-use Rattle.std.specs.Prelude.{unwrap_or}
+use Rattle.segments.proofs.Words.{◌≡◌, ◌==◌, ◌&&◌, ◌||◌, if◌then◌else◌, ◌∷◌, ◌∙◌, ℕ, Bool, true, false, List, [], Some, arith, refl, ap, Data, Shape, number, address_of, cycle_of, IsShape, RingView, floor_number, given_count, ceiling, is_border, is_target, spots_between, are_given, are_ways_given, is_reached, may_move_to, is_move, is_placement, unwrap_or}
 use Rattle.segments.proofs.Positions.{place_count_pos, cycle_of-first}
 
 border_first : (lengths : List ℕ) → is_border lengths 0 0 ≡ true

@@ -22,21 +22,20 @@ none_from test a (suc n) none =
 one_from : (test : ℕ → Bool) (a n : ℕ) → ((p q : ℕ) → test p ≡ true → test q ≡ true → p ≡ q) →
     (filter test (range_with_len a n) ≡ []) ⊎ ((p : ℕ) × (filter test (range_with_len a n) ≡ p ∷ []))
 one_from test a zero one = inl refl
-one_from test a (suc n) one =
-    elim (cases_Bool (test a)) [
-      | inl passes ↦
-          inr (
-            a,
-            cond-true (test a) (a ∷ filter test (range_with_len (a + 1) n)) (filter test (range_with_len (a + 1) n)) passes
-                ∙ ap (λ xs. a ∷ xs) (none_from test (a + 1) n (λ q h t. let same : a ≡ q = one a q passes t in absurd (omega arith))),
-          )
-      | inr fails ↦
-          let skips = cond-false (test a) (a ∷ filter test (range_with_len (a + 1) n)) (filter test (range_with_len (a + 1) n)) fails in
-          elim (one_from test (a + 1) n one) [
-            | inl none ↦ inl (skips ∙ none)
-            | inr found ↦ inr (found.0, skips ∙ found.1)
-          ]
-    ]
+one_from test a (suc n) one = elim (cases_Bool (test a)) [
+  | inl passes ↦
+      inr (
+        a,
+        cond-true (test a) (a ∷ filter test (range_with_len (a + 1) n)) (filter test (range_with_len (a + 1) n)) passes
+            ∙ ap (λ xs. a ∷ xs) (none_from test (a + 1) n (λ q h t. let same : a ≡ q = one a q passes t in absurd (omega arith))),
+      )
+  | inr fails ↦
+      let skips = cond-false (test a) (a ∷ filter test (range_with_len (a + 1) n)) (filter test (range_with_len (a + 1) n)) fails in
+      elim (one_from test (a + 1) n one) [
+        | inl none ↦ inl (skips ∙ none)
+        | inr found ↦ inr (found.0, skips ∙ found.1)
+      ]
+]
 
 module _ (shape : Shape) (is : IsShape shape) (v : RingView) (a w : ℕ) where
   -- none, or one

@@ -1,6 +1,5 @@
 -- Steps of the loops over the segments that are given as pairs
-use Rattle.std.proofs.Common.{rules}
-use Rattle.segments.proofs.Words.{◌≡◌, ◌+◌, ◌-◌, ◌<◌, ◌&&◌, ◌||◌, ◌∷◌, ◌++◌, ◌∙◌, ℕ, Bool, not, List, [], length, map, take, drop, nat_le, sym, ap, refl, get_or, length-append, append-nil, list_any, list_all, take_more, drop_more, take_rest, map_push, length-map, list_all-map, flat_map-append, RingKind, Segment, segment_of, shape_of, blocks_from, data_count, place_count, segments_overlap, are_apart, is_segment, is_shape}
+use Rattle.segments.proofs.Words.{◌≡◌, ◌+◌, ◌-◌, ◌<◌, ◌&&◌, ◌||◌, ◌∷◌, ◌++◌, ◌∙◌, ℕ, Bool, not, List, [], length, map, take, drop, nat_le, sym, ap, refl, get_or, length-append, append-nil, list_any, list_all, take_more, drop_more, take_rest, map_push, length-map, list_all-map, flat_map-append, RingKind, Segment, segment_of, shape_of, blocks_from, data_count, place_count, segments_overlap, are_apart, is_segment, is_shape, rules}
 use Rattle.segments.proofs.Blocks.{places_of, length-blocks_from}
 
 length-places_of-push : (kind : RingKind) (ss : List Segment) (s : Segment) →

@@ -1,6 +1,5 @@
 -- Which word of a ring's blocks has an address: each word has one answer, and each answer is of such a word
-use Rattle.std.proofs.Common.{rules}
-use Rattle.segments.proofs.Words.{◌≡◌, ◌≢◌, ◌+◌, ◌-◌, ◌*◌, ◌/◌, ◌%◌, ◌<◌, ◌≤◌, ◌==◌, if◌then◌else◌, ◌∙◌, ℕ, true, length, slice_index, nat_le, nat_lt, Some, None, is_some, arith, sym, ap, inl, inr, eq-eqb, ne_eqb, le-leb, lt-ltb, le-ltb, leb-true, ltb-true, option_map, option_or, none-some, same_Some, cases_lt, and_parts, and_from, cond-true, cond-false, false_from_ne_true, get_or_default, Any-from_list_any, position-Some, Place, RingKind, Cmd, Evt, Xfer, Segment, Shape, data_count, segment_has, data_places, place_count, address_of, links, link_crossed, link_address, is_in, is_inside, data_place_at, link_at, place_at, IsShape}
+use Rattle.segments.proofs.Words.{◌≡◌, ◌≢◌, ◌+◌, ◌-◌, ◌*◌, ◌/◌, ◌%◌, ◌<◌, ◌≤◌, ◌==◌, if◌then◌else◌, ◌∙◌, ℕ, true, length, slice_index, nat_le, nat_lt, Some, None, is_some, arith, sym, ap, inl, inr, eq-eqb, ne_eqb, le-leb, lt-ltb, le-ltb, leb-true, ltb-true, option_map, option_or, none-some, same_Some, cases_lt, and_parts, and_from, cond-true, cond-false, false_from_ne_true, get_or_default, Any-from_list_any, position-Some, Place, RingKind, Cmd, Evt, Xfer, Segment, Shape, data_count, segment_has, data_places, place_count, address_of, links, link_crossed, link_address, is_in, is_inside, data_place_at, link_at, place_at, IsShape, rules}
 use Rattle.segments.specs.declared.place.Place.TheVariants.{Data, Link}
 use Rattle.segments.proofs.DataPlaces.{IsPlace, place_is, block_is, link_is, length-links, byte_inside, places_apart, place_aligned, place_not_link, links_apart, link_aligned}
 use Rattle.segments.proofs.Positions.{place_below, address_of-first}
@@ -79,8 +78,7 @@ place_at-link_word shape is j w inside l =
 pub place_at-link_address : (shape : Shape) → IsShape shape → (q i w : ℕ) → link_crossed shape q ≡ Some i → w < 4 →
     place_at shape (link_address shape q + 4 * w) ≡ Some (Link i w)
 place_at-link_address shape is q i w h l =
-    let there = place_at-link_word shape is i w (crosses shape q i h).link l in
-    ap (λ a. place_at shape (a + 4 * w)) (link_address_is shape q i h) ∙ there
+    ap (λ a. place_at shape (a + 4 * w)) (link_address_is shape q i h) ∙ (place_at-link_word shape is i w (crosses shape q i h).link l)
 
 -- what an answer says of the address
 abbrev pub IsAnswer : Shape → ℕ → Place → Type 0
@@ -143,19 +141,18 @@ pub place_at-block : (shape : Shape) → IsShape shape → (j k x : ℕ) → j <
     x % 4 ≡ 0 → (segment_at shape.segments j).base + 16 * k ≤ x → x < (segment_at shape.segments j).base + 16 * k + 16 →
     place_at shape x ≡ Some (if nat_lt k (data_count shape.kind (segment_at shape.segments j))
     then Data (before shape.kind shape.segments j + k) (x % 16 / 4) else Link j (x % 16 / 4))
-place_at-block shape is j k x hj hk word low high =
-    elim (cases_lt k (data_count shape.kind (segment_at shape.segments j))) [
-      | inl holds ↦
-          let place = block_is shape is j k hj holds in
-          place_at-data shape is (before shape.kind shape.segments j + k) x place.0 word (omega (arith, place.1.address)) (omega (arith, place.1.address))
-          ∙ ap (λ p. Some p) (sym (cond-true (nat_lt k (data_count shape.kind (segment_at shape.segments j))) _ _ (lt-ltb k _ holds)))
-      | inr last ↦
-          let links_all = length-links shape (has_link shape.kind (segment_at shape.segments j) (omega arith)) in
-          let link = link_is shape is j (omega arith) in
-          let end : k ≡ data_count shape.kind (segment_at shape.segments j) = link_last shape.kind (segment_at shape.segments j) k hk last in
-          place_at-link shape is j x (omega arith) word (omega (arith, link.address)) (omega (arith, link.address))
-          ∙ ap (λ p. Some p) (sym (cond-false (nat_lt k (data_count shape.kind (segment_at shape.segments j))) _ _ (le-ltb k _ last)))
-    ]
+place_at-block shape is j k x hj hk word low high = elim (cases_lt k (data_count shape.kind (segment_at shape.segments j))) [
+  | inl holds ↦
+      let place = block_is shape is j k hj holds in
+      place_at-data shape is (before shape.kind shape.segments j + k) x place.0 word (omega (arith, place.1.address)) (omega (arith, place.1.address))
+      ∙ ap (λ p. Some p) (sym (cond-true (nat_lt k (data_count shape.kind (segment_at shape.segments j))) _ _ (lt-ltb k _ holds)))
+  | inr last ↦
+      let links_all = length-links shape (has_link shape.kind (segment_at shape.segments j) (omega arith)) in
+      let link = link_is shape is j (omega arith) in
+      let end : k ≡ data_count shape.kind (segment_at shape.segments j) = link_last shape.kind (segment_at shape.segments j) k hk last in
+      place_at-link shape is j x (omega arith) word (omega (arith, link.address)) (omega (arith, link.address))
+      ∙ ap (λ p. Some p) (sym (cond-false (nat_lt k (data_count shape.kind (segment_at shape.segments j))) _ _ (le-ltb k _ last)))
+]
 
 within_segment : (a n k w x : ℕ) → k < n → w < 4 → x ≡ a + 16 * k + 4 * w → (a ≤ x) × (x < a + 16 * n)
 within_segment a n k w x h l e = (omega arith, omega arith)
@@ -176,13 +173,12 @@ answer_inside shape is x (Link j w) answer =
 pub place_at-outside : (shape : Shape) → IsShape shape → (x : ℕ) →
     ((j : ℕ) → j < length shape.segments → (segment_at shape.segments j).base ≤ x → x < (segment_at shape.segments j).base + 16 * (segment_at shape.segments j).count → ⊥) →
     place_at shape x ≡ None
-place_at-outside shape is x outside =
-    elim (cases_option (place_at shape x)) [
-      | inl none ↦ none
-      | inr some ↦
-          let at = answer_inside shape is x some.0 (place_at-Some shape is x some.0 some.1) in
-          absurd (outside at.0 at.1 at.2 at.3)
-    ]
+place_at-outside shape is x outside = elim (cases_option (place_at shape x)) [
+  | inl none ↦ none
+  | inr some ↦
+      let at = answer_inside shape is x some.0 (place_at-Some shape is x some.0 some.1) in
+      absurd (outside at.0 at.1 at.2 at.3)
+]
 
 -- every word inside the ring's segments is one of a data place or a Link
 pub place_at-inside : (shape : Shape) → IsShape shape → (x : ℕ) → x % 4 ≡ 0 → is_inside shape x ≡ true → is_some (place_at shape x) ≡ true

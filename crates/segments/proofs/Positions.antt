@@ -22,14 +22,13 @@ same_in_lap n p q pos le near same =
     same_quotient n p q (p / n) (q / n) (p % n) (q % n) le near same high low
   where
     same_quotient : (n p q a b r s : ℕ) → p ≤ q → q < p + n → r ≡ s → n * a + r ≡ p → n * b + s ≡ q → p ≡ q
-    same_quotient n p q a b r s le near same e f =
-        elim (cases_order a b) [
-          | inl one ↦ let products : n * a ≡ n * b = ap (λ k. n * k) one in omega arith
-          | inr apart ↦ elim apart [
-            | inl lower ↦ let step : n * (a + 1) ≤ n * b = mul-le n (a + 1) n b (omega arith) (omega arith) in absurd (omega arith)
-            | inr upper ↦ let step : n * (b + 1) ≤ n * a = mul-le n (b + 1) n a (omega arith) (omega arith) in absurd (omega arith)
-          ]
-        ]
+    same_quotient n p q a b r s le near same e f = elim (cases_order a b) [
+      | inl one ↦ let products : n * a ≡ n * b = ap (λ k. n * k) one in omega arith
+      | inr apart ↦ elim apart [
+        | inl lower ↦ let step : n * (a + 1) ≤ n * b = mul-le n (a + 1) n b (omega arith) (omega arith) in absurd (omega arith)
+        | inr upper ↦ let step : n * (b + 1) ≤ n * a = mul-le n (b + 1) n a (omega arith) (omega arith) in absurd (omega arith)
+      ]
+    ]
 
 pub place_count_pos : (shape : Shape) → IsShape shape → 0 < place_count shape
 place_count_pos shape is = omega (arith, (shape_facts shape is).several)

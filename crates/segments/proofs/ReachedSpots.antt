@@ -1,6 +1,5 @@
 -- Spots that the controller's pointer may be known to have reached: behind a finished block, where it stopped, where it is moved
-use Rattle.std.proofs.Common.{rules}
-use Rattle.segments.proofs.Words.{◌≡◌, ◌+◌, ◌-◌, ◌<◌, ◌≤◌, ◌==◌, ◌&&◌, ◌∙◌, ℕ, true, nat_lt, arith, refl, sym, ap, inl, inr, ltb-true, leb-true, eqb-true, cases_eq, and_parts, or_cases, not-true, false≢true, Spot, Data, Link, Shape, is_crossing, IsSpot, number, after, RingView, floor_number, is_way_given, is_step_given, given_count, is_stop_spot, stopped_number, are_given, are_ways_given, is_reached, MayReach}
+use Rattle.segments.proofs.Words.{◌≡◌, ◌+◌, ◌-◌, ◌<◌, ◌≤◌, ◌==◌, ◌&&◌, ◌∙◌, ℕ, true, nat_lt, arith, refl, sym, ap, inl, inr, ltb-true, leb-true, eqb-true, cases_eq, and_parts, or_cases, not-true, false≢true, Spot, Data, Link, Shape, is_crossing, IsSpot, number, after, RingView, floor_number, is_way_given, is_step_given, given_count, is_stop_spot, stopped_number, are_given, are_ways_given, is_reached, MayReach, rules}
 use Rattle.segments.proofs.Crossings.{crossing_positive}
 use Rattle.segments.proofs.SpotOrder.{after_is}
 use Rattle.segments.proofs.GivenCount.{given_below}
@@ -14,27 +13,25 @@ way_is shape v q h crossing = search (rules, or_cases, false≢true, not-true)
 -- a block up to which all is given, with the way to it
 pub data_reached : (shape : Shape) (v : RingView) (q : ℕ) → floor_number v ≤ q → ((p : ℕ) → p < q → is_step_given shape v p ≡ true) →
     (is_crossing shape q ≡ true → v.crossed q ≡ true) → MayReach shape v (Data q)
-data_reached shape v q later steps way =
-    record {
-      is_spot = refl;
-      later = later;
-      passed = λ p h. (step_is shape v p (steps p h)).0;
-      passed_links = λ p crossing h.
-          elim (cases_eq p q) [
-            | inl here ↦ ap (λ n. v.crossed n) here ∙ way (ap (λ n. is_crossing shape n) (sym here) ∙ crossing)
-            | inr before ↦ (step_is shape v p (steps p (omega arith))).1 crossing
-          ];
-    }
+data_reached shape v q later steps way = record {
+  is_spot = refl;
+  later = later;
+  passed = λ p h. (step_is shape v p (steps p h)).0;
+  passed_links = λ p crossing h.
+      elim (cases_eq p q) [
+        | inl here ↦ ap (λ n. v.crossed n) here ∙ way (ap (λ n. is_crossing shape n) (sym here) ∙ crossing)
+        | inr before ↦ (step_is shape v p (steps p (omega arith))).1 crossing
+      ];
+}
 
 -- a Link up to which all is given
 pub link_reached : (shape : Shape) (v : RingView) (q : ℕ) → is_crossing shape q ≡ true → floor_number v ≤ q → ((p : ℕ) → p < q → is_step_given shape v p ≡ true) → MayReach shape v (Link q)
-link_reached shape v q is later steps =
-    record {
-      is_spot = is;
-      later = later;
-      passed = λ p h. (step_is shape v p (steps p h)).0;
-      passed_links = λ p crossing h. (step_is shape v p (steps p (omega arith))).1 crossing;
-    }
+link_reached shape v q is later steps = record {
+  is_spot = is;
+  later = later;
+  passed = λ p h. (step_is shape v p (steps p h)).0;
+  passed_links = λ p crossing h. (step_is shape v p (steps p (omega arith))).1 crossing;
+}
 
 -- the spot behind a given block
 pub after_reached : (shape : Shape) (v : RingView) (p : ℕ) → floor_number v ≤ p + 1 → p < given_count shape v → MayReach shape v (after shape p)
@@ -46,19 +43,15 @@ number-after shape p = search (rules, after_is)
 -- a spot at which the controller may have stopped
 pub stop_spot_reached : (shape : Shape) (v : RingView) (t : Spot) → IsSpot shape t → floor_number v ≤ number t → is_stop_spot shape v t ≡ true → MayReach shape v t
 unfolding is_stop_spot
-stop_spot_reached shape v (Data p) is later h =
-    elim (or_cases (nat_lt p (given_count shape v)) (p == given_count shape v && is_way_given shape v p) h) [
-      | inl below ↦
-          let within : p < given_count shape v = ltb-true p (given_count shape v) below in
-          data_reached shape v p later (λ q l. given_below shape v q (omega arith)) ((step_is shape v p (given_below shape v p within)).1)
-      | inr end ↦
-          let parts = and_parts (p == given_count shape v) (is_way_given shape v p) end in
-          let at : p ≡ given_count shape v = eqb-true p (given_count shape v) parts.0 in
-          data_reached shape v p later (λ q l. given_below shape v q (omega arith)) (way_is shape v p parts.1)
-    ]
-stop_spot_reached shape v (Link q) is later h =
-    let within : q ≤ given_count shape v = leb-true q (given_count shape v) h in
-    link_reached shape v q is later (λ p l. given_below shape v p (omega arith))
+stop_spot_reached shape v (Data p) is later h = elim (or_cases (nat_lt p (given_count shape v)) (p == given_count shape v && is_way_given shape v p) h) [
+  | inl below ↦
+      let within : p < given_count shape v = ltb-true p (given_count shape v) below in
+      data_reached shape v p later (λ q l. given_below shape v q (omega arith)) ((step_is shape v p (given_below shape v p within)).1)
+  | inr end ↦
+      let parts = and_parts (p == given_count shape v) (is_way_given shape v p) end in
+      data_reached shape v p later (λ q l. given_below shape v q (omega (arith, eqb-true p (given_count shape v) parts.0))) (way_is shape v p parts.1)
+]
+stop_spot_reached shape v (Link q) is later h = link_reached shape v q is later (λ p l. given_below shape v p (omega (arith, leb-true q (given_count shape v) h)))
 
 -- where it is held then
 pub stopped_within : (shape : Shape) (v : RingView) (t : Spot) → is_stop_spot shape v t ≡ true →

@@ -1,6 +1,5 @@
 -- A spot that is reached, a ring that is opened or held: what the rules keep of a ring stays
-use Rattle.std.proofs.Common.{rules}
-use Rattle.segments.proofs.Words.{cases_Bool, ceiling, IsRestored, IsShownTo, ◌≡◌, ◌≢◌, ◌+◌, ◌-◌, ◌%◌, ◌<◌, ◌≤◌, ◌∙◌, ℕ, true, false, [], Option, None, Some, arith, refl, sym, ap, inl, inr, get_or, cases_lt, cases_eq, false≢true, none-some, same_Some, slice_get-get_or, Block, word, with_cycle, Spot, Shape, place_count, address_of, cycle_of, is_crossing, link_address, number, IsShape, RingView, Reaches, Opens, Holds, changed, declared, floor_number, is_due, is_crossing_due, is_step_given, is_way_given, given_count, descriptor_length, RingKeeps, MayReach, MayHold}
+use Rattle.segments.proofs.Words.{cases_Bool, ceiling, IsRestored, IsShownTo, ◌≡◌, ◌≢◌, ◌+◌, ◌-◌, ◌%◌, ◌<◌, ◌≤◌, ◌∙◌, ℕ, true, false, [], Option, None, Some, arith, refl, sym, ap, inl, inr, get_or, cases_lt, cases_eq, false≢true, none-some, same_Some, slice_get-get_or, Block, word, with_cycle, Spot, Shape, place_count, address_of, cycle_of, is_crossing, link_address, number, IsShape, RingView, Reaches, Opens, Holds, changed, declared, floor_number, is_due, is_crossing_due, is_step_given, is_way_given, given_count, descriptor_length, RingKeeps, MayReach, MayHold, rules}
 use Rattle.segments.proofs.Positions.{place_count_pos, address_of-lap, cycle_of_bit, cycle_of_flips}
 use Rattle.segments.proofs.Crossings.{crossed_link, is_crossing-lap, link_address-lap}
 use Rattle.segments.proofs.SpotOrder.{rank_least}
@@ -16,13 +15,11 @@ module _ (shape : Shape) (is : IsShape shape) (memory : ℕ → ℕ) (v : RingVi
   -- ---- what is given
 
   pub given_count_declared : given_count shape v ≤ declared v
-  given_count_declared =
-      elim (cases_lt (declared v) (given_count shape v)) [
-        | inl above ↦
-            let last = step_is shape v (declared v) (given_below shape v (declared v) above) in
-            absurd (omega (arith, k.given_declared (declared v) last.0))
-        | inr within ↦ within
-      ]
+  given_count_declared = elim (cases_lt (declared v) (given_count shape v)) [
+    | inl above ↦
+        absurd (omega (arith, k.given_declared (declared v) (step_is shape v (declared v) (given_below shape v (declared v) above)).0))
+    | inr within ↦ within
+  ]
 
   -- a place stays empty, so what is given ends less than a lap ahead of the floor
   pub given_count_near : given_count shape v < floor_number v + place_count shape
@@ -37,14 +34,13 @@ module _ (shape : Shape) (is : IsShape shape) (memory : ℕ → ℕ) (v : RingVi
 
   -- a spot that may be reached isn't ahead of what is given
   pub reached_given : (t : Spot) → MayReach shape v t → number t ≤ given_count shape v
-  reached_given t may =
-      elim (cases_lt (given_count shape v) (number t)) [
-        | inl above ↦
-            let n : ℕ = given_count shape v in
-            let given : is_step_given shape v n ≡ true = step_from shape v n (may.passed n above) (λ crossing. may.passed_links n crossing (omega (arith, rank_least t))) in
-            absurd (false≢true (sym (given_count_stops shape v given_count_near) ∙ given))
-        | inr within ↦ within
-      ]
+  reached_given t may = elim (cases_lt (given_count shape v) (number t)) [
+    | inl above ↦
+        let n : ℕ = given_count shape v in
+        let given : is_step_given shape v n ≡ true = step_from shape v n (may.passed n above) (λ crossing. may.passed_links n crossing (omega (arith, rank_least t))) in
+        absurd (false≢true (sym (given_count_stops shape v given_count_near) ∙ given))
+    | inr within ↦ within
+  ]
 
   -- ---- what is free
 
@@ -66,8 +62,7 @@ module _ (shape : Shape) (is : IsShape shape) (memory : ℕ → ℕ) (v : RingVi
   kept_cycle p low g kept =
       let none : Block = record { w = [] } in
       let d : Block = get_or v.queue p none in
-      let stands = k.kept p d low g kept (slice_get-get_or v.queue p none (k.given_declared p g)) in
-      ap (λ b. word b 3 % 2) stands ∙ cycle_bit d (cycle_of shape p) (cycle_of_bit shape p)
+      ap (λ b. word b 3 % 2) (k.kept p d low g kept (slice_get-get_or v.queue p none (k.given_declared p g))) ∙ cycle_bit d (cycle_of shape p) (cycle_of_bit shape p)
 
   -- and so does one that is free, below the ceiling
   given_cycle : (p : ℕ) → floor_number v ≤ p → v.given p ≡ true → (v.free p ≡ true → p < ceiling shape v) → memory (address_of shape p + 12) % 2 ≡ cycle_of shape p
@@ -113,17 +108,16 @@ module _ (shape : Shape) (is : IsShape shape) (memory : ℕ → ℕ) (v : RingVi
         let low : floor_number v ≤ q = omega (arith, may.later, due.from) in
         elim (cases_lt q (floor_number v + place_count shape)) [
           | inl near ↦ k.not_yet_link q (crossing_due_from shape v.floor q (record { crossing = due.crossing; from = low; within = inl near })) g
-          | inr far ↦
-              elim (cases_eq q (place_count shape)) [
-                | inl first ↦ k.not_yet_link q (crossing_due_from shape v.floor q (record { crossing = due.crossing; from = low; within = inr (first, omega arith) })) g
-                | inr more ↦
-                    let below : q < number t + place_count shape = elim due.within [ inl below ↦ below | inr end ↦ absurd (more end.0) ] in
-                    let some : 0 < q - place_count shape = omega arith in
-                    let lap : q - place_count shape + place_count shape ≡ q = omega arith in
-                    let crossing : is_crossing shape (q - place_count shape) ≡ true =
-                    sym (is_crossing-lap shape (q - place_count shape) some) ∙ ap (λ n. is_crossing shape n) lap ∙ due.crossing in
-                    link_behind_given q far some (may.passed_links (q - place_count shape) crossing (omega (arith, rank_least t)))
-              ]
+          | inr far ↦ elim (cases_eq q (place_count shape)) [
+            | inl first ↦ k.not_yet_link q (crossing_due_from shape v.floor q (record { crossing = due.crossing; from = low; within = inr (first, omega arith) })) g
+            | inr more ↦
+                let below : q < number t + place_count shape = elim due.within [ inl below ↦ below | inr end ↦ absurd (more end.0) ] in
+                let some : 0 < q - place_count shape = omega arith in
+                let lap : q - place_count shape + place_count shape ≡ q = omega arith in
+                let crossing : is_crossing shape (q - place_count shape) ≡ true =
+                sym (is_crossing-lap shape (q - place_count shape) some) ∙ ap (λ n. is_crossing shape n) lap ∙ due.crossing in
+                link_behind_given q far some (may.passed_links (q - place_count shape) crossing (omega (arith, rank_least t)))
+          ]
         ]
 
     step_stays : (held : Option ℕ) (p : ℕ) → is_step_given shape v p ≡ is_step_given shape (moved v t held) p
@@ -135,13 +129,12 @@ module _ (shape : Shape) (is : IsShape shape) (memory : ℕ → ℕ) (v : RingVi
     length_stays held p = refl
 
     moved_count_declared : (held : Option ℕ) → given_count shape (moved v t held) ≤ declared v
-    moved_count_declared held =
-        elim (cases_lt (declared v) (given_count shape (moved v t held))) [
-          | inl above ↦
-              let last = step_is shape (moved v t held) (declared v) (given_below shape (moved v t held) (declared v) above) in
-              absurd (omega (arith, k.given_declared (declared v) last.0))
-          | inr within ↦ within
-        ]
+    moved_count_declared held = elim (cases_lt (declared v) (given_count shape (moved v t held))) [
+      | inl above ↦
+          let last = step_is shape (moved v t held) (declared v) (given_below shape (moved v t held) (declared v) above) in
+          absurd (omega (arith, k.given_declared (declared v) last.0))
+      | inr within ↦ within
+    ]
 
     -- a floor that moves on changes nothing of what is given
     pub given_count-moved : (held : Option ℕ) → given_count shape v ≡ given_count shape (moved v t held)
@@ -152,43 +145,41 @@ module _ (shape : Shape) (is : IsShape shape) (memory : ℕ → ℕ) (v : RingVi
     -- free it is held, and shows its cycle up to there
     pub moved_keeps : (held : Option ℕ) → ((m : ℕ) → held ≡ Some m → (number t ≤ m) × (m ≤ given_count shape v)) →
         ((p : ℕ) → v.free p ≡ true → (m : ℕ) × (held ≡ Some m) × (p < m → p < ceiling shape v)) → RingKeeps shape memory (moved v t held)
-    moved_keeps held within restored =
-        record {
-          is_spot = may.is_spot;
-          room = omega (arith, k.room, may.later);
-          passed = may.passed;
-          passed_links = may.passed_links;
-          given_within = λ p g. omega (arith, k.given_within p g, may.later);
-          given_declared = k.given_declared;
-          crossed_is_crossing = k.crossed_is_crossing;
-          crossed_within = λ q g.
-              elim (k.crossed_within q g) [
-                | inl below ↦ inl (omega (arith, may.later))
-                | inr first ↦
-                    elim (cases_eq (number t) 0) [
-                      | inl still ↦ inr (first.0, still)
-                      | inr on ↦ inl (omega arith)
-                    ]
-              ];
-          kept = λ p d low g kept at. k.kept p d (omega (arith, may.later)) g kept at;
-          not_yet = not_yet_from (λ p free below. let r = restored p free in r.2 (omega (arith, (within r.0 r.1).0)));
-          kept_link = λ q i due g at. k.kept_link q i (crossed_due q (omega (arith, may.later, (crossing_due_is shape t q due).from)) g) g at;
-          not_yet_link = not_yet_link_from;
-          whole = λ p g. whole_more shape v (moved v t held) p (record { given = λ q h. h; crossed = λ q h. h }) (length_stays held p) (k.whole p g);
-          lengths = k.lengths;
-          descriptors = k.descriptors;
-          blocks = k.blocks;
-          held = λ m at. let bounds = within m at in record { from = bounds.0; to = omega (arith, bounds.1, given_count-moved held) };
-          free_given = k.free_given;
-          free_shows = λ p low high free.
-              let r = restored p free in
-              k.free_shows p (omega (arith, may.later)) (r.2 (omega (arith, ceiling_held shape (moved v t held) r.0 r.1))) free;
-          open_restored = λ none p.
-              elim (cases_Bool (v.free p)) [
-                | inl free ↦ absurd (none-some (restored p free).0 (sym none ∙ (restored p free).1))
-                | inr kept ↦ kept
-              ];
-        }
+    moved_keeps held within restored = record {
+      is_spot = may.is_spot;
+      room = omega (arith, k.room, may.later);
+      passed = may.passed;
+      passed_links = may.passed_links;
+      given_within = λ p g. omega (arith, k.given_within p g, may.later);
+      given_declared = k.given_declared;
+      crossed_is_crossing = k.crossed_is_crossing;
+      crossed_within = λ q g.
+          elim (k.crossed_within q g) [
+            | inl below ↦ inl (omega (arith, may.later))
+            | inr first ↦ elim (cases_eq (number t) 0) [
+              | inl still ↦ inr (first.0, still)
+              | inr on ↦ inl (omega arith)
+            ]
+          ];
+      kept = λ p d low g kept at. k.kept p d (omega (arith, may.later)) g kept at;
+      not_yet = not_yet_from (λ p free below. let r = restored p free in r.2 (omega (arith, (within r.0 r.1).0)));
+      kept_link = λ q i due g at. k.kept_link q i (crossed_due q (omega (arith, may.later, (crossing_due_is shape t q due).from)) g) g at;
+      not_yet_link = not_yet_link_from;
+      whole = λ p g. whole_more shape v (moved v t held) p (record { given = λ q h. h; crossed = λ q h. h }) (length_stays held p) (k.whole p g);
+      lengths = k.lengths;
+      descriptors = k.descriptors;
+      blocks = k.blocks;
+      held = λ m at. let bounds = within m at in record { from = bounds.0; to = omega (arith, bounds.1, given_count-moved held) };
+      free_given = k.free_given;
+      free_shows = λ p low high free.
+          let r = restored p free in
+          k.free_shows p (omega (arith, may.later)) (r.2 (omega (arith, ceiling_held shape (moved v t held) r.0 r.1))) free;
+      open_restored = λ none p.
+          elim (cases_Bool (v.free p)) [
+            | inl free ↦ absurd (none-some (restored p free).0 (sym none ∙ (restored p free).1))
+            | inr kept ↦ kept
+          ];
+    }
 
     -- a ring that is held goes no further than the number at which it is held
     pub reaches_keeps : ((m : ℕ) → v.held ≡ Some m → number t ≤ m) → RingKeeps shape memory (changed shape v (Reaches t))

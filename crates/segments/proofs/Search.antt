@@ -1,6 +1,5 @@
 -- The one place of a list that passes a test
-use Rattle.std.proofs.Common.{rules}
-use Rattle.segments.proofs.Words.{◌≡◌, ◌<◌, ◌⊎◌, ℕ, Bool, true, false, List, length, nat_lt, Option, Some, None, position, arith, refl, inl, inr, get_or, lt-ltb, ltb-false, le-ltb, position_or_len, cond-true, cond-false, false_from_ne_true, position_or_len_is, fails_before_first}
+use Rattle.segments.proofs.Words.{◌≡◌, ◌<◌, ◌⊎◌, ℕ, Bool, true, false, List, length, nat_lt, Option, Some, None, position, arith, refl, inl, inr, get_or, lt-ltb, ltb-false, le-ltb, position_or_len, cond-true, cond-false, false_from_ne_true, position_or_len_is, fails_before_first, rules}
 
 -- the first place that passes
 pub position_is : {X : Type 0} (p : X → Bool) (xs : List X) (i : ℕ) (d : X) → i < length xs → p (get_or xs i d) ≡ true →

@@ -1,6 +1,5 @@
 -- What an allowed shape keeps, fact by fact
-use Rattle.std.proofs.Common.{rules}
-use Rattle.segments.proofs.Words.{◌≡◌, ◌+◌, ◌-◌, ◌*◌, ◌/◌, ◌%◌, ◌^◌, ◌<◌, ◌≤◌, ◌∷◌, ℕ, suc, zero, Bool, true, List, [], length, nat_lt, nat_le, arith, get_or, leb-true, ltb-true, eqb-true, list_all, and_parts, RingKind, Cmd, Evt, Xfer, Segment, Shape, data_count, place_count, alignment, least_count, is_segment, are_apart, IsShape}
+use Rattle.segments.proofs.Words.{◌≡◌, ◌+◌, ◌-◌, ◌*◌, ◌/◌, ◌%◌, ◌^◌, ◌<◌, ◌≤◌, ◌∷◌, ℕ, suc, zero, Bool, true, List, [], length, nat_lt, nat_le, arith, get_or, leb-true, ltb-true, eqb-true, list_all, and_parts, RingKind, Cmd, Evt, Xfer, Segment, Shape, data_count, place_count, alignment, least_count, is_segment, are_apart, IsShape, rules}
 use Rattle.segments.proofs.Blocks.{segment_at}
 
 -- a segment that a ring of this kind may have: it lies on 16 byte boundaries and ends at or below 2^64

@@ -1,6 +1,5 @@
 -- Spots in their order, where they lie, and what the controller's cycle is there
-use Rattle.std.proofs.Common.{rules}
-use Rattle.segments.proofs.Words.{◌≡◌, ◌+◌, ◌-◌, ◌*◌, ◌%◌, ◌<◌, ◌≤◌, ◌⊎◌, ℕ, true, false, slice_index, arith, sym, ap, cases_lt, cond-true, cond-false, false≢true, Evt, Spot, Data, Link, Shape, place_count, address_of, cycle_of, links, is_crossing, link_address, IsSpot, rank, number, after, next, spot_address, spot_cycle, IsShape}
+use Rattle.segments.proofs.Words.{◌≡◌, ◌+◌, ◌*◌, ◌%◌, ◌<◌, ◌≤◌, ◌⊎◌, ℕ, true, false, slice_index, arith, sym, ap, cases_lt, cond-true, cond-false, false≢true, Evt, Spot, Data, Link, Shape, place_count, address_of, cycle_of, links, is_crossing, link_address, IsSpot, rank, number, after, next, spot_address, spot_cycle, IsShape, rules}
 use Rattle.segments.proofs.DataPlaces.{place_not_link}
 use Rattle.segments.proofs.Positions.{next_at_end, place_count_pos, place_below, same_position, cycle_of-next}
 use Rattle.segments.proofs.Crossings.{crosses, crossed_link, link_address_is, same_crossing_at, link_address-behind, address_of-behind, crossing_at_end}

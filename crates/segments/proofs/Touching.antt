@@ -15,9 +15,7 @@ module _ (shape : Shape) (is : IsShape shape) (at len last : ℕ) (some : 0 < le
 
   pub nothing_touched : IsLastStart shape.segments last None → touches shape at len ≡ false
   nothing_touched above = none_meets (λ j below met.
-      let far = above j below in
-      let low = ((shape_facts shape is).each j below).low in
-      absurd (grind (arith, nat_tests, met, far, low, end)))
+      absurd (grind (arith, nat_tests, met, above j below, ((shape_facts shape is).each j below).low, end)))
 
   -- the last one has one where another has
   last_meets : (j k : ℕ) → IsLastOf shape.segments last j → k < length shape.segments → meets k → meets j
@@ -30,10 +28,7 @@ module _ (shape : Shape) (is : IsShape shape) (at len last : ℕ) (some : 0 < le
         let same : k ≡ j = same_segment shape.segments facts.apart k j (segment_at shape.segments j).base below of.number rising inside (omega arith) (omega (arith, long)) in
         rw same at met
     | inr behind ↦
-        let start = of.start in
-        let facts = shape_facts shape is in
-        let long = (facts.each j of.number).blocks in
-        grind (arith, nat_tests, met, behind, start, end, long, some)
+        grind (arith, nat_tests, met, behind, of.start, end, ((shape_facts shape is).each j of.number).blocks, some)
   ]
 
   pub touched_last : (j : ℕ) → IsLastOf shape.segments last j → overlap at len (segment_at shape.segments j).base (16 * (segment_at shape.segments j).count) ≡ touches shape at len

@@ -47,14 +47,13 @@ module _ (shape : Shape) (memory : ℕ → ℕ) (v : RingView) (t : Spot) (w : W
 
   -- where it waits
   at_end : IsLooked t → Path t
-  at_end looked =
-      record {
-        steps = 0;
-        spots = spots_there;
-        shown = shown_there;
-        blocks = ap (λ n. filter_map (laid shape v) (range_with_len (number t) n)) (left (given_count shape v) (number t) w.at);
-        looked = All-cons IsLooked t [] looked (All-nil IsLooked);
-      }
+  at_end looked = record {
+    steps = 0;
+    spots = spots_there;
+    shown = shown_there;
+    blocks = ap (λ n. filter_map (laid shape v) (range_with_len (number t) n)) (left (given_count shape v) (number t) w.at);
+    looked = All-cons IsLooked t [] looked (All-nil IsLooked);
+  }
     where
       left : (g n : ℕ) → n ≡ g → 0 ≡ g - n
       left g n e = omega arith
@@ -97,14 +96,13 @@ module _ (shape : Shape) (memory : ℕ → ℕ) (v : RingView) (t : Spot) (w : W
   number_next (Link q) = omega arith
 
   one_on : (s : Spot) → IsLooked s → IsRead shape memory v s → Path (next shape s) → Path s
-  one_on s looked read rest =
-      record {
-        steps = suc rest.steps;
-        spots = spots_there;
-        shown = shown_there;
-        blocks = data_on s (map (block_under memory) (map (standing shape) (spots_from shape (next shape s) rest.steps))) read.stands (number_below s looked.to) rest.blocks;
-        looked = All-cons IsLooked s (spots_from shape (next shape s) (suc rest.steps)) looked rest.looked;
-      }
+  one_on s looked read rest = record {
+    steps = suc rest.steps;
+    spots = spots_there;
+    shown = shown_there;
+    blocks = data_on s (map (block_under memory) (map (standing shape) (spots_from shape (next shape s) rest.steps))) read.stands (number_below s looked.to) rest.blocks;
+    looked = All-cons IsLooked s (spots_from shape (next shape s) (suc rest.steps)) looked rest.looked;
+  }
     where
       spots_there : (n : ℕ) → looks memory (standing shape s) n ≡ map (standing shape) (take n (s ∷ spots_from shape (next shape s) (suc rest.steps)))
       spots_there zero = no_look memory (standing shape s)
@@ -120,15 +118,14 @@ module _ (shape : Shape) (memory : ℕ → ℕ) (v : RingView) (t : Spot) (w : W
   path zero s looked near =
       let same : s ≡ t = same_rank s t (omega (arith, looked.to)) in
       subst Path (sym same) (at_end (subst IsLooked same looked))
-  path (suc m) s looked near =
-      elim (cases_eq (rank s) (rank t)) [
-        | inl end ↦ let same : s ≡ t = same_rank s t end in subst Path (sym same) (at_end (subst IsLooked same looked))
-        | inr earlier ↦
-            let later = next_later shape s in
-            let below : rank s < rank t = omega (arith, looked.to) in
-            one_on s looked (w.before s looked.is_spot looked.from below)
-            (path m (next shape s) (record { is_spot = next_is_spot shape s; from = omega (arith, looked.from, number_next s); to = next_least shape s t w.is_spot below }) (omega arith))
-      ]
+  path (suc m) s looked near = elim (cases_eq (rank s) (rank t)) [
+    | inl end ↦ let same : s ≡ t = same_rank s t end in subst Path (sym same) (at_end (subst IsLooked same looked))
+    | inr earlier ↦
+        let later = next_later shape s in
+        let below : rank s < rank t = omega (arith, looked.to) in
+        one_on s looked (w.before s looked.is_spot looked.from below)
+        (path m (next shape s) (record { is_spot = next_is_spot shape s; from = omega (arith, looked.from, number_next s); to = next_least shape s t w.is_spot below }) (omega arith))
+  ]
 
 -- ---- the law
 
@@ -136,11 +133,10 @@ module _ (shape : Shape) (is : IsShape shape) (other : shape.kind ≡ Evt → �
   given_link : (t : Spot) (w : Waits shape memory v t) (u : Spot) → IsLooked shape memory v t w u →
       is_shown memory (standing shape u) ≡ true → is_link (kind (block_under memory (standing shape u))) ≡ true →
       (q : ℕ) × (floor_number v ≤ q) × (v.crossed q ≡ true) × (spot_address shape u ≡ link_address shape q)
-  given_link t w u looked shown link =
-      elim (cases_eq (rank u) (rank t)) [
-        | inl end ↦ absurd (false≢true (sym w.hidden ∙ ap (λ s. is_shown memory (standing shape s)) (sym (same_rank u t end)) ∙ shown))
-        | inr earlier ↦ crossed u looked.from ((w.before u looked.is_spot looked.from (omega (arith, looked.to))).stands) link
-      ]
+  given_link t w u looked shown link = elim (cases_eq (rank u) (rank t)) [
+    | inl end ↦ absurd (false≢true (sym w.hidden ∙ ap (λ s. is_shown memory (standing shape s)) (sym (same_rank u t end)) ∙ shown))
+    | inr earlier ↦ crossed u looked.from ((w.before u looked.is_spot looked.from (omega (arith, looked.to))).stands) link
+  ]
     where
       crossed : (u : Spot) → floor_number v ≤ number u → ReadAs shape memory v u → is_link (kind (block_under memory (standing shape u))) ≡ true →
           (q : ℕ) × (floor_number v ≤ q) × (v.crossed q ≡ true) × (spot_address shape u ≡ link_address shape q)

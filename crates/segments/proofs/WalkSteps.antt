@@ -1,6 +1,5 @@
 -- One step of the walk: at each spot up to the first that isn't given a block stands that leads to the next spot, and there none
-use Rattle.std.proofs.Common.{rules}
-use Rattle.segments.proofs.Words.{IsRestored, ◌≡◌, ◌≢◌, ◌+◌, ◌-◌, ◌*◌, ◌/◌, ◌^◌, ◌%◌, ◌<◌, ◌≤◌, if◌then◌else◌, ◌∙◌, ℕ, Bool, true, false, [], Some, slice_get, arith, refl, sym, ap, inl, inr, get_or, eq-eqb, ne_eqb, eqb-true, option_map, cases_Bool, cases_lt, cases_eq, cond-true, cond-false, or_parts, not-false, false≢true, false_from_ne_true, slice_get-get_or, mod-eq_of_lt, Block, Evt, is_set, aligned, block_at, word, cycle, kind, pointer, with_cycle, is_link, kind-with_cycle, Spot, Data, Link, Shape, address_of, cycle_of, is_crossing, link_address, link_target, toggles, IsSpot, rank, number, after, next, spot_address, spot_cycle, IsShape, RingView, floor_number, given_count, same, is_wrong_link, RingKeeps, Pointer, block_under, is_shown, behind, laid, standing}
+use Rattle.segments.proofs.Words.{IsRestored, ◌≡◌, ◌≢◌, ◌+◌, ◌-◌, ◌*◌, ◌/◌, ◌^◌, ◌%◌, ◌<◌, ◌≤◌, if◌then◌else◌, ◌∙◌, ℕ, Bool, true, false, [], Some, slice_get, arith, refl, sym, ap, inl, inr, get_or, eq-eqb, ne_eqb, eqb-true, option_map, cases_Bool, cases_lt, cases_eq, cond-true, cond-false, or_parts, not-false, false≢true, false_from_ne_true, slice_get-get_or, mod-eq_of_lt, Block, Evt, is_set, aligned, block_at, word, cycle, kind, pointer, with_cycle, is_link, kind-with_cycle, Spot, Data, Link, Shape, address_of, cycle_of, is_crossing, link_address, link_target, toggles, IsSpot, rank, number, after, next, spot_address, spot_cycle, IsShape, RingView, floor_number, given_count, same, is_wrong_link, RingKeeps, Pointer, block_under, is_shown, behind, laid, standing, rules}
 use Rattle.segments.proofs.DataPlaces.{link_ends}
 use Rattle.segments.proofs.Positions.{address_ends, cycle_of_bit}
 use Rattle.segments.proofs.Crossings.{crosses, crossed_link, link_address_is, link_target-crossed, cycle_of-crossed}
@@ -97,14 +96,13 @@ module _ (shape : Shape) (is : IsShape shape) (other : shape.kind ≡ Evt → �
   waits_at_data from way =
       let n : ℕ = given_count shape v in
       let near = given_count_near shape is memory v k in
-      let low = floor_given shape is memory v k in
       let missing : v.given n ≡ false =
       false_from_ne_true (v.given n) (λ g. false≢true (sym (given_count_stops shape v near) ∙ step_from shape v n g way)) in
       record {
         is_spot = refl;
         at = refl;
         from = from;
-        hidden = hides (Data n) (k.not_yet n (due_from shape v.floor n low near) missing);
+        hidden = hides (Data n) (k.not_yet n (due_from shape v.floor n (floor_given shape is memory v k) near) missing);
         before = before n refl way;
       }
     where
@@ -144,10 +142,9 @@ module _ (shape : Shape) (is : IsShape shape) (other : shape.kind ≡ Evt → �
       let n : ℕ = given_count shape v in
       let high : rank v.floor ≤ 2 * n + 1 = omega (arith, rank_most v.floor, floor_given shape is memory v k) in
       elim (cases_Bool (is_crossing shape n)) [
-        | inl crossing ↦
-            elim (cases_Bool (v.crossed n)) [
-              | inl given ↦ (Data n, waits_at_data high (λ _. given))
-              | inr missing ↦ (Link n, waits_at_link (floor_below crossing missing) crossing missing)
-            ]
+        | inl crossing ↦ elim (cases_Bool (v.crossed n)) [
+          | inl given ↦ (Data n, waits_at_data high (λ _. given))
+          | inr missing ↦ (Link n, waits_at_link (floor_below crossing missing) crossing missing)
+        ]
         | inr none ↦ (Data n, waits_at_data high (λ crossing. absurd (false≢true (sym none ∙ crossing))))
       ]

@@ -1,6 +1,5 @@
 -- A descriptor that is withdrawn, and what is free that is restored: what the rules keep of a ring stays
-use Rattle.std.proofs.Common.{rules}
-use Rattle.segments.proofs.Words.{and_cases, leb-false, ltb-false, nat_le, nat_lt, unwrap_or, is_not_whole, ◌%◌, ◌≡◌, ◌+◌, ◌<◌, ◌≤◌, ◌⊎◌, ◌==◌, ◌&&◌, ◌∷◌, ◌++◌, ◌∙◌, ℕ, suc, zero, not, true, false, List, [], All, length, sum, replicate, Some, slice_get, arith, refl, sym, ap, subst, inl, inr, eq-eqb, ne_eqb, eqb-true, cases_Bool, cases_eq, cond-true, cond-false, and_parts, or_cases, or_left, or_right, or_parts, false≢true, not-false, All-cons, All-head, All-tail, sum_by-cons, Block, block_at, kind, with_cycle, is_link, no_op, no_ops, split_at, Shape, is_in, address_of, cycle_of, IsShape, RingView, Withdraws, Restores, changed, floor_number, is_step_given, is_way_given, given_count, ceiling, descriptor_length, is_border, length_from, is_declared_as, is_not_restored, unrestored, RingKeeps, MayHold, MayWithdraw, MayRestore}
+use Rattle.segments.proofs.Words.{add-zero, and_cases, leb-false, ltb-false, nat_le, nat_lt, unwrap_or, is_not_whole, ◌%◌, ◌≡◌, ◌+◌, ◌<◌, ◌≤◌, ◌⊎◌, ◌==◌, ◌&&◌, ◌∷◌, ◌++◌, ◌∙◌, ℕ, suc, zero, not, true, false, List, [], All, length, sum, replicate, Some, slice_get, arith, refl, sym, ap, subst, inl, inr, eq-eqb, ne_eqb, eqb-true, cases_Bool, cases_eq, cond-true, cond-false, and_parts, or_cases, or_left, or_right, or_parts, false≢true, not-false, All-cons, All-head, All-tail, sum_by-cons, Block, block_at, kind, with_cycle, is_link, no_op, no_ops, split_at, Shape, is_in, address_of, cycle_of, IsShape, RingView, Withdraws, Restores, changed, floor_number, is_step_given, is_way_given, given_count, ceiling, descriptor_length, is_border, length_from, is_declared_as, is_not_restored, unrestored, RingKeeps, MayHold, MayWithdraw, MayRestore, rules}
 use Rattle.segments.proofs.Giving.{due_from}
 use Rattle.segments.proofs.DueLists.{unrestored_position, none_passes_at}
 use Rattle.segments.proofs.GivenCount.{given_count_same}
@@ -54,40 +53,35 @@ ones_all (suc n) rest all = All-cons (λ m. 0 < m) 1 (replicate n 1 ++ rest) (om
 pub split_sum : (lengths : List ℕ) (start p : ℕ) → sum (split_at lengths start p) ≡ sum lengths
 unfolding split_at
 split_sum [] start p = refl
-split_sum (n ∷ rest) start p =
-    elim (cases_Bool (start == p)) [
-      | inl here ↦
-          ap sum (cond-true (start == p) (replicate n 1 ++ rest) (n ∷ split_at rest (start + n) p) here) ∙ ones_sum n rest ∙ sym (sum_by-cons (λ x. x) n rest)
-      | inr later ↦
-          ap sum (cond-false (start == p) (replicate n 1 ++ rest) (n ∷ split_at rest (start + n) p) later)
-          ∙ omega (arith, sum_by-cons (λ x. x) n (split_at rest (start + n) p), sum_by-cons (λ x. x) n rest, split_sum rest (start + n) p)
-    ]
+split_sum (n ∷ rest) start p = elim (cases_Bool (start == p)) [
+  | inl here ↦
+      ap sum (cond-true (start == p) (replicate n 1 ++ rest) (n ∷ split_at rest (start + n) p) here) ∙ ones_sum n rest ∙ sym (sum_by-cons (λ x. x) n rest)
+  | inr later ↦
+      ap sum (cond-false (start == p) (replicate n 1 ++ rest) (n ∷ split_at rest (start + n) p) later)
+      ∙ omega (arith, sum_by-cons (λ x. x) n (split_at rest (start + n) p), sum_by-cons (λ x. x) n rest, split_sum rest (start + n) p)
+]
 
 pub split_all : (lengths : List ℕ) (start p : ℕ) → All (λ m. 0 < m) lengths → All (λ m. 0 < m) (split_at lengths start p)
 unfolding split_at
 split_all [] start p all = all
-split_all (n ∷ rest) start p all =
-    elim (cases_Bool (start == p)) [
-      | inl here ↦
-          subst (All (λ m. 0 < m)) (sym (cond-true (start == p) (replicate n 1 ++ rest) (n ∷ split_at rest (start + n) p) here))
-          (ones_all n rest (All-tail (λ m. 0 < m) n rest all))
-      | inr later ↦
-          subst (All (λ m. 0 < m)) (sym (cond-false (start == p) (replicate n 1 ++ rest) (n ∷ split_at rest (start + n) p) later))
-          (All-cons (λ m. 0 < m) n (split_at rest (start + n) p) (All-head (λ m. 0 < m) n rest all) (split_all rest (start + n) p (All-tail (λ m. 0 < m) n rest all)))
-    ]
+split_all (n ∷ rest) start p all = elim (cases_Bool (start == p)) [
+  | inl here ↦
+      subst (All (λ m. 0 < m)) (sym (cond-true (start == p) (replicate n 1 ++ rest) (n ∷ split_at rest (start + n) p) here))
+      (ones_all n rest (All-tail (λ m. 0 < m) n rest all))
+  | inr later ↦
+      subst (All (λ m. 0 < m)) (sym (cond-false (start == p) (replicate n 1 ++ rest) (n ∷ split_at rest (start + n) p) later))
+      (All-cons (λ m. 0 < m) n (split_at rest (start + n) p) (All-head (λ m. 0 < m) n rest all) (split_all rest (start + n) p (All-tail (λ m. 0 < m) n rest all)))
+]
+
+one_on : (a b : ℕ) → a + 1 + b ≡ a + suc b
+one_on a b = omega arith
 
 -- behind descriptors of one block those that follow begin where they did
 ones_border : (n : ℕ) (rest : List ℕ) (start q : ℕ) → is_border rest (start + n) q ≡ true → is_border (replicate n 1 ++ rest) start q ≡ true
 unfolding is_border
-ones_border zero rest start q border = ap (λ s. is_border rest s q) (same start) ∙ border
-  where
-    same : (a : ℕ) → a ≡ a + 0
-    same a = omega arith
+ones_border zero rest start q border = ap (λ s. is_border rest s q) (sym (add-zero start)) ∙ border
 ones_border (suc n) rest start q border =
-    or_right (start == q) (is_border (replicate n 1 ++ rest) (start + 1) q) (ones_border n rest (start + 1) q (ap (λ s. is_border rest s q) (same start n) ∙ border))
-  where
-    same : (a b : ℕ) → a + 1 + b ≡ a + suc b
-    same a b = omega arith
+    or_right (start == q) (is_border (replicate n 1 ++ rest) (start + 1) q) (ones_border n rest (start + 1) q (ap (λ s. is_border rest s q) (one_on start n) ∙ border))
 
 ones_start : (n : ℕ) (rest : List ℕ) (start q : ℕ) → start ≡ q → is_border (replicate n 1 ++ rest) start q ≡ true
 unfolding is_border
@@ -99,21 +93,20 @@ ones_start (suc n) rest start q here = or_left (start == q) (is_border (replicat
 pub split_border : (lengths : List ℕ) (start p q : ℕ) → is_border lengths start q ≡ true → is_border (split_at lengths start p) start q ≡ true
 unfolding split_at is_border
 split_border [] start p q border = border
-split_border (n ∷ rest) start p q border =
-    elim (cases_Bool (start == p)) [
-      | inl here ↦
-          ap (λ l. is_border l start q) (cond-true (start == p) (replicate n 1 ++ rest) (n ∷ split_at rest (start + n) p) here)
-          ∙ elim (or_cases (start == q) (is_border rest (start + n) q) border) [
-            | inl first ↦ ones_start n rest start q (eqb-true start q first)
-            | inr later ↦ ones_border n rest start q later
-          ]
-      | inr later ↦
-          ap (λ l. is_border l start q) (cond-false (start == p) (replicate n 1 ++ rest) (n ∷ split_at rest (start + n) p) later)
-          ∙ elim (or_cases (start == q) (is_border rest (start + n) q) border) [
-            | inl first ↦ or_left (start == q) (is_border (split_at rest (start + n) p) (start + n) q) first
-            | inr behind ↦ or_right (start == q) (is_border (split_at rest (start + n) p) (start + n) q) (split_border rest (start + n) p q behind)
-          ]
-    ]
+split_border (n ∷ rest) start p q border = elim (cases_Bool (start == p)) [
+  | inl here ↦
+      ap (λ l. is_border l start q) (cond-true (start == p) (replicate n 1 ++ rest) (n ∷ split_at rest (start + n) p) here)
+      ∙ elim (or_cases (start == q) (is_border rest (start + n) q) border) [
+        | inl first ↦ ones_start n rest start q (eqb-true start q first)
+        | inr later ↦ ones_border n rest start q later
+      ]
+  | inr later ↦
+      ap (λ l. is_border l start q) (cond-false (start == p) (replicate n 1 ++ rest) (n ∷ split_at rest (start + n) p) later)
+      ∙ elim (or_cases (start == q) (is_border rest (start + n) q) border) [
+        | inl first ↦ or_left (start == q) (is_border (split_at rest (start + n) p) (start + n) q) first
+        | inr behind ↦ or_right (start == q) (is_border (split_at rest (start + n) p) (start + n) q) (split_border rest (start + n) p q behind)
+      ]
+]
 
 -- no length is added but 1
 ones_first : (n : ℕ) (rest : List ℕ) (start q : ℕ) → 0 < n → start ≡ q → length_from (replicate n 1 ++ rest) start q ≡ 1
@@ -124,54 +117,46 @@ ones_first (suc n) rest start q some first = cond-true (start == q) 1 (length_fr
 ones_length : (n : ℕ) (rest : List ℕ) (start q : ℕ) →
     (length_from (replicate n 1 ++ rest) start q ≡ 1) ⊎ (length_from (replicate n 1 ++ rest) start q ≡ length_from rest (start + n) q)
 unfolding length_from
-ones_length zero rest start q = inr (ap (λ s. length_from rest s q) (same start))
-  where
-    same : (a : ℕ) → a ≡ a + 0
-    same a = omega arith
-ones_length (suc n) rest start q =
-    elim (cases_eq start q) [
-      | inl here ↦ inl (ones_first (suc n) rest start q (omega arith) here)
-      | inr past ↦
-          let skips = cond-false (start == q) 1 (length_from (replicate n 1 ++ rest) (start + 1) q) (ne_eqb start q past) in
-          elim (ones_length n rest (start + 1) q) [
-            | inl one ↦ inl (skips ∙ one)
-            | inr behind ↦ inr (skips ∙ behind ∙ ap (λ s. length_from rest s q) (same start n))
-          ]
-    ]
-  where
-    same : (a b : ℕ) → a + 1 + b ≡ a + suc b
-    same a b = omega arith
+ones_length zero rest start q = inr (ap (λ s. length_from rest s q) (sym (add-zero start)))
+ones_length (suc n) rest start q = elim (cases_eq start q) [
+  | inl here ↦ inl (ones_first (suc n) rest start q (omega arith) here)
+  | inr past ↦
+      let skips = cond-false (start == q) 1 (length_from (replicate n 1 ++ rest) (start + 1) q) (ne_eqb start q past) in
+      elim (ones_length n rest (start + 1) q) [
+        | inl one ↦ inl (skips ∙ one)
+        | inr behind ↦ inr (skips ∙ behind ∙ ap (λ s. length_from rest s q) (one_on start n))
+      ]
+]
 
 -- a descriptor has the blocks that it had, or one
 pub split_length : (lengths : List ℕ) (start p q : ℕ) → All (λ m. 0 < m) lengths →
     (length_from (split_at lengths start p) start q ≤ 1) ⊎ (length_from (split_at lengths start p) start q ≡ length_from lengths start q)
 unfolding split_at length_from
 split_length [] start p q all = inr refl
-split_length (n ∷ rest) start p q all =
-    elim (cases_Bool (start == p)) [
-      | inl here ↦
-          let split = ap (λ l. length_from l start q) (cond-true (start == p) (replicate n 1 ++ rest) (n ∷ split_at rest (start + n) p) here) in
-          elim (cases_eq start q) [
-            | inl first ↦ let one = split ∙ ones_first n rest start q (All-head (λ m. 0 < m) n rest all) first in inl (omega arith)
-            | inr past ↦ elim (ones_length n rest start q) [
-              | inl alone ↦ let one = split ∙ alone in inl (omega arith)
-              | inr behind ↦ inr (split ∙ behind ∙ sym (cond-false (start == q) n (length_from rest (start + n) q) (ne_eqb start q past)))
+split_length (n ∷ rest) start p q all = elim (cases_Bool (start == p)) [
+  | inl here ↦
+      let split = ap (λ l. length_from l start q) (cond-true (start == p) (replicate n 1 ++ rest) (n ∷ split_at rest (start + n) p) here) in
+      elim (cases_eq start q) [
+        | inl first ↦ let one = split ∙ ones_first n rest start q (All-head (λ m. 0 < m) n rest all) first in inl (omega arith)
+        | inr past ↦ elim (ones_length n rest start q) [
+          | inl alone ↦ let one = split ∙ alone in inl (omega arith)
+          | inr behind ↦ inr (split ∙ behind ∙ sym (cond-false (start == q) n (length_from rest (start + n) q) (ne_eqb start q past)))
+        ]
+      ]
+  | inr later ↦
+      let split = ap (λ l. length_from l start q) (cond-false (start == p) (replicate n 1 ++ rest) (n ∷ split_at rest (start + n) p) later) in
+      elim (cases_eq start q) [
+        | inl first ↦
+            inr (split ∙ cond-true (start == q) n (length_from (split_at rest (start + n) p) (start + n) q) (eq-eqb start q first)
+            ∙ sym (cond-true (start == q) n (length_from rest (start + n) q) (eq-eqb start q first)))
+        | inr past ↦
+            let skips = split ∙ cond-false (start == q) n (length_from (split_at rest (start + n) p) (start + n) q) (ne_eqb start q past) in
+            elim (split_length rest (start + n) p q (All-tail (λ m. 0 < m) n rest all)) [
+              | inl one ↦ inl (omega arith)
+              | inr same ↦ inr (skips ∙ same ∙ sym (cond-false (start == q) n (length_from rest (start + n) q) (ne_eqb start q past)))
             ]
-          ]
-      | inr later ↦
-          let split = ap (λ l. length_from l start q) (cond-false (start == p) (replicate n 1 ++ rest) (n ∷ split_at rest (start + n) p) later) in
-          elim (cases_eq start q) [
-            | inl first ↦
-                inr (split ∙ cond-true (start == q) n (length_from (split_at rest (start + n) p) (start + n) q) (eq-eqb start q first)
-                ∙ sym (cond-true (start == q) n (length_from rest (start + n) q) (eq-eqb start q first)))
-            | inr past ↦
-                let skips = split ∙ cond-false (start == q) n (length_from (split_at rest (start + n) p) (start + n) q) (ne_eqb start q past) in
-                elim (split_length rest (start + n) p q (All-tail (λ m. 0 < m) n rest all)) [
-                  | inl one ↦ inl (omega arith)
-                  | inr same ↦ inr (skips ∙ same ∙ sym (cond-false (start == q) n (length_from rest (start + n) q) (ne_eqb start q past)))
-                ]
-          ]
-    ]
+      ]
+]
 
 -- ---- one ring
 

@@ -57,13 +57,12 @@ module _ (shape : Shape) (memory : ℕ → ℕ) (v : RingView) (a w : ℕ) where
 
     kept_by : (p : ℕ) (d : Block) → floor_number v ≤ p → (v.given p || gives shape v.floor p a w) ≡ true → v.free p ≡ false → slice_get v.queue p ≡ Some d →
         block_at (put memory a w) (address_of shape p) ≡ with_cycle d (cycle_of shape p)
-    kept_by p d low g kept at =
-        elim (was_or_now (v.given p) (gives shape v.floor p a w) g) [
-          | inl was ↦ block_same memory (put memory a w) (address_of shape p) (block_kept p low was kept) ∙ k.kept p d low was kept at
-          | inr now ↦
-              declared_as p d
-              (All-contains (λ p. is_other_than_declared shape v memory a w p ≡ false) (positions_given shape v a w) p may.as_declared (position_given shape v a w p now.0 now.1)) at
-        ]
+    kept_by p d low g kept at = elim (was_or_now (v.given p) (gives shape v.floor p a w) g) [
+      | inl was ↦ block_same memory (put memory a w) (address_of shape p) (block_kept p low was kept) ∙ k.kept p d low was kept at
+      | inr now ↦
+          declared_as p d
+          (All-contains (λ p. is_other_than_declared shape v memory a w p ≡ false) (positions_given shape v a w) p may.as_declared (position_given shape v a w p now.0 now.1)) at
+    ]
 
     not_yet_by : (p : ℕ) → is_due shape v.floor p ≡ true → (v.given p || gives shape v.floor p a w) ≡ false → put memory a w (address_of shape p + 12) % 2 ≢ cycle_of shape p
     not_yet_by p due g =
@@ -78,20 +77,19 @@ module _ (shape : Shape) (memory : ℕ → ℕ) (v : RingView) (a w : ℕ) where
 
     kept_link_by : (q i : ℕ) → is_crossing_due shape v.floor q ≡ true → (v.crossed q || gives_crossing shape v.floor q a w) ≡ true → link_crossed shape q ≡ Some i →
         (is_wrong_link shape i (block_at (put memory a w) (link_address shape q)) ≡ false) × (put memory a w (link_address shape q + 12) % 2 ≡ cycle_of shape (q - 1))
-    kept_link_by q i due g at =
-        elim (was_or_now (v.crossed q) (gives_crossing shape v.floor q a w) g) [
-          | inl was ↦
-              let before = k.kept_link q i due was at in
-              let same = link_kept q due was in (
-                ap (λ b. is_wrong_link shape i b) (block_same memory (put memory a w) (link_address shape q) same) ∙ before.0,
-                ap (λ n. n % 2) (same 12 (omega arith)) ∙ before.1,
-              )
-          | inr now ↦
-              let giving = gives_crossing_is shape v.floor q a w now.1 in (
-                leads_on q i (All-contains (λ q. leads_wrong shape memory a w q ≡ false) (crossings_given shape v a w) q may.leads (crossing_given shape v a w q now.0 now.1)) at,
-                ap (λ x. put memory a w x % 2) (sym giving.at) ∙ ap (λ n. n % 2) (put_here memory a w) ∙ giving.cycle,
-              )
-        ]
+    kept_link_by q i due g at = elim (was_or_now (v.crossed q) (gives_crossing shape v.floor q a w) g) [
+      | inl was ↦
+          let before = k.kept_link q i due was at in
+          let same = link_kept q due was in (
+            ap (λ b. is_wrong_link shape i b) (block_same memory (put memory a w) (link_address shape q) same) ∙ before.0,
+            ap (λ n. n % 2) (same 12 (omega arith)) ∙ before.1,
+          )
+      | inr now ↦
+          let giving = gives_crossing_is shape v.floor q a w now.1 in (
+            leads_on q i (All-contains (λ q. leads_wrong shape memory a w q ≡ false) (crossings_given shape v a w) q may.leads (crossing_given shape v a w q now.0 now.1)) at,
+            ap (λ x. put memory a w x % 2) (sym giving.at) ∙ ap (λ n. n % 2) (put_here memory a w) ∙ giving.cycle,
+          )
+    ]
 
     not_yet_link_by : (q : ℕ) → is_crossing_due shape v.floor q ≡ true → (v.crossed q || gives_crossing shape v.floor q a w) ≡ false → put memory a w (link_address shape q + 12) % 2 ≢ cycle_of shape (q - 1)
     not_yet_link_by q due g =
@@ -135,42 +133,41 @@ module _ (shape : Shape) (memory : ℕ → ℕ) (v : RingView) (a w : ℕ) where
         ]
 
     pub writes_keeps : RingKeeps shape (put memory a w) (changed shape v (Writes a w))
-    writes_keeps =
-        record {
-          is_spot = k.is_spot;
-          room = k.room;
-          passed = λ p h. or_left (v.given p) (gives shape v.floor p a w) (k.passed p h);
-          passed_links = λ q crossing h. or_left (v.crossed q) (gives_crossing shape v.floor q a w) (k.passed_links q crossing h);
-          given_within = λ p g. elim (or_cases (v.given p) (gives shape v.floor p a w) g) [
-            | inl was ↦ k.given_within p was
-            | inr now ↦ (gives_is shape v.floor p a w now).within
-          ];
-          given_declared = λ p g. elim (was_or_now (v.given p) (gives shape v.floor p a w) g) [
-            | inl was ↦ k.given_declared p was
-            | inr now ↦ is_below p (All-contains (λ p. is_not_declared v p ≡ false) (positions_given shape v a w) p may.declared (position_given shape v a w p now.0 now.1))
-          ];
-          crossed_is_crossing = λ q g. elim (or_cases (v.crossed q) (gives_crossing shape v.floor q a w) g) [
-            | inl was ↦ k.crossed_is_crossing q was
-            | inr now ↦ (gives_crossing_is shape v.floor q a w now).due.crossing
-          ];
-          crossed_within = λ q g. elim (or_cases (v.crossed q) (gives_crossing shape v.floor q a w) g) [
-            | inl was ↦ k.crossed_within q was
-            | inr now ↦ (gives_crossing_is shape v.floor q a w now).due.within
-          ];
-          kept = kept_by;
-          not_yet = not_yet_by;
-          kept_link = kept_link_by;
-          not_yet_link = not_yet_link_by;
-          whole = λ p g. elim (was_or_now (v.given p) (gives shape v.floor p a w) g) [
-            | inl was ↦ whole_more shape v after_write p writes_more (length_stays p) (k.whole p was)
-            | inr now ↦ whole_more shape v after_write p writes_more (length_stays p)
-                (All-contains (λ p. is_not_whole shape v p ≡ false) (positions_given shape v a w) p may.whole (position_given shape v a w p now.0 now.1))
-          ];
-          lengths = k.lengths;
-          descriptors = k.descriptors;
-          blocks = k.blocks;
-          held = λ m at. let may_hold : MayHold shape v m = k.held m at in record { from = may_hold.from; to = omega (arith, may_hold.to, given_count-writes) };
-          free_given = λ p free. or_left (v.given p) (gives shape v.floor p a w) (k.free_given p free);
-          free_shows = free_shows_by;
-          open_restored = k.open_restored;
-        }
+    writes_keeps = record {
+      is_spot = k.is_spot;
+      room = k.room;
+      passed = λ p h. or_left (v.given p) (gives shape v.floor p a w) (k.passed p h);
+      passed_links = λ q crossing h. or_left (v.crossed q) (gives_crossing shape v.floor q a w) (k.passed_links q crossing h);
+      given_within = λ p g. elim (or_cases (v.given p) (gives shape v.floor p a w) g) [
+        | inl was ↦ k.given_within p was
+        | inr now ↦ (gives_is shape v.floor p a w now).within
+      ];
+      given_declared = λ p g. elim (was_or_now (v.given p) (gives shape v.floor p a w) g) [
+        | inl was ↦ k.given_declared p was
+        | inr now ↦ is_below p (All-contains (λ p. is_not_declared v p ≡ false) (positions_given shape v a w) p may.declared (position_given shape v a w p now.0 now.1))
+      ];
+      crossed_is_crossing = λ q g. elim (or_cases (v.crossed q) (gives_crossing shape v.floor q a w) g) [
+        | inl was ↦ k.crossed_is_crossing q was
+        | inr now ↦ (gives_crossing_is shape v.floor q a w now).due.crossing
+      ];
+      crossed_within = λ q g. elim (or_cases (v.crossed q) (gives_crossing shape v.floor q a w) g) [
+        | inl was ↦ k.crossed_within q was
+        | inr now ↦ (gives_crossing_is shape v.floor q a w now).due.within
+      ];
+      kept = kept_by;
+      not_yet = not_yet_by;
+      kept_link = kept_link_by;
+      not_yet_link = not_yet_link_by;
+      whole = λ p g. elim (was_or_now (v.given p) (gives shape v.floor p a w) g) [
+        | inl was ↦ whole_more shape v after_write p writes_more (length_stays p) (k.whole p was)
+        | inr now ↦ whole_more shape v after_write p writes_more (length_stays p)
+            (All-contains (λ p. is_not_whole shape v p ≡ false) (positions_given shape v a w) p may.whole (position_given shape v a w p now.0 now.1))
+      ];
+      lengths = k.lengths;
+      descriptors = k.descriptors;
+      blocks = k.blocks;
+      held = λ m at. let may_hold : MayHold shape v m = k.held m at in record { from = may_hold.from; to = omega (arith, may_hold.to, given_count-writes) };
+      free_given = λ p free. or_left (v.given p) (gives shape v.floor p a w) (k.free_given p free);
+      free_shows = free_shows_by;
+      open_restored = k.open_restored;
+    }

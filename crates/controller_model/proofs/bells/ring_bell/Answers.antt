@@ -1,46 +1,29 @@
-use Rattle.controller_model.proofs.Words.{◌==◌, ◌&&◌, ◌∙◌, ℕ, ap, sym, subst, arith, World, activated, Follows, ring_held}
+use Rattle.controller_model.proofs.Words.{◌==◌, ◌&&◌, ◌∙◌, ap, sym, arith, activated, ring_held}
 use Rattle.controller_model.proofs.RingSteps.{activated_other}
 use Rattle.controller_model.proofs.BellLemmas.{follows_same, command_id-some, command_id-none, bell_endpoint, bell_nothing, bell_commands}
 use Rattle.controller_model.proofs.bells.ring_bell.Goals as goal
 
 pub returns-then-slot-ne0 : goal.returns-then-slot-ne0
 returns-then-slot-ne0 c = λ rows words w f.
-    let P : World → Type 0 = λ v. Follows c.args.header.now rows words c.ring_endpoint.new.kept v in
-    subst P (sym (bell_endpoint c.args.header.now w c.args.slot c.args.target c.if-slot-ne0.true)) (c.ring_endpoint.ensures c.args.header.now rows words w f)
+    rw (bell_endpoint c.args.header.now w c.args.slot c.args.target c.if-slot-ne0.true) (c.ring_endpoint.ensures c.args.header.now rows words w f)
 
 pub returns-then-not-starts_commands : goal.returns-then-not-starts_commands
 returns-then-not-starts_commands c = λ rows words w f.
     let idle = ap (λ b. c.args.target == 0 && b) f.progress.started ∙ sym c.starts_commands.ensures ∙ c.if-not-starts_commands.true in
-    let P : World → Type 0 = λ v. Follows c.args.header.now rows words c.args.kept.now v in
-    subst P (sym (bell_nothing c.args.header.now w c.args.slot c.args.target c.if-slot-ne0.false idle)) f
+    rw (bell_nothing c.args.header.now w c.args.slot c.args.target c.if-slot-ne0.false idle) f
 
 pub returns-in-None : goal.returns-in-None
 unfolding activated
 returns-in-None c = λ rows words w f.
     let starts = ap (λ b. c.args.target == 0 && b) f.progress.started ∙ sym c.starts_commands.ensures ∙ c.if-not-starts_commands.false in
     let none = command_id-none c.args.header.now c.in-None.ensures in
-    let P : World → Type 0 = λ v. Follows c.args.header.now rows words c.args.kept.now v in
-    let Q : ℕ → Type 0 = λ r. Follows c.args.header.now rows words c.args.kept.now (activated c.args.header.now w r) in
-    subst P (sym (bell_commands c.args.header.now w c.args.slot c.args.target c.if-slot-ne0.false starts)) (subst Q (sym none) (record {
-      progress = f.progress;
-      registers = f.registers;
-      held = f.held;
-      beyond = f.beyond;
-      rings =
-          follows_same c.args.header.now (ring_held w) (ring_held (activated c.args.header.now w 256)) c.args.kept.now.rings.items c.args.kept.now.rings_many
-          (λ q below. activated_other c.args.header.now w 256 q (λ e. omega arith)) f.rings;
-      slots = f.slots;
-      endpoints = f.endpoints;
-      events = f.events;
-      under_way = f.under_way;
-      looked = f.looked;
-    }))
+    rw (bell_commands c.args.header.now w c.args.slot c.args.target c.if-slot-ne0.false starts)
+    (rw none
+    (assumption (follows_same c.args.header.now (ring_held w) (ring_held (activated c.args.header.now w 256)) c.args.kept.now.rings.items c.args.kept.now.rings_many
+    (λ q below. activated_other c.args.header.now w 256 q (λ e. omega arith)) f.rings)))
 
 pub returns-in-Some : goal.returns-in-Some
 returns-in-Some c = λ rows words w f.
     let starts = ap (λ b. c.args.target == 0 && b) f.progress.started ∙ sym c.starts_commands.ensures ∙ c.if-not-starts_commands.false in
-    let P : World → Type 0 = λ v. Follows c.args.header.now rows words c.activate.new.kept v in
-    let Q : ℕ → Type 0 = λ r. Follows c.args.header.now rows words c.activate.new.kept (activated c.args.header.now w r) in
-    subst P (sym (bell_commands c.args.header.now w c.args.slot c.args.target c.if-slot-ne0.false starts))
-    (subst Q (sym (command_id-some c.args.header.now c.in-Some.ring.now c.in-Some.ensures))
-    (c.activate.ensures c.args.header.now rows words w f))
+    rw (bell_commands c.args.header.now w c.args.slot c.args.target c.if-slot-ne0.false starts)
+    (rw (command_id-some c.args.header.now c.in-Some.ring.now c.in-Some.ensures) (c.activate.ensures c.args.header.now rows words w f))

@@ -1,4 +1,4 @@
-use Rattle.controller_model.proofs.Words.{◌≡◌, ◌∙◌, is_some, ap, sym, subst, refl, false≢true, Xfer, ring_having, shape_of, shape_or, World, Follows, bound, freed}
+use Rattle.controller_model.proofs.Words.{◌≡◌, ◌∙◌, is_some, ap, sym, refl, false≢true, Xfer, ring_having, shape_of, shape_or, bound, freed}
 use Rattle.controller_model.proofs.BindingSteps.{placed_is, freed_has, freed_had}
 use Rattle.controller_model.proofs.BindingLemmas.{having_known, placed_none, placed_some}
 use Rattle.controller_model.proofs.bindings.place.Goals as goal
@@ -22,7 +22,6 @@ returns-clause-change c = λ rows words w v made f.
     let now = c.free.ensures.change c.args.header.now rows words w f in
     let is : bound u c.args.slot c.args.index c.in-Some.ring c.args.pointer c.args.cycle c.args.state ≡ v =
     sym (placed_is w c.args.slot c.args.index c.in-Some.ring c.args.pointer c.args.cycle c.args.state o refl) ∙ got.is in
-    let P : World → Type 0 = λ x. Follows c.args.header.now rows words c.bind.new.kept x in
-    subst P is
-    (c.in_ok-bind.ensures.change c.args.header.now rows words u (ap (λ p. shape_or Xfer p) c.in-Some-ring_with.ensures)
-    (freed_has w c.args.slot c.args.index o refl) (freed_had w c.args.slot c.args.index o c.in-Some.ring ∙ got.free) now)
+    rw is at
+    (c.in_ok-bind.ensures.change c.args.header.now rows words u (ap (λ p. shape_or Xfer p) c.in-Some-ring_with.ensures) (freed_has w c.args.slot c.args.index o refl)
+    (freed_had w c.args.slot c.args.index o c.in-Some.ring ∙ got.free) now)

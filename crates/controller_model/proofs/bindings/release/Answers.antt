@@ -1,5 +1,5 @@
-use Rattle.controller_model.proofs.Words.{◌≡◌, ◌<◌, ◌+◌, ◌*◌, ◌∙◌, ℕ, true, false, Option, None, Some, length, set, refl, ap, sym, subst, arith, eq-eqb, put_pair, is_ring, EndpointState, Endpoint, Holder, ring_held, released, FollowsHolder, FollowsEndpoints}
-use Rattle.controller_model.proofs.RingLemmas.{read_at, follows_change}
+use Rattle.controller_model.proofs.Words.{◌≡◌, ◌<◌, ◌+◌, ◌*◌, ◌∙◌, ℕ, true, None, Some, length, refl, ap, arith, eq-eqb, is_ring, Endpoint}
+use Rattle.controller_model.proofs.RingLemmas.{read_at, ring_changed, with_rings}
 use Rattle.controller_model.proofs.EndpointLemmas.{endpoints_set}
 use Rattle.controller_model.proofs.HolderLemmas.{holder_left, put_pair_id}
 use Rattle.controller_model.proofs.BindingSteps.{released_here, released_other}
@@ -10,42 +10,16 @@ none_some r e = absurd (cc)
 
 pub returns-clause-change : goal.returns-clause-change
 returns-clause-change c = λ h rows words w has f.
-    let inside : c.args.ring < length c.args.kept.now.rings.items = omega (arith, c.args.kept.now.rings_many, c.ranges.ring) in
-    let old = f.rings.each c.args.ring c.index_mut-state.result.now
-    (read_at c.args.kept.now.rings.items c.from.result c.args.ring c.index_mut-state.result.now c.from.ensures inside c.index_mut-state.ensures.value) in
     let place : c.from-2.result * 32 + c.from-3.result ≡ c.args.slot * 32 + c.args.index = omega (arith, c.from-2.ensures, c.from-3.ensures) in
     let within : c.args.slot * 32 + c.args.index < length c.args.kept.now.endpoints.items = omega (arith, c.args.kept.now.endpoints_many, c.ranges.slot, c.requires) in
     let was = f.endpoints.each c.args.slot c.args.index c.index_mut-endpoint.result.now c.requires
     (read_at c.args.kept.now.endpoints.items (c.from-2.result * 32 + c.from-3.result) (c.args.slot * 32 + c.args.index) c.index_mut-endpoint.result.now place within c.index_mut-endpoint.ensures.value) in
     let has_it : is_ring c.args.ring (w.ring_of c.args.slot c.args.index) ≡ true = ap (is_ring c.args.ring) has ∙ eq-eqb c.args.ring c.args.ring refl in
-    let left =
-    holder_left (λ t j. is_ring c.args.ring (w.ring_of t j)) c.index_mut-state.result.now.holder c.args.slot c.args.index (omega (arith, c.ranges.slot)) c.requires has_it old.holder in
-    let P : Option Holder → Type 0 = λ o. FollowsHolder (put_pair (λ t j. is_ring c.args.ring (w.ring_of t j)) c.args.slot c.args.index false) o in
     let new : Endpoint = record { state = c.index_mut-endpoint.result.now.state; ring = None } in
-    let Q : (ℕ → ℕ → EndpointState) → Type 0 = λ states.
-    FollowsEndpoints (set c.args.kept.now.endpoints.items (c.from-2.result * 32 + c.from-3.result) new) states (put_pair w.ring_of c.args.slot c.args.index None) in
-    record {
-      progress = f.progress;
-      registers = f.registers;
-      held = f.held;
-      beyond = f.beyond;
-      rings =
-          follows_change h (ring_held w) (ring_held (released w c.args.slot c.args.index c.args.ring)) c.args.kept.now.rings.items c.from.result c.args.ring _ _ c.from.ensures f.rings
-          (λ q apart. released_other w c.args.slot c.args.index c.args.ring q has apart) (released_here w c.args.slot c.args.index c.args.ring) (record {
-            declared = old.declared;
-            history = old.history;
-            pointer = old.pointer;
-            cycle = old.cycle;
-            active = refl;
-            harms = old.harms;
-            holder = subst P (sym c.left_by-state.ensures) left;
-          });
-      slots = f.slots;
-      endpoints =
-          subst Q (put_pair_id w.endpoint_state c.args.slot c.args.index c.index_mut-endpoint.result.now.state was.0)
-          (endpoints_set c.args.kept.now.endpoints.items w.endpoint_state w.ring_of (c.from-2.result * 32 + c.from-3.result) c.args.slot c.args.index new place c.requires
-          (λ r e. absurd (none_some r e)) f.endpoints);
-      events = f.events;
-      under_way = f.under_way;
-      looked = f.looked;
-    }
+    with_rings (ring_changed c.from.ensures (omega (arith, c.ranges.ring)) c.args.kept.now.rings_many c.index_mut-state.ensures.value (λ q apart. refl) f.rings
+    (λ q apart. released_other w c.args.slot c.args.index c.args.ring q has apart) (released_here w c.args.slot c.args.index c.args.ring)
+    (λ old. assumption (rw (← c.left_by-state.ensures) at
+    (holder_left (λ t j. is_ring c.args.ring (w.ring_of t j)) c.index_mut-state.result.now.holder c.args.slot c.args.index (omega (arith, c.ranges.slot)) c.requires has_it old.holder))))
+    (assumption (rw (put_pair_id w.endpoint_state c.args.slot c.args.index c.index_mut-endpoint.result.now.state was.0) at
+    (endpoints_set c.args.kept.now.endpoints.items w.endpoint_state w.ring_of (c.from-2.result * 32 + c.from-3.result) c.args.slot c.args.index new place c.requires
+    (λ r e. absurd (none_some r e)) f.endpoints)))

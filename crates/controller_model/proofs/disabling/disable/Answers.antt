@@ -1,4 +1,4 @@
-use Rattle.controller_model.proofs.Words.{◌≡◌, ◌==◌, ◌&&◌, ◌∙◌, ℕ, sym, subst, refl, arith, nat_lt, World, disabled, Follows, named_by}
+use Rattle.controller_model.proofs.Words.{◌≡◌, ◌==◌, ◌&&◌, ◌∙◌, ℕ, refl, arith, nat_lt, disabled, named_by}
 use Rattle.controller_model.proofs.DisabledRings.{disabled_below}
 use Rattle.controller_model.proofs.DisabledWorlds.{disabled_same, disabled_none, disabled_twice, one_more, none_below, all_below}
 use Rattle.controller_model.proofs.disabling.disable.Goals as goal
@@ -6,8 +6,7 @@ use Rattle.controller_model.proofs.disabling.disable.Goals as goal
 pub loop-index-init : goal.loop-index-init
 loop-index-init c = record {
   change = λ h rows words w f.
-      let P : World → Type 0 = λ v. Follows h rows words c.args.kept.now v in
-      subst P (sym (disabled_same w c.args.slot _ _ (none_below (named_by c.args.named)) ∙ disabled_none w c.args.slot)) f;
+      rw (← (disabled_same w c.args.slot _ _ (none_below (named_by c.args.named)) ∙ disabled_none w c.args.slot)) at f;
   rest = record { progress = refl; events = refl };
 }
 
@@ -16,9 +15,8 @@ loop-index-preserved c = record {
   change = λ h rows words w f.
       let p = λ (i : ℕ). named_by c.args.named i && nat_lt i c.loop-index.index in
       let now = c.disable_named.ensures.change h rows words (disabled w c.args.slot p) (c.loop-index.invariant.change h rows words w f) in
-      let P : World → Type 0 = λ v. Follows h rows words c.disable_named.new.kept v in
-      subst P (disabled_twice w c.args.slot p (λ i. named_by c.args.named i && i == c.loop-index.index)
-      ∙ disabled_same w c.args.slot _ _ (one_more (named_by c.args.named) c.loop-index.index)) now;
+      rw (disabled_twice w c.args.slot p (λ i. named_by c.args.named i && i == c.loop-index.index) ∙ disabled_same w c.args.slot _ _ (one_more (named_by c.args.named) c.loop-index.index)) at
+      now;
   rest = record {
     progress = c.disable_named.ensures.rest.progress ∙ c.loop-index.invariant.rest.progress;
     events = c.disable_named.ensures.rest.events ∙ c.loop-index.invariant.rest.events;

@@ -1,13 +1,11 @@
-use Rattle.controller_model.proofs.Words.{◌<◌, refl, sym, subst, ap, arith, is_ring, World, Follows, freed}
+use Rattle.controller_model.proofs.Words.{◌<◌, refl, ap, arith, is_ring, freed}
 use Rattle.controller_model.proofs.BindingSteps.{freed_has}
 use Rattle.controller_model.proofs.DisabledWorlds.{disabled_first, disabled_later}
 use Rattle.controller_model.proofs.disabling.disable_one.Goals as goal
 
 pub returns-then-index-eq0-clause-change : goal.returns-then-index-eq0-clause-change
 returns-then-index-eq0-clause-change c = λ h rows words w f.
-    let P : World → Type 0 = λ v. Follows h rows words c.turn_off.new.kept v in
-    subst P (sym (disabled_first w c.args.slot c.args.index c.if-index-eq0.true))
-    (c.turn_off.ensures.change h rows words w (λ r one. absurd (omega (arith, one.some_index, c.if-index-eq0.true))) f)
+    rw (disabled_first w c.args.slot c.args.index c.if-index-eq0.true) (c.turn_off.ensures.change h rows words w (λ r one. absurd (omega (arith, one.some_index, c.if-index-eq0.true))) f)
 
 pub returns-clause-change : goal.returns-clause-change
 returns-clause-change c = λ h rows words w f.
@@ -15,6 +13,5 @@ returns-clause-change c = λ h rows words w f.
     let o = w.ring_of c.args.slot c.args.index in
     let u = freed w c.args.slot c.args.index o in
     let now = c.free.ensures.change h rows words w f in
-    let P : World → Type 0 = λ v. Follows h rows words c.turn_off-2.new.kept v in
-    subst P (sym (disabled_later w c.args.slot c.args.index o refl some c.requires))
+    rw (disabled_later w c.args.slot c.args.index o refl some c.requires)
     (c.turn_off-2.ensures.change h rows words u (λ r one. ap (is_ring r) (freed_has w c.args.slot c.args.index o refl)) now)

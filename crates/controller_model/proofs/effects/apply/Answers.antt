@@ -12,15 +12,15 @@ returns-in-NoOp-clause-change g c = λ rows words w final made f.
 
 pub returns-in-EnableSlot-clause-change : goal.returns-in-EnableSlot-clause-change
 returns-in-EnableSlot-clause-change g c = λ rows words w final made f.
-    let P : World → Type 0 = λ v. Follows c.args.header.now rows words c.go_on.new.kept v in
-    subst P (enabled c.args.header.now c.args.header.now.context_size (g.M.WordMemory.words c.args.memory.now) c.args.slot c.args.command.now w final made c.in-EnableSlot.is) (c.go_on.ensures.change c.args.header.now rows words w f)
+    rw (enabled c.args.header.now c.args.header.now.context_size (g.M.WordMemory.words c.args.memory.now) c.args.slot c.args.command.now w final made c.in-EnableSlot.is) at
+    (c.go_on.ensures.change c.args.header.now rows words w f)
 
 pub returns-in-DisableSlot-clause-change : goal.returns-in-DisableSlot-clause-change
 returns-in-DisableSlot-clause-change g c = λ rows words w final made f.
-    let P : World → Type 0 = λ v. Follows c.args.header.now rows words c.disable.new.kept v in
     let u = gone c.args.command.now w c.in-DisableSlot.slot in
     let now = c.leave_device.ensures.change c.args.header.now rows words u (c.go_on-in-DisableSlot.ensures.change c.args.header.now rows words w f) in
-    subst P (disabled_slot c.args.header.now c.args.header.now.context_size (g.M.WordMemory.words c.args.memory.now) c.args.slot c.args.command.now w final made c.in-DisableSlot.slot c.in-DisableSlot.is)
+    rw (disabled_slot c.args.header.now c.args.header.now.context_size
+    (g.M.WordMemory.words c.args.memory.now) c.args.slot c.args.command.now w final made c.in-DisableSlot.slot c.in-DisableSlot.is) at
     (c.disable.ensures.change c.args.header.now rows words (record u { scribbles = put w.scribbles c.in-DisableSlot.slot false }) now)
 
 pub returns-in_ok-place_by_context-in-AddressDevice-clause-change : goal.returns-in_ok-place_by_context-in-AddressDevice-clause-change
@@ -38,13 +38,15 @@ returns-in_ok-configure-in-ConfigureEndpoint-clause-change g c = λ rows words w
 
 pub returns-in-ResetEndpoint-clause-change : goal.returns-in-ResetEndpoint-clause-change
 returns-in-ResetEndpoint-clause-change g c = λ rows words w final made f.
-    let P : World → Type 0 = λ v. Follows c.args.header.now rows words c.set_state.new.kept v in
-    subst P (reset_endpoint c.args.header.now c.args.header.now.context_size (g.M.WordMemory.words c.args.memory.now) c.args.slot c.args.command.now w final made c.in-ResetEndpoint.slot c.in-ResetEndpoint.endpoint c.in-ResetEndpoint.is) (c.set_state.ensures.change c.args.header.now rows words w f)
+    rw (reset_endpoint c.args.header.now c.args.header.now.context_size
+    (g.M.WordMemory.words c.args.memory.now) c.args.slot c.args.command.now w final made c.in-ResetEndpoint.slot c.in-ResetEndpoint.endpoint c.in-ResetEndpoint.is) at
+    (c.set_state.ensures.change c.args.header.now rows words w f)
 
 pub returns-in-StopEndpoint-clause-change : goal.returns-in-StopEndpoint-clause-change
 returns-in-StopEndpoint-clause-change g c = λ rows words w final made f.
-    let P : World → Type 0 = λ v. Follows c.args.header.now rows words c.stop.new.kept v in
-    subst P (stopped_endpoint c.args.header.now c.args.header.now.context_size (g.M.WordMemory.words c.args.memory.now) c.args.slot c.args.command.now w final made c.in-StopEndpoint.slot c.in-StopEndpoint.endpoint c.in-StopEndpoint.is) (c.stop.ensures.change c.args.header.now rows words w f)
+    rw (stopped_endpoint c.args.header.now c.args.header.now.context_size
+    (g.M.WordMemory.words c.args.memory.now) c.args.slot c.args.command.now w final made c.in-StopEndpoint.slot c.in-StopEndpoint.endpoint c.in-StopEndpoint.is) at
+    (c.stop.ensures.change c.args.header.now rows words w f)
 
 pub returns-in_ok-place-in-SetTrDequeue-clause-change : goal.returns-in_ok-place-in-SetTrDequeue-clause-change
 returns-in_ok-place-in-SetTrDequeue-clause-change g c = λ rows words w final made f.
@@ -53,6 +55,5 @@ returns-in_ok-place-in-SetTrDequeue-clause-change g c = λ rows words w final ma
 
 pub returns-in-ResetDevice-clause-change : goal.returns-in-ResetDevice-clause-change
 returns-in-ResetDevice-clause-change g c = λ rows words w final made f.
-    let P : World → Type 0 = λ v. Follows c.args.header.now rows words c.disable-in-ResetDevice.new.kept v in
-    subst P (reset_slot c.args.header.now c.args.header.now.context_size (g.M.WordMemory.words c.args.memory.now) c.args.slot c.args.command.now w final made c.in-ResetDevice.slot c.in-ResetDevice.is)
+    rw (reset_slot c.args.header.now c.args.header.now.context_size (g.M.WordMemory.words c.args.memory.now) c.args.slot c.args.command.now w final made c.in-ResetDevice.slot c.in-ResetDevice.is) at
     (c.disable-in-ResetDevice.ensures.change c.args.header.now rows words (gone c.args.command.now w c.in-ResetDevice.slot) (c.go_on-in-ResetDevice.ensures.change c.args.header.now rows words w f))

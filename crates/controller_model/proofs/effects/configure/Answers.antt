@@ -1,4 +1,4 @@
-use Rattle.controller_model.proofs.Words.{◌≡◌, ◌&&◌, ℕ, ap, subst, slice_index, nat_le, has_flag, is_dropped, World, disabled, Follows}
+use Rattle.controller_model.proofs.Words.{◌≡◌, ap, subst, slice_index, is_dropped, World, disabled, Follows}
 use Rattle.controller_model.proofs.EffectLemmas.{gone, configured, deconfigured}
 use Rattle.controller_model.proofs.effects.configure.Goals as goal
 
@@ -16,7 +16,6 @@ returns-clause-change g c = λ rows words n w final made f.
     let u = gone c.args.command.now w c.args.slot in
     let now = c.disable-2.ensures.change c.args.header.now rows words u (c.go_on.ensures.change c.args.header.now rows words w f) in
     let flags : slice_index c.block_at.result.w 0 ≡ memory c.args.context = ap (λ b. slice_index b.w 0) c.block_at.ensures in
-    let Q : ℕ → Type 0 = λ x. Follows c.args.header.now rows words c.disable-2.new.kept (disabled u c.args.slot (λ i. nat_le 2 i && has_flag x i)) in
     c.in_ok-place_all.ensures.change rows words c.args.command.now (disabled u c.args.slot (is_dropped memory c.args.context)) final
     (configured c.args.header.now c.args.header.now.context_size memory n c.args.command.now w final c.args.slot c.args.context c.args.deconfigure made c.if-deconfigure.false)
-    (subst Q flags now)
+    (rw flags at now)

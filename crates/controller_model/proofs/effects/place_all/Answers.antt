@@ -1,4 +1,4 @@
-use Rattle.controller_model.proofs.Words.{◌∙◌, ap, sym, subst, arith, World, changed_by_all, Follows}
+use Rattle.controller_model.proofs.Words.{◌∙◌, ap, sym, arith, changed_by_all}
 use Rattle.controller_model.proofs.AddedLemmas.{adds_end, all_made}
 use Rattle.controller_model.proofs.effects.place_all.Goals as goal
 
@@ -18,5 +18,4 @@ returns-clause-change g c = λ rows words d w final made f.
     let so = c.loop-index.invariant.change rows words d w final made f in
     let end = adds_end c.args.header.now.context_size (g.M.WordMemory.words c.args.memory.now) c.args.slot c.args.context c.loop-index.index
     (omega (arith, c.loop-index.auto.index-end, c.loop-index-test.false)) in
-    let P : World → Type 0 = λ v. Follows c.args.header.now rows words c.loop-index.kept v in
-    subst P (all_made c.args.header.now d so.world final (sym (ap (λ xs. changed_by_all c.args.header.now d so.world xs) end) ∙ so.second)) so.first
+    rw (all_made c.args.header.now d so.world final (sym (ap (λ xs. changed_by_all c.args.header.now d so.world xs) end) ∙ so.second)) at so.first

@@ -1,4 +1,4 @@
-use Rattle.controller_model.proofs.Words.{◌∙◌, ℕ, Option, sym, subst, Stopped, in_state, inactive, Follows}
+use Rattle.controller_model.proofs.Words.{◌∙◌, Stopped, in_state, inactive}
 use Rattle.controller_model.proofs.effects.stop.Goals as goal
 
 pub returns-in-None-clause-change : goal.returns-in-None-clause-change
@@ -7,8 +7,7 @@ returns-in-None-clause-change c = λ h rows words w f.
     let u = in_state w c.args.slot c.args.index Stopped in
     let now = c.set_state.ensures.change h rows words w f in
     let has = (c.endpoint_of.ensures h rows words u now).1 ∙ c.in-None.is in
-    let P : Option ℕ → Type 0 = λ o. Follows h rows words c.set_state.new.kept (inactive u o) in
-    subst P (sym has) now
+    rw has now
 
 pub returns-in-Some-clause-change : goal.returns-in-Some-clause-change
 unfolding in_state inactive
@@ -16,5 +15,4 @@ returns-in-Some-clause-change c = λ h rows words w f.
     let u = in_state w c.args.slot c.args.index Stopped in
     let now = c.set_state.ensures.change h rows words w f in
     let has = (c.endpoint_of.ensures h rows words u now).1 ∙ c.in-Some.is in
-    let P : Option ℕ → Type 0 = λ o. Follows h rows words c.deactivate.new.kept (inactive u o) in
-    subst P (sym has) (c.deactivate.ensures.change h rows words u now)
+    rw has (c.deactivate.ensures.change h rows words u now)

@@ -1,32 +1,25 @@
-use Rattle.controller_model.proofs.Words.{◌≡◌, ◌∙◌, ap, sym, refl, option_map, err_from_is_err_and, Evt, address_of, event_shape, shape_or, Posted, ended, finished, completed, Follows}
-use Rattle.controller_model.proofs.LookBranches.{step_made, step_refused}
+use Rattle.controller_model.proofs.Words.{◌≡◌, ◌∙◌, ap, sym, option_map, err_from_is_err_and, Evt, address_of, event_shape, shape_or, Posted, ended, finished, completed, Follows}
 use Rattle.controller_model.proofs.PostLemmas.{no_ring}
 use Rattle.controller_model.proofs.FinishLemmas.{finish_not_now, finish_not_so, finish_completed, made_of_part, step_fails}
 use Rattle.controller_model.proofs.finishes.finish.Goals as goal
 
 pub returns-in-None-clause-step : goal.returns-in-None-clause-step
 returns-in-None-clause-step g c = λ rows w f.
-    step_refused (finished c.args.header.now w c.args.block.now) (Posted (address_of (event_shape c.args.header.now) w.posted))
-    (Follows c.args.header.now rows (g.M.WordMemory.words c.args.memory.now) c.args.kept.now)
-    (finish_not_now c.args.header.now w c.args.block.now (no_ring c.args.header.now w c.args.block.now c.in-None.ensures))
+    rw (finish_not_now c.args.header.now w c.args.block.now (no_ring c.args.header.now w c.args.block.now c.in-None.ensures)) tt
 
 pub returns-then-not-can_post-clause-step : goal.returns-then-not-can_post-clause-step
 unfolding event_shape
 returns-then-not-can_post-clause-step g c = λ rows w f.
     let same = ap (λ o. shape_or Evt o) c.in-Some.ensures in
     let now = sym (c.can_post.ensures c.args.header.now rows (g.M.WordMemory.words c.args.memory.now) w same f) ∙ c.if-not-can_post.true in
-    step_refused (finished c.args.header.now w c.args.block.now) (Posted (address_of (event_shape c.args.header.now) w.posted))
-    (Follows c.args.header.now rows (g.M.WordMemory.words c.args.memory.now) c.args.kept.now)
-    (finish_not_now c.args.header.now w c.args.block.now now)
+    rw (finish_not_now c.args.header.now w c.args.block.now now) tt
 
 pub returns-then-not-is_completion-clause-step : goal.returns-then-not-is_completion-clause-step
 unfolding event_shape
 returns-then-not-is_completion-clause-step g c = λ rows w f.
     let same = ap (λ o. shape_or Evt o) c.in-Some.ensures in
     let now = sym (c.can_post.ensures c.args.header.now rows (g.M.WordMemory.words c.args.memory.now) w same f) ∙ c.if-not-can_post.false in
-    step_refused (finished c.args.header.now w c.args.block.now) (Posted (address_of (event_shape c.args.header.now) w.posted))
-    (Follows c.args.header.now rows (g.M.WordMemory.words c.args.memory.now) c.args.kept.now)
-    (finish_not_so c.args.header.now w c.args.block.now now (sym c.is_completion.ensures ∙ c.if-not-is_completion.true))
+    rw (finish_not_so c.args.header.now w c.args.block.now now (sym c.is_completion.ensures ∙ c.if-not-is_completion.true)) tt
 
 pub returns-in_err-complete-clause-step : goal.returns-in_err-complete-clause-step
 unfolding event_shape
@@ -55,17 +48,4 @@ returns-clause-step g c = λ rows w f.
     let there : c.in_ok-at.at ≡ address_of (event_shape h) w.posted =
     c.in_ok-at.ensures.place ∙ (λ i. address_of (same i) ((ap (λ e. e.posted) c.complete.ensures.rest.events ∙ sym f.events.posted) i)) in
     let after = c.in_ok-at.ensures.posted h rows made.after same made.holds in
-    step_made (finished h w b) (ended h made.after b) (Posted c.in_ok-at.at) (Posted (address_of (event_shape h) w.posted)) _
-    (finish_completed h w b now so ∙ ap (λ o. option_map (λ v. ended h v b) o) made.is) (ap Posted there)
-    (record {
-      progress = after.progress;
-      registers = after.registers;
-      held = after.held;
-      beyond = after.beyond;
-      rings = after.rings;
-      slots = after.slots;
-      endpoints = after.endpoints;
-      events = after.events;
-      under_way = refl;
-      looked = after.looked;
-    })
+    rw (finish_completed h w b now so ∙ ap (λ o. option_map (λ v. ended h v b) o) made.is) (ap Posted there, assumption after)

@@ -1,14 +1,12 @@
-use Rattle.controller_model.proofs.Words.{◌≡◌, ◌∙◌, None, Some, is_some, ap, sym, true, false, changes, command_of, changed_by_all, succeeded, Follows}
+use Rattle.controller_model.proofs.Words.{◌≡◌, ◌∙◌, None, Some, is_some, ap, sym, true, false, changes, command_of, changed_by_all, succeeded}
 use Rattle.controller_model.proofs.CommandLemmas.{command_well}
 use Rattle.controller_model.proofs.SuccessLemmas.{no_success_without, some_of, none_of_test, success_changes}
-use Rattle.controller_model.proofs.FinishLemmas.{part_made, part_refused}
 use Rattle.controller_model.proofs.finishes.succeed.Goals as goal
 
 pub returns-in-None-clause-change : goal.returns-in-None-clause-change
 returns-in-None-clause-change g c = λ rows w f.
     let none : command_of c.args.block.now ≡ None = sym c.command_of.ensures ∙ c.in-None.is in
-    part_refused (Unit {0}) (succeeded c.args.header.now w c.args.slot (command_of c.args.block.now)) (Follows c.args.header.now rows (g.M.WordMemory.words c.args.memory.now) c.args.kept.now)
-    (ap (λ o. succeeded c.args.header.now w c.args.slot o) none ∙ no_success_without c.args.header.now w c.args.slot)
+    rw (ap (λ o. succeeded c.args.header.now w c.args.slot o) none ∙ no_success_without c.args.header.now w c.args.slot) tt
 
 pub succeeds-requires : goal.succeeds-requires
 succeeds-requires g c = command_well c.args.block.now c.in-Some.command (sym c.command_of.ensures ∙ c.in-Some.is)
@@ -20,8 +18,7 @@ pub returns-then-not-succeeds-clause-change : goal.returns-then-not-succeeds-cla
 returns-then-not-succeeds-clause-change g c = λ rows w f.
     let some : command_of c.args.block.now ≡ Some c.in-Some.command = sym c.command_of.ensures ∙ c.in-Some.is in
     let fails : is_some (succeeded c.args.header.now w c.args.slot (Some c.in-Some.command)) ≡ false = sym (c.succeeds.ensures.value rows w f) ∙ c.if-not-succeeds.true in
-    part_refused (Unit {0}) (succeeded c.args.header.now w c.args.slot (command_of c.args.block.now)) (Follows c.args.header.now rows (g.M.WordMemory.words c.args.memory.now) c.args.kept.now)
-    (ap (λ o. succeeded c.args.header.now w c.args.slot o) some ∙ none_of_test (succeeded c.args.header.now w c.args.slot (Some c.in-Some.command)) fails)
+    rw (ap (λ o. succeeded c.args.header.now w c.args.slot o) some ∙ none_of_test (succeeded c.args.header.now w c.args.slot (Some c.in-Some.command)) fails) tt
 
 pub returns-clause-change : goal.returns-clause-change
 returns-clause-change g c = λ rows w f.
@@ -34,5 +31,4 @@ returns-clause-change g c = λ rows w f.
     let memory : w.memory ≡ words = ap (λ x. x.memory) f.held in
     let changed : changed_by_all h d w (changes h.context_size words c.args.slot d) ≡ Some made.after =
     ap (λ m. changed_by_all h d w (changes h.context_size m c.args.slot d)) (sym memory) ∙ success_changes h w c.args.slot d made.after made.is in
-    part_made (Unit {0}) tt (succeeded h w c.args.slot (command_of c.args.block.now)) made.after (Follows h rows words c.apply.new.kept)
-    (ap (λ o. succeeded h w c.args.slot o) some ∙ made.is) (c.in_ok-apply.ensures.change rows words w made.after changed f)
+    rw (ap (λ o. succeeded h w c.args.slot o) some ∙ made.is) (c.in_ok-apply.ensures.change rows words w made.after changed f)

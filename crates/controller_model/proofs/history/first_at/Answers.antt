@@ -17,8 +17,7 @@ returns-then-is_place c =
     let some : 0 < n = omega (arith, c.places.ensures.count, c.places.ensures.least) in
     let lap : q % n ≡ c.in-Some.place = ap (λ m. q % m) (sym count) ∙ c.lap_position-position.ensures.place in
     sym (first_at-found c.args.shape.now c.args.address c.args.from q c.lap_position-position.ensures.from near
-    (sym c.is_place.ensures ∙ c.if-is_place.true)
-    (λ p l before. false_from_ne_true (is_place c.args.shape.now c.args.address p) (λ here.
+    (sym c.is_place.ensures ∙ c.if-is_place.true) (λ p l before. false_from_ne_true (is_place c.args.shape.now c.args.address p) (λ here.
     let same : c.in-Some.place ≡ p % n = same_Some c.in-Some.place (p % n) (c.in-Some.ensures.place p here) in
     let one : p ≡ q = one_in_lap n c.args.from p q some l (omega arith) c.lap_position-position.ensures.from near (sym (lap ∙ same)) in
     omega arith)))

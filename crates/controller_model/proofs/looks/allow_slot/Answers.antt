@@ -1,21 +1,10 @@
 use Rattle.std.proofs.Common.{◌<◌, length, refl, arith}
+use Rattle.controller_model.proofs.RingLemmas.{with_slots}
 use Rattle.controller_model.proofs.SlotLemmas.{slots_allow}
 use Rattle.controller_model.proofs.looks.allow_slot.Goals as goal
 
 pub returns : goal.returns
 returns c = λ h rows words w f.
     let inside : c.args.slot < length c.args.kept.now.slots.items = omega (arith, c.args.kept.now.slots_many, c.ranges.slot) in
-    record {
-      progress = f.progress;
-      registers = f.registers;
-      held = f.held;
-      beyond = f.beyond;
-      rings = f.rings;
-      slots =
-          slots_allow c.args.kept.now.slots.items w.slot_state w.scribbles c.from.result c.args.slot c.index_mut-state.result.now _ c.from.ensures inside
-          c.index_mut-state.ensures.value refl refl f.slots;
-      endpoints = f.endpoints;
-      events = f.events;
-      under_way = f.under_way;
-      looked = f.looked;
-    }
+    with_slots (slots_allow c.args.kept.now.slots.items w.slot_state w.scribbles c.from.result c.args.slot c.index_mut-state.result.now _ c.from.ensures inside
+    c.index_mut-state.ensures.value refl refl f.slots) (assumption)

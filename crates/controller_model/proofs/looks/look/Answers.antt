@@ -1,6 +1,6 @@
-use Rattle.controller_model.proofs.Words.{◌≡◌, ◌<◌, ◌∙◌, length, ap, sym, arith, block_at, looked, looked_at, look_shows, Follows}
+use Rattle.controller_model.proofs.Words.{◌≡◌, ◌<◌, ◌∙◌, length, ap, sym, arith, block_at, look_shows}
 use Rattle.controller_model.proofs.RingLemmas.{read_at}
-use Rattle.controller_model.proofs.LookBranches.{step_refused, step_along, looked_inactive, looked_active}
+use Rattle.controller_model.proofs.LookBranches.{looked_inactive, looked_active}
 use Rattle.controller_model.proofs.looks.look.Goals as goal
 
 pub returns-then-not-state-clause-step : goal.returns-then-not-state-clause-step
@@ -8,9 +8,7 @@ returns-then-not-state-clause-step g c = λ rows w f.
     let inside : c.args.ring < length c.args.kept.now.rings.items = omega (arith, c.args.kept.now.rings_many, c.ranges.ring) in
     let old = f.rings.each c.args.ring c.index-state.result.now
     (read_at c.args.kept.now.rings.items c.from.result c.args.ring c.index-state.result.now c.from.ensures inside c.index-state.ensures) in
-    step_refused (looked c.args.header.now w c.args.ring) (look_shows w c.args.ring (block_at w.memory (w.pointer_of c.args.ring)))
-    (Follows c.args.header.now rows (g.M.WordMemory.words c.args.memory.now) c.args.kept.now)
-    (looked_inactive c.args.header.now w c.args.ring (old.active ∙ c.if-not-state.true))
+    rw (looked_inactive c.args.header.now w c.args.ring (old.active ∙ c.if-not-state.true)) tt
 
 pub returns-clause-step : goal.returns-clause-step
 returns-clause-step g c = λ rows w f.
@@ -19,9 +17,5 @@ returns-clause-step g c = λ rows w f.
     (read_at c.args.kept.now.rings.items c.from.result c.args.ring c.index-state.result.now c.from.ensures inside c.index-state.ensures) in
     let block : block_at w.memory (w.pointer_of c.args.ring) ≡ c.block_at-block.result =
     (λ i. block_at ((f.held i).memory) (old.pointer i)) ∙ sym c.block_at-block.ensures in
-    step_along c.look_at.result (looked c.args.header.now w c.args.ring) (looked_at c.args.header.now w c.args.ring c.block_at-block.result)
-    (look_shows w c.args.ring (block_at w.memory (w.pointer_of c.args.ring))) (look_shows w c.args.ring c.block_at-block.result)
-    (Follows c.args.header.now rows (g.M.WordMemory.words c.args.memory.now) c.look_at.new.kept)
-    (looked_active c.args.header.now w c.args.ring c.block_at-block.result (old.active ∙ c.if-not-state.false) block)
-    (ap (λ b. look_shows w c.args.ring b) block)
+    rw (looked_active c.args.header.now w c.args.ring c.block_at-block.result (old.active ∙ c.if-not-state.false) block, ap (λ b. look_shows w c.args.ring b) block)
     (c.look_at.ensures.step rows (g.M.WordMemory.words c.args.memory.now) w c.ring_with-there.ensures old.pointer old.cycle f)

@@ -1,32 +1,29 @@
-use Rattle.controller_model.proofs.Words.{◌∙◌, sym, seen_by_look, looked_at, crossed, taken, look_shows, Waited, Crossed, Follows}
-use Rattle.controller_model.specs.declared.seen.Seen.TheVariants.{Took}
-use Rattle.controller_model.proofs.LookBranches.{step_made, step_refused, waits, shows_waited, crosses, shows_crossed, refuses, takes, shows_taken, busy}
+use Rattle.controller_model.proofs.Words.{◌∙◌, sym, seen_by_look, taken}
+use Rattle.controller_model.proofs.LookBranches.{waits, shows_waited, crosses, shows_crossed, refuses, takes, shows_taken, busy}
 use Rattle.controller_model.proofs.looks.look_at.Goals as goal
 
 pub returns-then-not-agrees-clause-step : goal.returns-then-not-agrees-clause-step
 returns-then-not-agrees-clause-step c = λ rows words w same at turn f.
     let differs = sym (c.agrees.ensures (w.cycle_state c.args.ring) turn) ∙ c.if-not-agrees.true in
-    step_made (looked_at c.args.header.now w c.args.ring c.args.block.now) (seen_by_look c.args.header.now w c.args.ring) Waited (look_shows w c.args.ring c.args.block.now)
-    (Follows c.args.header.now rows words c.note_look.new.kept)
-    (waits c.args.header.now w c.args.ring c.args.block.now differs) (shows_waited c.args.header.now w c.args.ring c.args.block.now differs)
-    (c.note_look.ensures c.args.header.now rows words w same at f)
+    rw (waits c.args.header.now w c.args.ring c.args.block.now differs)
+    (shows_waited c.args.header.now w c.args.ring c.args.block.now differs, c.note_look.ensures c.args.header.now rows words w same at f)
 
 pub returns-then-is_link-clause-step : goal.returns-then-is_link-clause-step
 returns-then-is_link-clause-step c = λ rows words w same at turn f.
     let agrees = sym (c.agrees.ensures (w.cycle_state c.args.ring) turn) ∙ c.if-not-agrees.false in
     let link = sym c.is_link.ensures ∙ c.if-is_link.true in
-    step_made (looked_at c.args.header.now w c.args.ring c.args.block.now) (crossed c.args.header.now (seen_by_look c.args.header.now w c.args.ring) c.args.ring c.args.block.now)
-    Crossed (look_shows w c.args.ring c.args.block.now) (Follows c.args.header.now rows words c.cross_on.new.kept)
-    (crosses c.args.header.now w c.args.ring c.args.block.now agrees link) (shows_crossed c.args.header.now w c.args.ring c.args.block.now agrees link)
-    (c.cross_on.ensures c.args.header.now rows words (seen_by_look c.args.header.now w c.args.ring) (c.note_look-then-is_link.ensures c.args.header.now rows words w same at f))
+    rw (crosses c.args.header.now w c.args.ring c.args.block.now agrees link) (
+      shows_crossed c.args.header.now w c.args.ring c.args.block.now agrees link,
+      c.cross_on.ensures c.args.header.now rows words (seen_by_look c.args.header.now w c.args.ring)
+          (c.note_look-then-is_link.ensures c.args.header.now rows words w same at f),
+    )
 
 pub returns-then-is_busy-clause-step : goal.returns-then-is_busy-clause-step
 returns-then-is_busy-clause-step c = λ rows words w same at turn f.
     let agrees = sym (c.agrees.ensures (w.cycle_state c.args.ring) turn) ∙ c.if-not-agrees.false in
     let link = sym c.is_link.ensures ∙ c.if-is_link.false in
     let taken = sym (busy c.args.header.now w c.args.ring c.args.kept.now.under_way f.under_way) ∙ sym c.is_busy.ensures ∙ c.if-is_busy.true in
-    step_refused (looked_at c.args.header.now w c.args.ring c.args.block.now) (look_shows w c.args.ring c.args.block.now) (Follows c.args.header.now rows words c.args.kept.now)
-    (refuses c.args.header.now w c.args.ring c.args.block.now agrees link taken)
+    rw (refuses c.args.header.now w c.args.ring c.args.block.now agrees link taken) tt
 
 pub returns-clause-step : goal.returns-clause-step
 unfolding seen_by_look
@@ -34,7 +31,8 @@ returns-clause-step c = λ rows words w same at turn f.
     let agrees = sym (c.agrees.ensures (w.cycle_state c.args.ring) turn) ∙ c.if-not-agrees.false in
     let link = sym c.is_link.ensures ∙ c.if-is_link.false in
     let free = sym (busy c.args.header.now w c.args.ring c.args.kept.now.under_way f.under_way) ∙ sym c.is_busy.ensures ∙ c.if-is_busy.false in
-    step_made (looked_at c.args.header.now w c.args.ring c.args.block.now) (taken c.args.header.now (seen_by_look c.args.header.now w c.args.ring) c.args.ring c.args.block.now)
-    (Took c.args.ring c.args.pointer c.args.block.now) (look_shows w c.args.ring c.args.block.now) (Follows c.args.header.now rows words c.take_block.new.kept)
-    (takes c.args.header.now w c.args.ring c.args.block.now agrees link free) (shows_taken c.args.header.now w c.args.ring c.args.block.now c.args.pointer at agrees link)
-    (c.in_ok-take_block.ensures rows words (seen_by_look c.args.header.now w c.args.ring) same at (c.note_look-2.ensures c.args.header.now rows words w same at f))
+    rw (takes c.args.header.now w c.args.ring c.args.block.now agrees link free) (
+      shows_taken c.args.header.now w c.args.ring c.args.block.now c.args.pointer at agrees link,
+      c.in_ok-take_block.ensures rows words
+          (seen_by_look c.args.header.now w c.args.ring) same at (c.note_look-2.ensures c.args.header.now rows words w same at f),
+    )

@@ -1,4 +1,4 @@
-use Rattle.controller_model.proofs.Words.{option_copied, ◌≡◌, ◌∷◌, ◌∙◌, Option, Some, IsSome, false≢true, ap, sym, subst, refl, Shape, Ring, Xfer, Took, shape_or, shape_of, ring_with, as_declared, option_map, Keeps, ShowsHarms}
+use Rattle.controller_model.proofs.Words.{option_copied, ◌≡◌, ◌∙◌, Option, Some, IsSome, false≢true, ap, sym, subst, refl, Ring, Xfer, shape_or, shape_of, ring_with, as_declared, option_map}
 use Rattle.controller_model.proofs.LookLemmas.{noted_follows}
 use Rattle.controller_model.proofs.looks.note_take.Goals as goal
 
@@ -10,15 +10,11 @@ returns-in_ok-take-in-Some c = λ h r held same f.
     let shaped : c.in-Some.ring.now.shape ≡ shape_of h r = ap (λ o. shape_or Xfer o) there in
     let known : IsSome (ring_with h r) = let P : Option Ring → Type 0 = λ o. IsSome o in subst P there refl in
     let d = option_map as_declared c.at-declared.result in
-    let K : Shape → Type 0 = λ s. Keeps s held.events held.reported x.history in
-    let S : Shape → Type 0 = λ s. ShowsHarms s held.events x.history in
-    let L : Shape → Type 0 = λ s. Keeps s (Took x.pointer c.args.block.now d ∷ held.events) held.reported c.take.new.self in
-    let T : Shape → Type 0 = λ s. ShowsHarms s (Took x.pointer c.args.block.now d ∷ held.events) c.take.new.self in
-    let keeps = subst K (sym shaped) f.history in
-    let shows = subst S (sym shaped) (f.harms known) in
+    let keeps = rw (← shaped) at f.history in
+    let shows = rw (← shaped) at (f.harms known) in
     noted_follows h r held x f _ c.args.block.now d c.next.result c.next.ensures (c.at-declared.ensures held.queue held.lengths f.declared)
-    (subst L shaped (c.in_ok-take-in-Some.ensures.keeps held.events held.reported keeps))
-    (λ also. subst T shaped (c.in_ok-take-in-Some.ensures.harms held.events held.reported keeps shows)) f.declared f.pointer f.cycle f.active f.holder
+    (rw shaped at (c.in_ok-take-in-Some.ensures.keeps held.events held.reported keeps))
+    (λ also. rw shaped at (c.in_ok-take-in-Some.ensures.harms held.events held.reported keeps shows)) f.declared f.pointer f.cycle f.active f.holder
 
 pub returns-in_ok-take_anywhere-in-None : goal.returns-in_ok-take_anywhere-in-None
 returns-in_ok-take_anywhere-in-None c = λ h r held same f.

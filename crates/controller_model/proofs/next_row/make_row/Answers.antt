@@ -1,43 +1,28 @@
-use Rattle.controller_model.proofs.Words.{◌∙◌, Some, ap, sym, refl, stored, RowSeen, row_done, declared, register_row, bell_row, event_read, Follows}
-use Rattle.controller_model.proofs.LookBranches.{step_made, step_along}
+use Rattle.controller_model.proofs.Words.{◌∙◌, Some, ap, sym, refl, row_done, declared}
 use Rattle.controller_model.proofs.next_row.make_row.Goals as goal
 
 pub returns-in_ok-declare-in-Sub-clause-step : goal.returns-in_ok-declare-in-Sub-clause-step
 unfolding row_done
 returns-in_ok-declare-in-Sub-clause-step g c = λ rows w f.
-    step_made (row_done c.args.header.now w c.args.row.now) (declared c.args.header.now w c.in-Sub.ring c.as_slice.result.now) RowSeen RowSeen
-    (Follows c.args.header.now rows (g.M.WordMemory.words c.args.memory.now) c.declare.new.kept)
-    (ap (λ row. row_done c.args.header.now w row) c.in-Sub.is ∙ ap (λ blocks. Some (declared c.args.header.now w c.in-Sub.ring blocks)) (sym c.as_slice.ensures)) refl
-    (c.in_ok-declare-in-Sub.ensures c.args.header.now rows (g.M.WordMemory.words c.args.memory.now) w f)
+    rw (ap (λ row. row_done c.args.header.now w row) c.in-Sub.is ∙ ap (λ blocks. Some (declared c.args.header.now w c.in-Sub.ring blocks)) (sym c.as_slice.ensures))
+    (refl, (c.in_ok-declare-in-Sub.ensures c.args.header.now rows (g.M.WordMemory.words c.args.memory.now) w f))
 
 pub returns-in_ok-write-in-Write-clause-step : goal.returns-in_ok-write-in-Write-clause-step
 unfolding row_done
 returns-in_ok-write-in-Write-clause-step g c = λ rows w f.
-    step_made (row_done c.args.header.now w c.args.row.now) (stored w c.in-Write.at c.in-Write.word) RowSeen RowSeen
-    (Follows c.args.header.now rows (g.M.WordMemory.words c.write.new.memory) c.write.new.kept)
-    (ap (λ row. row_done c.args.header.now w row) c.in-Write.is) refl
-    (c.in_ok-write-in-Write.ensures c.args.header.now rows w f)
+    rw (ap (λ row. row_done c.args.header.now w row) c.in-Write.is) (refl, (c.in_ok-write-in-Write.ensures c.args.header.now rows w f))
 
 pub returns-in_ok-write_register-in-Reg-clause-step : goal.returns-in_ok-write_register-in-Reg-clause-step
 unfolding row_done
 returns-in_ok-write_register-in-Reg-clause-step g c = λ rows w f.
-    step_made (row_done c.args.header.now w c.args.row.now) (register_row c.args.header.now w c.in-Reg.register c.in-Reg.value) RowSeen RowSeen
-    (Follows c.args.header.now rows (g.M.WordMemory.words c.args.memory.now) c.write_register.new.kept)
-    (ap (λ row. row_done c.args.header.now w row) c.in-Reg.is) refl
-    (c.in_ok-write_register-in-Reg.ensures rows (g.M.WordMemory.words c.args.memory.now) w f)
+    rw (ap (λ row. row_done c.args.header.now w row) c.in-Reg.is) (refl, (c.in_ok-write_register-in-Reg.ensures rows (g.M.WordMemory.words c.args.memory.now) w f))
 
 pub returns-in-Bell-clause-step : goal.returns-in-Bell-clause-step
 unfolding row_done
 returns-in-Bell-clause-step g c = λ rows w f.
-    step_made (row_done c.args.header.now w c.args.row.now) (bell_row c.args.header.now w c.in-Bell.slot c.in-Bell.target) RowSeen RowSeen
-    (Follows c.args.header.now rows (g.M.WordMemory.words c.args.memory.now) c.ring_bell.new.kept)
-    (ap (λ row. row_done c.args.header.now w row) c.in-Bell.is) refl
-    (c.ring_bell.ensures rows (g.M.WordMemory.words c.args.memory.now) w f)
+    rw (ap (λ row. row_done c.args.header.now w row) c.in-Bell.is) (refl, (c.ring_bell.ensures rows (g.M.WordMemory.words c.args.memory.now) w f))
 
 pub returns-in-Read-clause-step : goal.returns-in-Read-clause-step
 unfolding row_done
 returns-in-Read-clause-step g c = λ rows w f.
-    step_along c.read_event.result (row_done c.args.header.now w c.args.row.now) (event_read c.args.header.now w c.in-Read.event) RowSeen RowSeen
-    (Follows c.args.header.now rows (g.M.WordMemory.words c.args.memory.now) c.read_event.new.kept)
-    (ap (λ row. row_done c.args.header.now w row) c.in-Read.is) refl
-    (c.read_event.ensures.step rows w f)
+    rw (ap (λ row. row_done c.args.header.now w row) c.in-Read.is) (c.read_event.ensures.step rows w f)

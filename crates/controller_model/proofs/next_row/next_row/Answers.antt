@@ -1,12 +1,12 @@
-use Rattle.controller_model.proofs.Words.{option_copied, FollowsScene, header_after, row_made, Scene, row_next, ◌≡◌, ◌∙◌, [], ap, sym, refl, drop, err_from_is_err_and, RowSeen, counted, Follows, Ok, Err, option_map}
-use Rattle.controller_model.proofs.NextRowLemmas.{first_left, nothing_left, row_next_is, scene_behind, step_failed, step_mapped, step_none, step_same}
+use Rattle.controller_model.proofs.Words.{option_copied, FollowsScene, header_after, row_made, Scene, row_next, ◌≡◌, ◌∙◌, [], ap, sym, drop, err_from_is_err_and, RowSeen, counted, Follows, Ok}
+use Rattle.controller_model.proofs.NextRowLemmas.{first_left, nothing_left, row_next_is, scene_behind, step_failed, step_mapped}
 use Rattle.controller_model.proofs.next_row.next_row.Goals as goal
 
 pub returns-in-None-clause-step : goal.returns-in-None-clause-step
 returns-in-None-clause-step g c = λ x f.
     let none : x.rows ≡ [] = f.left ∙ nothing_left c.args.left.now (sym c.first.ensures.row ∙ ap (λ o. option_copied o) c.in-None.is) in
     let Q : Scene → Type 0 = FollowsScene c.args.header.now c.args.left.now (g.M.WordMemory.words c.args.memory.now) c.args.kept.now in
-    step_none (row_next x x.rows) RowSeen Q (ap (λ rows. row_next x rows) none)
+    rw (ap (λ rows. row_next x rows) none) tt
 
 pub returns-in_err-seen-clause-step : goal.returns-in_err-seen-clause-step
 returns-in_err-seen-clause-step g c = λ x f.
@@ -14,13 +14,9 @@ returns-in_err-seen-clause-step g c = λ x f.
     let row = c.in-Some.row.now in
     let first = first_left c.args.left.now row (sym c.first.ensures.row ∙ ap (λ o. option_copied o) c.in-Some.is) in
     let words = g.M.WordMemory.words c.make_trace_row.new.memory in
-    rw (p.1, p.2)
-    (step_same (Err c.in_err-seen.field-0.0) (row_next x x.rows) (option_map (scene_behind x row first.0) (row_made c.args.header.now x.world row)) RowSeen RowSeen
-    (FollowsScene c.make_trace_row.new.header c.args.left.now words c.make_trace_row.new.kept)
-    (row_next_is x c.args.header.now row first.0 f.header (f.left ∙ first.1)) refl
+    rw (p.1, p.2) (rw (row_next_is x c.args.header.now row first.0 f.header (f.left ∙ first.1))
     (step_failed c.in_err-seen.field-0.0 (row_made c.args.header.now x.world row) (scene_behind x row first.0) RowSeen
-    (Follows c.make_trace_row.new.header [] words c.make_trace_row.new.kept)
-    (FollowsScene c.make_trace_row.new.header c.args.left.now words c.make_trace_row.new.kept)
+    (Follows c.make_trace_row.new.header [] words c.make_trace_row.new.kept) (FollowsScene c.make_trace_row.new.header c.args.left.now words c.make_trace_row.new.kept)
     (c.in_err-seen.ensures.step [] x.world f.follows)))
 
 pub returns-clause-step : goal.returns-clause-step
@@ -31,13 +27,8 @@ returns-clause-step g c = λ x f.
     let words = g.M.WordMemory.words c.make_trace_row.new.memory in
     let h = c.make_trace_row.new.header in
     let rest : first.0 ≡ c.pass.new.self = sym (c.pass.ensures ∙ ap (λ xs. drop 1 xs) first.1) in
-    step_same (Ok c.in_ok-seen.seen) (row_next x x.rows) (option_map (scene_behind x row first.0) (row_made c.args.header.now x.world row)) RowSeen RowSeen (FollowsScene h c.pass.new.self words c.count.new.kept)
-    (row_next_is x c.args.header.now row first.0 f.header (f.left ∙ first.1)) refl
+    rw (row_next_is x c.args.header.now row first.0 f.header (f.left ∙ first.1))
     (step_mapped (Ok c.in_ok-seen.seen) (row_made c.args.header.now x.world row) (scene_behind x row first.0) RowSeen (Follows h [] words c.make_trace_row.new.kept)
     (FollowsScene h c.pass.new.self words c.count.new.kept)
-    (λ w follows. record {
-      header = ap (λ k. header_after k row) f.header ∙ sym c.in_ok-seen.ensures.header;
-      left = rest;
-      follows = c.in_ok-count.ensures h [] words w follows;
-    })
+    (λ w follows. record { header = ap (λ k. header_after k row) f.header ∙ sym c.in_ok-seen.ensures.header; left = rest; follows = c.in_ok-count.ensures h [] words w follows })
     (c.in_ok-seen.ensures.step [] x.world f.follows))

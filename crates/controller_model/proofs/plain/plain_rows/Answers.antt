@@ -1,8 +1,6 @@
-use Rattle.std.proofs.Common.{◌≡◌, ◌∙◌, List, All, ap, map, subst, sym, arith}
+use Rattle.std.proofs.Common.{◌≡◌, ◌∙◌, ap, map, arith}
 use Rattle.std.proofs.lemmas.List.{take_all}
-use Rattle.traces.specs.declared.trace_row.TraceRow.{TraceRow}
 use Rattle.traces.specs.declared.trace_row.TraceRow.TheVariants.{Plain}
-use Rattle.traces.specs.TraceRows.{IsTraceRow}
 use Rattle.controller_model.proofs.PlainRows.{plain_fit}
 use Rattle.controller_model.proofs.plain.plain_rows.Goals as goal
 
@@ -10,5 +8,4 @@ pub returns-clause-fit : goal.returns-clause-fit
 returns-clause-fit c =
     let all : c.loop-row.list.items ≡ map (λ row. Plain row) c.args.rows.now =
     c.loop-row.invariant ∙ ap (λ xs. map (λ row. Plain row) xs) (take_all c.loop-row.row-index c.args.rows.now (omega arith)) in
-    let P : List TraceRow → Type 0 = λ xs. All IsTraceRow xs in
-    subst P (sym all) (plain_fit c.args.rows.now c.requires)
+    rw all (plain_fit c.args.rows.now c.requires)

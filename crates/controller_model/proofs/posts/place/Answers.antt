@@ -1,8 +1,6 @@
-use Rattle.std.proofs.Common.{◌≡◌, ℕ, ◌%◌, sym, subst}
 use Rattle.segments.proofs.Positions.{address_aligned}
 use Rattle.controller_model.proofs.posts.place.Goals as goal
 
 pub returns-clause-aligned : goal.returns-clause-aligned
 returns-clause-aligned c =
-    let P : ℕ → Type 0 = λ a. a % 16 ≡ 0 in
-    subst P (sym c.address.ensures) (address_aligned c.args.shape.now c.places.ensures.allowed c.args.position)
+    rw c.address.ensures (address_aligned c.args.shape.now c.places.ensures.allowed c.args.position)

@@ -1,5 +1,5 @@
-use Rattle.controller_model.proofs.Words.{◌≡◌, ◌+◌, ◌∙◌, ℕ, ap, sym, subst, arith, common_steps, address_of, event_shape, stored, stored_block, posted}
-use Rattle.controller_model.proofs.RowLemmas.{Stored, follows_stored_block}
+use Rattle.controller_model.proofs.Words.{◌≡◌, ◌+◌, ◌∙◌, ap, sym, arith, common_steps, address_of, event_shape, stored, stored_block, posted}
+use Rattle.controller_model.proofs.RowLemmas.{follows_stored_block}
 use Rattle.controller_model.proofs.posts.post.Goals as goal
 
 pub returns-clause-posted : goal.returns-clause-posted
@@ -10,18 +10,6 @@ returns-clause-posted g c = λ h rows w same f.
     c.place-address.result c.args.step c.args.block.now c.place-address.ensures.below c.place-address.ensures.aligned c.requires c.in_ok-store_block.ensures.stored f in
     let there : c.place-address.result ≡ address_of (event_shape h) w.posted =
     c.place-address.ensures.same ∙ (λ i. address_of (same i) (sym f.events.posted i)) in
-    let P : ℕ → Type 0 = λ a. Stored (g.M.WordMemory.words c.store_block.new.memory) c.store_block.new.stamps (stored_block w a c.args.block.now) in
-    let now = subst P there made in
+    let now = rw there at made in
     let next : c.in_ok-next.next ≡ c.args.kept.now.events.posted + 1 = grind (arith, common_steps, c.in_ok-next.ensures.value, c.checked_add.ensures) in
-    record {
-      progress = f.progress;
-      registers = f.registers;
-      held = now.held;
-      beyond = now.beyond;
-      rings = f.rings;
-      slots = f.slots;
-      endpoints = f.endpoints;
-      events = record { posted = ap (λ n. n + 1) f.events.posted ∙ sym next; reads = f.events.reads; dequeue = f.events.dequeue };
-      under_way = f.under_way;
-      looked = f.looked;
-    }
+    assumption (ap (λ n. n + 1) f.events.posted ∙ sym next)

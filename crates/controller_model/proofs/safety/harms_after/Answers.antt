@@ -1,4 +1,4 @@
-use Rattle.controller_model.proofs.Words.{step_made, ◌∙◌, ap, sym, subst, [], Header, HasRingHarms, Look, stepped}
+use Rattle.controller_model.proofs.Words.{step_made, ◌∙◌, ap, sym, [], Look, stepped}
 use Rattle.controller_model.proofs.RingHarmLemmas.{look_came}
 use Rattle.controller_model.proofs.safety.harms_after.Goals as goal
 
@@ -6,12 +6,9 @@ pub returns-in-Look : goal.returns-in-Look
 returns-in-Look g c = λ rows x y before made f.
     let came = look_came x y c.in-Look.ring (sym (ap (λ s. step_made x s) c.in-Look.is) ∙ made) in
     let same = sym f.header ∙ came.0 in
-    let P : Header → Type 0 = λ h. HasRingHarms h x.world c.args.before in
-    let Q : Header → Type 0 = λ h. HasRingHarms h y.world c.harms_after_look.result in
     let step = ap (λ h. stepped h x.world (Look c.in-Look.ring)) same ∙ came.1 in
-    subst Q (sym f.header) (c.harms_after_look.ensures [] x.world y.world (subst P (sym same) before) step f.follows)
+    rw f.header (c.harms_after_look.ensures [] x.world y.world (rw (← same) at before) step f.follows)
 
 pub returns-in_default : goal.returns-in_default
 returns-in_default g c = λ rows x y before made f.
-    let Q : Header → Type 0 = λ h. HasRingHarms h y.world c.ring_harms.result in
-    subst Q (sym f.header) (c.ring_harms.ensures [] y.world f.follows)
+    rw f.header (c.ring_harms.ensures [] y.world f.follows)

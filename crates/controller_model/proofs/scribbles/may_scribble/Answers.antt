@@ -1,4 +1,4 @@
-use Rattle.controller_model.proofs.Words.{◌≡◌, ℕ, ◌∙◌, sym, subst, false, arith, inl, inr, is_scribbled}
+use Rattle.controller_model.proofs.Words.{◌≡◌, ◌∙◌, sym, arith, inl, inr, is_scribbled}
 use Rattle.std.proofs.lemmas.Bool.{cases_lt}
 use Rattle.controller_model.proofs.ScribbleLemmas.{any_in_range, none_in_range}
 use Rattle.controller_model.proofs.scribbles.may_scribble.Goals as goal
@@ -9,8 +9,7 @@ loop-slot-preserved g c = λ rows w f s l.
       | inl before ↦ c.loop-slot.invariant rows w f s before
       | inr here ↦
           let same : s ≡ c.loop-slot.slot = omega arith in
-          let P : ℕ → Type 0 = λ n. is_scribbled c.args.header.now w c.args.at n ≡ false in
-          subst P (sym same) (sym (c.is_scribbled.ensures rows w f) ∙ c.if-is_scribbled.false)
+          rw (← same) at (sym (c.is_scribbled.ensures rows w f) ∙ c.if-is_scribbled.false)
     ]
 
 pub returns-then-is_scribbled : goal.returns-then-is_scribbled
@@ -19,12 +18,11 @@ returns-then-is_scribbled g c = λ rows w f.
 
 pub returns-else-is_scribbled : goal.returns-else-is_scribbled
 returns-else-is_scribbled g c = λ rows w f.
-    let P : ℕ → Type 0 = λ n. is_scribbled c.args.header.now w c.args.at n ≡ false in
     sym (none_in_range (is_scribbled c.args.header.now w c.args.at) 0 256 (λ s l h. elim (cases_lt s c.loop-slot.slot) [
       | inl before ↦ c.loop-slot.invariant rows w f s before
       | inr here ↦
           let same : s ≡ c.loop-slot.slot = omega arith in
-          subst P (sym same) (sym (c.is_scribbled.ensures rows w f) ∙ c.if-is_scribbled.false)
+          rw (← same) at (sym (c.is_scribbled.ensures rows w f) ∙ c.if-is_scribbled.false)
     ]))
 
 pub returns : goal.returns

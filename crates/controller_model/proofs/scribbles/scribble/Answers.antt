@@ -1,16 +1,12 @@
-use Rattle.controller_model.proofs.Words.{◌∙◌, sym, refl, stored, Scribbled, scribbled, Follows}
-use Rattle.controller_model.proofs.LookBranches.{step_made, step_refused}
+use Rattle.controller_model.proofs.Words.{◌∙◌, sym, refl}
 use Rattle.controller_model.proofs.ScribbleLemmas.{scribbled_not, scribbled_so}
 use Rattle.controller_model.proofs.scribbles.scribble.Goals as goal
 
 pub returns-then-not-may_scribble-clause-step : goal.returns-then-not-may_scribble-clause-step
 returns-then-not-may_scribble-clause-step g c = λ rows w f.
-    step_refused (scribbled c.args.header.now w c.args.at c.args.word) Scribbled (Follows c.args.header.now rows (g.M.WordMemory.words c.args.memory.now) c.args.kept.now)
-    (scribbled_not c.args.header.now w c.args.at c.args.word (sym (c.may_scribble.ensures rows w f) ∙ c.if-not-may_scribble.true))
+    rw (scribbled_not c.args.header.now w c.args.at c.args.word (sym (c.may_scribble.ensures rows w f) ∙ c.if-not-may_scribble.true)) tt
 
 pub returns-clause-step : goal.returns-clause-step
 returns-clause-step g c = λ rows w f.
-    step_made (scribbled c.args.header.now w c.args.at c.args.word) (stored w c.args.at c.args.word) Scribbled Scribbled
-    (Follows c.args.header.now rows (g.M.WordMemory.words c.write.new.memory) c.write.new.kept)
-    (scribbled_so c.args.header.now w c.args.at c.args.word (sym (c.may_scribble.ensures rows w f) ∙ c.if-not-may_scribble.false)) refl
-    (c.in_ok-write.ensures c.args.header.now rows w f)
+    rw (scribbled_so c.args.header.now w c.args.at c.args.word (sym (c.may_scribble.ensures rows w f) ∙ c.if-not-may_scribble.false))
+    (refl, (c.in_ok-write.ensures c.args.header.now rows w f))

@@ -12,18 +12,5 @@ returns-clause-change c = λ h rows words w f.
     c.unwrap_or-kept_slot.ensures ∙ ap (λ o. unwrap_or o c.index_mut-kept_slot.result.now.state) c.after.ensures
     ∙ sym (ap (λ s. unwrap_or (slot_success c.args.command.now s) s) old.0) in
     let P : SlotState → Type 0 = λ s. FollowsSlots (set c.args.kept.now.slots.items c.from.result (record { state = c.unwrap_or-kept_slot.result; scribbles = c.index_mut-kept_slot.result.now.scribbles })) (put w.slot_state c.args.slot s) w.scribbles in
-    record {
-      progress = f.progress;
-      registers = f.registers;
-      held = f.held;
-      beyond = f.beyond;
-      rings = f.rings;
-      slots =
-          subst P value
-          (slots_state c.args.kept.now.slots.items w.slot_state w.scribbles c.from.result c.args.slot c.index_mut-kept_slot.result.now _ c.from.ensures inside
-          c.index_mut-kept_slot.ensures.value refl f.slots);
-      endpoints = f.endpoints;
-      events = f.events;
-      under_way = f.under_way;
-      looked = f.looked;
-    }
+    assumption (subst P value
+    (slots_state c.args.kept.now.slots.items w.slot_state w.scribbles c.from.result c.args.slot c.index_mut-kept_slot.result.now _ c.from.ensures inside c.index_mut-kept_slot.ensures.value refl f.slots))

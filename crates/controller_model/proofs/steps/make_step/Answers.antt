@@ -1,13 +1,11 @@
-use Rattle.controller_model.proofs.Words.{FollowsScene, row_next, step_made, ◌∙◌, [], ap, option_map, Header, RowSeen, shows, stepped, Follows}
-use Rattle.controller_model.proofs.NextRowLemmas.{scene_with, step_made_is, step_mapped, step_same}
+use Rattle.controller_model.proofs.Words.{FollowsScene, step_made, ◌∙◌, [], ap, option_map, Header, shows, stepped, Follows}
+use Rattle.controller_model.proofs.NextRowLemmas.{scene_with, step_made_is, step_mapped}
 use Rattle.controller_model.proofs.steps.make_step.Goals as goal
 
 pub returns-in-NextRow-clause-step : goal.returns-in-NextRow-clause-step
 unfolding shows
 returns-in-NextRow-clause-step g c = λ x f.
-    step_same c.next_row.result (step_made x c.args.step.now) (row_next x x.rows) (shows x.header x.world c.args.step.now) RowSeen
-    (FollowsScene c.next_row.new.header c.next_row.new.left (g.M.WordMemory.words c.next_row.new.memory) c.next_row.new.kept)
-    (ap (λ s. step_made x s) c.in-NextRow.is) (ap (λ s. shows x.header x.world s) c.in-NextRow.is) (c.next_row.ensures.step x f)
+    rw (ap (λ s. step_made x s) c.in-NextRow.is, ap (λ s. shows x.header x.world s) c.in-NextRow.is) (c.next_row.ensures.step x f)
 
 pub returns-in_default-clause-step : goal.returns-in_default-clause-step
 returns-in_default-clause-step g c = λ x f.
@@ -15,9 +13,6 @@ returns-in_default-clause-step g c = λ x f.
     let h = c.args.header.now in
     let words = g.M.WordMemory.words c.make_counted.new.memory in
     let k = c.make_counted.new.kept in
-    step_same c.make_counted.result (step_made x s) _ (shows x.header x.world s) (shows h x.world s) (FollowsScene h c.args.left.now words k)
-    (step_made_is x s c.in_default.not-NextRow ∙ ap (λ (z : Header). option_map (scene_with x) (stepped z x.world s)) f.header)
-    (ap (λ (z : Header). shows z x.world s) f.header)
+    rw (step_made_is x s c.in_default.not-NextRow ∙ ap (λ (z : Header). option_map (scene_with x) (stepped z x.world s)) f.header, ap (λ (z : Header). shows z x.world s) f.header)
     (step_mapped c.make_counted.result (stepped h x.world s) (scene_with x) (shows h x.world s) (Follows h [] words k) (FollowsScene h c.args.left.now words k)
-    (λ w follows. record { header = f.header; left = f.left; follows = follows })
-    (c.make_counted.ensures.step [] x.world c.in_default.not-NextRow f.follows))
+    (λ w follows. record { header = f.header; left = f.left; follows = follows }) (c.make_counted.ensures.step [] x.world c.in_default.not-NextRow f.follows))

@@ -1,5 +1,4 @@
-use Rattle.ring_knowledge.proofs.Words.{◌≡◌, ℕ, ◌+◌, List, Bool, Some, Option, ap, sym, ◌∙◌, arith, subst, AreCleared}
-use Rattle.segments.specs.Places.{link_crossed}
+use Rattle.ring_knowledge.proofs.Words.{◌≡◌, ℕ, ◌+◌, List, Bool, Some, Option, ap, sym, ◌∙◌, arith, subst, AreCleared, link_crossed}
 use Rattle.ring_knowledge.proofs.ClearedMarks.{none_cleared, one_cleared, none_here}
 use Rattle.ring_knowledge.proofs.ring_record.clear_links.Goals as goal
 use Rattle.ring_knowledge.proofs.ring_record.clear_links.Goals.{in-Some, in_default}

@@ -1,5 +1,4 @@
-use Rattle.ring_knowledge.proofs.Words.{◌≡◌, Some, AreCleared}
-use Rattle.segments.specs.Places.{link_crossed}
+use Rattle.ring_knowledge.proofs.Words.{◌≡◌, Some, AreCleared, link_crossed}
 use Rattle.ring_knowledge.proofs.ring_record.clear_links.Given as goal
 
 abbrev pub invariant-loop-position : goal.invariant-loop-position

@@ -1,5 +1,4 @@
-use Rattle.std.proofs.Common.{arith}
-use Rattle.std.proofs.Math.Nat.{mod-lt}
+use Rattle.ring_knowledge.proofs.Words.{arith, mod-lt}
 use Rattle.ring_knowledge.proofs.DueNumbers.{rest_here, rest_next}
 use Rattle.ring_knowledge.proofs.ring_record.next_with_rest.Goals as goal
 

@@ -1,4 +1,4 @@
-use Rattle.controller_model.proofs.Words.{◌≡◌, ℕ, ◌+◌, ◌*◌, ◌∙◌, ap, sym, subst, nat_lt, false, arith, inl, inr, changed_at}
+use Rattle.controller_model.proofs.Words.{◌≡◌, ◌+◌, ◌*◌, ◌∙◌, ap, sym, nat_lt, arith, inl, inr, changed_at}
 use Rattle.std.proofs.lemmas.Bool.{cases_lt, lt-ltb, le-ltb}
 use Rattle.controller_model.proofs.ScribbleLemmas.{any_in_range, none_in_range}
 use Rattle.controller_model.proofs.stamps.Stamps.is_changed_since.Goals as goal
@@ -9,8 +9,7 @@ loop-i-preserved c = λ n l.
       | inl before ↦ c.loop-i.invariant n before
       | inr here ↦
           let same : n ≡ c.loop-i.i = omega arith in
-          let P : ℕ → Type 0 = λ m. nat_lt c.args.step (changed_at c.args.self.now (c.args.address + 4 * m)) ≡ false in
-          subst P (sym same) (ap (λ m. nat_lt c.args.step m) (sym c.changed_behind.ensures) ∙ le-ltb c.args.step c.changed_behind.result (omega arith))
+          rw (← same) at (ap (λ m. nat_lt c.args.step m) (sym c.changed_behind.ensures) ∙ le-ltb c.args.step c.changed_behind.result (omega arith))
     ]
 
 pub returns-then-changed_behind-step : goal.returns-then-changed_behind-step

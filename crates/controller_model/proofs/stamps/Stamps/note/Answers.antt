@@ -1,16 +1,13 @@
-use Rattle.controller_model.proofs.Words.{◌≡◌, ◌∙◌, ap, sym, subst, same_Some, Watch, changed_at, written_at, is_changed_behind}
+use Rattle.controller_model.proofs.Words.{◌∙◌, ap, sym, same_Some, changed_at, written_at}
 use Rattle.controller_model.proofs.WatchLemmas.{still_watched}
 use Rattle.controller_model.proofs.stamps.Stamps.note.Goals as goal
 
 pub invariant_of-self-clause-watched : goal.invariant_of-self-clause-watched
 invariant_of-self-clause-watched c = λ w e.
     let old = c.in-Some.watch in
-    let P : Watch → Type 0 = λ v. v.is_changed ≡ is_changed_behind (changed_at c.put.new.self) (written_at c.put.new.self) v.block v.first v.words in
-    subst P (same_Some old w e)
-    (c.args.self.now.watched old c.in-Some.is
-    ∙ still_watched old.block old.first old.words c.args.at c.args.is_changed (sym c.may_be_touched.ensures ∙ c.if-may_be_touched.false)
-    (changed_at c.args.self.now) (written_at c.args.self.now) (changed_at c.put.new.self) (written_at c.put.new.self) c.args.step
-    c.in_ok-put.ensures.changed c.in_ok-put.ensures.written)
+    rw (same_Some old w e) at
+    (c.args.self.now.watched old c.in-Some.is ∙ still_watched old.block old.first old.words c.args.at c.args.is_changed (sym c.may_be_touched.ensures ∙ c.if-may_be_touched.false)
+    (changed_at c.args.self.now) (written_at c.args.self.now) (changed_at c.put.new.self) (written_at c.put.new.self) c.args.step c.in_ok-put.ensures.changed c.in_ok-put.ensures.written)
 
 pub returns-then-may_be_touched-clause-changed : goal.returns-then-may_be_touched-clause-changed
 returns-then-may_be_touched-clause-changed c = λ a. ap (λ y. y.changed a) (c.watch.ensures (λ _. 0)) ∙ c.in_ok-put.ensures.changed a

@@ -1,5 +1,4 @@
-use Rattle.ring_knowledge.proofs.Words.{ap, sym, ◌∙◌, unwrap_or}
-use Rattle.segments.specs.Ceiling.{ceiling, given_count}
+use Rattle.ring_knowledge.proofs.Words.{ap, sym, ◌∙◌, unwrap_or, ceiling, given_count}
 use Rattle.ring_knowledge.proofs.GivenCount.{count_is}
 use Rattle.ring_knowledge.proofs.ring_record.RingRecord.ceiling.Goals as goal
 

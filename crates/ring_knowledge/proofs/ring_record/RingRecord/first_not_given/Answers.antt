@@ -1,15 +1,9 @@
-use Rattle.ring_knowledge.proofs.Words.{◌≡◌, ◌∙◌, sym, ap, arith, inl, inr, cases_lt, number, is_step_given}
+use Rattle.ring_knowledge.proofs.Words.{rules, ◌∙◌, sym, ap, arith, cases_lt, number, is_step_given}
 use Rattle.ring_knowledge.proofs.GivenCount.{past_not_given}
 use Rattle.ring_knowledge.proofs.ring_record.RingRecord.first_not_given.Goals as goal
 
 pub loop-q-preserved : goal.loop-q-preserved
-loop-q-preserved c = λ v follows n low high.
-    elim (cases_lt n c.loop-q.q) [
-      | inl earlier ↦ c.loop-q.invariant v follows n low earlier
-      | inr now ↦
-          let same : n ≡ c.loop-q.q = omega arith in
-          ap (λ m. is_step_given c.args.shape.now v m) same ∙ sym (c.is_step_given.ensures v follows) ∙ c.if-not-is_step_given.false
-    ]
+loop-q-preserved c = search (rules, cases_lt, is_step_given)
 
 pub returns-then-not-is_step_given-clause-steps : goal.returns-then-not-is_step_given-clause-steps
 returns-then-not-is_step_given-clause-steps c = λ v follows n low high. c.loop-q.invariant v follows n low high

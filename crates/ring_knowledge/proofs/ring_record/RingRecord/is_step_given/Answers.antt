@@ -1,15 +1,9 @@
-use Rattle.std.proofs.Common.{◌%◌, ap, sym, ◌∙◌, refl}
-use Rattle.std.specs.Prelude.{max}
-use Rattle.segments.specs.Spots.{number}
+use Rattle.ring_knowledge.proofs.Words.{rules, ◌%◌, ap, sym, ◌∙◌, refl, max, number}
 use Rattle.ring_knowledge.proofs.WholeDescriptors.{same_note, step_not_given, step_without_link, step_with_link}
 use Rattle.ring_knowledge.proofs.ring_record.RingRecord.is_step_given.Goals as goal
 
 pub returns-then-not-is_noted : goal.returns-then-not-is_noted
-returns-then-not-is_noted c = λ v follows.
-    let count = c.from-places.ensures ∙ c.places.ensures.count in
-    step_not_given c.args.shape.now v c.args.self.now follows c.args.q
-    (sym (same_note _ _ _ _ _ _ _ _ _ (c.number-floor.ensures ∙ sym (ap number follows.floor)) count c.deref.ensures.value (ap (λ n. c.args.q % n) count))
-    ∙ sym c.is_noted.ensures ∙ c.if-not-is_noted.true)
+returns-then-not-is_noted c = search (rules, step_not_given, same_note, number)
 
 pub returns-in-None : goal.returns-in-None
 returns-in-None c = λ v follows.

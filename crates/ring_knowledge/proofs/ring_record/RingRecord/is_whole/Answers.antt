@@ -1,6 +1,4 @@
-use Rattle.std.proofs.Common.{◌≡◌, ◌<◌, ◌≤◌, ◌-◌, ◌+◌, sym, ◌∙◌, arith, slice_index, ap, inl, inr}
-use Rattle.std.proofs.lemmas.Bool.{cases_lt}
-use Rattle.segments.specs.Ceiling.{is_step_given}
+use Rattle.ring_knowledge.proofs.Words.{rules, ◌<◌, ◌≤◌, ◌-◌, ◌+◌, sym, ◌∙◌, arith, slice_index, ap, cases_lt, is_step_given}
 use Rattle.ring_knowledge.proofs.WholeDescriptors.{whole, not_whole}
 use Rattle.ring_knowledge.proofs.ring_record.RingRecord.is_whole.Goals as goal
 
@@ -13,13 +11,7 @@ returns-then-not-is_step_given c = λ v known from.
     (ap (λ n. is_step_given c.args.shape.now v (c.args.position + n)) (sym c.from.ensures) ∙ sym (c.is_step_given.ensures v follows) ∙ c.if-not-is_step_given.true)
 
 pub loop-offset-preserved : goal.loop-offset-preserved
-loop-offset-preserved c = λ v follows o low high.
-    elim (cases_lt o c.loop-offset.offset) [
-      | inl earlier ↦ c.loop-offset.invariant v follows o low earlier
-      | inr now ↦
-          let same : o ≡ c.loop-offset.offset = omega arith in
-          ap (λ n. is_step_given c.args.shape.now v (c.args.position + n)) (same ∙ sym c.from.ensures) ∙ sym (c.is_step_given.ensures v follows) ∙ c.if-not-is_step_given.false
-    ]
+loop-offset-preserved c = search (rules, cases_lt, is_step_given)
 
 pub returns : goal.returns
 returns c = λ v known from.

@@ -8,30 +8,26 @@ use Rattle.ring_knowledge.proofs.ring_record.RingRecord.look.Goals as goal
 
 pub returns-then-is_marked : goal.returns-then-is_marked
 returns-then-is_marked c =
-    let shape = c.args.shape.now in
-    let r = c.args.self.now in
-    let at = found shape _ _ _ _ c.get.ensures.same c.in-Some-Data.ensures.value c.in-Some-Data.field-0-is in
+    let at = found c.args.shape.now _ _ _ _ c.get.ensures.same c.in-Some-Data.ensures.value c.in-Some-Data.field-0-is in
     let mark = ap (λ marks. get_or marks c.in-Some-Data.place false) (sym c.deref.ensures.value) ∙ sym c.is_marked.ensures ∙ c.if-is_marked.true in
     record {
-      lent = λ v known. owned_data shape v r known.marks c.args.at c.get.ensures.aligned c.in-Some-Data.place c.in-Some-Data.index _ at mark (λ p due. c.is_kept.ensures p (omega (arith, ap number known.marks.floor, due.from)) (omega (arith, ap number known.marks.floor, due.within)) due.rest_is);
-      positions = λ v known. positions_marked shape v r known.marks c.args.at c.args.word c.in-Some-Data.place c.in-Some-Data.index at mark;
-      crossings = λ v known. crossings_none shape v r known.marks c.args.at c.args.word (no_crossing_of_data shape known.marks.allowed r.floor c.args.at c.args.word c.in-Some-Data.place c.in-Some-Data.index at);
+      lent = λ v known. owned_data _ v _ known.marks c.args.at c.get.ensures.aligned c.in-Some-Data.place c.in-Some-Data.index _ at mark (λ p due. c.is_kept.ensures p (omega (arith, ap number known.marks.floor, due.from)) (omega (arith, ap number known.marks.floor, due.within)) due.rest_is);
+      positions = λ v known. positions_marked _ v _ known.marks c.args.at c.args.word c.in-Some-Data.place c.in-Some-Data.index at mark;
+      crossings = λ v known. crossings_none _ v _ known.marks c.args.at c.args.word (no_crossing_of_data c.args.shape.now known.marks.allowed c.args.self.now.floor c.args.at c.args.word c.in-Some-Data.place c.in-Some-Data.index at);
     }
 
 pub returns-else-is_marked : goal.returns-else-is_marked
 returns-else-is_marked c =
-    let shape = c.args.shape.now in
-    let r = c.args.self.now in
-    let at = found shape _ _ _ _ c.get.ensures.same c.in-Some-Data.ensures.value c.in-Some-Data.field-0-is in
+    let at = found c.args.shape.now _ _ _ _ c.get.ensures.same c.in-Some-Data.ensures.value c.in-Some-Data.field-0-is in
     let mark = ap (λ marks. get_or marks c.in-Some-Data.place false) (sym c.deref.ensures.value) ∙ sym c.is_marked.ensures ∙ c.if-is_marked.false in
     let mapped : c.map.result ≡ option_map Position c.position_by-position.result = search rules in
     record {
-      lent = λ v known. unowned_data shape v r known.marks c.args.at c.get.ensures.aligned c.in-Some-Data.place c.in-Some-Data.index at mark;
+      lent = λ v known. unowned_data _ v _ known.marks c.args.at c.get.ensures.aligned c.in-Some-Data.place c.in-Some-Data.index at mark;
       positions = λ v known.
-          positions_found shape v r known.marks c.args.at c.args.word c.in-Some-Data.place c.position_by-position.result mark c.position_by-position.ensures.gives c.position_by-position.ensures.due
+          positions_found _ v _ known.marks c.args.at c.args.word c.in-Some-Data.place c.position_by-position.result mark c.position_by-position.ensures.gives c.position_by-position.ensures.due
           ∙ sym (ap positions_of mapped);
       crossings = λ v known.
-          crossings_none shape v r known.marks c.args.at c.args.word (no_crossing_of_data shape known.marks.allowed r.floor c.args.at c.args.word c.in-Some-Data.place c.in-Some-Data.index at)
+          crossings_none _ v _ known.marks c.args.at c.args.word (no_crossing_of_data c.args.shape.now known.marks.allowed c.args.self.now.floor c.args.at c.args.word c.in-Some-Data.place c.in-Some-Data.index at)
           ∙ no_crossing_named c.position_by-position.result ∙ sym (ap crossings_of mapped);
     }
 
@@ -39,30 +35,26 @@ returns-else-is_marked c =
 
 pub returns-then-is_marked-2 : goal.returns-then-is_marked-2
 returns-then-is_marked-2 c =
-    let shape = c.args.shape.now in
-    let r = c.args.self.now in
-    let at = found shape _ _ _ _ c.get.ensures.same c.in-Some-Link.ensures.value c.in-Some-Link.field-0-is in
+    let at = found c.args.shape.now _ _ _ _ c.get.ensures.same c.in-Some-Link.ensures.value c.in-Some-Link.field-0-is in
     let mark = ap (λ marks. get_or marks c.in-Some-Link.segment false) (sym c.deref-in-Some-Link.ensures.value) ∙ sym c.is_marked-in-Some-Link.ensures ∙ c.if-is_marked-2.true in
     record {
-      lent = λ v known. sym mark ∙ owned_link shape v r known.marks c.args.at c.get.ensures.aligned c.in-Some-Link.segment c.in-Some-Link.index at;
-      positions = λ v known. positions_none shape v r known.marks c.args.at c.args.word (no_position_of_link shape known.marks.allowed r.floor c.args.at c.args.word c.in-Some-Link.segment c.in-Some-Link.index at);
-      crossings = λ v known. crossings_marked shape v r known.marks c.args.at c.args.word c.in-Some-Link.segment c.in-Some-Link.index at mark;
+      lent = λ v known. sym mark ∙ owned_link _ v _ known.marks c.args.at c.get.ensures.aligned c.in-Some-Link.segment c.in-Some-Link.index at;
+      positions = λ v known. positions_none _ v _ known.marks c.args.at c.args.word (no_position_of_link c.args.shape.now known.marks.allowed c.args.self.now.floor c.args.at c.args.word c.in-Some-Link.segment c.in-Some-Link.index at);
+      crossings = λ v known. crossings_marked _ v _ known.marks c.args.at c.args.word c.in-Some-Link.segment c.in-Some-Link.index at mark;
     }
 
 pub returns-else-is_marked-2 : goal.returns-else-is_marked-2
 returns-else-is_marked-2 c =
-    let shape = c.args.shape.now in
-    let r = c.args.self.now in
-    let at = found shape _ _ _ _ c.get.ensures.same c.in-Some-Link.ensures.value c.in-Some-Link.field-0-is in
+    let at = found c.args.shape.now _ _ _ _ c.get.ensures.same c.in-Some-Link.ensures.value c.in-Some-Link.field-0-is in
     let mark = ap (λ marks. get_or marks c.in-Some-Link.segment false) (sym c.deref-in-Some-Link.ensures.value) ∙ sym c.is_marked-in-Some-Link.ensures ∙ c.if-is_marked-2.false in
     let mapped : c.map-in-Some-Link.result ≡ option_map Crossing c.crossing_by-crossing.result = search rules in
     record {
-      lent = λ v known. sym mark ∙ owned_link shape v r known.marks c.args.at c.get.ensures.aligned c.in-Some-Link.segment c.in-Some-Link.index at;
+      lent = λ v known. sym mark ∙ owned_link _ v _ known.marks c.args.at c.get.ensures.aligned c.in-Some-Link.segment c.in-Some-Link.index at;
       positions = λ v known.
-          positions_none shape v r known.marks c.args.at c.args.word (no_position_of_link shape known.marks.allowed r.floor c.args.at c.args.word c.in-Some-Link.segment c.in-Some-Link.index at)
+          positions_none _ v _ known.marks c.args.at c.args.word (no_position_of_link c.args.shape.now known.marks.allowed c.args.self.now.floor c.args.at c.args.word c.in-Some-Link.segment c.in-Some-Link.index at)
           ∙ no_position_named c.crossing_by-crossing.result ∙ sym (ap positions_of mapped);
       crossings = λ v known.
-          crossings_found shape v r known.marks c.args.at c.args.word c.in-Some-Link.segment c.crossing_by-crossing.result mark c.crossing_by-crossing.ensures.gives c.crossing_by-crossing.ensures.due
+          crossings_found _ v _ known.marks c.args.at c.args.word c.in-Some-Link.segment c.crossing_by-crossing.result mark c.crossing_by-crossing.ensures.gives c.crossing_by-crossing.ensures.due
           ∙ sym (ap crossings_of mapped);
     }
 
@@ -70,11 +62,9 @@ returns-else-is_marked-2 c =
 
 pub returns-in-None : goal.returns-in-None
 returns-in-None c =
-    let shape = c.args.shape.now in
-    let r = c.args.self.now in
-    let at = ap (λ m. place_at shape m) (sym c.get.ensures.same) ∙ sym c.in-None.ensures.value in
+    let at = ap (λ m. place_at c.args.shape.now m) (sym c.get.ensures.same) ∙ sym c.in-None.ensures.value in
     record {
-      lent = λ v known. owned_nowhere shape v r known.marks c.args.at c.get.ensures.aligned at;
-      positions = λ v known. positions_none shape v r known.marks c.args.at c.args.word (no_position_elsewhere shape known.marks.allowed r.floor c.args.at c.args.word at);
-      crossings = λ v known. crossings_none shape v r known.marks c.args.at c.args.word (no_crossing_elsewhere shape known.marks.allowed r.floor c.args.at c.args.word at);
+      lent = λ v known. owned_nowhere _ v _ known.marks c.args.at c.get.ensures.aligned at;
+      positions = λ v known. positions_none _ v _ known.marks c.args.at c.args.word (no_position_elsewhere c.args.shape.now known.marks.allowed c.args.self.now.floor c.args.at c.args.word at);
+      crossings = λ v known. crossings_none _ v _ known.marks c.args.at c.args.word (no_crossing_elsewhere c.args.shape.now known.marks.allowed c.args.self.now.floor c.args.at c.args.word at);
     }

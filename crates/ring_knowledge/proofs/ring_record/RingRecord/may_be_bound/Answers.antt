@@ -1,15 +1,10 @@
-use Rattle.ring_knowledge.proofs.Words.{is_placement, ◌≡◌, ◌≢◌, ◌∙◌, ap, sym, arith, ceiling, floor_number, is_move, place_count_pos}
-use Rattle.segments.specs.Spots.{number}
+use Rattle.ring_knowledge.proofs.Words.{rules, is_placement, ◌≡◌, ◌∙◌, ap, sym, arith, ceiling, floor_number, is_move, place_count_pos, number}
 use Rattle.ring_knowledge.proofs.MoveTests.{no_move_between}
 use Rattle.ring_knowledge.proofs.ring_record.RingRecord.may_be_bound.Goals as goal
 
 pub returns-then-ceiling-floor : goal.returns-then-ceiling-floor
 unfolding is_placement
-returns-then-ceiling-floor c = λ v known from.
-    let top : c.ceiling.result ≡ ceiling c.args.shape.now v = c.ceiling.ensures c.args.shape.now v known in
-    let floor : c.number-floor.result ≡ floor_number v = c.number-floor.ensures ∙ ap number (sym known.marks.floor) in
-    let apart : ceiling c.args.shape.now v ≢ floor_number v = λ same. c.if-ceiling-floor.true (top ∙ same ∙ sym floor) in
-    no_move_between c.args.shape.now v c.args.pointer c.args.cycle (ceiling c.args.shape.now v) (floor_number v) (omega (arith, from, apart))
+returns-then-ceiling-floor c = search (rules, ceiling, floor_number, number, no_move_between)
 
 pub returns : goal.returns
 unfolding is_placement

@@ -1,12 +1,9 @@
-use Rattle.ring_knowledge.proofs.Words.{◌≡◌, ◌+◌, ◌<◌, ◌∙◌, sym, ap, arith, length, place_count, declared, ceiling, is_move}
+use Rattle.ring_knowledge.proofs.Words.{rules, ◌≡◌, ◌+◌, ◌<◌, ◌∙◌, sym, ap, arith, place_count, declared, ceiling, is_move}
 use Rattle.ring_knowledge.proofs.MoveTests.{no_move_between}
 use Rattle.ring_knowledge.proofs.ring_record.RingRecord.may_move_on.Goals as goal
 
 pub returns-then-most-least : goal.returns-then-most-least
-returns-then-most-least c = λ v known from.
-    let least : c.ceiling-least.result ≡ ceiling c.args.shape.now v = c.ceiling-least.ensures c.args.shape.now v known in
-    let most : c.end-most.result ≡ declared v = c.end-most.ensures.value ∙ sym known.marks.count in
-    no_move_between c.args.shape.now v c.args.pointer c.args.cycle (ceiling c.args.shape.now v) (declared v) (omega (arith, least, most, c.if-most-least.true))
+returns-then-most-least c = search (rules, ceiling, declared, no_move_between)
 
 pub returns : goal.returns
 returns c = λ v known from.

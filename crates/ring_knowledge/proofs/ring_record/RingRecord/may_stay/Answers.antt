@@ -1,4 +1,4 @@
-use Rattle.ring_knowledge.proofs.Words.{◌≡◌, ◌∙◌, sym, ap, arith, length, declared, is_move, place_count_pos}
+use Rattle.ring_knowledge.proofs.Words.{◌≡◌, ◌∙◌, sym, ap, arith, declared, is_move, place_count_pos}
 use Rattle.ring_knowledge.proofs.ring_record.RingRecord.may_stay.Goals as goal
 
 pub returns : goal.returns

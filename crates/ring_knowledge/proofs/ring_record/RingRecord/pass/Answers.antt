@@ -1,4 +1,4 @@
-use Rattle.ring_knowledge.proofs.Words.{◌∙◌, ap, subst, arith, length, number, after, Reaches, changed, is_reached, FollowsRing}
+use Rattle.ring_knowledge.proofs.Words.{◌∙◌, ap, subst, arith, number, after, Reaches, changed, is_reached, FollowsRing}
 use Rattle.ring_knowledge.proofs.PassedBlocks.{behind_reached}
 use Rattle.ring_knowledge.proofs.ring_record.RingRecord.pass.Goals as goal
 

@@ -1,6 +1,7 @@
-use Rattle.ring_knowledge.proofs.Words.{◌≡◌, ◌%◌, ◌<◌, ◌≤◌, ◌+◌, ◌∙◌, ap, sym, arith, eqb-true, eqb-false, number, place_count, cycle_of, place_at-Data}
+use Rattle.ring_knowledge.proofs.Words.{rules, ◌≡◌, ◌%◌, ◌<◌, ◌≤◌, ◌+◌, ◌∙◌, sym, arith, eqb-true, eqb-false, number, place_count, cycle_of, place_at-Data}
 use Rattle.ring_knowledge.proofs.DueWrites.{gives-data, gives-other_word, gives-other_cycle}
 use Rattle.ring_knowledge.proofs.ring_record.RingRecord.position_by.Goals as goal
+use Rattle.ring_knowledge.proofs.ring_record.RingRecord.position_by.Goals.{After-next_with_rest-position}
 
 pub next_with_rest-position-requires-clause-rest : goal.next_with_rest-position-requires-clause-rest
 next_with_rest-position-requires-clause-rest c =
@@ -11,22 +12,21 @@ pub returns-then-index-ne3-clause-gives : goal.returns-then-index-ne3-clause-giv
 returns-then-index-ne3-clause-gives c =
     gives-other_word c.args.shape.now c.places.ensures.allowed c.args.self.now.floor c.args.at c.args.word c.args.place c.args.index c.requires c.if-index-ne3.true
 
+-- what is found is the place's due position
+due : (c : After-next_with_rest-position) → (number c.args.self.now.floor ≤ c.next_with_rest-position.result) ×
+    (c.next_with_rest-position.result < number c.args.self.now.floor + place_count c.args.shape.now) × (c.next_with_rest-position.result % place_count c.args.shape.now ≡ c.args.place)
+due c = search (rules, place_count, number)
+
 pub returns-then-has_cycle_of-clause-gives : goal.returns-then-has_cycle_of-clause-gives
 returns-then-has_cycle_of-clause-gives c =
     let q = c.next_with_rest-position.result in
-    let count : c.from-places.result ≡ place_count c.args.shape.now = c.from-places.ensures ∙ c.places.ensures.count in
-    let low : number c.args.self.now.floor ≤ q = omega (arith, c.number.ensures, c.next_with_rest-position.ensures.from) in
-    let high : q < number c.args.self.now.floor + place_count c.args.shape.now = omega (arith, c.number.ensures, c.next_with_rest-position.ensures.within) in
-    let here : q % place_count c.args.shape.now ≡ c.args.place = ap (λ n. q % n) (sym count) ∙ c.next_with_rest-position.ensures.rest_is ∙ c.from.ensures in
+    let is = due (goal.at.returns-then-has_cycle_of-clause-gives c).After-next_with_rest-position in
     gives-data c.args.shape.now c.places.ensures.allowed c.args.self.now.floor c.args.at c.args.word c.args.place c.args.index c.requires
-    q c.if-index-ne3.false low high here (eqb-true (c.args.word % 2) (cycle_of c.args.shape.now q) (sym c.has_cycle_of.ensures ∙ c.if-has_cycle_of.true))
+    q c.if-index-ne3.false is.0 is.1 is.2 (eqb-true (c.args.word % 2) (cycle_of c.args.shape.now q) (sym c.has_cycle_of.ensures ∙ c.if-has_cycle_of.true))
 
 pub returns-else-has_cycle_of-clause-gives : goal.returns-else-has_cycle_of-clause-gives
 returns-else-has_cycle_of-clause-gives c =
     let q = c.next_with_rest-position.result in
-    let count : c.from-places.result ≡ place_count c.args.shape.now = c.from-places.ensures ∙ c.places.ensures.count in
-    let low : number c.args.self.now.floor ≤ q = omega (arith, c.number.ensures, c.next_with_rest-position.ensures.from) in
-    let high : q < number c.args.self.now.floor + place_count c.args.shape.now = omega (arith, c.number.ensures, c.next_with_rest-position.ensures.within) in
-    let here : q % place_count c.args.shape.now ≡ c.args.place = ap (λ n. q % n) (sym count) ∙ c.next_with_rest-position.ensures.rest_is ∙ c.from.ensures in
+    let is = due (goal.at.returns-else-has_cycle_of-clause-gives c).After-next_with_rest-position in
     gives-other_cycle c.args.shape.now c.places.ensures.allowed c.args.self.now.floor c.args.at c.args.word c.args.place c.args.index c.requires
-    q low high here (eqb-false (c.args.word % 2) (cycle_of c.args.shape.now q) (sym c.has_cycle_of.ensures ∙ c.if-has_cycle_of.false))
+    q is.0 is.1 is.2 (eqb-false (c.args.word % 2) (cycle_of c.args.shape.now q) (sym c.has_cycle_of.ensures ∙ c.if-has_cycle_of.false))

@@ -1,10 +1,10 @@
-use Rattle.ring_knowledge.proofs.Words.{◌≡◌, ◌∙◌, Some, refl, ap, sym, arith, number, link_crossed, floor_number}
+use Rattle.ring_knowledge.proofs.Words.{◌≡◌, ◌∙◌, Some, refl, ap, sym, arith, number, link_crossed, floor_number, is_step_given, is_way_given}
 use Rattle.ring_knowledge.proofs.ClearedMarks.{same_places, same_numbers}
 use Rattle.ring_knowledge.proofs.ReachedSpots.{reached_marks}
-use Rattle.ring_knowledge.proofs.GivenCount.{reached_step}
 use Rattle.ring_knowledge.proofs.ring_record.RingRecord.reach.Goals as goal
 
 pub returns : goal.returns
+unfolding is_step_given is_way_given
 returns c = λ v known later reached.
     let from : c.number-passed.result ≡ floor_number v = c.number-passed.ensures ∙ sym (ap number known.marks.floor) in
     c.forget_passed.ensures c.args.shape.now _ (record {
@@ -15,6 +15,6 @@ returns c = λ v known later reached.
           (c.clear_places.ensures (omega (arith, from, c.number.ensures, later))))
           (same_numbers (λ q j. link_crossed c.args.shape.now q ≡ Some j) _ _ _ _ _ _ from c.number-2.ensures
           (c.clear_links.ensures (omega (arith, from, c.number-2.ensures, later))));
-      steps = λ q h. reached_step c.args.shape.now v c.args.spot q ∙ known.steps q h;
-      stop = reached_step c.args.shape.now v c.args.spot c.args.self.now.count ∙ known.stop;
+      steps = λ q h. known.steps q h;
+      stop = known.stop;
     })

@@ -1,8 +1,4 @@
-use Rattle.std.proofs.Common.{◌-◌, ap, sym, ◌∙◌, ◌≡◌}
-use Rattle.std.specs.Prelude.{if◌then◌else◌, slice_get}
-use Rattle.trb.specs.Block.{block_at, same_words, with_cycle}
-use Rattle.segments.specs.Places.{address_of, cycle_of}
-use Rattle.segments.proofs.Positions.{address_aligned}
+use Rattle.ring_knowledge.proofs.Words.{◌-◌, ap, sym, ◌∙◌, ◌≡◌, if◌then◌else◌, slice_get, block_at, same_words, with_cycle, address_of, cycle_of, address_aligned}
 use Rattle.ring_knowledge.proofs.Declared.{nothing_declared, declared_here, cycle_bit}
 use Rattle.ring_knowledge.proofs.ring_record.RingRecord.stands_declared.Goals as goal
 

@@ -1,30 +1,13 @@
-use Rattle.ring_knowledge.proofs.Words.{length-no_ops, length, ◌-◌, ◌≤◌, arith, ◌≡◌, ◌∙◌, ◌%◌, ◌&&◌, ◌||◌, if◌then◌else◌, refl, ap, sym, number, floor_number, place_count, slice_index, is_in, is_noted, no_ops, contains, nat_cmp}
+use Rattle.ring_knowledge.proofs.Words.{rules, length-no_ops, length, ◌-◌, ◌≤◌, arith, ◌≡◌, ◌∙◌, ◌%◌, ◌&&◌, ◌||◌, if◌then◌else◌, refl, ap, sym, number, floor_number, place_count, slice_index, is_in, is_noted, no_ops, contains, nat_cmp}
 use Rattle.ring_knowledge.proofs.WholeDescriptors.{same_note}
 use Rattle.ring_knowledge.proofs.Withdrawn.{back, from_in, none_before, none_free_before, same_sets, withdrawn_here, begins_at}
 use Rattle.ring_knowledge.proofs.ring_record.RingRecord.withdraw.Goals as goal
 
 pub returns-in-Err-clause-err : goal.returns-in-Err-clause-err
-returns-in-Err-clause-err c = λ v known from none.
-    let r = c.args.self.now in
-    let p = c.args.position in
-    let kept : r.forgotten ≤ p = omega (arith, known.marks.passed, from) in
-    let many : c.from-count.result ≡ slice_index r.lengths.items (p - r.forgotten) = c.from-count.ensures ∙ c.length_at.ensures.value kept in
-    same_sets c.args.shape.now v r known _ refl refl refl refl refl refl refl refl
-    (λ q. back _ _ _ _ (c.add_numbers.ensures.elsewhere q)
-    (λ inside. sym (known.marks.withdrawn q (from_in q p _ kept (sym (ap (is_in q p) many) ∙ inside))) ∙ none_before c.args.shape.now v r known p kept none q (sym (ap (is_in q p) many) ∙ inside)) (c.remove_numbers.ensures q))
-    (λ q. refl)
+returns-in-Err-clause-err c = search (rules, slice_index, same_sets, back, from_in, is_in, none_before)
 
 pub returns-in-Err-add_given-clause-err : goal.returns-in-Err-add_given-clause-err
-returns-in-Err-add_given-clause-err c = λ v known from none.
-    let r = c.args.self.now in
-    let p = c.args.position in
-    let kept : r.forgotten ≤ p = omega (arith, known.marks.passed, from) in
-    let many : c.from-count.result ≡ slice_index r.lengths.items (p - r.forgotten) = c.from-count.ensures ∙ c.length_at.ensures.value kept in
-    same_sets c.args.shape.now v r known _ refl refl refl refl refl refl refl refl
-    (λ q. back _ _ _ _ (c.add_numbers.ensures.elsewhere q)
-    (λ inside. sym (known.marks.withdrawn q (from_in q p _ kept (sym (ap (is_in q p) many) ∙ inside))) ∙ none_before c.args.shape.now v r known p kept none q (sym (ap (is_in q p) many) ∙ inside)) (c.remove_numbers-in-Err-add_given.ensures q))
-    (λ q. back _ _ _ _ (c.add_given.ensures.elsewhere q)
-    (λ inside. sym (known.marks.free q) ∙ none_free_before c.args.shape.now v r known p kept none q (sym (ap (is_in q p) many) ∙ inside)) (c.remove_numbers-in-Err-add_given-2.ensures q))
+returns-in-Err-add_given-clause-err c = search (rules, slice_index, same_sets, back, from_in, is_in, none_before, none_free_before)
 
 pub returns-clause-ok : goal.returns-clause-ok
 returns-clause-ok c = λ v known from.
@@ -50,5 +33,4 @@ returns-clause-ok c = λ v known from.
 
 pub invariant_of-self-2-clause-end_fits : goal.invariant_of-self-2-clause-end_fits
 invariant_of-self-2-clause-end_fits c =
-    let r = c.args.self.now in
-    omega (arith, r.end_fits, ap length c.put_no_ops.ensures, length-no_ops r.blocks.items c.saturating_sub-at.result c.from-count.result)
+    omega (arith, c.args.self.now.end_fits, ap length c.put_no_ops.ensures, length-no_ops c.args.self.now.blocks.items c.saturating_sub-at.result c.from-count.result)

@@ -10,9 +10,8 @@ loop-position-init c =
 pub loop-position-preserved : goal.loop-position-preserved
 loop-position-preserved c =
     let xs = c.args.blocks.now.items in
-    let from = c.args.from in
-    let k = c.loop-position.position - from in
-    let next : c.loop-position.position + 1 - from ≡ suc k = omega (arith, c.loop-position.auto.position) in
-    let here : from + k ≡ c.loop-position.position = omega (arith, c.loop-position.auto.position) in
+    let k = c.loop-position.position - c.args.from in
+    let next : c.loop-position.position + 1 - c.args.from ≡ suc k = omega (arith, c.loop-position.auto.position) in
+    let here : c.args.from + k ≡ c.loop-position.position = omega (arith, c.loop-position.auto.position) in
     c.put_block.ensures ∙ ap (λ ys. set ys c.loop-position.position no_op) c.loop-position.invariant
-    ∙ ap (λ n. set (no_ops xs from k) n no_op) (sym here) ∙ one_no_op xs from k ∙ ap (λ n. no_ops xs from n) (sym next)
+    ∙ ap (λ n. set (no_ops xs c.args.from k) n no_op) (sym here) ∙ one_no_op xs c.args.from k ∙ ap (λ n. no_ops xs c.args.from n) (sym next)

@@ -4,7 +4,6 @@ use Rattle.segments.proofs.shape.RingShape.crossing.Goals as goal
 
 pub returns-then-q-from-ne0-clause-value : goal.returns-then-q-from-ne0-clause-value
 returns-then-q-from-ne0-clause-value c =
-    let shape = c.args.self.now in
-    let are : AreMultiples shape.kind shape.segments c.self.inside.index.step = rw (← c.self.view_is) c.self.invariant.found.step in
+    let are : AreMultiples c.args.self.now.kind c.args.self.now.segments c.self.inside.index.step = rw (← c.self.view_is) c.self.invariant.found.step in
     let between : c.args.q % c.self.inside.index.step ≢ 0 = λ zero. c.if-q-from-ne0.true (ap (λ n. c.args.q % n) c.from.ensures ∙ zero) in
-    sym (crossed_between shape (rw (← c.self.view_is) c.self.invariant.allowed) c.self.inside.index.step c.args.q are between)
+    sym (crossed_between c.args.self.now (rw (← c.self.view_is) c.self.invariant.allowed) c.self.inside.index.step c.args.q are between)

@@ -10,7 +10,6 @@ returns-then-len-eq1-clause-near c =
 
 pub returns-clause-near : goal.returns-clause-near
 returns-clause-near c =
-    let kind = c.self.inside.kind in
     let segments = c.self.inside.segments.items in
     subst (λ s. IsNear s.segments c.args.address c.last_start.result) c.self.view_is
-    (near_from_last kind segments c.self.invariant.allowed c.args.address _ (c.last_start.ensures kind segments c.self.invariant.found))
+    (near_from_last c.self.inside.kind segments c.self.invariant.allowed c.args.address _ (c.last_start.ensures c.self.inside.kind segments c.self.invariant.found))
