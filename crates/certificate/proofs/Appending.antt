@@ -1,14 +1,6 @@
 -- What stands on a device behind one write after another, where it is known
-use Rattle.std.proofs.Common.{◌≡◌, ◌∙◌, ℕ, suc, ◌+◌, ◌-◌, ◌*◌, ◌≤◌, List, [], ◌∷◌, ◌++◌, take, drop, length, Option, Some, None, ap, sym, subst, arith, append_assoc, length-append, length-drop}
-use Rattle.std.proofs.lemmas.List.{drop-take, take-append-drop, take-append-le, take-take, take_all}
-use Rattle.std.proofs.lemmas.List.Concat.{flat_map-append}
-use Rattle.std.proofs.lemmas.Grind.{common_steps}
-use Rattle.std.specs.Io.KnownBytes.{Appends}
+use Rattle.certificate.proofs.Words.{◌≡◌, ◌∙◌, ℕ, suc, ◌+◌, ◌-◌, ◌*◌, ◌≤◌, List, [], ◌∷◌, ◌++◌, take, drop, length, Option, Some, None, ap, sym, subst, arith, append_assoc, length-append, length-drop, drop-take, take-append-drop, take-append-le, take-take, take_all, flat_map-append, common_steps, Appends, Lease, EncodeFault, IsCutBehind, IsCutOff, done_of, lease_bytes}
 use Rattle.std.specs.List.{flat_map}
-use Rattle.ring_knowledge.specs.declared.lease.Lease.{Lease}
-use Rattle.certificate.specs.declared.fault.EncodeFault.{EncodeFault}
-use Rattle.certificate.specs.Sinks.{IsCutBehind, IsCutOff, done_of}
-use Rattle.certificate.specs.Spelling.{lease_bytes}
 use Rattle.certificate.proofs.Records.{length_spelled}
 
 pub appends_nothing : (a : Option (List ℕ)) → Appends a a []

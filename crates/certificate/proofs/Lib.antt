@@ -2,3 +2,4 @@ pub mod Appending
 pub mod Records
 pub mod RoundTrip
 pub mod Verifying
+pub mod Words

@@ -1,15 +1,9 @@
 -- Records one after another: what is written is read, and what is read is what was written
-use Rattle.std.proofs.Common.{◌≡◌, ◌+◌, ◌*◌, ◌<◌, ◌≤◌, ◌∷◌, ◌++◌, ◌∙◌, ℕ, suc, zero, true, List, [], length, take, drop, All, arith, sym, ap, refl, add-one, inl, inr, drop-drop, length-drop, get_or-take, get_or-drop, length-take-le, get_or}
+use Rattle.certificate.proofs.Words.{◌≡◌, ◌+◌, ◌*◌, ◌<◌, ◌≤◌, ◌∷◌, ◌++◌, ◌∙◌, ℕ, suc, zero, true, List, [], length, take, drop, All, arith, sym, ap, refl, add-one, inl, inr, drop-drop, length-drop, get_or-take, get_or-drop, length-take-le, get_or, get_or_past, All-head, All-tail, and_from, cases_lt, le_bytes_4, le_bytes_8, Lease, FitsLease, has_lease_fields, lease_bytes, lease_in, leases_in}
 use Rattle.std.specs.List.{flat_map, list_all}
-use Rattle.std.proofs.lemmas.List.{get_or_past}
 use Rattle.std.proofs.Math.Seq.{take-add}
-use Rattle.std.proofs.lemmas.List.Elements.{All-head, All-tail}
-use Rattle.std.proofs.lemmas.Bool.{and_from, cases_lt}
-use Rattle.std.proofs.lemmas.Nat.{le_bytes_4, le_bytes_8}
 use Rattle.byteorder.specs.Endian.{little_bytes, little_number}
 use Rattle.byteorder.specs.Numbers.{little_number-reads_back}
-use Rattle.ring_knowledge.specs.declared.lease.Lease.{Lease}
-use Rattle.certificate.specs.Spelling.{FitsLease, has_lease_fields, lease_bytes, lease_in, leases_in}
 
 -- one record more
 pub leases_in-push : (bytes : List ℕ) (n : ℕ) → leases_in bytes (n + 1) ≡ leases_in bytes n ++ lease_in (drop (24 * n) bytes) ∷ []

@@ -1,14 +1,7 @@
 -- A list's spelling is read as that list, and bytes that are read as a list are its spelling
-use Rattle.std.proofs.Common.{◌≡◌, ◌*◌, ◌/◌, ◌%◌, ◌==◌, ◌++◌, ◌∙◌, ℕ, Bool, true, false, List, length, take, drop, All, Result, Ok, Err, IfOk, arith, sym, ap, refl, cond, inl, inr, eq-eqb, take-append-drop, take_all}
+use Rattle.certificate.proofs.Words.{◌≡◌, ◌*◌, ◌/◌, ◌%◌, ◌==◌, ◌++◌, ◌∙◌, ℕ, Bool, true, false, List, length, take, drop, All, Result, Ok, Err, IfOk, arith, sym, ap, refl, cond, inl, inr, eq-eqb, take-append-drop, take_all, cases_Bool, nat_tests, bytes_eq-Decides, Lease, CertFault, Magic, Length, Field, FitsLease, certificate_of, has_lease_fields, lease_bytes, leases_in, magic, records_of, spelling}
 use Rattle.std.specs.List.{flat_map, list_all}
 use Rattle.std.specs.Str.{bytes_eq}
-use Rattle.std.proofs.lemmas.Bool.{cases_Bool}
-use Rattle.std.proofs.lemmas.Bool.Decides.{nat_tests}
-use Rattle.std.proofs.lemmas.Slice.Eq.{bytes_eq-Decides}
-use Rattle.ring_knowledge.specs.declared.lease.Lease.{Lease}
-use Rattle.certificate.specs.declared.fault.CertFault.{CertFault}
-use Rattle.certificate.specs.declared.fault.CertFault.TheVariants.{Magic, Length, Field}
-use Rattle.certificate.specs.Spelling.{FitsLease, certificate_of, has_lease_fields, lease_bytes, leases_in, magic, records_of, spelling}
 use Rattle.certificate.proofs.Records.{AreBytes, all_read, all_spelled, dropped, fields_stand, length_spelled}
 
 records_reread : (ls : List Lease) → All FitsLease ls → records_of (flat_map lease_bytes ls) ≡ Ok ls

@@ -8,4 +8,3 @@ pub mod PointerTables
 pub mod RingShapes
 pub mod WalkedNotes
 pub mod RowsToCome
-pub mod Words

@@ -1,7 +1,5 @@
 -- A trace all rows of which are the driver's is read as the same trace where only those rows are taken
-use Rattle.std.proofs.Common.{Bool, ◌≡◌, ◌+◌, ◌-◌, ◌≤◌, ◌∷◌, ◌∙◌, ℕ, true, false, List, [], length, map, Option, Some, None, Result, Ok, Err, All, refl, ap, sym, arith}
-use Rattle.trace_reader.proofs.Words.{All-cons, All-head, All-nil, All-tail, length-map, TextLine, lines_of, LineFault, Ring, Row, TraceRow, Plain, Comes, Goes, Withdraws, Version, IsRow, FitsLine, begins_with_ring, have_new_ids, State, TraceText, DriverText, all_plain, driver_row, driver_trace_of, go_on, next_number, read_line, read_lines, start, take_lines, taken, text_taken, trace_of, whole, with_row, IsTrace, most_lines}
-use Rattle.traces.specs.Header.{IsHeader}
+use Rattle.trace_reader.proofs.Words.{common_steps, rules, Bool, ◌≡◌, ◌+◌, ◌≤◌, ◌∷◌, ◌∙◌, ℕ, true, false, List, [], length, map, Option, Some, None, Result, Ok, Err, All, refl, ap, arith, All-cons, All-head, All-nil, All-tail, length-map, TextLine, lines_of, LineFault, Ring, Row, TraceRow, Plain, Version, IsRow, FitsLine, begins_with_ring, have_new_ids, State, DriverText, all_plain, driver_row, driver_trace_of, go_on, next_number, read_line, read_lines, start, take_lines, taken, text_taken, trace_of, whole, with_row, IsTrace, most_lines, IsHeader}
 use Rattle.trace_reader.proofs.ReadSteps.{header_there}
 use Rattle.trace_reader.proofs.Spelled.{spelled_if_read, whole_there}
 use Rattle.trace_reader.proofs.SpelledTraces.{IsLineRow}
@@ -15,12 +13,8 @@ module _ {R : Type 0} where
 
   front_there : (row : Option R) (rest : Result (State × List R) (ℕ × LineFault)) (end : State) (rows : List R) → with_row row rest ≡ Ok (end, rows) →
       (q : List R) × (rest ≡ Ok (end, q)) × (front row q ≡ rows)
-  front_there (Some row) (Ok (st, q)) end rows is =
-      let same : (st, row ∷ q) ≡ (end, rows) = cc is in
-      (q, ap (λ (s : State). Ok (s, q)) (ap (λ (x : State × List R). x.0) same), ap (λ (x : State × List R). x.1) same)
-  front_there None (Ok (st, q)) end rows is =
-      let same : (st, q) ≡ (end, rows) = cc is in
-      (q, ap (λ (s : State). Ok (s, q)) (ap (λ (x : State × List R). x.0) same), ap (λ (x : State × List R). x.1) same)
+  front_there (Some row) (Ok (st, q)) end rows is = search rules
+  front_there None (Ok (st, q)) end rows is = search rules
   front_there (Some row) (Err fault) end rows is = cc is
   front_there None (Err fault) end rows is = cc is
 
@@ -28,16 +22,7 @@ module _ (lines : List TextLine) (number : ℕ) (end : State) where
   plain_step : (r : Result (State × Option TraceRow) LineFault) (rows : List Row) →
       ((next : State) (rest : List Row) → take_lines driver_row next lines ≡ Ok (end, rest) → read_lines next lines ≡ Ok (end, map Plain rest)) →
       go_on number (taken driver_row r) (λ s. take_lines driver_row s lines) ≡ Ok (end, rows) → go_on number r (λ s. read_lines s lines) ≡ Ok (end, map Plain rows)
-  plain_step (Ok (next, Some (Plain row))) rows later is =
-      let p = front_there (Some row) (take_lines driver_row next lines) end rows is in
-      ap (with_row (Some (Plain row))) (later next p.0 p.1) ∙ ap (λ (rs : List Row). Ok (end, map Plain rs)) p.2
-  plain_step (Ok (next, None)) rows later is =
-      let p = front_there None (take_lines driver_row next lines) end rows is in
-      ap (with_row None) (later next p.0 p.1) ∙ ap (λ (rs : List Row). Ok (end, map Plain rs)) p.2
-  plain_step (Ok (next, Some (Comes ring))) rows later is = cc is
-  plain_step (Ok (next, Some (Goes ring))) rows later is = cc is
-  plain_step (Ok (next, Some (Withdraws ring position))) rows later is = cc is
-  plain_step (Err fault) rows later is = cc is
+  plain_step r rows later is = search (rules, front_there)
 
   same_front : (row : TraceRow) (q : List TraceRow) (rows : List Row) → row ∷ q ≡ map Plain rows → (x : Row) × (xs : List Row) × (rows ≡ x ∷ xs) × (row ≡ Plain x) × (q ≡ map Plain xs)
   same_front row q [] is = cc is
@@ -46,16 +31,7 @@ module _ (lines : List TextLine) (number : ℕ) (end : State) where
   driver_step : (r : Result (State × Option TraceRow) LineFault) (rows : List Row) →
       ((next : State) (rest : List Row) → read_lines next lines ≡ Ok (end, map Plain rest) → take_lines driver_row next lines ≡ Ok (end, rest)) →
       go_on number r (λ s. read_lines s lines) ≡ Ok (end, map Plain rows) → go_on number (taken driver_row r) (λ s. take_lines driver_row s lines) ≡ Ok (end, rows)
-  driver_step (Ok (next, Some row)) rows later is =
-      let p = front_there (Some row) (read_lines next lines) end (map Plain rows) is in
-      let f = same_front row p.0 rows p.2 in
-      let rest = later next f.1 (p.1 ∙ ap (λ (ts : List TraceRow). Ok (end, ts)) f.4) in
-      ap (λ (o : TraceRow). go_on number (taken driver_row (Ok (next, Some o))) (λ s. take_lines driver_row s lines)) f.3
-      ∙ ap (with_row (Some f.0)) rest ∙ ap (λ (rs : List Row). Ok (end, rs)) (sym f.2)
-  driver_step (Ok (next, None)) rows later is =
-      let p = front_there None (read_lines next lines) end (map Plain rows) is in
-      ap (with_row None) (later next rows (p.1 ∙ ap (λ (ts : List TraceRow). Ok (end, ts)) p.2))
-  driver_step (Err fault) rows later is = cc is
+  driver_step r rows later is = search (rules, front_there, same_front)
 
 -- ---- all lines
 
@@ -75,32 +51,13 @@ driver_lines_read (line ∷ lines) st end rows is = driver_step lines (next_numb
 
 -- ---- a text
 
--- so many rows of a text were read
-abbrev counted : State → List TraceRow → ℕ → Result TraceText (ℕ × LineFault)
-counted st rows n = Ok (record { header = record { version = st.version; context_size = st.size; rings = st.rings }; first = next_number st - n; rows = rows })
-
 pub plain_trace : (text : List ℕ) (trace : DriverText) → driver_trace_of text ≡ Ok trace → trace_of true text ≡ Ok (all_plain trace)
 unfolding text_taken trace_of
-plain_trace text trace is =
-    let p = whole_there (take_lines driver_row (start true) (lines_of text)) trace is in
-    let st = p.0.0 in
-    let rows = p.0.1 in
-    ap (λ (r : Result (State × List TraceRow) (ℕ × LineFault)). whole r) (plain_lines (lines_of text) (start true) st rows p.1) ∙ header_there st (map Plain rows) p.2
-    ∙ ap (counted st (map Plain rows)) (length-map rows Plain) ∙ ap (λ (t : DriverText). Ok (all_plain t)) p.3
+plain_trace text trace is = grind (arith, common_steps, whole_there, plain_lines, header_there)
 
 pub driver_trace : (text : List ℕ) (trace : DriverText) → trace_of true text ≡ Ok (all_plain trace) → driver_trace_of text ≡ Ok trace
 unfolding text_taken trace_of
-driver_trace text trace is =
-    let p = whole_there (read_lines (start true) (lines_of text)) (all_plain trace) is in
-    let st = p.0.0 in
-    let rows_are : p.0.1 ≡ map Plain trace.rows = ap (λ (t : TraceText). t.rows) p.3 in
-    let read = driver_lines_read (lines_of text) (start true) st trace.rows (p.1 ∙ ap (λ (ts : List TraceRow). Ok (st, ts)) rows_are) in
-    let count : length p.0.1 ≡ length trace.rows = ap (λ (ts : List TraceRow). length ts) rows_are ∙ length-map trace.rows Plain in
-    let first_is : next_number st - length trace.rows ≡ trace.first = ap (λ n. next_number st - n) (sym count) ∙ ap (λ (t : TraceText). t.first) p.3 in
-    let header_is = ap (λ (t : TraceText). t.header) p.3 in
-    let same : record { header = record { version = st.version; context_size = st.size; rings = st.rings }; first = next_number st - length trace.rows; rows = trace.rows } ≡ trace =
-    λ k. record { header = header_is k; first = first_is k; rows = trace.rows } in
-    ap (λ (r : Result (State × List Row) (ℕ × LineFault)). whole r) read ∙ header_there st trace.rows p.2 ∙ ap (λ (t : DriverText). Ok t) same
+driver_trace text trace is = grind (arith, common_steps, whole_there, driver_lines_read, header_there)
 
 -- ---- which of these have a text
 
@@ -151,17 +108,14 @@ is_driver_trace trace is = record {
 -- no more rows than lines were read
 pub few_rows : (text : List ℕ) (st : State) (rows : List Row) → driver_trace_of text ≡ whole (Ok (st, rows)) → 2 ≤ st.lines → length rows ≤ st.lines
 few_rows text st rows is there =
-    let read = is ∙ header_there st rows there in
-    let first = (is_driver_trace _ (spelled_if_read text _ (plain_trace text _ read)).1).first in
+    let first = (is_driver_trace _ (spelled_if_read text _ (plain_trace text _ (is ∙ header_there st rows there))).1).first in
     omega (arith, first)
 
 -- ---- where each row is taken
 
 all_step : (lines : List TextLine) (number : ℕ) (r : Result (State × Option TraceRow) LineFault) → ((next : State) → take_lines (λ row. Ok row) next lines ≡ read_lines next lines) →
     go_on number (taken (λ row. Ok row) r) (λ s. take_lines (λ row. Ok row) s lines) ≡ go_on number r (λ s. read_lines s lines)
-all_step lines number (Ok (next, Some row)) later = ap (with_row (Some row)) (later next)
-all_step lines number (Ok (next, None)) later = ap (with_row None) (later next)
-all_step lines number (Err fault) later = refl
+all_step lines number r later = search rules
 
 all_lines : (lines : List TextLine) (st : State) → take_lines (λ row. Ok row) st lines ≡ read_lines st lines
 unfolding take_lines read_lines

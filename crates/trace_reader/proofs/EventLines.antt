@@ -1,20 +1,13 @@
 -- The four words of an event, in a row of a trace
-use Rattle.std.proofs.Common.{◌≡◌, ◌∙◌, ◌==◌, ℕ, List, Bool, true, false, Option, Some, None, Result, Ok, Err, refl, ap, cond, length}
-use Rattle.trace_reader.proofs.Words.{option_map, option_map_or, Block, LineError, Fault, Memory, LineFault, Number, Plain, Read, Answers, said_by, form_as, AnswersBy, valued_by, event_form, event_line, said_of, Said, SaysRow, event_of}
+use Rattle.trace_reader.proofs.Words.{rules, ◌≡◌, ◌∙◌, ◌==◌, ℕ, List, Bool, Some, None, Result, Ok, Err, ap, cond, length, Block, LineError, LineFault, Plain, Read, Answers, said_by, form_as, AnswersBy, valued_by, event_form, event_line, said_of, Said, SaysRow, event_of}
 
 as_said : Result Block LineFault → Result Said LineFault
 as_said (Ok event) = Ok (SaysRow (Plain (Read event)))
 as_said (Err fault) = Err fault
 
-numbers_said : (event : Option Block) → option_map_or Ok (option_map (λ e. SaysRow (Plain (Read e))) event) (Err Number) ≡ as_said (option_map_or Ok event (Err Number))
-unfolding as_said
-numbers_said (Some event) = refl
-numbers_said None = refl
-
 by_length : (words : List (List ℕ)) (four : Bool) → said_by (cond four (Some (event_line, words)) None) ≡ as_said (valued_by event_of (cond four (Some words) None))
 unfolding as_said said_of
-by_length words true = numbers_said (event_of words)
-by_length words false = refl
+by_length words four = search rules
 
 event_said : (words : List (List ℕ)) → said_by (form_as event_line words) ≡ as_said (valued_by event_of (event_form words))
 event_said words = by_length words (length words == 4)
@@ -25,5 +18,4 @@ event_there words event is = event_said words ∙ ap as_said is
 
 pub no_event_there : (words : List (List ℕ)) (e : LineError) → AnswersBy {Answer = Block} (λ event. event) (Err e) (valued_by event_of (event_form words)) → Answers (Err e) (said_by (form_as event_line words))
 unfolding as_said
-no_event_there words (Fault fault) is = event_said words ∙ ap as_said is
-no_event_there words Memory is = tt
+no_event_there words e is = search (rules, event_said, as_said)

@@ -1,6 +1,5 @@
 -- The form of a line by its first word
-use Rattle.std.proofs.Common.{◌≡◌, ◌∷◌, ◌∙◌, ℕ, List, [], Bool, true, false, Option, Some, None, refl, ap, sym, cond, codes, Err}
-use Rattle.trace_reader.proofs.Words.{option_and_then, BadRow, bytes_eq, FirstWord, SubWord, W, RegWord, Db, Ev, RingWord, FreeWord, NopWord, form_behind, said_by, said_by_fields, word_named, Line, form_as, form_of, line_named, ring_lines, sub_line, write_line, reg_line, bell_line, event_line, ring_line, comes_line, goes_line, withdraws_line, Said, Version, has_ring_rows}
+use Rattle.trace_reader.proofs.Words.{rules, ◌≡◌, ◌∷◌, ℕ, List, [], Bool, true, false, Option, Some, None, ap, cond, codes, Err, option_and_then, BadRow, bytes_eq, FirstWord, SubWord, W, RegWord, Db, Ev, RingWord, FreeWord, NopWord, form_behind, said_by, said_by_fields, word_named, Line, form_as, form_of, line_named, ring_lines, sub_line, write_line, reg_line, bell_line, event_line, ring_line, comes_line, goes_line, withdraws_line, Said, Version, has_ring_rows}
 
 abbrev Named : Bool → Bool → List (List ℕ) → Option (Line Said) → Option FirstWord → Type 0
 Named ring_rows begun fields line word = option_and_then (λ l. form_as l fields) line ≡ form_behind ring_rows begun word fields
@@ -8,12 +7,7 @@ Named ring_rows begun fields line word = option_and_then (λ l. form_as l fields
 by_tests : (ring_rows begun : Bool) (fields : List (List ℕ)) (line : Option (Line Said)) (word : Option FirstWord) → Named ring_rows begun fields line word → (sub w reg db ev : Bool) →
     Named ring_rows begun fields (cond sub (Some sub_line) (cond w (Some write_line) (cond reg (Some reg_line) (cond db (Some bell_line) (cond ev (Some event_line) line)))))
     (cond sub (Some SubWord) (cond w (Some W) (cond reg (Some RegWord) (cond db (Some Db) (cond ev (Some Ev) word)))))
-by_tests ring_rows begun fields line word is true w reg db ev = refl
-by_tests ring_rows begun fields line word is false true reg db ev = refl
-by_tests ring_rows begun fields line word is false false true db ev = refl
-by_tests ring_rows begun fields line word is false false false true ev = refl
-by_tests ring_rows begun fields line word is false false false false true = refl
-by_tests ring_rows begun fields line word is false false false false false = is
+by_tests ring_rows begun fields line word is sub w reg db ev = search rules
 
 -- ---- the words of rings
 
@@ -21,51 +15,33 @@ abbrev ring_words : Bool → Bool → Bool → Option FirstWord
 ring_words ring free nop = cond ring (Some RingWord) (cond free (Some FreeWord) (cond nop (Some NopWord) None))
 
 header_alone : (ring free nop : Bool) (fields : List (List ℕ)) → Named false false fields (cond ring (Some ring_line) None) (ring_words ring free nop)
-header_alone true free nop fields = refl
-header_alone false true nop fields = refl
-header_alone false false true fields = refl
-header_alone false false false fields = refl
+header_alone ring free nop fields = search rules
 
 none_behind : (ring free nop : Bool) (fields : List (List ℕ)) → Named false true fields None (ring_words ring free nop)
-none_behind true free nop fields = refl
-none_behind false true nop fields = refl
-none_behind false false true fields = refl
-none_behind false false false fields = refl
+none_behind ring free nop fields = search rules
 
 header_and_rows : (ring free nop : Bool) (fields : List (List ℕ)) →
     Named true false fields (cond ring (Some ring_line) (cond free (Some goes_line) (cond nop (Some withdraws_line) None))) (ring_words ring free nop)
-header_and_rows true free nop fields = refl
-header_and_rows false true nop fields = refl
-header_and_rows false false true fields = refl
-header_and_rows false false false fields = refl
+header_and_rows ring free nop fields = search rules
 
 rows_alone : (ring free nop : Bool) (fields : List (List ℕ)) →
     Named true true fields (cond ring (Some comes_line) (cond free (Some goes_line) (cond nop (Some withdraws_line) None))) (ring_words ring free nop)
-rows_alone true free nop fields = refl
-rows_alone false true nop fields = refl
-rows_alone false false true fields = refl
-rows_alone false false false fields = refl
+rows_alone ring free nop fields = search rules
 
 by_rings : (ring_rows begun : Bool) (word : List ℕ) (fields : List (List ℕ)) →
     Named ring_rows begun fields (line_named (ring_lines ring_rows begun) word) (ring_words (bytes_eq word (codes "ring")) (bytes_eq word (codes "free")) (bytes_eq word (codes "nop")))
-by_rings false false word fields = header_alone (bytes_eq word (codes "ring")) (bytes_eq word (codes "free")) (bytes_eq word (codes "nop")) fields
-by_rings false true word fields = none_behind (bytes_eq word (codes "ring")) (bytes_eq word (codes "free")) (bytes_eq word (codes "nop")) fields
-by_rings true false word fields = header_and_rows (bytes_eq word (codes "ring")) (bytes_eq word (codes "free")) (bytes_eq word (codes "nop")) fields
-by_rings true true word fields = rows_alone (bytes_eq word (codes "ring")) (bytes_eq word (codes "free")) (bytes_eq word (codes "nop")) fields
+by_rings ring_rows begun word fields = search (rules, header_alone, none_behind, header_and_rows, rows_alone)
 
 module _ (version : Version) (begun : Bool) where
   by_word : (word : List ℕ) (fields : List (List ℕ)) → form_of version begun (word ∷ fields) ≡ form_behind (has_ring_rows version) begun (word_named word) fields
   unfolding form_of word_named
-  by_word word fields =
-      by_tests (has_ring_rows version) begun fields (line_named (ring_lines (has_ring_rows version) begun) word) (ring_words (bytes_eq word (codes "ring")) (bytes_eq word (codes "free")) (bytes_eq word (codes "nop")))
-      (by_rings (has_ring_rows version) begun word fields) (bytes_eq word (codes "sub")) (bytes_eq word (codes "w")) (bytes_eq word (codes "reg")) (bytes_eq word (codes "db")) (bytes_eq word (codes "ev"))
+  by_word word fields = search (rules, by_tests, by_rings)
 
   -- a line that begins with this word
   pub said_behind : (all fields : List (List ℕ)) (word : List ℕ) (kind : Option FirstWord) → all ≡ word ∷ fields → kind ≡ word_named word →
       said_by_fields version begun all ≡ said_by (form_behind (has_ring_rows version) begun kind fields)
   unfolding said_by_fields
-  said_behind all fields word kind is named =
-      ap (λ xs. said_by (form_of version begun xs)) is ∙ ap said_by (by_word word fields) ∙ ap (λ k. said_by (form_behind (has_ring_rows version) begun k fields)) (sym named)
+  said_behind all fields word kind is named = search (rules, by_word)
 
   -- no field at all
   pub no_word : (all : List (List ℕ)) → all ≡ [] → said_by_fields version begun all ≡ Err BadRow

@@ -1,10 +1,5 @@
 -- Lines whose fields stand at fixed places
-use Rattle.std.proofs.Common.{◌≡◌, ◌+◌, ◌<◌, ◌%◌, ◌==◌, ◌∷◌, ◌++◌, ◌∙◌, ℕ, zero, suc, Bool, true, false, List, [], length, slice_index, take, drop, nat_lt, Some, None, Ok, All, refl, ap, sym, subst, arith, codes, cond, w8, w32, w64}
-use Rattle.line_text.proofs.Digits.{digits_without_space}
-use Rattle.std.proofs.lemmas.List.{take-append-drop}
-use Rattle.std.proofs.lemmas.List.Splits.{slice_split_at, slice_split_none}
-use Rattle.trace_reader.specs.Entries.{SaysAlone, said_alone}
-use Rattle.trace_reader.proofs.Words.{HasBytes, Width, byte_len, bytes_of_8, bytes_of_32, bytes_of_64, length-digits_of, number_of, said, fields_of, has_empty_field, is_empty, is_space, All-cons, All-nil, All-head, All-tail, nat_tests, common_steps, slice_split, str_to_ascii_lowercase, to_ascii_lowercase, TextLine, content_fault, said_by_fields, most_bytes, form_of, said_of, block_of, word_address_of, Block, blocks_of, register_named, register_value_of, Row, Sub, Write, Bell, Read, Reg, Erdp, SaysRow, Plain, Version}
+use Rattle.trace_reader.proofs.Words.{rules, ◌≡◌, ◌+◌, ◌<◌, ◌∷◌, ◌++◌, ◌∙◌, ℕ, zero, suc, Bool, false, List, [], length, slice_index, take, drop, nat_lt, Some, Ok, All, refl, ap, sym, subst, arith, codes, w8, w32, w64, digits_without_space, take-append-drop, slice_split_at, slice_split_none, SaysAlone, HasBytes, Width, byte_len, bytes_of_8, bytes_of_32, bytes_of_64, length-digits_of, number_of, said, fields_of, has_empty_field, is_empty, is_space, All-cons, All-nil, All-head, All-tail, nat_tests, common_steps, slice_split, str_to_ascii_lowercase, to_ascii_lowercase, content_fault, said_by_fields, most_bytes, form_of, said_of, block_of, word_address_of, Block, blocks_of, register_named, register_value_of, Row, Sub, Write, Bell, Read, Reg, Erdp, SaysRow, Plain, Version}
 use Rattle.trace_reader.proofs.SpelledFields.{then_there}
 use Rattle.trace_reader.proofs.SpelledValues.{words_there}
 
@@ -24,8 +19,7 @@ spaceless_if_lower (x ∷ xs) are =
     (spaceless_if_lower xs (All-tail (λ c. is_space c ≡ false) (to_ascii_lowercase x) (str_to_ascii_lowercase xs) are))
 
 some_if_long : (field : List ℕ) → 0 < length (str_to_ascii_lowercase field) → is_empty field ≡ false
-some_if_long [] long = absurd (omega arith)
-some_if_long (x ∷ xs) long = refl
+some_if_long field long = search rules
 
 number_field : (w : Width) → HasBytes w → 0 < byte_len w → (field : List ℕ) (n : ℕ) → number_of w field ≡ Some n → IsField field
 number_field w has wide field n says =
@@ -43,9 +37,7 @@ word_field field n says = number_field w32 bytes_of_32 (omega arith) field n say
 
 address_field : (field : List ℕ) (at : ℕ) → word_address_of field ≡ Some at → IsField field
 unfolding word_address_of
-address_field field at says =
-    let p = then_there (λ (n : ℕ). cond (n % 4 == 0) (Some n) None) (number_of w64 field) at says in
-    number_field w64 bytes_of_64 (omega arith) field p.0 p.1
+address_field field at says = search (rules, then_there, number_field, bytes_of_64)
 
 -- ---- places
 
@@ -70,20 +62,13 @@ field_from (x ∷ xs) (suc m) n (suc e) sum inside is spaceless = field_from xs 
 -- a field from one place to the end
 last_from : (content : List ℕ) (m n : ℕ) → m + n ≡ length content → All (λ c. is_space c ≡ false) (take n (drop m content)) → fields_of (drop m content) ≡ take n (drop m content) ∷ []
 unfolding fields_of
-last_from content zero n whole spaceless =
-    let all : take n content ≡ content = grind (arith, common_steps, whole) in
-    ap (λ xs. slice_split is_space xs) (sym all) ∙ slice_split_none is_space (take n content) spaceless
-last_from [] (suc m) n whole spaceless = absurd (omega arith)
-last_from (x ∷ xs) (suc m) n whole spaceless = last_from xs m n (omega arith) spaceless
+last_from content m n whole spaceless = grind (arith, common_steps, slice_split_none)
 
 first_byte : (content : List ℕ) (c : ℕ) → 0 < length content → slice_index content 0 ≡ c → take 1 content ≡ c ∷ []
-first_byte [] c some is = absurd (omega arith)
-first_byte (x ∷ xs) c some is = ap (λ y. y ∷ []) is
+first_byte content c some is = search rules
 
 first_bytes : (content : List ℕ) (c d : ℕ) → 1 < length content → slice_index content 0 ≡ c → slice_index content 1 ≡ d → take 2 content ≡ c ∷ d ∷ []
-first_bytes [] c d some is next = absurd (omega arith)
-first_bytes (x ∷ []) c d some is next = absurd (omega arith)
-first_bytes (x ∷ y ∷ rest) c d some is next = λ k. is k ∷ next k ∷ []
+first_bytes content c d some is next = search rules
 
 -- a line with these fields
 by_its_fields : (content : List ℕ) (fields : List (List ℕ)) (row : Row) → nat_lt most_bytes (length content) ≡ false → fields_of content ≡ fields → has_empty_field fields ≡ false →
@@ -142,9 +127,7 @@ write_says content at word long first s1 s18 ha hb =
     by_its_fields content (codes "w" ∷ a ∷ b ∷ []) (Write at word) (rw long refl) are (rw (pa.some, pb.some) refl) (λ version begun. write_said version begun a b at word ha hb)
 
 two_plain : (c d : ℕ) → is_space c ≡ false → is_space d ≡ false → (content : List ℕ) → take 2 content ≡ c ∷ d ∷ [] → All (λ c. is_space c ≡ false) (take 2 content)
-two_plain c d hc hd content are =
-    subst (λ (xs : List ℕ). All (λ c. is_space c ≡ false) xs) (sym are)
-    (All-cons (λ c. is_space c ≡ false) c (d ∷ []) hc (All-cons (λ c. is_space c ≡ false) d [] hd (All-nil (λ c. is_space c ≡ false))))
+two_plain c d hc hd content are = search (rules, All-cons, All-nil)
 
 pub bell_says : (content : List ℕ) (slot target : ℕ) → length content ≡ 8 → slice_index content 0 ≡ 100 → slice_index content 1 ≡ 98 → slice_index content 2 ≡ 32 → slice_index content 5 ≡ 32 →
     number_of w8 (take 2 (drop 3 content)) ≡ Some slot → number_of w8 (take 2 (drop 6 content)) ≡ Some target → SaysAlone (Bell slot target) content
@@ -170,18 +153,12 @@ words_from content m p q r event hp hq hr long sp sq sr says =
     let a = take 8 (drop m content) in
     let b = take 8 (drop (suc p) content) in
     let c = take 8 (drop (suc q) content) in
-    let d = take 8 (drop (suc r) content) in
-    let w = words_there a b c d event says in
-    let pa = word_field a w.x w.first in
-    let pb = word_field b w.y w.second in
-    let pc = word_field c w.z w.third in
-    let pd = word_field d w.u w.fourth in (
-      field_from content m 8 p hp (omega (arith, long, hq, hr)) sp pa.spaceless
-          ∙ ap (λ fields. a ∷ fields)
-          (field_from content (suc p) 8 q hq (omega (arith, long, hr)) sq pb.spaceless
-          ∙ ap (λ fields. b ∷ fields)
-          (field_from content (suc q) 8 r hr (omega (arith, long)) sr pc.spaceless ∙ ap (λ fields. c ∷ fields) (last_from content (suc r) 8 long pd.spaceless))),
-      rw (pa.some, pb.some, pc.some, pd.some) refl,
+    let w = words_there a b c (take 8 (drop (suc r) content)) event says in
+    let pd = word_field (take 8 (drop (suc r) content)) w.u w.fourth in (
+      field_from content m 8 p hp (omega (arith, long, hq, hr)) sp (word_field a w.x w.first).spaceless ∙ ap (λ fields. a ∷ fields)
+          (field_from content (suc p) 8 q hq (omega (arith, long, hr)) sq (word_field b w.y w.second).spaceless ∙ ap (λ fields. b ∷ fields)
+          (field_from content (suc q) 8 r hr (omega (arith, long)) sr (word_field c w.z w.third).spaceless ∙ ap (λ fields. c ∷ fields) (last_from content (suc r) 8 long pd.spaceless))),
+      rw ((word_field a w.x w.first).some, (word_field b w.y w.second).some, (word_field c w.z w.third).some, pd.some) refl,
     )
 
 pub event_says : (content : List ℕ) (event : Block) → length content ≡ 38 → slice_index content 0 ≡ 101 → slice_index content 1 ≡ 118 → slice_index content 2 ≡ 32 →
@@ -197,10 +174,7 @@ event_says content event long first second s2 s11 s20 s29 says =
     (λ version begun. event_said version begun (take 8 (drop 3 content)) (take 8 (drop 12 content)) (take 8 (drop 21 content)) (take 8 (drop 30 content)) event says)
 
 three_bytes : (content : List ℕ) (c d e : ℕ) → 2 < length content → slice_index content 0 ≡ c → slice_index content 1 ≡ d → slice_index content 2 ≡ e → take 3 content ≡ c ∷ d ∷ e ∷ []
-three_bytes [] c d e some first second third = absurd (omega arith)
-three_bytes (x ∷ []) c d e some first second third = absurd (omega arith)
-three_bytes (x ∷ y ∷ []) c d e some first second third = absurd (omega arith)
-three_bytes (x ∷ y ∷ z ∷ rest) c d e some first second third = λ k. first k ∷ second k ∷ third k ∷ []
+three_bytes content c d e some first second third = search rules
 
 pub sub_says : (content : List ℕ) (ring : ℕ) (block : Block) → length content ≡ 42 → slice_index content 0 ≡ 115 → slice_index content 1 ≡ 117 → slice_index content 2 ≡ 98 → slice_index content 3 ≡ 32 →
     slice_index content 6 ≡ 32 → slice_index content 15 ≡ 32 → slice_index content 24 ≡ 32 → slice_index content 33 ≡ 32 → number_of w8 (take 2 (drop 4 content)) ≡ Some ring →
@@ -208,20 +182,13 @@ pub sub_says : (content : List ℕ) (ring : ℕ) (block : Block) → length cont
 sub_says content ring block long first second third s3 s6 s15 s24 s33 hi says =
     let id = take 2 (drop 4 content) in
     let words = take 8 (drop 7 content) ∷ take 8 (drop 16 content) ∷ take 8 (drop 25 content) ∷ take 8 (drop 34 content) ∷ [] in
-    let pi = byte_field id ring hi in
     let p = words_from content 7 15 24 33 block refl refl refl (sym long) s15 s24 s33 says in
     let sub : take 3 content ≡ codes "sub" = three_bytes content 115 117 98 (omega (arith, long)) first second third in
     let two : All (λ c. is_space c ≡ false) (117 ∷ 98 ∷ []) = All-cons (λ c. is_space c ≡ false) 117 (98 ∷ []) refl (All-cons (λ c. is_space c ≡ false) 98 [] refl (All-nil (λ c. is_space c ≡ false))) in
     let plain : All (λ c. is_space c ≡ false) (take 3 content) = subst (λ (xs : List ℕ). All (λ c. is_space c ≡ false) xs) (sym sub) (All-cons (λ c. is_space c ≡ false) 115 (117 ∷ 98 ∷ []) refl two) in
     let are : fields_of content ≡ codes "sub" ∷ id ∷ words =
     field_from content 0 3 3 refl (omega (arith, long)) s3 plain
-    ∙ ap (λ fields. take 3 content ∷ fields) (field_from content 4 2 6 refl (omega (arith, long)) s6 pi.spaceless ∙ ap (λ fields. id ∷ fields) p.0)
+    ∙ ap (λ fields. take 3 content ∷ fields) (field_from content 4 2 6 refl (omega (arith, long)) s6 (byte_field id ring hi).spaceless ∙ ap (λ fields. id ∷ fields) p.0)
     ∙ ap (λ word. word ∷ id ∷ words) sub in
-    by_its_fields content (codes "sub" ∷ id ∷ words) (Sub ring (block ∷ [])) (rw long refl) are (rw pi.some p.1)
+    by_its_fields content (codes "sub" ∷ id ∷ words) (Sub ring (block ∷ [])) (rw long refl) are (rw (byte_field id ring hi).some p.1)
     (λ version begun. sub_said version begun id (take 8 (drop 7 content)) (take 8 (drop 16 content)) (take 8 (drop 25 content)) (take 8 (drop 34 content)) ring block hi says)
-
--- a line that a line feed ends
-pub ended_says : (line : TextLine) (content : List ℕ) (row : Row) → line.is_ended ≡ true → content ≡ line.content → SaysAlone row content → (version : Version) (begun : Bool) → said_alone version begun line ≡ Ok (SaysRow (Plain row))
-ended_says line content row ended is says version begun =
-    let same : record { content = content; is_ended = true } ≡ line = λ k. record { content = is k; is_ended = sym ended k } in
-    ap (λ l. said_alone version begun l) (sym same) ∙ says version begun

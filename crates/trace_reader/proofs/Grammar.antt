@@ -1,6 +1,5 @@
 -- The one law of lines that are data: what is read of a line is spelled by it, and what is spelled is read
-use Rattle.std.proofs.Common.{◌≡◌, ◌≢◌, ◌<◌, ◌^◌, ◌∷◌, ◌∙◌, ℕ, inl, inr, true, List, [], length, map, Some, All, codes, refl, sym, ap, subst, arith, eq-eqb, w8, w32, w64, is_some}
-use Rattle.trace_reader.proofs.Words.{flat_map, option_map, option_and_then, bytes_eq, and_parts, and_from, cases_Bool, digits_of, bytes_of_8, bytes_of_32, bytes_of_64, IsBlock, ring_name, is_wide, register_name, IsWordAddress, register_named, Kind, Byte, Long, WordAddress, KindOfRing, TransferKind, Tail, Nothing, Event, RegisterValue, Blocks, Segments, Told, Behind, Values, is_known, are_behind, are_fields, told, behind, values, Line, FormOf, form_as, line_named, value_in, Field, Word, Digits, may_be_written, are_written, block_fields, segment_field, register_value_of, RingKind, Xfer}
+use Rattle.trace_reader.proofs.Words.{rules, ◌≡◌, ◌≢◌, ◌<◌, ◌^◌, ◌∷◌, ◌∙◌, ℕ, inl, inr, true, List, [], length, map, Some, All, refl, sym, ap, subst, arith, eq-eqb, w8, w32, w64, is_some, flat_map, option_map, option_and_then, bytes_eq, and_parts, and_from, cases_Bool, digits_of, bytes_of_8, bytes_of_32, bytes_of_64, IsBlock, ring_name, is_wide, register_name, IsWordAddress, register_named, Kind, Byte, Long, WordAddress, KindOfRing, TransferKind, Tail, Nothing, Event, RegisterValue, Blocks, Segments, Told, Behind, Values, is_known, are_behind, are_fields, told, behind, values, Line, FormOf, form_as, line_named, value_in, Field, Word, Digits, may_be_written, are_written, block_fields, segment_field, register_value_of, Xfer}
 use Rattle.trace_reader.specs.Grammar.{Number, form_in}
 use Rattle.trace_reader.proofs.SpelledFields.{both_there, both_of, mapped_there, then_there, cond_there, same_bytes, are_same_bytes, number_written, number_read}
 use Rattle.trace_reader.proofs.SpelledWords.{address_there, address_of_number, two_of, two_written, kind_word, word_kind, register_word, word_register, value_there, value_of_number, some_blocks, four_for_each}
@@ -30,13 +29,10 @@ told_written Byte field v is = number_written w8 bytes_of_8 field v is
 told_written Number field v is = number_written w32 bytes_of_32 field v is
 told_written Long field v is = number_written w64 bytes_of_64 field v is
 told_written WordAddress field v is =
-    let at = address_there field v is in
-    let n = number_written w64 bytes_of_64 field v at.0 in
-    (n.0, (at.1, n.1))
+    let n = number_written w64 bytes_of_64 field v (address_there field v is).0 in
+    (n.0, ((address_there field v is).1, n.1))
 told_written KindOfRing field v is = (kind_word field v is, tt)
-told_written TransferKind field v is =
-    let p = cond_there (bytes_eq field (codes "xfer")) Xfer v is in
-    (subst (λ (k : RingKind). bytes_eq field (ring_name k) ≡ true) p.1 p.0, sym p.1)
+told_written TransferKind field v is = search (rules, cond_there)
 
 told_read : (k : Kind) (field : List ℕ) (v : Told k) → Fits k v → may_be_written (kind_field k v) field ≡ true → (told k field ≡ Some v) × (is_known k field ≡ true)
 told_read Byte field v fits is = (number_read w8 bytes_of_8 field v fits is, refl)
@@ -44,9 +40,7 @@ told_read Number field v fits is = (number_read w32 bytes_of_32 field v fits is,
 told_read Long field v fits is = (number_read w64 bytes_of_64 field v fits is, refl)
 told_read WordAddress field v fits is = (address_of_number field v (number_read w64 bytes_of_64 field v fits.1 is) fits.0, refl)
 told_read KindOfRing field v fits is = let kind = word_kind field v is in (kind, ap is_some kind)
-told_read TransferKind field v fits is =
-    let named : bytes_eq field (codes "xfer") ≡ true = subst (λ (k : RingKind). bytes_eq field (ring_name k) ≡ true) fits is in
-    (rw named (ap (λ (k : RingKind). Some k) (sym fits)), named)
+told_read TransferKind field v fits is = search rules
 
 -- ---- the fields that come last
 
@@ -73,33 +67,20 @@ behind_written RegisterValue (name ∷ []) v are is = cc is
 behind_written RegisterValue (name ∷ value ∷ []) v are is =
     let p = then_there (λ r. option_map (λ v. (r, v)) (register_value_of r value)) (register_named name) v is in
     let q = mapped_there (λ v. (p.0, v)) (register_value_of p.0 value) v p.2 in
-    let there = value_there p.0 value q.0 q.1 in
-    let n = number_written w64 bytes_of_64 value q.0 there.0 in
+    let n = number_written w64 bytes_of_64 value q.0 (value_there p.0 value q.0 q.1).0 in
     subst (λ (x : Behind RegisterValue). (are_written (behind_fields RegisterValue x) (name ∷ value ∷ []) ≡ true) × BehindFits RegisterValue x) q.2
-    (two_written (Word (register_name p.0)) (Digits (digits_of w64 q.0)) name value (register_word name p.0 p.1) n.0, (n.1, there.1))
+    (two_written (Word (register_name p.0)) (Digits (digits_of w64 q.0)) name value (register_word name p.0 p.1) n.0, (n.1, (value_there p.0 value q.0 q.1).1))
 behind_written RegisterValue (name ∷ value ∷ more ∷ rest) v are is = cc is
 behind_written Blocks fields v are is = let p = blocks_written fields v is in (p.written, (p.fit, some_blocks fields v are p.count))
 behind_written Segments [] v are is = cc are
 behind_written Segments (field ∷ fields) v are is = let p = segments_written (field ∷ fields) v is in (p.0, (p.1, omega (arith, p.2)))
 
-some_there : (fields : List (List ℕ)) → 0 < length fields → are_behind Segments fields ≡ true
-some_there [] some = absurd (omega arith)
-some_there (field ∷ fields) some = refl
-
 behind_read : (tail : Tail) (fields : List (List ℕ)) (v : Behind tail) → BehindFits tail v → are_written (behind_fields tail v) fields ≡ true → (behind tail fields ≡ Some v) × (are_behind tail fields ≡ true)
 behind_read Nothing fields v fits is = (refl, ap (λ (xs : List (List ℕ)). are_behind Nothing xs) (only fields is))
 behind_read Event fields v fits is = let p = event_read v fields fits is in (p.0, eq-eqb (length fields) 4 p.1)
-behind_read RegisterValue fields v fits is =
-    let q = two_of (Word (register_name v.0)) (Digits (digits_of w64 v.1)) fields is in
-    let r = word_register q.a v.0 q.first in
-    let n = value_of_number v.0 q.b v.1 (number_read w64 bytes_of_64 q.b v.1 fits.0 q.second) fits.1 in
-    let there : behind RegisterValue (q.a ∷ q.b ∷ []) ≡ Some v = rw (r, n) refl in
-    let known : are_behind RegisterValue (q.a ∷ q.b ∷ []) ≡ true = ap is_some r in
-    (ap (λ (xs : List (List ℕ)). behind RegisterValue xs) q.are ∙ there, ap (λ (xs : List (List ℕ)). are_behind RegisterValue xs) q.are ∙ known)
+behind_read RegisterValue fields v fits is = search (rules, two_of, word_register, value_of_number, number_read, bytes_of_64)
 behind_read Blocks fields v fits is = let p = blocks_read v fields fits.0 is in (p.0, four_for_each fields v fits.1 p.1)
-behind_read Segments fields v fits is =
-    let p = segments_read v fields fits.0 is in
-    (p, some_there fields (omega (arith, fits.1, (segments_written fields v p).2)))
+behind_read Segments fields v fits is = search (rules, segments_read, segments_written)
 
 -- ---- all fields behind the first word
 
@@ -116,10 +97,9 @@ all_written : (ks : List Kind) (tail : Tail) (fields : List (List ℕ)) (v : Val
 all_written [] tail fields v are is = behind_written tail fields v are is
 all_written (k ∷ ks) tail [] v are is = cc is
 all_written (k ∷ ks) tail (field ∷ fields) v are is =
-    let known = and_parts (is_known k field) (are_fields ks tail fields) are in
     let p = both_there (λ a b. (a, b)) (told k field) (values ks tail fields) v is in
     let here = told_written k field p.0 p.2 in
-    let rest = all_written ks tail fields p.1 known.1 p.3 in
+    let rest = all_written ks tail fields p.1 (and_parts (is_known k field) (are_fields ks tail fields) are).1 p.3 in
     subst (λ (w : Told k × Values ks tail). (are_written (all_fields (k ∷ ks) tail w) (field ∷ fields) ≡ true) × AllFit (k ∷ ks) tail w) p.4
     (and_from (may_be_written (kind_field k p.0) field) (are_written (all_fields ks tail p.1) fields) here.0 rest.0, (here.1, rest.1))
 
@@ -129,10 +109,9 @@ all_read [] tail fields v fits is = behind_read tail fields v fits is
 all_read (k ∷ ks) tail [] v fits is = cc is
 all_read (k ∷ ks) tail (field ∷ fields) v fits is =
     let p = and_parts (may_be_written (kind_field k v.0) field) (are_written (all_fields ks tail v.1) fields) is in
-    let here = told_read k field v.0 fits.0 p.0 in
     let rest = all_read ks tail fields v.1 fits.1 p.1 in (
-      both_of (λ a b. (a, b)) (told k field) (values ks tail fields) v.0 v.1 here.0 rest.0,
-      and_from (is_known k field) (are_fields ks tail fields) here.1 rest.1,
+      both_of (λ a b. (a, b)) (told k field) (values ks tail fields) v.0 v.1 (told_read k field v.0 fits.0 p.0).0 rest.0,
+      and_from (is_known k field) (are_fields ks tail fields) (told_read k field v.0 fits.0 p.0).1 rest.1,
     )
 
 -- ---- a table of lines
@@ -176,14 +155,12 @@ module _ {T : Type 0} (fields_said : T → List Field) (FitsValue : T → Type 0
         let q = cond_there (are_fields p.0.kinds p.0.tail fields) (p.0, fields) form p.2 in
         let r = mapped_there p.0.make (values p.0.kinds p.0.tail fields) t (ap value_in q.1 ∙ says) in
         let w = all_written p.0.kinds p.0.tail fields r.0 q.0 r.1 in
-        let line = one_of lines are word p.0 p.1 in
-        let spelled = line.1 r.0 in
+        let spelled = (one_of lines are word p.0 p.1).1 r.0 in
         let written : are_written (Word p.0.word ∷ all_fields p.0.kinds p.0.tail r.0) (word ∷ fields) ≡ true =
-        and_from (bytes_eq word p.0.word) (are_written (all_fields p.0.kinds p.0.tail r.0) fields) (are_same_bytes word p.0.word line.0) w.0 in
-        let sort = subst (λ (f : FormOf T). IsSort f.0 t) q.1 (subst (λ (x : T). IsSort p.0 x) r.2 spelled.2) in
+        and_from (bytes_eq word p.0.word) (are_written (all_fields p.0.kinds p.0.tail r.0) fields) (are_same_bytes word p.0.word (one_of lines are word p.0 p.1).0) w.0 in
         let both = subst (λ (x : T). (are_written (fields_said x) (word ∷ fields) ≡ true) × FitsValue x) r.2
         (ap (λ (fs : List Field). are_written fs (word ∷ fields)) spelled.0 ∙ written, spelled.1 w.1) in
-        (both.0, both.1, sort)
+        (both.0, both.1, subst (λ (f : FormOf T). IsSort f.0 t) q.1 (subst (λ (x : T). IsSort p.0 x) r.2 spelled.2))
 
     pub said_read : (t : T) → IsSaid lines t → (fields : List (List ℕ)) → FitsValue t → are_written (fields_said t) fields ≡ true →
         (form : FormOf T) × (form_in lines fields ≡ Some form) × (value_in form ≡ Some t)
@@ -196,8 +173,7 @@ module _ {T : Type 0} (fields_said : T → List Field) (FitsValue : T → Type 0
             let p = and_parts (bytes_eq word s.line.word) (are_written (all_fields s.line.kinds s.line.tail s.says) fields) is in
             let r = all_read s.line.kinds s.line.tail fields s.says (s.fits fits) p.1 in
             let named : line_named lines word ≡ Some s.line = ap (λ (w : List ℕ). line_named lines w) (same_bytes word s.line.word p.0) ∙ s.named in
-            let whole : form_as s.line fields ≡ Some (s.line, fields) = rw r.1 refl in
-            ((s.line, fields), ap (λ o. option_and_then (λ l. form_as l fields) o) named ∙ whole, ap (λ o. option_map s.line.make o) r.0 ∙ ap (λ (x : T). Some x) s.makes)
+            ((s.line, fields), ap (λ o. option_and_then (λ l. form_as l fields) o) named ∙ (rw r.1 refl), ap (λ o. option_map s.line.make o) r.0 ∙ ap (λ (x : T). Some x) s.makes)
 
     pub table_read : ((t : T) → IsSaid lines t) → (fields : List (List ℕ)) (t : T) → FitsValue t → are_written (fields_said t) fields ≡ true →
         (form : FormOf T) × (form_in lines fields ≡ Some form) × (value_in form ≡ Some t)

@@ -1,28 +1,17 @@
 -- Lines that don't depend on each other: what they say, and that they spell it
-use Rattle.std.proofs.Common.{◌≡◌, ◌+◌, ◌≤◌, ◌||◌, ◌∷◌, ℕ, inl, inr, Bool, true, false, not, cond, List, [], length, map, Option, Some, None, Result, Ok, Err, All, is_none, refl, ap, subst, arith, le-ltb}
-use Rattle.trace_reader.proofs.Words.{option_and_then, option_map_or, and_parts, and_from, cases_Bool, not-false, or_parts, All-cons, All-head, All-nil, All-tail, fields_of, has_empty_field, TextLine, length-fields_of, spaced_length, LineFault, BadRow, Number, content_fault, most_bytes, faulted_by, valued_by, has_no_form, line_says, lines_say, next_value, unless_fault, is_too_long, Field, are_written, is_written, lines_written, printed}
-use Rattle.trace_reader.specs.LineByLine.{value_in}
-use Rattle.trace_reader.proofs.SpelledFields.{AllSound, all_filled, then_there, written_lengths}
-use Rattle.trace_reader.proofs.SpelledLines.{ok_there}
+use Rattle.trace_reader.proofs.Words.{rules, ◌≡◌, ◌+◌, ◌≤◌, ◌∷◌, ℕ, Bool, true, false, List, [], length, map, Option, Some, None, Result, Ok, Err, All, refl, subst, arith, le-ltb, option_map_or, and_parts, and_from, All-cons, All-head, All-nil, All-tail, fields_of, has_empty_field, TextLine, length-fields_of, spaced_length, LineFault, Number, content_fault, most_bytes, faulted_by, valued_by, line_says, lines_say, next_value, unless_fault, is_too_long, Field, are_written, is_written, lines_written, printed}
+use Rattle.trace_reader.proofs.SpelledFields.{AllSound, all_filled, written_lengths}
 
 module _ {Form Value : Type 0} (form_of : List (List ℕ) → Option Form) (value_of : Form → Option Value) (fault_of : Value → Option LineFault) where
   -- ---- by its content and its fields
 
   by_value : (o : Option Value) → option_map_or (unless_fault fault_of) o (Err Number) ≡ faulted_by fault_of (option_map_or Ok o (Err Number))
-  by_value None = refl
-  by_value (Some value) = refl
-
-  by_form : (form : Option Form) → cond (is_none form) (Err BadRow) (option_map_or (unless_fault fault_of) (option_and_then value_of form) (Err Number)) ≡ faulted_by fault_of (valued_by value_of form)
-  by_form None = refl
-  by_form (Some form) = by_value (value_of form)
+  by_value o = search rules
 
   within_line : (line : TextLine) (long ended empty : Bool) → is_too_long line ≡ long → line.is_ended ≡ ended → has_empty_field (fields_of line.content) ≡ empty →
       line_says form_of value_of fault_of line ≡ option_map_or Err (content_fault line) (faulted_by fault_of (valued_by value_of (form_of (fields_of line.content))))
   unfolding line_says content_fault is_too_long
-  within_line line true ended empty is_long is_ended is_empty = rw is_long refl
-  within_line line false false empty is_long is_ended is_empty = rw (is_long, is_ended) refl
-  within_line line false true true is_long is_ended is_empty = rw (is_long, is_ended, is_empty) refl
-  within_line line false true false is_long is_ended is_empty = rw (is_long, is_ended, is_empty) (by_form (form_of (fields_of line.content)))
+  within_line line long ended empty is_long is_ended is_empty = search rules
 
   pub by_content : (line : TextLine) →
       line_says form_of value_of fault_of line ≡ option_map_or Err (content_fault line) (faulted_by fault_of (valued_by value_of (form_of (fields_of line.content))))
@@ -39,30 +28,9 @@ module _ {Form Value : Type 0} (form_of : List (List ℕ) → Option Form) (valu
     valued : value_of form ≡ Some value
     faultless : fault_of value ≡ None
 
-  ok_value : (o : Option Value) (value : Value) → option_map_or (unless_fault fault_of) o (Err Number) ≡ Ok value → (o ≡ Some value) × (fault_of value ≡ None)
-  ok_value None value is = cc is
-  ok_value (Some v) value is =
-      let p = ok_there (fault_of v) v value is in
-      (ap (λ (x : Value). Some x) p.1, subst (λ (x : Value). fault_of x ≡ None) p.1 p.0)
-
   good_from_ok : (line : TextLine) (value : Value) → line_says form_of value_of fault_of line ≡ Ok value → IsGoodLine line value
   unfolding line_says
-  good_from_ok line value is =
-      elim (cases_Bool (is_too_long line)) [
-        | inl long ↦ cc (rw long at is)
-        | inr short ↦
-            elim (cases_Bool (has_no_form form_of line)) [
-              | inl none ↦ cc (rw (short, none) at is)
-              | inr some ↦ well_formed short some (ok_value (value_in form_of value_of line) value (rw (short, some) at is))
-            ]
-      ]
-    where
-      well_formed : is_too_long line ≡ false → has_no_form form_of line ≡ false → (value_in form_of value_of line ≡ Some value) × (fault_of value ≡ None) → IsGoodLine line value
-      well_formed short some says =
-          let a = or_parts (not line.is_ended || has_empty_field (fields_of line.content)) (is_none (form_of (fields_of line.content))) some in
-          let b = or_parts (not line.is_ended) (has_empty_field (fields_of line.content)) a.0 in
-          let p = then_there value_of (form_of (fields_of line.content)) value says.0 in
-          record { short = short; ended = not-false line.is_ended b.0; filled = b.1; form = p.0; formed = p.1; valued = p.2; faultless = says.1 }
+  good_from_ok line value is = search rules
 
   ok_from_good : (line : TextLine) (value : Value) → IsGoodLine line value → line_says form_of value_of fault_of line ≡ Ok value
   unfolding line_says
@@ -92,11 +60,9 @@ module _ {Form Value : Type 0} (form_of : List (List ℕ) → Option Form) (valu
     line_read line value written fits faultless =
         let w = and_parts line.is_ended (are_written (fields_said value) (fields_of line.content)) written in
         let p = spelling.to_form (fields_of line.content) value fits w.1 in
-        let long = length-fields_of line.content in
-        let same = written_lengths (fields_said value) (fields_of line.content) w.1 in
         let few = spelling.short value fits faultless in
         ok_from_good line value (record {
-          short = le-ltb most_bytes (length line.content) (omega (arith, long, same, few));
+          short = le-ltb most_bytes (length line.content) (omega (arith, length-fields_of line.content, written_lengths (fields_said value) (fields_of line.content) w.1, few));
           ended = w.0;
           filled = all_filled (fields_said value) (fields_of line.content) (spelling.sound value) w.1;
           form = p.0;
@@ -115,17 +81,13 @@ module _ {Value : Type 0} (says : ℕ → TextLine → Result Value LineFault) (
 
   next_there : (number : ℕ) (one : Result Value LineFault) (later : Result (List Value) (ℕ × LineFault)) (values : List Value) → next_value number one later ≡ Ok values →
       (value : Value) × (rest : List Value) × (one ≡ Ok value) × (later ≡ Ok rest) × (value ∷ rest ≡ values)
-  next_there number (Ok value) (Ok rest) values is = (value, rest, refl, refl, cc is)
-  next_there number (Ok value) (Err fault) values is = cc is
-  next_there number (Err fault) later values is = cc is
+  next_there number one later values is = search rules
 
   module _ (are : AreSpelled) where
     pub lines_spell : (lines : List TextLine) (number : ℕ) (values : List Value) → number ≤ most + 1 → lines_say says number lines ≡ Ok values →
         (lines_written (map fields_said values) lines ≡ true) × All Fits values × (number + length values ≤ most + 1)
     unfolding lines_say
-    lines_spell [] number values before is =
-        let none : [] ≡ values = cc is in
-        subst (λ (vs : List Value). (lines_written (map fields_said vs) [] ≡ true) × All Fits vs × (number + length vs ≤ most + 1)) none (refl, All-nil Fits, omega (arith, before))
+    lines_spell [] number values before is = search (rules, All-nil)
     lines_spell (line ∷ lines) number values before is =
         let p = next_there number (says number line) (lines_say says (number + 1) lines) values is in
         let here = are.spells number line p.0 p.2 in
@@ -144,6 +106,5 @@ module _ {Value : Type 0} (says : ℕ → TextLine → Result Value LineFault) (
     lines_read (value ∷ values) [] number written fit within = cc written
     lines_read (value ∷ values) (line ∷ lines) number written fit within =
         let p = and_parts (is_written (fields_said value) line) (lines_written (map fields_said values) lines) written in
-        let here = are.reads number line value p.0 (All-head Fits value values fit) (omega (arith, within)) in
         let ih = lines_read values lines (number + 1) p.1 (All-tail Fits value values fit) (omega (arith, within)) in
-        rw (here, ih) refl
+        rw (are.reads number line value p.0 (All-head Fits value values fit) (omega (arith, within)), ih) refl

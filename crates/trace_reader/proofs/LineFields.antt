@@ -1,6 +1,5 @@
 -- What a line says by its fields
-use Rattle.std.proofs.Common.{◌≡◌, ◌<◌, ◌≤◌, ◌||◌, ◌∙◌, ℕ, List, Bool, true, false, Option, Some, None, Result, Ok, Err, refl, ap, sym, cond, length, nat_lt, arith, is_none}
-use Rattle.trace_reader.proofs.Words.{option_and_then, option_map_or, nat_tests, fields_of, has_empty_field, TextLine, LineFault, BadRow, Number, Limit, LineError, Fault, Memory, Answers, content_fault, said_alone, said_by, said_by_fields, said_by_line, Form, form_of, most_lines_of, most_of, most_bytes, State, form_in, is_bad_row, is_past_limit, is_too_long, is_too_much, next_number, said_in, said_of, Said, Version, One, Two, Three, most_lines, most_streamed_lines}
+use Rattle.trace_reader.proofs.Words.{rules, ◌≡◌, ◌<◌, ◌≤◌, ◌||◌, ℕ, Bool, true, false, Option, Some, Result, Ok, Err, refl, ap, cond, length, nat_lt, arith, option_map_or, nat_tests, fields_of, has_empty_field, TextLine, LineFault, Number, Limit, LineError, Answers, content_fault, said_alone, said_by, said_by_fields, said_by_line, Form, most_lines_of, most_of, most_bytes, State, form_in, is_bad_row, is_past_limit, is_too_long, is_too_much, next_number, said_in, said_of, Said, Version, most_lines, most_streamed_lines}
 
 -- a line with this number may not say too much, or be past the limit
 abbrev pub limited : ℕ → ℕ → Result Said LineFault → Result Said LineFault
@@ -9,49 +8,23 @@ limited most number (Err fault) = Err fault
 
 by_test : (most number : ℕ) (form : Form) (said : Option Said) → said_of form ≡ said →
     option_map_or (λ s. cond (nat_lt most number || option_map_or is_too_much said false) (Err Limit) (Ok s)) said (Err Number) ≡ limited most number (said_by (Some form))
-by_test most number form None is = rw is refl
-by_test most number form (Some s) is = rw is refl
-
-by_form : (most number : ℕ) (form : Option Form) →
-    cond (is_none form) (Err BadRow)
-    (option_map_or (λ s. cond (nat_lt most number || option_map_or is_too_much (option_and_then said_of form) false) (Err Limit) (Ok s)) (option_and_then said_of form) (Err Number))
-    ≡ limited most number (said_by form)
-by_form most number None = refl
-by_form most number (Some form) = by_test most number form (said_of form) refl
+by_test most number form said is = search rules
 
 within_line : (st : State) (line : TextLine) (long ended empty : Bool) → nat_lt most_bytes (length line.content) ≡ long → line.is_ended ≡ ended → has_empty_field (fields_of line.content) ≡ empty →
     said_by_line st line ≡ option_map_or Err (content_fault line) (limited (most_of st) (next_number st) (said_by_fields st.version st.begun (fields_of line.content)))
 unfolding said_by_line said_by_fields is_bad_row is_past_limit form_in said_in content_fault is_too_long
-within_line st line true ended empty is_long is_ended is_empty = rw is_long refl
-within_line st line false false empty is_long is_ended is_empty = rw (is_long, is_ended) refl
-within_line st line false true true is_long is_ended is_empty = rw (is_long, is_ended, is_empty) refl
-within_line st line false true false is_long is_ended is_empty = rw (is_long, is_ended, is_empty) (by_form (most_of st) (next_number st) (form_of st.version st.begun (fields_of line.content)))
-
--- a line by its content's fault, or else by its fields
-by_fields : (st : State) (line : TextLine) →
-    said_by_line st line ≡ option_map_or Err (content_fault line) (limited (most_of st) (next_number st) (said_by_fields st.version st.begun (fields_of line.content)))
-by_fields st line = within_line st line (nat_lt most_bytes (length line.content)) line.is_ended (has_empty_field (fields_of line.content)) refl refl refl
+within_line st line long ended empty is_long is_ended is_empty = search rules
 
 limit_last : (most number : ℕ) (fault : Option LineFault) (wanted : Result Said LineFault) → option_map_or Err fault (limited most number wanted) ≡ limited most number (option_map_or Err fault wanted)
-limit_last most number (Some fault) wanted = refl
-limit_last most number None wanted = refl
+limit_last most number fault wanted = search rules
 
 -- a line by what it says by itself
 pub alone : (st : State) (line : TextLine) (version : Version) (begun : Bool) → st.version ≡ version → st.begun ≡ begun → said_by_line st line ≡ limited (most_of st) (next_number st) (said_alone version begun line)
-alone st line version begun of started =
-    by_fields st line ∙ limit_last (most_of st) (next_number st) (content_fault line) (said_by_fields st.version st.begun (fields_of line.content))
-    ∙ ap (λ v. limited (most_of st) (next_number st) (said_alone v st.begun line)) of ∙ ap (λ b. limited (most_of st) (next_number st) (said_alone version b line)) started
-
--- what the fields of a line without a fault of its own say
-pub by_its_fields : (line : TextLine) (version : Version) (begun : Bool) (content : List ℕ) → content_fault line ≡ None → content ≡ line.content →
-    said_alone version begun line ≡ said_by_fields version begun (fields_of content)
-by_its_fields line version begun content whole is =
-    ap (λ f. option_map_or Err f (said_by_fields version begun (fields_of line.content))) whole ∙ ap (λ xs. said_by_fields version begun (fields_of xs)) (sym is)
+alone st line version begun of started = search (rules, limit_last, within_line)
 
 -- a fault of what it says by itself is the line's
 pub passed_on : (most number : ℕ) (e : LineError) (wanted : Result Said LineFault) → Answers (Err e) wanted → Answers (Err e) (limited most number wanted)
-passed_on most number (Fault fault) wanted is = rw is refl
-passed_on most number Memory wanted is = tt
+passed_on most number e wanted is = search rules
 
 pub past_limit : (most number : ℕ) (said : Said) (wanted : Result Said LineFault) → wanted ≡ Ok said → most < number → limited most number wanted ≡ Err Limit
 past_limit most number said wanted is past = rw is (ap (λ b. cond (b || is_too_much said) (Err Limit) (Ok said)) (tested past))
@@ -79,10 +52,7 @@ same_most st keeps version kept of = rw (kept, of) refl
 -- there may be a header, the lines can be counted, and there are no fewer than of kept rows
 pub some_lines : (keeps : Bool) (version : Version) → (2 ≤ most_lines_of keeps version) × (most_lines_of keeps version ≤ most_streamed_lines) × (most_lines ≤ most_lines_of keeps version)
 unfolding most_lines_of
-some_lines true version = (omega arith, omega arith, omega arith)
-some_lines false One = (omega arith, omega arith, omega arith)
-some_lines false Two = (omega arith, omega arith, omega arith)
-some_lines false Three = (omega arith, omega arith, omega arith)
+some_lines keeps version = search rules
 
 -- lines whose rows are all kept
 pub fewer_kept : (version : Version) → most_lines_of true version ≡ most_lines

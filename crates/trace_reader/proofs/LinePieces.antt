@@ -1,6 +1,5 @@
 -- A line by its fields in a row
-use Rattle.std.proofs.Common.{◌≡◌, ◌∷◌, ◌++◌, List, [], refl, ap, map, arith}
-use Rattle.trace_reader.proofs.Words.{flat_map, join_with_byte, common_steps, in_a_row, Field, printed, printed_line, printed_trace, ring_fields, trace_row_fields, row_fields, Row, Plain, size_fields, trace_lines, version_fields, TraceText}
+use Rattle.trace_reader.proofs.Words.{◌≡◌, ◌∷◌, ◌++◌, List, [], refl, ap, map, arith, flat_map, join_with_byte, common_steps, in_a_row, Field, printed, printed_line, printed_trace, ring_fields, trace_row_fields, row_fields, Row, Plain, size_fields, trace_lines, version_fields, TraceText}
 
 joined : (fields : List Field) → join_with_byte 32 (map printed fields) ≡ in_a_row fields
 joined [] = refl
@@ -12,8 +11,7 @@ unfolding printed_line
 line_of fields = ap (λ xs. xs ++ 10 ∷ []) (joined fields)
 
 several : (a b : List (List Field)) → flat_map printed_line (a ++ b) ≡ flat_map printed_line a ++ flat_map printed_line b
-several [] b = refl
-several (line ∷ a) b = let rest = several a b in grind (arith, common_steps, rest)
+several a b = grind (arith, common_steps)
 
 pub whole_text : (trace : TraceText) →
     printed_trace trace ≡ (printed_line (version_fields trace.header.version) ++ printed_line (size_fields trace.header.context_size) ++ flat_map printed_line (map ring_fields trace.header.rings))

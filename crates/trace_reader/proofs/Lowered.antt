@@ -1,6 +1,5 @@
 -- A text that spells a trace is, in lower case, what is printed of the trace
-use Rattle.std.proofs.Common.{◌≡◌, ◌∷◌, ◌++◌, ◌∙◌, ℕ, List, [], Bool, true, false, IsTrue, refl, sym, ap, cond, map, arith, w32}
-use Rattle.trace_reader.proofs.Words.{Version, One, Two, Three, to_ascii_lowercase, flat_map, join_with_byte, slice_split, str_to_ascii_lowercase, and_parts, common_steps, map-append, join_with_byte-slice_split, ContextSize, Bytes32, Bytes64, fields_of, TextLine, is_line_feed, last_line, lines_between, lines_of, digits_of, join-fields_of, Segment, Block, ring_name, RingKind, Cmd, Evt, Xfer, Register, Usbcmd, Usbsts, Dnctrl, Crcr, Dcbaap, Config, Iman, Imod, Erstsz, Erstba, Erdp, Ring, Row, Sub, Write, Reg, Bell, Read, TraceRow, Plain, Comes, Goes, Withdraws, trace_row_fields, register_name, TraceText, Field, Word, Digits, are_written, block_fields, is_written, lines_written, may_be_written, printed, printed_line, printed_trace, ring_fields, row_fields, segment_field, size_fields, spells, trace_lines, version_fields}
+use Rattle.trace_reader.proofs.Words.{rules, ◌≡◌, ◌∷◌, ◌++◌, ◌∙◌, ℕ, List, [], true, false, IsTrue, refl, sym, ap, cond, map, arith, w32, Version, to_ascii_lowercase, flat_map, join_with_byte, slice_split, str_to_ascii_lowercase, and_parts, common_steps, map-append, join_with_byte-slice_split, ContextSize, TextLine, is_line_feed, last_line, lines_between, lines_of, digits_of, join-fields_of, Segment, Block, ring_name, RingKind, Ring, Row, TraceRow, trace_row_fields, TraceText, Field, Word, Digits, are_written, block_fields, is_written, lines_written, may_be_written, printed, printed_line, printed_trace, ring_fields, row_fields, segment_field, size_fields, spells, trace_lines, version_fields}
 use Rattle.trace_reader.proofs.SpelledFields.{same_bytes}
 
 -- ---- a text by its lines
@@ -10,8 +9,7 @@ abbrev whole_line : TextLine → List ℕ
 whole_line line = line.content ++ cond line.is_ended (10 ∷ []) []
 
 last_whole : (piece : List ℕ) → flat_map whole_line (last_line piece) ≡ piece
-last_whole [] = refl
-last_whole (byte ∷ rest) = grind (arith, common_steps)
+last_whole piece = search rules
 
 pieces_whole : (pieces : List (List ℕ)) → flat_map whole_line (lines_between pieces) ≡ join_with_byte 10 pieces
 pieces_whole [] = refl
@@ -41,8 +39,7 @@ AreLowLines [] = Unit {0}
 AreLowLines (fields ∷ rest) = AreLow fields × AreLowLines rest
 
 lowered_field : (field : Field) (text : List ℕ) → IsLow field → may_be_written field text ≡ true → str_to_ascii_lowercase text ≡ printed field
-lowered_field (Word word) text low written = ap str_to_ascii_lowercase (same_bytes text word written) ∙ low
-lowered_field (Digits digits) text low written = same_bytes (str_to_ascii_lowercase text) digits written
+lowered_field field text low written = search (rules, same_bytes)
 
 lowered_fields : (fields : List Field) (texts : List (List ℕ)) → AreLow fields → are_written fields texts ≡ true → str_to_ascii_lowercase (join_with_byte 32 texts) ≡ join_with_byte 32 (map printed fields)
 lowered_fields [] [] low written = refl
@@ -54,18 +51,12 @@ lowered_fields (field ∷ next ∷ fields) (text ∷ []) low written = let parts
 lowered_fields (field ∷ next ∷ fields) (text ∷ other ∷ texts) low written =
     let parts = and_parts (may_be_written field text) (are_written (next ∷ fields) (other ∷ texts)) written in
     let first : str_to_ascii_lowercase text ≡ printed field = lowered_field field text low.0 parts.0 in
-    let later = lowered_fields (next ∷ fields) (other ∷ texts) low.1 parts.1 in
     lower_append text (32 ∷ join_with_byte 32 (other ∷ texts)) ∙ ap (λ (xs : List ℕ). xs ++ 32 ∷ str_to_ascii_lowercase (join_with_byte 32 (other ∷ texts))) first
-    ∙ ap (λ (xs : List ℕ). printed field ++ 32 ∷ xs) later
+    ∙ ap (λ (xs : List ℕ). printed field ++ 32 ∷ xs) (lowered_fields (next ∷ fields) (other ∷ texts) low.1 parts.1)
 
 lowered_line : (fields : List Field) (line : TextLine) → AreLow fields → is_written fields line ≡ true → str_to_ascii_lowercase (whole_line line) ≡ printed_line fields
 unfolding printed_line
-lowered_line fields line low written =
-    let parts = and_parts line.is_ended (are_written fields (fields_of line.content)) written in
-    lower_append line.content (cond line.is_ended (10 ∷ []) [])
-    ∙ ap (λ (e : Bool). str_to_ascii_lowercase line.content ++ str_to_ascii_lowercase (cond e (10 ∷ []) [])) parts.0
-    ∙ ap (λ (xs : List ℕ). str_to_ascii_lowercase xs ++ 10 ∷ []) (sym (join-fields_of line.content))
-    ∙ ap (λ (xs : List ℕ). xs ++ 10 ∷ []) (lowered_fields fields (fields_of line.content) low parts.1)
+lowered_line fields line low written = search (rules, and_parts, lower_append, join-fields_of, lowered_fields)
 
 lowered_lines : (rest : List (List Field)) (lines : List TextLine) → AreLowLines rest → lines_written rest lines ≡ true →
     str_to_ascii_lowercase (flat_map whole_line lines) ≡ flat_map printed_line rest
@@ -74,10 +65,9 @@ lowered_lines [] (line ∷ lines) low written = cc written
 lowered_lines (fields ∷ rest) [] low written = cc written
 lowered_lines (fields ∷ rest) (line ∷ lines) low written =
     let parts = and_parts (is_written fields line) (lines_written rest lines) written in
-    let first = lowered_line fields line low.0 parts.0 in
     let later = lowered_lines rest lines low.1 parts.1 in
     lower_append (whole_line line) (flat_map whole_line lines)
-    ∙ ap (λ (xs : List ℕ). xs ++ str_to_ascii_lowercase (flat_map whole_line lines)) first ∙ ap (λ (xs : List ℕ). printed_line fields ++ xs) later
+    ∙ ap (λ (xs : List ℕ). xs ++ str_to_ascii_lowercase (flat_map whole_line lines)) (lowered_line fields line low.0 parts.0) ∙ ap (λ (xs : List ℕ). printed_line fields ++ xs) later
 
 -- ---- the words of a trace
 
@@ -93,31 +83,12 @@ low_blocks : (blocks : List Block) → AreLow (flat_map block_fields blocks)
 low_blocks [] = tt
 low_blocks (block ∷ blocks) = low_append (block_fields block) (flat_map block_fields blocks) (low_words block.w) (low_blocks blocks)
 
-low_register : (register : Register) → IsLow (Word (register_name register))
-low_register Usbcmd = refl
-low_register Usbsts = refl
-low_register Dnctrl = refl
-low_register Crcr = refl
-low_register Dcbaap = refl
-low_register Config = refl
-low_register Iman = refl
-low_register Imod = refl
-low_register Erstsz = refl
-low_register Erstba = refl
-low_register Erdp = refl
-
 low_kind : (kind : RingKind) → IsLow (Word (ring_name kind))
-low_kind Cmd = refl
-low_kind Evt = refl
-low_kind Xfer = refl
+low_kind kind = search rules
 
 low_row : (row : Row) → AreLow (row_fields row)
 unfolding row_fields
-low_row (Sub ring blocks) = (refl, (tt, low_blocks blocks))
-low_row (Write at word) = (refl, (tt, (tt, tt)))
-low_row (Reg register value) = (refl, (low_register register, (tt, tt)))
-low_row (Bell slot target) = (refl, (tt, (tt, tt)))
-low_row (Read event) = (refl, low_words event.w)
+low_row row = search (rules, low_blocks, low_words)
 
 low_segments : (segments : List Segment) → AreLow (map segment_field segments)
 low_segments [] = tt
@@ -128,20 +99,14 @@ unfolding ring_fields
 low_ring ring = (refl, (tt, (low_kind ring.shape.kind, low_segments ring.shape.segments)))
 
 low_version : (version : Version) → AreLow (version_fields version)
-low_version One = (refl, (refl, tt))
-low_version Two = (refl, (refl, tt))
-low_version Three = (refl, (refl, tt))
+low_version version = search rules
 
 low_size : (size : ContextSize) → AreLow (size_fields size)
-low_size Bytes32 = (refl, (refl, tt))
-low_size Bytes64 = (refl, (refl, tt))
+low_size size = search rules
 
 low_trace_row : (row : TraceRow) → AreLow (trace_row_fields row)
 unfolding trace_row_fields
-low_trace_row (Plain row) = low_row row
-low_trace_row (Comes ring) = low_ring ring
-low_trace_row (Goes ring) = (refl, (tt, tt))
-low_trace_row (Withdraws ring position) = (refl, (tt, (tt, tt)))
+low_trace_row row = search (rules, low_row, low_ring)
 
 low_rows : (rows : List TraceRow) → AreLowLines (map trace_row_fields rows)
 low_rows [] = tt

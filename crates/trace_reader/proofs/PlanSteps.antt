@@ -1,11 +1,9 @@
 -- The first two lines of a plan
-use Rattle.std.proofs.Common.{◌≡◌, ◌∷◌, ℕ, List, [], true, false, Ok, Err, refl, length, arith}
-use Rattle.trace_reader.proofs.Words.{TextLine, lines_of, LineError, Fault, Memory, BadHeader, BadRow, Ring, IfBadLine, at_line, AnswersBy, lines_say, is_plan_version, plan_behind, plan_line, plan_of, plan_ring, with_ring}
+use Rattle.trace_reader.proofs.Words.{rules, common_steps, ◌≡◌, ◌∷◌, ℕ, List, true, false, Ok, Err, refl, length, arith, TextLine, lines_of, LineError, BadHeader, BadRow, Ring, IfBadLine, at_line, AnswersBy, lines_say, is_plan_version, plan_behind, plan_line, plan_of, plan_ring, with_ring}
 
 pub no_text : (text : List ℕ) → length text ≡ 0 → plan_of text ≡ Err (1, BadHeader)
 unfolding plan_of lines_of
-no_text [] none = refl
-no_text (byte ∷ rest) none = absurd (omega arith)
+no_text text none = grind (arith, common_steps)
 
 pub no_version : (text rest : List ℕ) (line : TextLine) → lines_of text ≡ line ∷ lines_of rest → is_plan_version line ≡ false → plan_of text ≡ Err (1, BadHeader)
 unfolding plan_of
@@ -17,8 +15,7 @@ version_there text rest line are is = rw (are, is) refl
 
 pub no_second : (text : List ℕ) → length text ≡ 0 → plan_behind (lines_of text) ≡ Err (2, BadRow)
 unfolding lines_of
-no_second [] none = refl
-no_second (byte ∷ rest) none = absurd (omega arith)
+no_second text none = grind (arith, common_steps)
 
 pub ring_taken : (text rest : List ℕ) (line : TextLine) (ring : Ring) → lines_of text ≡ line ∷ lines_of rest → plan_ring line ≡ Ok ring →
     plan_behind (lines_of text) ≡ with_ring (Ok ring) (lines_say plan_line 3 (lines_of rest))
@@ -26,5 +23,4 @@ ring_taken text rest line ring are is = rw (are, is) refl
 
 pub no_ring_taken : (text rest : List ℕ) (line : TextLine) (e : LineError) → lines_of text ≡ line ∷ lines_of rest → AnswersBy {Answer = Ring} (λ ring. ring) (Err e) (plan_ring line) →
     IfBadLine (at_line 2 e) (λ number code. plan_behind (lines_of text) ≡ Err (number, code))
-no_ring_taken text rest line (Fault fault) are is = rw (are, is) refl
-no_ring_taken text rest line Memory are is = tt
+no_ring_taken text rest line e are is = search rules

@@ -1,28 +1,19 @@
 -- What is printed of a trace spells the trace
-use Rattle.std.proofs.Common.{◌≡◌, ◌<◌, ◌∷◌, ◌++◌, ◌∙◌, ℕ, true, false, List, [], length, map, Ok, All, IsTrue, refl, ap, arith, append_assoc, codes, ne_eqb}
-use Rattle.trace_reader.proofs.Words.{Version, One, Two, Three, flat_map, join_with_byte, and_from, All-weaker, ContextSize, Bytes32, Bytes64, fields_of, is_space, is_line_feed, lines_of, All-join, AreFields, fields_of-join, lines_of-ended, lines_of-nothing, Ring, Row, Sub, Write, Reg, Bell, Read, TraceRow, Plain, Comes, Goes, Withdraws, trace_row_fields, TraceText, trace_of, Field, are_written, lines_written, printed, printed_line, printed_trace, ring_fields, row_fields, size_fields, spells, trace_lines, version_fields, IsTrace}
+use Rattle.trace_reader.proofs.Words.{common_steps, rules, ◌≡◌, ◌<◌, ◌∷◌, ◌++◌, ℕ, true, false, List, [], length, map, Ok, All, IsTrue, refl, arith, ne_eqb, Version, flat_map, join_with_byte, and_from, All-weaker, ContextSize, fields_of, is_line_feed, lines_of, All-join, AreFields, fields_of-join, lines_of-ended, lines_of-nothing, Ring, TraceRow, trace_row_fields, TraceText, trace_of, Field, are_written, lines_written, printed, printed_line, printed_trace, ring_fields, row_fields, size_fields, spells, trace_lines, version_fields, IsTrace}
 use Rattle.trace_reader.proofs.SpelledFields.{AllSound, plain_fields, written_as_printed}
 use Rattle.trace_reader.proofs.SpelledSizes.{ring_sound, sound_named, trace_row_sound}
 use Rattle.trace_reader.proofs.Spelled.{read_if_spelled}
 
 -- ---- one line
 
-not_space : (c : ℕ) → 32 < c → is_space c ≡ false
-not_space c above = ne_eqb c 32 (λ same. omega (arith, same))
-
 not_line_feed : (c : ℕ) → 32 < c → is_line_feed c ≡ false
 not_line_feed c above = ne_eqb c 10 (λ same. omega (arith, same))
 
 are_fields : (texts : List (List ℕ)) → All (λ text. All (λ c. 32 < c) text) texts → AreFields texts
-are_fields texts plain =
-    All-weaker (λ text. All (λ c. 32 < c) text) (λ text. All (λ c. is_space c ≡ false) text)
-    (λ text above. All-weaker (λ c. 32 < c) (λ c. is_space c ≡ false) not_space text above) texts plain
+are_fields texts plain = search (rules, All-weaker)
 
 without_line_feed : (texts : List (List ℕ)) → All (λ text. All (λ c. 32 < c) text) texts → All (λ c. is_line_feed c ≡ false) (join_with_byte 32 texts)
-without_line_feed texts plain =
-    All-join (λ c. is_line_feed c ≡ false) refl texts
-    (All-weaker (λ text. All (λ c. 32 < c) text) (λ text. All (λ c. is_line_feed c ≡ false) text)
-    (λ text above. All-weaker (λ c. 32 < c) (λ c. is_line_feed c ≡ false) not_line_feed text above) texts plain)
+without_line_feed texts plain = search (rules, All-join, All-weaker, not_line_feed)
 
 -- a line of fields, at least one
 pub record IsSoundLine (fields : List Field) : Type 0 where
@@ -37,9 +28,7 @@ printed_fields (field ∷ fields) is = fields_of-join (printed field) (map print
 printed_first : (fields : List Field) (rest : List ℕ) → IsSoundLine fields →
     lines_of (printed_line fields ++ rest) ≡ record { content = join_with_byte 32 (map printed fields); is_ended = true } ∷ lines_of rest
 unfolding printed_line
-printed_first fields rest is =
-    ap (λ (text : List ℕ). lines_of text) (append_assoc (join_with_byte 32 (map printed fields)) (10 ∷ []) rest)
-    ∙ lines_of-ended (join_with_byte 32 (map printed fields)) rest (without_line_feed (map printed fields) (plain_fields fields is.sound))
+printed_first fields rest is = grind (arith, common_steps, lines_of-ended, without_line_feed, plain_fields)
 
 -- ---- lines
 
@@ -58,28 +47,15 @@ sound_lines_map f sound (x ∷ xs) = (sound x, sound_lines_map f sound xs)
 pub printed_lines : (lines : List (List Field)) → AllSoundLines lines → lines_written lines (lines_of (flat_map printed_line lines)) ≡ true
 printed_lines [] sound = rw lines_of-nothing refl
 printed_lines (line ∷ lines) sound =
-    let texts = map printed line in
-    let here : are_written line (fields_of (join_with_byte 32 texts)) ≡ true = rw (printed_fields line sound.0) (written_as_printed line sound.0.sound) in
-    let ih = printed_lines lines sound.1 in
+    let here : are_written line (fields_of (join_with_byte 32 (map printed line))) ≡ true = rw (printed_fields line sound.0) (written_as_printed line sound.0.sound) in
     rw (printed_first line (flat_map printed_line lines) sound.0)
-    (and_from (are_written line (fields_of (join_with_byte 32 texts))) (lines_written lines (lines_of (flat_map printed_line lines))) here ih)
+    (and_from (are_written line (fields_of (join_with_byte 32 (map printed line)))) (lines_written lines (lines_of (flat_map printed_line lines))) here (printed_lines lines sound.1))
 
 -- ---- the lines of a trace
 
-some_fields : (row : Row) → 0 < length (row_fields row)
-unfolding row_fields
-some_fields (Sub ring blocks) = omega arith
-some_fields (Write at word) = omega arith
-some_fields (Reg register value) = omega arith
-some_fields (Bell slot target) = omega arith
-some_fields (Read event) = omega arith
-
 some_row_fields : (row : TraceRow) → 0 < length (trace_row_fields row)
-unfolding trace_row_fields ring_fields
-some_row_fields (Plain row) = some_fields row
-some_row_fields (Comes ring) = omega arith
-some_row_fields (Goes ring) = omega arith
-some_row_fields (Withdraws ring position) = omega arith
+unfolding trace_row_fields ring_fields row_fields
+some_row_fields row = search rules
 
 row_line : (row : TraceRow) → IsSoundLine (trace_row_fields row)
 row_line row = record { some = some_row_fields row; sound = trace_row_sound row }
@@ -89,13 +65,10 @@ unfolding ring_fields
 ring_line ring = record { some = omega arith; sound = ring_sound ring }
 
 version_line : (version : Version) → IsSoundLine (version_fields version)
-version_line One = record { some = omega arith; sound = (sound_named (codes "xtrace") (omega arith) refl, (sound_named (codes "1") (omega arith) refl, tt)) }
-version_line Two = record { some = omega arith; sound = (sound_named (codes "xtrace") (omega arith) refl, (sound_named (codes "2") (omega arith) refl, tt)) }
-version_line Three = record { some = omega arith; sound = (sound_named (codes "xtrace") (omega arith) refl, (sound_named (codes "3") (omega arith) refl, tt)) }
+version_line version = search (rules, sound_named)
 
 size_line : (size : ContextSize) → IsSoundLine (size_fields size)
-size_line Bytes32 = record { some = omega arith; sound = (sound_named (codes "ctx") (omega arith) refl, (sound_named (codes "20") (omega arith) refl, tt)) }
-size_line Bytes64 = record { some = omega arith; sound = (sound_named (codes "ctx") (omega arith) refl, (sound_named (codes "40") (omega arith) refl, tt)) }
+size_line size = search (rules, sound_named)
 
 trace_sound : (trace : TraceText) → AllSoundLines (trace_lines trace)
 unfolding trace_lines

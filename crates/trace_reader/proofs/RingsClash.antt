@@ -1,13 +1,10 @@
 -- A ring clashes with others where it overlaps one of all their segments, or is a second of its kind
-use Rattle.std.proofs.Common.{◌≡◌, ◌==◌, ◌&&◌, ◌||◌, ◌++◌, ◌∷◌, ◌∙◌, Bool, true, false, List, [], refl, sym, ap}
-use Rattle.trace_reader.proofs.Words.{Ring, Segment, clash, is_command_kind, is_event_kind, list_any, list_any-append, or_parts}
-use Rattle.segments.specs.Shape.{rings_overlap, segments_overlap}
-use Rattle.trace_reader.specs.SegmentsApart.{AreSegmentsOf, is_second, segments_of}
+use Rattle.trace_reader.proofs.Words.{rules, arith, common_steps, ◌≡◌, ◌==◌, ◌&&◌, ◌||◌, ◌++◌, ◌∷◌, ◌∙◌, Bool, true, false, List, [], refl, sym, ap, Ring, Segment, clash, is_command_kind, is_event_kind, list_any, list_any-append, or_parts, rings_overlap, segments_overlap, AreSegmentsOf, is_second}
+use Rattle.trace_reader.specs.SegmentsApart.{segments_of}
 
 module _ {X : Type 0} where
   any_same : (f g : X → Bool) → ((x : X) → f x ≡ g x) → (xs : List X) → list_any f xs ≡ list_any g xs
-  any_same f g same [] = refl
-  any_same f g same (x ∷ xs) = rw (same x, any_same f g same xs) refl
+  any_same f g same xs = search rules
 
   none_of : (xs : List X) → list_any (λ x. false) xs ≡ false
   none_of [] = refl
@@ -52,21 +49,7 @@ clashes r others segments all =
 -- with the segments of a ring more they are those of all
 pub all_with : (rings : List Ring) (r : Ring) (old new : List Segment) → AreSegmentsOf rings old → ((p : Segment → Bool) → list_any p new ≡ (list_any p r.shape.segments || list_any p old)) →
     AreSegmentsOf (rings ++ r ∷ []) new
-all_with rings r old new all more p =
-    more p ∙ ap (λ b. list_any p r.shape.segments || b) (all p) ∙ sym (in_all rings)
-  where
-    or_turns : (a b c : Bool) → (b || (a || c)) ≡ (a || (b || c))
-    or_turns true true c = refl
-    or_turns true false c = refl
-    or_turns false b c = refl
-
-    in_all : (qs : List Ring) → list_any p (segments_of (qs ++ r ∷ [])) ≡ (list_any p r.shape.segments || list_any p (segments_of qs))
-    in_all [] = list_any-append p r.shape.segments []
-    in_all (q ∷ qs) =
-        list_any-append p q.shape.segments (segments_of (qs ++ r ∷ []))
-        ∙ ap (λ b. list_any p q.shape.segments || b) (in_all qs)
-        ∙ or_turns (list_any p r.shape.segments) (list_any p q.shape.segments) (list_any p (segments_of qs))
-        ∙ ap (λ b. list_any p r.shape.segments || b) (sym (list_any-append p q.shape.segments (segments_of qs)))
+all_with rings r old new all more p = grind (arith, common_steps)
 
 -- where it clashes with none, its segments overlap none of theirs
 pub none_overlapped : (r : Ring) (others : List Ring) (segments : List Segment) → AreSegmentsOf others segments → list_any (clash r) others ≡ false →

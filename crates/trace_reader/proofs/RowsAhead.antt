@@ -1,8 +1,5 @@
 -- The row of a text's first line, found by the places of its fields
-use Rattle.std.proofs.Common.{◌≡◌, ◌≤◌, ◌<◌, ◌+◌, ◌∷◌, ◌++◌, ◌∙◌, ℕ, zero, suc, List, [], true, false, Option, None, Some, IfSome, Ok, All, length, take, slice_index, refl, sym, ap, subst, arith, ne_eqb}
-use Rattle.trace_reader.proofs.Words.{nat_tests, and_parts, All-join, All-cons, All-head, All-nil, All-tail, All-weaker, join-fields_of, str_to_ascii_lowercase, to_ascii_lowercase, is_line_feed, fields_of, TextLine, Field, Word, Digits, may_be_written, are_written, Row, Plain, SaysRow, One, most_of, is_too_much, next_number, read_line, State, start, said_by_line}
-use Rattle.trace_reader.specs.Entries.{SaysAlone}
-use Rattle.trace_reader.specs.RowsAhead.{BeginsWithRow}
+use Rattle.trace_reader.proofs.Words.{rules, ◌≡◌, ◌≤◌, ◌<◌, ◌+◌, ◌∷◌, ◌++◌, ◌∙◌, ℕ, zero, suc, List, [], true, false, Option, None, Some, IfSome, Ok, All, length, take, slice_index, refl, ap, subst, arith, ne_eqb, nat_tests, and_parts, All-join, All-cons, All-head, All-nil, All-tail, All-weaker, join-fields_of, str_to_ascii_lowercase, to_ascii_lowercase, is_line_feed, fields_of, TextLine, Field, may_be_written, are_written, Row, Plain, SaysRow, One, most_of, is_too_much, next_number, read_line, State, start, said_by_line, SaysAlone, BeginsWithRow}
 use Rattle.trace_reader.proofs.LineFields.{alone, fewer_kept, not_limited}
 use Rattle.trace_reader.proofs.ReadSteps.{line_entry}
 use Rattle.trace_reader.proofs.SpelledFields.{AllSound, IsSound, same_bytes}
@@ -21,9 +18,7 @@ lower_all_above (c ∷ rest) above =
     (lower_all_above rest (All-tail (λ c. 32 < c) (to_ascii_lowercase c) (str_to_ascii_lowercase rest) above))
 
 written_above : (field : Field) (text : List ℕ) → IsSound field → may_be_written field text ≡ true → All (λ c. 32 < c) text
-written_above (Word word) text sound written = subst (λ (xs : List ℕ). All (λ c. 32 < c) xs) (sym (same_bytes text word written)) sound.plain
-written_above (Digits digits) text sound written =
-    lower_all_above text (subst (λ (xs : List ℕ). All (λ c. 32 < c) xs) (sym (same_bytes (str_to_ascii_lowercase text) digits written)) sound.plain)
+written_above field text sound written = search (rules, same_bytes, lower_all_above)
 
 all_above : (fields : List Field) (texts : List (List ℕ)) → AllSound fields → are_written fields texts ≡ true → All (λ text. All (λ c. 32 < c) text) texts
 all_above [] [] sound written = All-nil (λ text. All (λ c. 32 < c) text)
@@ -58,7 +53,7 @@ says_behind st content row says few behind within =
 abbrev somewhere : State
 somewhere = record (start true) { lines = 2 }
 
-pub begins_with : (text content : List ℕ) (count : ℕ) (row : Row) → SaysAlone row content → is_too_much (SaysRow (Plain row)) ≡ false → length content + 1 ≡ count → ((rest : List ℕ) × (text ≡ content ++ 10 ∷ rest)) →
+begins_with : (text content : List ℕ) (count : ℕ) (row : Row) → SaysAlone row content → is_too_much (SaysRow (Plain row)) ≡ false → length content + 1 ≡ count → ((rest : List ℕ) × (text ≡ content ++ 10 ∷ rest)) →
     BeginsWithRow row count text
 begins_with text content count row says few long whole =
     let read = λ (st : State). says_behind st content row says few in
@@ -66,12 +61,12 @@ begins_with text content count row says few long whole =
     (content, whole.0, whole.1, long, without_line_feed somewhere (record { content = content; is_ended = true }) row (omega arith) here, read)
 
 pub if_is : {T : Type 0} (P : T → Type 0) (o : Option T) → ((x : T) → o ≡ Some x → P x) → IfSome o P
-if_is P (Some x) held = held x refl
-if_is P None held = tt
+if_is P o held = search rules
 
-pub if_some : {T : Type 0} (P Q : T → Type 0) (o : Option T) → ((x : T) → P x → Q x) → IfSome o P → IfSome o Q
-if_some P Q (Some x) weaker held = weaker x held
-if_some P Q None weaker held = held
+pub found_ahead : {T : Type 0} (row : T → Row) (text content : List ℕ) (count : ℕ) (found : Option T) → ((x : T) → is_too_much (SaysRow (Plain (row x))) ≡ false) →
+    (length content ≡ count) × ((rest : List ℕ) × (text ≡ content ++ 10 ∷ rest)) → IfSome found (λ x. SaysAlone (row x) content) → IfSome found (λ x. BeginsWithRow (row x) (count + 1) text)
+found_ahead row text content count None few cut says = tt
+found_ahead row text content count (Some x) few cut says = begins_with text content (count + 1) (row x) says (few x) (ap (λ n. n + 1) cut.0) cut.1
 
 -- ---- the bytes before a line feed
 

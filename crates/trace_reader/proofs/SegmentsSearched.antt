@@ -1,44 +1,27 @@
 -- Of segments that lie one behind the other only the last one to start before another segment's end can overlap it
-use Rattle.std.proofs.Common.{◌≡◌, ◌+◌, ◌-◌, ◌*◌, ◌^◌, ◌<◌, ◌≤◌, ◌&&◌, ◌||◌, ◌∷◌, ◌++◌, ◌∙◌, ℕ, Bool, true, false, not, inl, inr, List, [], All, drop, filter, get_or, map, min, nat_lt, refl, sym, ap, arith}
-use Rattle.std.proofs.lemmas.Bool.{and_parts, cases_lt, not-true}
-use Rattle.std.proofs.lemmas.Bool.Decides.{nat_tests}
-use Rattle.std.proofs.lemmas.Cmp.{ranked}
-use Rattle.std.proofs.lemmas.List.Elements.{All-cons, All-head, All-nil, All-tail, All-weaker}
+use Rattle.trace_reader.proofs.Words.{common_steps, rules, ◌≡◌, ◌+◌, ◌-◌, ◌*◌, ◌^◌, ◌<◌, ◌≤◌, ◌&&◌, ◌||◌, ◌∷◌, ◌++◌, ◌∙◌, ℕ, Bool, true, false, not, inl, inr, List, [], All, drop, filter, map, min, nat_lt, refl, sym, ap, arith, and_parts, cases_lt, nat_tests, ranked, All-cons, All-head, All-nil, All-tail, All-weaker, Ordering, Equal, Greater, Less, are_apart, segments_overlap, Segment, LieApart}
 use Rattle.std.specs.BTreeMap.{insert_entry}
 use Rattle.std.specs.List.{list_all, list_any}
 use Rattle.std.specs.Ordering.{is_lt, match_ordering, nat_cmp}
-use Rattle.std.specs.declared.cmp.Ordering.{Ordering}
-use Rattle.std.specs.declared.cmp.Ordering.TheVariants.{Equal, Greater, Less}
-use Rattle.segments.specs.Shape.{are_apart, segments_overlap}
 use Rattle.segments.specs.ShapeValue.{segment_of}
-use Rattle.segments.specs.declared.segment.Segment.{Segment}
-use Rattle.trace_reader.specs.SegmentsApart.{LieApart}
 
 or_none : (a b : Bool) → (a || b) ≡ false → (a ≡ false) × (b ≡ false)
-or_none false false is = (refl, refl)
-or_none true b is = absurd (grind (arith, is))
-or_none false true is = absurd (grind (arith, is))
+or_none a b is = search rules
 
 -- ---- the search
 
 starts_by : (last k : ℕ) (r : Ordering) → r ≡ nat_cmp last k → k ≤ last → not (is_lt r) ≡ true
-starts_by last k Less is by = absurd (omega (arith, by, ranked last k Less is))
-starts_by last k Equal is by = refl
-starts_by last k Greater is by = refl
+starts_by last k r is by = search rules
 
 starts_behind : (last k : ℕ) (r : Ordering) → r ≡ nat_cmp last k → last < k → not (is_lt r) ≡ false
-starts_behind last k Less is behind = refl
-starts_behind last k Equal is behind = absurd (omega (arith, behind, ranked last k Equal is))
-starts_behind last k Greater is behind = absurd (omega (arith, behind, ranked last k Greater is))
+starts_behind last k r is behind = search rules
 
 -- those that start at an address or before it
 abbrev pub up_to : ℕ → List (ℕ × ℕ) → List (ℕ × ℕ)
 up_to last es = filter (λ e. true && not (is_lt (nat_cmp last e.0))) es
 
 covered : (a b : Bool) → (a ≡ true → b ≡ true) → (a || b) ≡ b
-covered true true f = refl
-covered true false f = sym (f refl)
-covered false b f = refl
+covered a b f = search rules
 
 module _ (s : Segment) (last : ℕ) (end : last ≡ min (s.base + (16 * s.count - 1)) (2 ^ 64 - 1)) where
   -- the segment overlaps this one
@@ -58,9 +41,7 @@ module _ (s : Segment) (last : ℕ) (end : last ≡ min (s.base + (16 * s.count 
   none_met [] apart none = refl
   none_met (e ∷ es) (low, some, behind, rest) none = elim (cases_lt last e.0) [
     | inl past ↦
-        let over = starts_behind last e.0 (nat_cmp last e.0) refl past in
-        let left : up_to last es ≡ [] = sym (rw over refl) ∙ none in
-        rw (far e past low) (none_met es rest left)
+        rw (far e past low) (none_met es rest (sym (rw (starts_behind last e.0 (nat_cmp last e.0) refl past) refl) ∙ none))
     | inr by ↦ absurd (let there = starts_by last e.0 (nat_cmp last e.0) refl by in let some : e ∷ up_to last es ≡ [] = sym (rw there refl) ∙ none in grind (arith, some))
   ]
 
@@ -78,14 +59,7 @@ module _ (s : Segment) (last : ℕ) (end : last ≡ min (s.base + (16 * s.count 
   }
 
   alone : (d : ℕ × ℕ) (es : List (ℕ × ℕ)) (e : ℕ × ℕ) → d.0 ≤ last → LieApart es → d ∷ up_to last es ≡ e ∷ [] → IsLast (d ∷ es) e
-  alone d es e by rest is =
-      let same : d ≡ e = ap (λ l. get_or l 0 d) is in
-      let left : up_to last es ≡ [] = ap (λ l. drop 1 l) is in
-      rw (sym same) (record { by = by; behind = λ n all. All-head (λ t. n ≤ t.0) d es all; met = rw (none_met es rest left) (sides (meets d)) })
-    where
-      sides : (b : Bool) → (b || false) ≡ b
-      sides true = refl
-      sides false = refl
+  alone d es e by rest is = search (rules, All-head, none_met)
 
   first_or_later : (d : ℕ × ℕ) (es : List (ℕ × ℕ)) (e : ℕ × ℕ) → d.0 ≤ last → All (λ t. d.0 + 16 * d.1 ≤ t.0) es → LieApart es → ((t : List (ℕ × ℕ)) → up_to last es ≡ t ++ e ∷ [] → IsLast es e) →
       (t : List (ℕ × ℕ)) → d ∷ up_to last es ≡ t ++ e ∷ [] → IsLast (d ∷ es) e
@@ -93,8 +67,7 @@ module _ (s : Segment) (last : ℕ) (end : last ≡ min (s.base + (16 * s.count 
   first_or_later d es e by behind rest later (f ∷ t) is = one_more d es e behind (later t (ap (λ l. drop 1 l) is))
 
   nothing_last : (t : List (ℕ × ℕ)) (e : ℕ × ℕ) → [] ≡ t ++ e ∷ [] → ⊥
-  nothing_last [] e is = grind (arith, is)
-  nothing_last (f ∷ t) e is = grind (arith, is)
+  nothing_last t e is = grind (arith, common_steps)
 
   last_of : (es : List (ℕ × ℕ)) (e : ℕ × ℕ) → LieApart es → (t : List (ℕ × ℕ)) → up_to last es ≡ t ++ e ∷ [] → IsLast es e
   last_of [] e apart t is = absurd (nothing_last t e is)
@@ -129,14 +102,7 @@ module _ (k v : ℕ) (low : k < 2 ^ 64) (some : 0 < v) where
     pub any : (p : Segment → Bool) → list_any p (map segment_of added) ≡ (p new || list_any p (map segment_of es))
 
   at_front : (e : ℕ × ℕ) (es : List (ℕ × ℕ)) → LieApart (e ∷ es) → k < e.0 → segments_overlap new (segment_of e) ≡ false → IsAdded (e ∷ es) ((k, v) ∷ e ∷ es)
-  at_front e es apart less free =
-      let first : k + 16 * v ≤ e.0 = before e less free in
-      let rest : All (λ t. k + 16 * v ≤ t.0) es = All-weaker (λ t. e.0 + 16 * e.1 ≤ t.0) (λ t. k + 16 * v ≤ t.0) (λ t behind. omega (arith, first, behind)) es apart.2 in
-      record {
-        apart = (low, some, All-cons (λ t. k + 16 * v ≤ t.0) e es first rest, apart);
-        behind = λ n by all. All-cons (λ t. n ≤ t.0) (k, v) (e ∷ es) by all;
-        any = λ p. refl;
-      }
+  at_front e es apart less free = search (rules, before, All-weaker, All-cons)
 
   further : (e : ℕ × ℕ) (es added : List (ℕ × ℕ)) → LieApart (e ∷ es) → e.0 < k → segments_overlap new (segment_of e) ≡ false → IsAdded es added → IsAdded (e ∷ es) (e ∷ added)
   further e es added apart less free rest = record {
@@ -156,11 +122,7 @@ module _ (k v : ℕ) (low : k < 2 ^ 64) (some : 0 < v) where
   placed e es Greater is apart free rest = further e es (insert_entry nat_cmp es k v) apart (ranked k e.0 Greater is) free rest
 
   pub added : (es : List (ℕ × ℕ)) → LieApart es → list_any (segments_overlap new) (map segment_of es) ≡ false → IsAdded es (insert_entry nat_cmp es k v)
-  added [] apart free = record {
-    apart = (low, some, All-nil (λ t. k + 16 * v ≤ t.0), tt);
-    behind = λ n by all. All-cons (λ t. n ≤ t.0) (k, v) [] by all;
-    any = λ p. refl;
-  }
+  added [] apart free = record { apart = (low, some, All-nil (λ t. k + 16 * v ≤ t.0), tt); behind = λ n by all. All-cons (λ t. n ≤ t.0) (k, v) [] by all; any = λ p. refl }
   added (e ∷ es) apart free =
       let parts = or_none (segments_overlap new (segment_of e)) (list_any (segments_overlap new) (map segment_of es)) free in
       placed e es (nat_cmp k e.0) refl apart parts.0 (added es apart.3 parts.1)
@@ -192,18 +154,4 @@ module _ (x : Segment) (now next : List Segment) (more : (p : Segment → Bool) 
       rw (more (segments_overlap y), overlap_turns y x, here.0, there.0) (still_free ys here.1 there.1)
 
   pub one_less : (all old rest : List Segment) → AreLeft all old (x ∷ rest) now → AreLeft all old rest next
-  one_less all old rest left =
-      let counts = and_parts (nat_lt 0 x.count) (list_all (λ s. nat_lt 0 s.count) rest) left.some in
-      let parts = and_parts (not (list_any (segments_overlap x) rest)) (are_apart rest) left.apart in
-      let free = or_none (list_any (segments_overlap x) now) (list_any (λ s. list_any (segments_overlap s) now) rest) left.free in
-      record {
-        some = counts.1;
-        apart = parts.1;
-        free = still_free rest (not-true (list_any (segments_overlap x) rest) parts.0) free.1;
-        any = λ p. ap (λ b. list_any p rest || b) (more p) ∙ or_moves (p x) (list_any p rest) (list_any p now) ∙ left.any p;
-      }
-    where
-      or_moves : (a b c : Bool) → (b || (a || c)) ≡ ((a || b) || c)
-      or_moves true true c = refl
-      or_moves true false c = refl
-      or_moves false b c = refl
+  one_less all old rest left = search (rules, and_parts, or_none, still_free)

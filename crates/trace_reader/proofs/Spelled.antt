@@ -1,6 +1,5 @@
 -- What is read of a text is the valid trace that the text spells
-use Rattle.std.proofs.Common.{◌≡◌, ◌-◌, ◌≤◌, ◌&&◌, ◌↔◌, ◌∷◌, ◌++◌, ◌∙◌, ℕ, Bool, true, false, inl, inr, cond, List, [], length, nat_lt, Option, Some, None, Result, Ok, Err, IsTrue, All, is_none, refl, sym, ap, subst, arith, codes, ltb-false, le-ltb}
-use Rattle.trace_reader.proofs.Words.{Version, One, Two, Three, join_with_byte, list_all, bytes_eq, and_parts, and_from, cases_Bool, ContextSize, Bytes32, Bytes64, fields_of, TextLine, lines_of, join-fields_of, LineFault, BadHeader, Ring, TraceRow, have_new_ids, may_stand_together, most_lines, State, TextOf, TraceText, after, line_fault, next_number, read_line, read_lines, size_of, start, trace_of, version_of, whole, with_size, with_version, Field, Word, are_written, is_written, lines_written, size_fields, size_word, spells, trace_lines, version_fields, version_word, IsTrace}
+use Rattle.trace_reader.proofs.Words.{rules, ◌≡◌, ◌-◌, ◌≤◌, ◌&&◌, ◌∷◌, ◌++◌, ◌∙◌, ℕ, Bool, true, false, cond, List, [], length, Option, Some, None, Result, Ok, IsTrue, All, refl, sym, ap, subst, arith, Version, join_with_byte, list_all, bytes_eq, and_parts, and_from, ContextSize, fields_of, TextLine, lines_of, join-fields_of, LineFault, Ring, TraceRow, have_new_ids, may_stand_together, most_lines, State, TextOf, TraceText, after, line_fault, next_number, read_line, read_lines, size_of, start, trace_of, version_of, whole, Field, Word, are_written, is_written, lines_written, size_fields, spells, trace_lines, version_fields, IsTrace}
 use Rattle.trace_reader.proofs.LineFields.{fewer_kept, some_lines}
 use Rattle.trace_reader.proofs.SpelledFields.{same_bytes, then_are}
 use Rattle.trace_reader.proofs.SpelledWords.{word_first}
@@ -16,83 +15,26 @@ two_words a b line written =
     let parts = and_parts line.is_ended (are_written (Word a ∷ Word b ∷ []) (fields_of line.content)) written in
     let p = word_first a (Word b ∷ []) (fields_of line.content) parts.1 in
     let q = word_first b [] p.0 p.2 in
-    let are : fields_of line.content ≡ a ∷ b ∷ [] = then_are p.1 (then_are q.1 (only q.0 q.2)) in
-    (parts.0, sym (join-fields_of line.content) ∙ ap (λ (xs : List (List ℕ)). join_with_byte 32 xs) are)
+    (parts.0, sym (join-fields_of line.content) ∙ ap (λ (xs : List (List ℕ)). join_with_byte 32 xs) (then_are p.1 (then_are q.1 (only q.0 q.2))))
 
 pub words_written : (fields : List Field) (text : List ℕ) (line : TextLine) → are_written fields (fields_of text) ≡ true → (line.is_ended && bytes_eq line.content text) ≡ true → is_written fields line ≡ true
-words_written fields text line written is =
-    let parts = and_parts line.is_ended (bytes_eq line.content text) is in
-    and_from line.is_ended (are_written fields (fields_of line.content)) parts.0
-    (ap (λ (xs : List ℕ). are_written fields (fields_of xs)) (same_bytes line.content text parts.1) ∙ written)
-
-version_words : (version : Version) → are_written (version_fields version) (fields_of (codes "xtrace " ++ version_word version)) ≡ true
-unfolding fields_of
-version_words One = refl
-version_words Two = refl
-version_words Three = refl
-
-size_words : (size : ContextSize) → are_written (size_fields size) (fields_of (codes "ctx " ++ size_word size)) ≡ true
-unfolding fields_of
-size_words Bytes32 = refl
-size_words Bytes64 = refl
+words_written fields text line written is = search (rules, and_parts, and_from, same_bytes)
 
 version_written : (line : TextLine) (version : Version) → version_of line ≡ Some version → is_written (version_fields version) line ≡ true
-unfolding version_of
-version_written line version is =
-    elim (cases_Bool (line.is_ended && bytes_eq line.content (codes "xtrace 1"))) [
-      | inl one ↦
-          let same : One ≡ version = cc (rw one at is) in
-          subst (λ (v : Version). is_written (version_fields v) line ≡ true) same (words_written (version_fields One) (codes "xtrace 1") line (version_words One) one)
-      | inr not_one ↦
-          elim (cases_Bool (line.is_ended && bytes_eq line.content (codes "xtrace 2"))) [
-            | inl two ↦
-                let same : Two ≡ version = cc (rw (not_one, two) at is) in
-                subst (λ (v : Version). is_written (version_fields v) line ≡ true) same (words_written (version_fields Two) (codes "xtrace 2") line (version_words Two) two)
-            | inr not_two ↦
-                elim (cases_Bool (line.is_ended && bytes_eq line.content (codes "xtrace 3"))) [
-                  | inl three ↦
-                      let same : Three ≡ version = cc (rw (not_one, not_two, three) at is) in
-                      subst (λ (v : Version). is_written (version_fields v) line ≡ true) same (words_written (version_fields Three) (codes "xtrace 3") line (version_words Three) three)
-                  | inr none ↦ cc (rw (not_one, not_two, none) at is)
-                ]
-          ]
-    ]
-
-version_named : (line : TextLine) (version : Version) → line.is_ended ≡ true → line.content ≡ codes "xtrace " ++ version_word version → version_of line ≡ Some version
-unfolding version_of
-version_named line One ended is = rw (is, ended) refl
-version_named line Two ended is = rw (is, ended) refl
-version_named line Three ended is = rw (is, ended) refl
+unfolding version_of fields_of
+version_written line version is = search (rules, words_written)
 
 version_read : (line : TextLine) (version : Version) → is_written (version_fields version) line ≡ true → version_of line ≡ Some version
-version_read line One written = let is = two_words (codes "xtrace") (version_word One) line written in version_named line One is.0 is.1
-version_read line Two written = let is = two_words (codes "xtrace") (version_word Two) line written in version_named line Two is.0 is.1
-version_read line Three written = let is = two_words (codes "xtrace") (version_word Three) line written in version_named line Three is.0 is.1
+unfolding version_of
+version_read line version written = search (rules, two_words)
 
 size_written : (line : TextLine) (size : ContextSize) → size_of line ≡ Some size → is_written (size_fields size) line ≡ true
-unfolding size_of
-size_written line size is =
-    elim (cases_Bool (line.is_ended && bytes_eq line.content (codes "ctx 20"))) [
-      | inl small ↦
-          let same : Bytes32 ≡ size = cc (rw small at is) in
-          subst (λ (s : ContextSize). is_written (size_fields s) line ≡ true) same (words_written (size_fields Bytes32) (codes "ctx 20") line (size_words Bytes32) small)
-      | inr other ↦
-          elim (cases_Bool (line.is_ended && bytes_eq line.content (codes "ctx 40"))) [
-            | inl large ↦
-                let same : Bytes64 ≡ size = cc (rw (other, large) at is) in
-                subst (λ (s : ContextSize). is_written (size_fields s) line ≡ true) same (words_written (size_fields Bytes64) (codes "ctx 40") line (size_words Bytes64) large)
-            | inr none ↦ cc (rw (other, none) at is)
-          ]
-    ]
-
-size_named : (line : TextLine) (size : ContextSize) → line.is_ended ≡ true → line.content ≡ codes "ctx " ++ size_word size → size_of line ≡ Some size
-unfolding size_of
-size_named line Bytes32 ended is = rw (is, ended) refl
-size_named line Bytes64 ended is = rw (is, ended) refl
+unfolding size_of fields_of
+size_written line size is = search (rules, words_written)
 
 size_read : (line : TextLine) (size : ContextSize) → is_written (size_fields size) line ≡ true → size_of line ≡ Some size
-size_read line Bytes32 written = let is = two_words (codes "ctx") (size_word Bytes32) line written in size_named line Bytes32 is.0 is.1
-size_read line Bytes64 written = let is = two_words (codes "ctx") (size_word Bytes64) line written in size_named line Bytes64 is.0 is.1
+unfolding size_of
+size_read line size written = search (rules, two_words)
 
 -- the states behind the first line and behind the second
 abbrev behind_version : Version → State
@@ -102,24 +44,17 @@ abbrev behind_size : Version → ContextSize → State
 behind_size version size = record (start true) { lines = 2; version = version; size = size }
 
 if_some : (t : Bool) (fault : LineFault) → cond t (Some fault) None ≡ None → t ≡ false
-if_some true fault is = cc is
-if_some false fault is = refl
+if_some t fault is = search rules
 
 first_from_read : (line : TextLine) (next : State × Option TraceRow) → read_line (start true) line ≡ Ok next →
     (version : Version) × (version_of line ≡ Some version) × ((behind_version version, None) ≡ next)
 unfolding read_line line_fault after
-first_from_read line next is =
-    let p = ok_there (line_fault (start true) line) (after (start true) line) next is in
-    let version = there (version_of line) (if_some (is_none (version_of line)) BadHeader p.0) in
-    (version.0, version.1, ap (λ (o : Option Version). (with_version (start true) o, None)) (sym version.1) ∙ p.1)
+first_from_read line next is = search (rules, ok_there, there, if_some)
 
 second_from_read : (version : Version) (line : TextLine) (next : State × Option TraceRow) → read_line (behind_version version) line ≡ Ok next →
     (size : ContextSize) × (size_of line ≡ Some size) × ((behind_size version size, None) ≡ next)
 unfolding read_line line_fault after
-second_from_read version line next is =
-    let p = ok_there (line_fault (behind_version version) line) (after (behind_version version) line) next is in
-    let size = there (size_of line) (if_some (is_none (size_of line)) BadHeader p.0) in
-    (size.0, size.1, ap (λ (o : Option ContextSize). (with_size (behind_version version) o, None)) (sym size.1) ∙ p.1)
+second_from_read version line next is = search (rules, ok_there, there, if_some)
 
 first_read : (line : TextLine) (version : Version) → version_of line ≡ Some version → read_line (start true) line ≡ Ok (behind_version version, None)
 unfolding read_line line_fault after
@@ -134,12 +69,7 @@ second_read version line size is = rw is refl
 pub whole_there : {R : Type 0} (x : Result (State × List R) (ℕ × LineFault)) (trace : TextOf R) → whole x ≡ Ok trace →
     (r : State × List R) × (x ≡ Ok r) × (2 ≤ r.0.lines)
     × (record { header = record { version = r.0.version; context_size = r.0.size; rings = r.0.rings }; first = next_number r.0 - length r.1; rows = r.1 } ≡ trace)
-whole_there (Ok (st, rows)) trace is =
-    elim (cases_Bool (nat_lt st.lines 2)) [
-      | inl few ↦ cc (rw few at is)
-      | inr some ↦ ((st, rows), refl, ltb-false st.lines 2 some, cc (rw some at is))
-    ]
-whole_there (Err fault) trace is = cc is
+whole_there x trace is = search rules
 
 read_end : (st : State) (r : State × List TraceRow) → read_lines st [] ≡ Ok r → st ≡ r.0
 unfolding read_lines
@@ -178,11 +108,7 @@ third_state version second lines r is =
     )
 
 begins : (first second : TextLine) (lines : List TextLine) (r : State × List TraceRow) → read_lines (start true) (first ∷ second ∷ lines) ≡ Ok r → Begins first second lines r
-begins first second lines r is =
-    let p = second_state first (second ∷ lines) r is in
-    let q = third_state p.0 second lines p.2.0 p.2.1 in
-    let same : q.2.0 ≡ r = λ k. ((q.2.2 ∙ p.2.2) k, (q.2.3 ∙ p.2.3) k) in
-    record { version = p.0; size = q.0; named = p.1; sized = q.1; rest = q.2.1 ∙ ap (λ (x : State × List TraceRow). Ok x) same }
+begins first second lines r is = search (rules, second_state, third_state)
 
 -- the trace of a state and the rows that were read
 abbrev text_of : State × List TraceRow → TraceText
@@ -194,44 +120,30 @@ unfolding trace_lines
 lines_spell first second lines r b =
     let s = spells_from_read lines (behind_size b.version b.size) r (omega arith) b.rest in
     let rings_are : r.0.rings ≡ s.rings = s.are.rings_are in
-    let size_is : r.0.size ≡ b.size = s.are.size_is in
     let version_is : r.0.version ≡ b.version = s.are.version_is in
     let named : is_written (version_fields r.0.version) first ≡ true = ap (λ (version : Version). is_written (version_fields version) first) version_is ∙ b.named in
     let within : r.0.lines ≤ most_lines = subst (λ n. r.0.lines ≤ n) (fewer_kept b.version) (s.are.within (some_lines true b.version).0) in
     let rings : lines_written (lines_for r.0.rings r.1) lines ≡ true = ap (λ (rs : List Ring). lines_written (lines_for rs r.1) lines) rings_are ∙ s.are.written in
-    let sized : is_written (size_fields r.0.size) second ≡ true = ap (λ (size : ContextSize). is_written (size_fields size) second) size_is ∙ b.sized in
-    let shapes : list_all is_line_ring r.0.rings ≡ true = ap (λ (rs : List Ring). list_all is_line_ring rs) rings_are ∙ s.are.shapes in
+    let sized : is_written (size_fields r.0.size) second ≡ true = ap (λ (size : ContextSize). is_written (size_fields size) second) s.are.size_is ∙ b.sized in
     let together : may_stand_together r.0.rings ≡ true = ap (λ (rs : List Ring). may_stand_together rs) rings_are ∙ s.are.together refl in
-    let count = s.are.count in
     let many : length r.0.rings ≡ length s.rings = ap (λ (rs : List Ring). length rs) rings_are in (
       and_from (is_written (version_fields r.0.version) first) _ named (and_from (is_written (size_fields r.0.size) second) (lines_written (lines_for r.0.rings r.1) lines) sized rings),
       record {
-        headed = and_from (list_all is_line_ring r.0.rings) (may_stand_together r.0.rings) shapes together;
+        headed = and_from (list_all is_line_ring r.0.rings) (may_stand_together r.0.rings) (ap (λ (rs : List Ring). list_all is_line_ring rs) rings_are ∙ s.are.shapes) together;
         rows = subst (λ (version : Version). All (IsLineRow version) r.1) (sym version_is) s.are.fit;
         begins = s.are.begins refl;
         new_ids = ap (λ (rs : List Ring). have_new_ids rs [] r.1) rings_are ∙ s.are.new_ids;
-        first = omega (arith, count, many);
-        within = omega (arith, count, many, within);
+        first = omega (arith, s.are.count, many);
+        within = omega (arith, s.are.count, many, within);
       },
     )
 
-one_line : (version : Version) (st : State) → behind_version version ≡ st → st.lines ≡ 1
-one_line version st same = sym (ap (λ (st : State). st.lines) same)
-
 read_spells : (lines : List TextLine) (trace : TraceText) → whole (read_lines (start true) lines) ≡ Ok trace → (lines_written (trace_lines trace) lines ≡ true) × IsTrace trace
-read_spells [] trace is =
-    let p = whole_there (read_lines (start true) []) trace is in
-    let same : start true ≡ p.0.0 = read_end (start true) p.0 p.1 in
-    absurd (omega (arith, p.2, ap (λ (st : State). st.lines) same))
-read_spells (first ∷ []) trace is =
-    let p = whole_there (read_lines (start true) (first ∷ [])) trace is in
-    let q = second_state first [] p.0 p.1 in
-    let same : behind_version q.0 ≡ p.0.0 = read_end (behind_version q.0) q.2.0 q.2.1 ∙ q.2.2 in
-    absurd (omega (arith, p.2, one_line q.0 p.0.0 same))
+read_spells [] trace is = search (rules, whole_there, read_end)
+read_spells (first ∷ []) trace is = search (rules, whole_there, second_state, read_end)
 read_spells (first ∷ second ∷ lines) trace is =
     let p = whole_there (read_lines (start true) (first ∷ second ∷ lines)) trace is in
-    let spelled = lines_spell first second lines p.0 (begins first second lines p.0 p.1) in
-    subst (λ (t : TraceText). (lines_written (trace_lines t) (first ∷ second ∷ lines) ≡ true) × IsTrace t) p.3 spelled
+    subst (λ (t : TraceText). (lines_written (trace_lines t) (first ∷ second ∷ lines) ≡ true) × IsTrace t) p.3 (lines_spell first second lines p.0 (begins first second lines p.0 p.1))
 
 -- what is read is spelled by the text, and valid
 pub spelled_if_read : (text : List ℕ) (trace : TraceText) → trace_of true text ≡ Ok trace → IsTrue (spells trace text) × IsTrace trace
@@ -242,17 +154,12 @@ spelled_if_read text trace is = read_spells (lines_of text) trace is
 
 whole_of : (end : State) (rows : List TraceRow) (trace : TraceText) → 2 ≤ end.lines → end.version ≡ trace.header.version → end.size ≡ trace.header.context_size → end.rings ≡ trace.header.rings →
     next_number end - length rows ≡ trace.first → rows ≡ trace.rows → whole (Ok (end, rows)) ≡ Ok trace
-whole_of end rows trace some version_is size_is rings_are first_is rows_are =
-    let same : record { header = record { version = end.version; context_size = end.size; rings = end.rings }; first = next_number end - length rows; rows = rows } ≡ trace =
-    λ k. record { header = record { version = version_is k; context_size = size_is k; rings = rings_are k }; first = first_is k; rows = rows_are k } in
-    rw (le-ltb end.lines 2 some) (ap (λ (t : TraceText). Ok t) same)
+whole_of end rows trace some version_is size_is rings_are first_is rows_are = search rules
 
 written_reads : (lines : List TextLine) (trace : TraceText) → lines_written (trace_lines trace) lines ≡ true → IsTrace trace → whole (read_lines (start true) lines) ≡ Ok trace
 unfolding trace_lines
 written_reads [] trace written is = cc written
-written_reads (first ∷ []) trace written is =
-    let p = and_parts (is_written (version_fields trace.header.version) first) false written in
-    cc (p.1)
+written_reads (first ∷ []) trace written is = search (rules, and_parts)
 written_reads (first ∷ second ∷ lines) trace written is =
     let version = trace.header.version in
     let size = trace.header.context_size in
@@ -265,9 +172,8 @@ written_reads (first ∷ second ∷ lines) trace written is =
     let third = read_on (behind_version version) (behind_size version size) second lines None read.end trace.rows (second_read version second size (size_read second size q.0)) read.is in
     let all : read_lines (start true) (first ∷ second ∷ lines) ≡ Ok (read.end, trace.rows) =
     read_on (start true) (behind_version version) first (second ∷ lines) None read.end trace.rows (first_read first version (version_read first version p.0)) third in
-    let count = read.count in
     ap (λ (x : Result (State × List TraceRow) (ℕ × LineFault)). whole x) all
-    ∙ whole_of read.end trace.rows trace (omega (arith, count)) read.version_is read.size_is read.rings_are (omega (arith, count, first_is)) refl
+    ∙ whole_of read.end trace.rows trace (omega (arith, read.count)) read.version_is read.size_is read.rings_are (omega (arith, read.count, first_is)) refl
 
 -- a valid trace that the text spells is what is read
 pub read_if_spelled : (text : List ℕ) (trace : TraceText) → IsTrue (spells trace text) → IsTrace trace → trace_of true text ≡ Ok trace
@@ -276,13 +182,6 @@ read_if_spelled text trace spelled is = written_reads (lines_of text) trace spel
 
 -- ---- the law
 
-pub read_is_spelled : (text : List ℕ) (trace : TraceText) → (trace_of true text ≡ Ok trace) ↔ (IsTrue (spells trace text) × IsTrace trace)
-read_is_spelled text trace = (spelled_if_read text trace, λ both. read_if_spelled text trace both.0 both.1)
-
 -- a text spells one valid trace
 pub one_trace : (text : List ℕ) (s t : TraceText) → IsTrue (spells s text) → IsTrace s → IsTrue (spells t text) → IsTrace t → s ≡ t
-one_trace text s t spells_s is_s spells_t is_t =
-    value_same s t (sym (read_if_spelled text s spells_s is_s) ∙ read_if_spelled text t spells_t is_t)
-  where
-    value_same : (s t : TraceText) → ◌≡◌ {A = Result TraceText (ℕ × LineFault)} (Ok s) (Ok t) → s ≡ t
-    value_same s t same = cc same
+one_trace text s t spells_s is_s spells_t is_t = search (rules, read_if_spelled)

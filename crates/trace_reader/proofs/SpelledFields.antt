@@ -1,6 +1,6 @@
 -- Fields of a line, and how they are written
-use Rattle.std.proofs.Common.{◌≡◌, ◌+◌, ◌<◌, ◌^◌, ◌∷◌, ◌++◌, ◌∙◌, ℕ, suc, Bool, true, false, List, [], length, map, cond, Option, Some, None, All, refl, ap, arith, option_map}
-use Rattle.trace_reader.proofs.Words.{Width, byte_len, option_and_then, bytes_eq, str_to_ascii_lowercase, and_parts, and_from, nat_tests, bytes_eq-Decides, All-weaker, All-cons, All-nil, is_empty, has_empty_field, digits_of, number_of, HasBytes, said, spelled, digits_are_lower, digits_stay_lower, length-digits_of, is_lower_digit, spaced_length, Field, Word, Digits, printed, may_be_written, are_written, both}
+use Rattle.trace_reader.proofs.Words.{common_steps, rules, ◌≡◌, ◌+◌, ◌<◌, ◌^◌, ◌∷◌, ◌++◌, ◌∙◌, ℕ, Bool, true, false, List, [], length, map, cond, Option, Some, None, All, refl, ap, arith, Width, byte_len, option_and_then, bytes_eq, str_to_ascii_lowercase, and_parts, and_from, nat_tests, bytes_eq-Decides, All-weaker, All-cons, All-nil, is_empty, has_empty_field, digits_of, number_of, HasBytes, said, spelled, digits_are_lower, digits_stay_lower, length-digits_of, is_lower_digit, spaced_length, Field, Word, Digits, printed, may_be_written, are_written, both}
+use Rattle.std.proofs.Common.{option_map}
 use mir.Val.{bits}
 
 -- ---- tests and options
@@ -13,26 +13,20 @@ are_same_bytes xs ys same = (bytes_eq-Decides xs ys).1 same
 
 module _ {A B C : Type 0} where
   pub both_there : (f : A → B → C) (x : Option A) (y : Option B) (c : C) → both f x y ≡ Some c → (a : A) × (b : B) × (x ≡ Some a) × (y ≡ Some b) × (f a b ≡ c)
-  both_there f (Some a) (Some b) c is = (a, b, refl, refl, cc is)
-  both_there f (Some a) None c is = cc is
-  both_there f None (Some b) c is = cc is
-  both_there f None None c is = cc is
+  both_there f x y c is = search rules
 
   pub both_of : (f : A → B → C) (x : Option A) (y : Option B) (a : A) (b : B) → x ≡ Some a → y ≡ Some b → both f x y ≡ Some (f a b)
   both_of f x y a b is is' = rw (is, is') refl
 
 module _ {A B : Type 0} where
   pub mapped_there : (f : A → B) (x : Option A) (b : B) → option_map f x ≡ Some b → (a : A) × (x ≡ Some a) × (f a ≡ b)
-  mapped_there f (Some a) b is = (a, refl, cc is)
-  mapped_there f None b is = cc is
+  mapped_there f x b is = search rules
 
   pub then_there : (f : A → Option B) (x : Option A) (b : B) → option_and_then f x ≡ Some b → (a : A) × (x ≡ Some a) × (f a ≡ Some b)
-  then_there f (Some a) b is = (a, refl, is)
-  then_there f None b is = cc is
+  then_there f x b is = search rules
 
 pub cond_there : {A : Type 0} (t : Bool) (a b : A) → cond t (Some a) None ≡ Some b → (t ≡ true) × (a ≡ b)
-cond_there true a b is = (refl, cc is)
-cond_there false a b is = cc is
+cond_there t a b is = search rules
 
 -- ---- one field
 
@@ -58,19 +52,12 @@ sound_digits w n some = record {
   writes = are_same_bytes (str_to_ascii_lowercase (digits_of w n)) (digits_of w n) (digits_stay_lower w n);
 }
 
-lower_length : (text : List ℕ) → length (str_to_ascii_lowercase text) ≡ length text
-lower_length [] = refl
-lower_length (c ∷ rest) = ap suc (lower_length rest)
-
 written_length : (field : Field) (text : List ℕ) → may_be_written field text ≡ true → length text ≡ length (printed field)
-written_length (Word word) text written = ap length (same_bytes text word written)
-written_length (Digits digits) text written = omega (arith, lower_length text, ap length (same_bytes (str_to_ascii_lowercase text) digits written))
+written_length field text written = grind (arith, common_steps, same_bytes)
 
 -- a number's field is written so where it says the number
 pub number_written : (w : Width) (has : HasBytes w) (text : List ℕ) (n : ℕ) → number_of w text ≡ Some n → (may_be_written (Digits (digits_of w n)) text ≡ true) × (n < 2 ^ bits w)
-number_written w has text n says =
-    let is = said w has text n says in
-    (are_same_bytes (str_to_ascii_lowercase text) (digits_of w n) is.0, is.1)
+number_written w has text n says = (are_same_bytes (str_to_ascii_lowercase text) (digits_of w n) (said w has text n says).0, (said w has text n says).1)
 
 pub number_read : (w : Width) (has : HasBytes w) (text : List ℕ) (n : ℕ) → n < 2 ^ bits w → may_be_written (Digits (digits_of w n)) text ≡ true → number_of w text ≡ Some n
 number_read w has text n small written = spelled w has text n small (same_bytes (str_to_ascii_lowercase text) (digits_of w n) written)
@@ -90,8 +77,7 @@ sound_map f sound [] = tt
 sound_map f sound (x ∷ xs) = (sound x, sound_map f sound xs)
 
 written_filled : (field : Field) (text : List ℕ) → IsSound field → may_be_written field text ≡ true → is_empty text ≡ false
-written_filled field [] sound written = absurd (omega (arith, sound.some, written_length field [] written))
-written_filled field (c ∷ rest) sound written = refl
+written_filled field text sound written = search (rules, written_length)
 
 -- no field of theirs is empty
 pub all_filled : (fields : List Field) (texts : List (List ℕ)) → AllSound fields → are_written fields texts ≡ true → has_empty_field texts ≡ false
@@ -109,9 +95,7 @@ written_lengths [] (text ∷ texts) written = cc written
 written_lengths (field ∷ fields) [] written = cc written
 written_lengths (field ∷ fields) (text ∷ texts) written =
     let parts = and_parts (may_be_written field text) (are_written fields texts) written in
-    let first = written_length field text parts.0 in
-    let rest = written_lengths fields texts parts.1 in
-    omega (arith, first, rest)
+    omega (arith, written_length field text parts.0, written_lengths fields texts parts.1)
 
 pub written_as_printed : (fields : List Field) → AllSound fields → are_written fields (map printed fields) ≡ true
 written_as_printed [] sound = refl
@@ -119,8 +103,7 @@ written_as_printed (field ∷ fields) sound = and_from (may_be_written field (pr
 
 pub plain_fields : (fields : List Field) → AllSound fields → All (λ text. All (λ c. 32 < c) text) (map printed fields)
 plain_fields [] sound = All-nil (λ text. All (λ c. 32 < c) text)
-plain_fields (field ∷ fields) sound =
-    All-cons (λ text. All (λ c. 32 < c) text) (printed field) (map printed fields) sound.0.plain (plain_fields fields sound.1)
+plain_fields (field ∷ fields) sound = All-cons (λ text. All (λ c. 32 < c) text) (printed field) (map printed fields) sound.0.plain (plain_fields fields sound.1)
 
 pub spaced_length-append : (xs ys : List (List ℕ)) → spaced_length (xs ++ ys) ≡ spaced_length xs + spaced_length ys
 spaced_length-append [] ys = omega arith

@@ -1,6 +1,5 @@
 -- A line without a fault: what it says, and that it spells it
-use Rattle.std.proofs.Common.{◌≡◌, ◌≤◌, ◌||◌, ◌∙◌, ℕ, Bool, true, false, not, cond, List, length, map, nat_lt, Option, Some, None, Ok, Err, is_none, refl, sym, ap, arith, le-ltb, ltb-false, ne_eqb}
-use Rattle.trace_reader.proofs.Words.{list_any, option_and_then, option_map_or, not-false, or_parts, fields_of, has_empty_field, TextLine, length-fields_of, spaced_length, is_shape, LineFault, BadRow, Number, Limit, Shape, Ring, Sub, Write, Reg, Bell, Read, TraceRow, Plain, Comes, Goes, Withdraws, has_used_id, has_ring_rows, trace_row_fields, Form, clash, most_of, most_bytes, most_declared, State, next_number, form_in, said_in, is_bad_row, is_bad_number, is_too_much, is_past_limit, is_too_long, is_misplaced, is_bad_shape, row_fault, line_fault, with_said, after, read_line, printed, said_of, Said, SaysRow, SaysRing}
+use Rattle.trace_reader.proofs.Words.{rules, ◌≡◌, ◌≤◌, ◌||◌, ◌∙◌, ℕ, Bool, true, false, not, List, length, map, nat_lt, Option, Some, None, Ok, Err, is_none, refl, sym, ap, arith, le-ltb, ltb-false, ne_eqb, list_any, option_and_then, option_map_or, not-false, or_parts, fields_of, has_empty_field, TextLine, length-fields_of, spaced_length, is_shape, LineFault, Ring, Sub, Write, Reg, Bell, Read, TraceRow, Plain, Comes, Goes, Withdraws, has_used_id, has_ring_rows, trace_row_fields, Form, clash, most_of, most_bytes, most_declared, State, next_number, form_in, said_in, is_bad_row, is_bad_number, is_too_much, is_past_limit, is_too_long, is_misplaced, is_bad_shape, row_fault, line_fault, with_said, after, read_line, printed, said_of, Said, SaysRow, SaysRing}
 use Rattle.trace_reader.proofs.SpelledFields.{AllSound, all_filled, then_there, written_lengths}
 use Rattle.trace_reader.proofs.SpelledSaid.{FitsSaid, IsRead, IsSpelled, fields_said, read_from_spelled, spelled_from_read, stands}
 use Rattle.trace_reader.proofs.SpelledHeaders.{shape_says}
@@ -17,10 +16,6 @@ pub record IsGood (st : State) (line : TextLine) (s : Said) : Type 0 where
 
 -- ---- from no fault
 
-no_fault : (t : Bool) (fault : LineFault) (rest : Option LineFault) → cond t (Some fault) rest ≡ None → (t ≡ false) × (rest ≡ None)
-no_fault true fault rest is = cc is
-no_fault false fault rest is = (refl, is)
-
 record NoFaults (st : State) (line : TextLine) : Type 0 where
   short : is_too_long line ≡ false
   row : is_bad_row st line ≡ false
@@ -30,21 +25,14 @@ record NoFaults (st : State) (line : TextLine) : Type 0 where
 
 no_faults : (st : State) (line : TextLine) → row_fault st line ≡ None → NoFaults st line
 unfolding row_fault
-no_faults st line none =
-    let a = no_fault (is_too_long line) Limit _ none in
-    let b = no_fault (is_bad_row st line) BadRow _ a.1 in
-    let c = no_fault (is_bad_number st line) Number _ b.1 in
-    let d = no_fault (is_past_limit st line) Limit _ c.1 in
-    let e = no_fault (is_bad_shape st line) Shape None d.1 in
-    record { short = a.0; row = b.0; number = c.0; limit = d.0; shape = e.0 }
+no_faults st line none = search rules
 
 no_row_fault : (st : State) (line : TextLine) → NoFaults st line → row_fault st line ≡ None
 unfolding row_fault
 no_row_fault st line none = rw (none.short, none.row, none.number, none.limit, none.shape) refl
 
 pub there : {A : Type 0} (o : Option A) → is_none o ≡ false → (a : A) × (o ≡ Some a)
-there (Some a) is = (a, refl)
-there None is = cc is
+there o is = search rules
 
 record RowTests (st : State) (line : TextLine) : Type 0 where
   ended : line.is_ended ≡ true
@@ -53,10 +41,7 @@ record RowTests (st : State) (line : TextLine) : Type 0 where
 
 row_tests : (st : State) (line : TextLine) → is_bad_row st line ≡ false → RowTests st line
 unfolding is_bad_row
-row_tests st line good =
-    let b = or_parts (not line.is_ended || has_empty_field (fields_of line.content)) (is_none (form_in st line)) good in
-    let c = or_parts (not line.is_ended) (has_empty_field (fields_of line.content)) b.0 in
-    record { ended = not-false line.is_ended c.0; filled = c.1; formed = b.1 }
+row_tests st line good = search (rules, or_parts)
 
 no_bad_row : (st : State) (line : TextLine) → RowTests st line → is_bad_row st line ≡ false
 unfolding is_bad_row
@@ -85,16 +70,14 @@ pub good_from_none : (st : State) (line : TextLine) → row_fault st line ≡ No
 unfolding is_bad_number is_past_limit is_bad_shape
 good_from_none st line none =
     let n = no_faults st line none in
-    let tests = row_tests st line n.row in
     let is = there (said_in st line) n.number in
-    let by = said_by st line is.0 is.1 in
     let limits = or_parts (nat_lt (most_of st) (next_number st)) (option_map_or is_too_much (said_in st line) false) n.limit in (
       is.0,
       is.1,
       record {
-        ended = tests.ended;
-        spelled = by.spelled;
-        ordered = by.ordered;
+        ended = (row_tests st line n.row).ended;
+        spelled = (said_by st line is.0 is.1).spelled;
+        ordered = (said_by st line is.0 is.1).ordered;
         within = ltb-false (most_of st) (next_number st) limits.0;
         few = rw is.1 at limits.1;
         placed = rw is.1 at n.shape;
@@ -104,8 +87,7 @@ good_from_none st line none =
 -- ---- to no fault
 
 pub said_sound : (s : Said) → AllSound (fields_said s)
-said_sound (SaysRow row) = trace_row_sound row
-said_sound (SaysRing ring) = ring_sound ring
+said_sound s = search (rules, trace_row_sound, ring_sound)
 
 pub few_blocks : (n : ℕ) → nat_lt most_declared n ≡ false → n ≤ most_declared
 few_blocks n few = ltb-false most_declared n few
@@ -127,11 +109,7 @@ said_fits rings later (SaysRing ring) fits few placed = ring_length ring ((shape
 
 short_line : (st : State) (line : TextLine) (s : Said) → IsGood st line s → is_too_long line ≡ false
 unfolding is_too_long
-short_line st line s good =
-    let long = length-fields_of line.content in
-    let same = written_lengths (fields_said s) (fields_of line.content) good.spelled.written in
-    let fits = said_fits st.rings st.later s good.spelled.fits good.few good.placed in
-    le-ltb most_bytes (length line.content) (omega (arith, long, same, fits))
+short_line st line s good = search (rules, length-fields_of, written_lengths, fields_said, said_fits)
 
 read_in : (st : State) (line : TextLine) (s : Said) → IsRead st.version st.begun s (fields_of line.content) → said_in st line ≡ Some s
 unfolding said_in form_in
@@ -170,21 +148,12 @@ unfolding after
 after_is st line behind = rw (ne_eqb st.lines 0 (λ e. omega (arith, e)), ne_eqb st.lines 1 (λ e. omega (arith, e))) refl
 
 pub ok_there : {A : Type 0} (fault : Option LineFault) (a b : A) → option_map_or (λ f. Err f) fault (Ok a) ≡ Ok b → (fault ≡ None) × (a ≡ b)
-ok_there (Some f) a b is = cc is
-ok_there None a b is = (refl, cc is)
+ok_there fault a b is = search rules
 
-pub step_from_read : (st : State) (line : TextLine) (p : State × Option TraceRow) → 2 ≤ st.lines → read_line st line ≡ Ok p →
-    (s : Said) × IsGood st line s × (with_said st (Some s) ≡ p)
+pub step_from_read : (st : State) (line : TextLine) (p : State × Option TraceRow) → 2 ≤ st.lines → read_line st line ≡ Ok p → (s : Said) × IsGood st line s × (with_said st (Some s) ≡ p)
 unfolding read_line
-step_from_read st line p behind is =
-    let q = ok_there (line_fault st line) (after st line) p is in
-    let good = good_from_none st line (sym (line_fault_is st line behind) ∙ q.0) in
-    (good.0, good.2, ap (λ (o : Option Said). with_said st o) (sym good.1) ∙ sym (after_is st line behind) ∙ q.1)
+step_from_read st line p behind is = search (rules, ok_there, good_from_none, line_fault_is, after_is)
 
 pub read_from_good : (st : State) (line : TextLine) (s : Said) → 2 ≤ st.lines → IsGood st line s → read_line st line ≡ Ok (with_said st (Some s))
 unfolding read_line
-read_from_good st line s behind good =
-    let n = none_from_good st line s good in
-    let fault : line_fault st line ≡ None = line_fault_is st line behind ∙ n.0 in
-    let next : after st line ≡ with_said st (Some s) = after_is st line behind ∙ ap (λ (o : Option Said). with_said st o) n.1 in
-    rw (fault, next) refl
+read_from_good st line s behind good = search (rules, none_from_good, line_fault_is, after_is)

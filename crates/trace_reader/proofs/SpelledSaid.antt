@@ -1,6 +1,5 @@
 -- What a line of a trace says, and how it is written
-use Rattle.std.proofs.Common.{◌≡◌, ◌≢◌, ◌<◌, ◌^◌, ◌&&◌, ◌++◌, ℕ, Bool, true, false, not, List, length, Some, All, refl}
-use Rattle.trace_reader.proofs.Words.{is_wide, IsRow, Ring, Row, Sub, Write, Reg, Bell, Read, TraceRow, Plain, Comes, Goes, Withdraws, Xfer, Version, has_ring_rows, is_of_version, Line, Field, are_written, row_fields, ring_fields, trace_row_fields, Form, form_of, driver_lines, ring_lines, said_of, sub_line, write_line, reg_line, bell_line, event_line, ring_line, comes_line, goes_line, withdraws_line, Said, SaysRow, SaysRing}
+use Rattle.trace_reader.proofs.Words.{rules, ◌≡◌, ◌≢◌, ◌<◌, ◌^◌, ◌&&◌, ◌++◌, ℕ, Bool, true, false, not, List, length, Some, All, refl, is_wide, IsRow, Ring, Row, Sub, Write, Reg, Bell, Read, TraceRow, Plain, Comes, Goes, Withdraws, Xfer, Version, has_ring_rows, is_of_version, Line, Field, are_written, row_fields, ring_fields, trace_row_fields, Form, form_of, driver_lines, ring_lines, said_of, sub_line, write_line, reg_line, bell_line, event_line, ring_line, comes_line, goes_line, withdraws_line, Said, SaysRow, SaysRing}
 use Rattle.trace_reader.proofs.Grammar.{AreLines, IsSaid, said_read, table_written}
 use Rattle.trace_reader.proofs.SpelledSegments.{FitsSegment}
 
@@ -57,16 +56,7 @@ IsSort ring_rows begun l s = stands ring_rows begun s ≡ true
 
 rings_are_lines : (ring_rows begun : Bool) → AreLines fields_said FitsSaid (IsSort ring_rows begun) (ring_lines ring_rows begun)
 unfolding ring_fields trace_row_fields
-rings_are_lines false false = ((λ v. (refl, (λ fits. record { id = fits.0; some = fits.1.1.1; segments = fits.1.1.0 }), refl)), tt)
-rings_are_lines false true = tt
-rings_are_lines true false = (
-  (λ v. (refl, (λ fits. record { id = fits.0; some = fits.1.1.1; segments = fits.1.1.0 }), refl)),
-  ((λ v. (refl, (λ fits. fits.0), refl)), ((λ v. (refl, (λ fits. (fits.0, fits.1.0)), refl)), tt)),
-)
-rings_are_lines true true = (
-  (λ v. (refl, (λ fits. (record { id = fits.0; some = fits.1.1.1; segments = fits.1.1.0 }, fits.1.0)), refl)),
-  ((λ v. (refl, (λ fits. fits.0), refl)), ((λ v. (refl, (λ fits. (fits.0, fits.1.0)), refl)), tt)),
-)
+rings_are_lines ring_rows begun = search rules
 
 said_are_lines : (ring_rows begun : Bool) → AreLines fields_said FitsSaid (IsSort ring_rows begun) (driver_lines ++ ring_lines ring_rows begun)
 unfolding row_fields trace_row_fields
@@ -131,11 +121,4 @@ module _ (version : Version) (begun : Bool) where
 -- ---- a row that stands there
 
 pub row_of_version : (version : Version) (begun : Bool) (row : TraceRow) → stands (has_ring_rows version) begun (SaysRow row) ≡ true → is_of_version version row ≡ true
-row_of_version version begun (Plain row) there = refl
-row_of_version version begun (Comes ring) there = by_tests (has_ring_rows version) begun there
-  where
-    by_tests : (a b : Bool) → (a && b) ≡ true → a ≡ true
-    by_tests true b both = refl
-    by_tests false b both = cc both
-row_of_version version begun (Goes ring) there = there
-row_of_version version begun (Withdraws ring position) there = there
+row_of_version version begun row there = search rules

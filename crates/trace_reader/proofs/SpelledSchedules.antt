@@ -1,6 +1,5 @@
 -- What is read of a text is the valid schedule that the text spells
-use Rattle.std.proofs.Common.{◌≡◌, ◌<◌, ◌≤◌, ◌∷◌, ◌∙◌, ℕ, inl, inr, Bool, true, false, cond, List, [], length, map, Some, None, Result, Ok, IsTrue, refl, sym, arith, codes, le-ltb, ltb-false}
-use Rattle.trace_reader.proofs.Words.{bytes_eq, and_parts, and_from, cases_Bool, fields_of, TextLine, lines_of, spaced_length, LineFault, Limit, Step, NextRow, Look, Report, Finish, Other, Scribble, most_bytes, most_schedule_lines, IsStep, finish_line, is_past_schedule_limit, is_schedule_version, look_line, other_line, report_line, row_line, schedule_in, schedule_of, scrib_line, step_fault, step_form_of, step_line, step_lines, step_value, IsSchedule, printed_schedule, schedule_lines, schedule_version_fields, spells_schedule, step_fields, are_written, is_written, lines_written, printed}
+use Rattle.trace_reader.proofs.Words.{rules, ◌≡◌, ◌<◌, ◌≤◌, ◌∷◌, ℕ, inl, inr, Bool, true, false, cond, List, [], length, map, Some, None, Ok, IsTrue, refl, arith, codes, le-ltb, ltb-false, and_parts, and_from, cases_Bool, fields_of, TextLine, lines_of, spaced_length, Limit, Step, NextRow, Look, Report, Finish, Other, Scribble, most_bytes, most_schedule_lines, IsStep, finish_line, is_past_schedule_limit, is_schedule_version, look_line, other_line, report_line, row_line, schedule_in, schedule_of, scrib_line, step_fault, step_form_of, step_line, step_lines, step_value, IsSchedule, printed_schedule, schedule_lines, schedule_version_fields, spells_schedule, step_fields, are_written, is_written, lines_written, printed}
 use Rattle.trace_reader.proofs.Grammar.{AnySort, AreLines, IsSaid, table_read, table_written}
 use Rattle.trace_reader.proofs.LineByLine.{AreSpelled, IsSpelling, line_read, line_spells, lines_read, lines_spell}
 use Rattle.trace_reader.proofs.Printed.{AllSoundLines, IsSoundLine, printed_lines, sound_lines_map}
@@ -22,10 +21,7 @@ step_are_lines = (
         (λ v. (refl, (λ fits. fits), tt)),
         (
           (λ v. (refl, (λ fits. fits), tt)),
-          (
-            (λ v. (refl, (λ fits. (fits.0, fits.1.0)), tt)),
-            tt,
-          ),
+          ((λ v. (refl, (λ fits. (fits.0, fits.1.0)), tt)), tt),
         ),
       ),
     ),
@@ -45,21 +41,11 @@ each_is_said (Scribble at word) = record { line = scrib_line; says = (at, (word,
 
 step_sound : (step : Step) → AllSound (step_fields step)
 unfolding step_fields
-step_sound NextRow = (sound_named (codes "row") (omega arith) refl, tt)
-step_sound (Look ring) = (sound_named (codes "look") (omega arith) refl, (digits_8 ring, tt))
-step_sound (Report event) = (sound_named (codes "report") (omega arith) refl, block_sound event)
-step_sound (Finish event) = (sound_named (codes "finish") (omega arith) refl, block_sound event)
-step_sound (Other event) = (sound_named (codes "other") (omega arith) refl, block_sound event)
-step_sound (Scribble at word) = (sound_named (codes "scrib") (omega arith) refl, (digits_64 at, (digits_32 word, tt)))
+step_sound step = search (rules, sound_named, digits_8, block_sound, digits_64, digits_32)
 
 step_short : (step : Step) → IsStep step → spaced_length (map printed (step_fields step)) ≤ most_bytes
 unfolding step_fields
-step_short NextRow is = omega arith
-step_short (Look ring) is = omega (arith, two_digits ring)
-step_short (Report event) is = omega (arith, block_length event is)
-step_short (Finish event) is = omega (arith, block_length event is)
-step_short (Other event) is = omega (arith, block_length event is)
-step_short (Scribble at word) is = omega (arith, sixteen_digits at, eight_digits word)
+step_short step is = search (rules, two_digits, block_length, sixteen_digits, eight_digits)
 
 step_spelling : (number : ℕ) → IsSpelling step_form_of step_value (step_fault number) step_fields IsStep
 unfolding step_form_of step_value
@@ -71,8 +57,7 @@ step_spelling number = record {
 }
 
 none_of : (b : Bool) → cond b (Some Limit) None ≡ None → b ≡ false
-none_of true is = cc is
-none_of false is = refl
+none_of b is = search rules
 
 steps_are_spelled : AreSpelled step_line step_fields IsStep most_schedule_lines
 steps_are_spelled = record {
@@ -80,8 +65,7 @@ steps_are_spelled = record {
       let p = line_spells step_form_of step_value (step_fault number) step_fields IsStep (step_spelling number) line step is in
       (p.0, p.1, ltb-false most_schedule_lines number (none_of (is_past_schedule_limit number) p.2));
   reads = λ number line step written is within.
-      let none : step_fault number step ≡ None = rw (le-ltb most_schedule_lines number within) refl in
-      line_read step_form_of step_value (step_fault number) step_fields IsStep (step_spelling number) line step written is none;
+      line_read step_form_of step_value (step_fault number) step_fields IsStep (step_spelling number) line step written is (rw (le-ltb most_schedule_lines number within) refl);
 }
 
 -- ---- the text
@@ -93,12 +77,6 @@ version_words = refl
 version_written : (line : TextLine) → is_schedule_version line ≡ true → is_written schedule_version_fields line ≡ true
 unfolding is_schedule_version
 version_written line is = words_written schedule_version_fields (codes "xsched 1") line version_words is
-
-version_read : (line : TextLine) → is_written schedule_version_fields line ≡ true → is_schedule_version line ≡ true
-unfolding is_schedule_version
-version_read line written =
-    let is = two_words (codes "xsched") (codes "1") line written in
-    and_from line.is_ended (bytes_eq line.content (codes "xsched 1")) is.0 (are_same_bytes line.content (codes "xsched 1") is.1)
 
 read_spells : (lines : List TextLine) (steps : List Step) → schedule_in lines ≡ Ok steps → (lines_written (schedule_lines steps) lines ≡ true) × IsSchedule steps
 unfolding schedule_lines
@@ -119,12 +97,8 @@ unfolding schedule_of spells_schedule
 schedule_spelled_if_read text steps is = read_spells (lines_of text) steps is
 
 written_reads : (lines : List TextLine) (steps : List Step) → lines_written (schedule_lines steps) lines ≡ true → IsSchedule steps → schedule_in lines ≡ Ok steps
-unfolding schedule_lines
-written_reads [] steps written is = cc written
-written_reads (first ∷ lines) steps written is =
-    let p = and_parts (is_written schedule_version_fields first) (lines_written (map step_fields steps) lines) written in
-    let rest = lines_read step_line step_fields IsStep most_schedule_lines steps_are_spelled steps lines 2 p.1 is.steps (omega (arith, is.within)) in
-    rw (version_read first p.0) rest
+unfolding schedule_lines is_schedule_version
+written_reads lines steps written is = search (rules, and_parts, lines_read, steps_are_spelled, two_words, and_from, are_same_bytes)
 
 -- a valid schedule that the text spells is what is read
 pub schedule_read_if_spelled : (text : List ℕ) (steps : List Step) → IsTrue (spells_schedule steps text) → IsSchedule steps → schedule_of text ≡ Ok steps
@@ -133,22 +107,13 @@ schedule_read_if_spelled text steps spelled is = written_reads (lines_of text) s
 
 -- a text spells one valid schedule
 pub one_schedule : (text : List ℕ) (s t : List Step) → IsTrue (spells_schedule s text) → IsSchedule s → IsTrue (spells_schedule t text) → IsSchedule t → s ≡ t
-one_schedule text s t spells_s is_s spells_t is_t =
-    value_same s t (sym (schedule_read_if_spelled text s spells_s is_s) ∙ schedule_read_if_spelled text t spells_t is_t)
-  where
-    value_same : (s t : List Step) → ◌≡◌ {A = Result (List Step) (ℕ × LineFault)} (Ok s) (Ok t) → s ≡ t
-    value_same s t same = cc same
+one_schedule text s t spells_s is_s spells_t is_t = search (rules, schedule_read_if_spelled)
 
 -- ---- what is printed
 
 some_fields : (step : Step) → 0 < length (step_fields step)
 unfolding step_fields
-some_fields NextRow = omega arith
-some_fields (Look ring) = omega arith
-some_fields (Report event) = omega arith
-some_fields (Finish event) = omega arith
-some_fields (Other event) = omega arith
-some_fields (Scribble at word) = omega arith
+some_fields step = search rules
 
 step_sound_line : (step : Step) → IsSoundLine (step_fields step)
 step_sound_line step = record { some = some_fields step; sound = step_sound step }

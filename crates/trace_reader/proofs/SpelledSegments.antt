@@ -1,6 +1,5 @@
 -- Fields that say segments, and how segments are written
-use Rattle.std.proofs.Common.{◌≡◌, ◌<◌, ◌^◌, ◌==◌, ◌&&◌, ◌∷◌, ◌++◌, ◌∙◌, ℕ, suc, Bool, true, false, List, [], length, slice_index, take, drop, map, Option, Some, None, All, refl, sym, ap, subst, arith, length-append, drop-cons, take-append-drop, append_assoc, cond, codes, eqb-true, eq-eqb, w16, w64, take_at, drop_at}
-use Rattle.trace_reader.proofs.Words.{to_ascii_lowercase, str_to_ascii_lowercase, and_parts, and_from, nat_tests, length-map, map-append, take-map, drop-map, get_or_at, get_or-map, All-cons, All-nil, All-head, All-tail, digits_of, number_of, bytes_of_16, bytes_of_64, length-digits_of, said, spelled, Segment, may_be_written, are_written, segment_field, both, segment_of, segments_of}
+use Rattle.trace_reader.proofs.Words.{rules, ◌≡◌, ◌<◌, ◌^◌, ◌∷◌, ◌++◌, ◌∙◌, ℕ, suc, true, List, [], length, slice_index, take, drop, map, Some, All, refl, sym, ap, subst, arith, length-append, append_assoc, codes, eq-eqb, w16, w64, take_at, drop_at, to_ascii_lowercase, str_to_ascii_lowercase, and_parts, and_from, nat_tests, length-map, map-append, take-map, drop-map, get_or_at, get_or-map, All-cons, All-nil, All-head, All-tail, digits_of, number_of, bytes_of_16, bytes_of_64, length-digits_of, said, spelled, Segment, may_be_written, are_written, segment_field, segment_of, segments_of}
 use Rattle.trace_reader.proofs.SpelledFields.{same_bytes, are_same_bytes, both_there, both_of}
 
 -- ---- a segment
@@ -10,11 +9,7 @@ abbrev pub FitsSegment : Segment → Type 0
 FitsSegment segment = (segment.base < 2 ^ 64) × (segment.count < 2 ^ 16)
 
 split_at_colon : (field : List ℕ) → length field ≡ 21 → slice_index field 16 ≡ 58 → field ≡ take 16 field ++ 58 ∷ drop 17 field
-split_at_colon field long colon =
-    let inside : 16 < length field = omega arith in
-    let rest : drop 16 field ≡ slice_index field 16 ∷ drop 17 field = drop-cons field 16 0 inside in
-    let named : slice_index field 16 ∷ drop 17 field ≡ 58 ∷ drop 17 field = ap (λ (c : ℕ). c ∷ drop 17 field) colon in
-    sym (take-append-drop 16 field) ∙ ap (λ (xs : List ℕ). take 16 field ++ xs) (rest ∙ named)
+split_at_colon field long colon = search rules
 
 lower_parts : (xs ys : List ℕ) → str_to_ascii_lowercase (xs ++ 58 ∷ ys) ≡ str_to_ascii_lowercase xs ++ 58 ∷ str_to_ascii_lowercase ys
 lower_parts xs ys = map-append to_ascii_lowercase xs (58 ∷ ys)
@@ -25,19 +20,7 @@ digits_are base count = append_assoc (digits_of w64 base) (codes ":") (digits_of
 segment_tests : (field : List ℕ) (segment : Segment) → segment_of field ≡ Some segment →
     (length field ≡ 21) × (slice_index field 16 ≡ 58) × (number_of w64 (take 16 field) ≡ Some segment.base) × (number_of w16 (drop 17 field) ≡ Some segment.count)
 unfolding segment_of
-segment_tests field segment says =
-    let p = if_there (length field == 21 && slice_index field 16 == 58) (both (λ base count. record { base = base; count = count }) (number_of w64 (take 16 field)) (number_of w16 (drop 17 field))) segment says in
-    let t = and_parts (length field == 21) (slice_index field 16 == 58) p.0 in
-    let q = both_there (λ base count. record { base = base; count = count }) (number_of w64 (take 16 field)) (number_of w16 (drop 17 field)) segment p.1 in (
-      eqb-true (length field) 21 t.0,
-      eqb-true (slice_index field 16) 58 t.1,
-      q.2 ∙ ap (λ (s : Segment). Some s.base) q.4,
-      q.3 ∙ ap (λ (s : Segment). Some s.count) q.4,
-    )
-  where
-    if_there : {A : Type 0} (t : Bool) (a : Option A) (b : A) → cond t a None ≡ Some b → (t ≡ true) × (a ≡ Some b)
-    if_there true a b is = (refl, is)
-    if_there false a b is = cc is
+segment_tests field segment says = search (rules, and_parts, both_there)
 
 pub segment_written : (field : List ℕ) (segment : Segment) → segment_of field ≡ Some segment → (may_be_written (segment_field segment) field ≡ true) × FitsSegment segment
 segment_written field segment says =
@@ -62,20 +45,14 @@ segment_read field segment fits written =
     let sixteen : length bases ≡ 16 = length-digits_of w64 segment.base in
     let four : length counts ≡ 4 = length-digits_of w16 segment.count in
     let long : length field ≡ 21 = omega (arith, sym (length-map field to_ascii_lowercase), ap length is, length-append bases (58 ∷ counts), sixteen, four) in
-    let inside : 16 < length field = omega (arith, long) in
-    let at : slice_index (str_to_ascii_lowercase field) 16 ≡ to_ascii_lowercase (slice_index field 16) = get_or-map to_ascii_lowercase field 16 0 0 inside in
-    let there : slice_index (bases ++ 58 ∷ counts) 16 ≡ 58 = get_or_at bases 58 counts 0 16 sixteen in
-    let colon : slice_index field 16 ≡ 58 = lower_colon (slice_index field 16) (sym at ∙ ap (λ (xs : List ℕ). slice_index xs 16) is ∙ there) in
+    let at : slice_index (str_to_ascii_lowercase field) 16 ≡ to_ascii_lowercase (slice_index field 16) = get_or-map to_ascii_lowercase field 16 0 0 (omega (arith, long)) in
+    let colon : slice_index field 16 ≡ 58 = lower_colon (slice_index field 16) (sym at ∙ ap (λ (xs : List ℕ). slice_index xs 16) is ∙ (get_or_at bases 58 counts 0 16 sixteen)) in
     let front : str_to_ascii_lowercase (take 16 field) ≡ bases = sym (take-map to_ascii_lowercase 16 field) ∙ ap (λ (xs : List ℕ). take 16 xs) is ∙ take_at bases (58 ∷ counts) 16 sixteen in
-    let behind : str_to_ascii_lowercase (drop 17 field) ≡ counts = sym (drop-map to_ascii_lowercase 17 field) ∙ ap (λ (xs : List ℕ). drop 17 xs) is ∙ past bases counts sixteen in
-    let base = spelled w64 bytes_of_64 (take 16 field) segment.base fits.0 front in
-    let count = spelled w16 bytes_of_16 (drop 17 field) segment.count fits.1 behind in
-    rw (eq-eqb (length field) 21 long, eq-eqb (slice_index field 16) 58 colon, base, count) refl
+    let count = spelled w16 bytes_of_16 (drop 17 field) segment.count fits.1 (sym (drop-map to_ascii_lowercase 17 field) ∙ ap (λ (xs : List ℕ). drop 17 xs) is ∙ past bases counts sixteen) in
+    rw (eq-eqb (length field) 21 long, eq-eqb (slice_index field 16) 58 colon, spelled w64 bytes_of_64 (take 16 field) segment.base fits.0 front, count) refl
   where
     past : (xs ys : List ℕ) → length xs ≡ 16 → drop 17 (xs ++ 58 ∷ ys) ≡ ys
-    past xs ys l =
-        let seam : length (xs ++ 58 ∷ []) ≡ 17 = omega (arith, length-append xs (58 ∷ [])) in
-        ap (λ (zs : List ℕ). drop 17 zs) (sym (append_assoc xs (58 ∷ []) ys)) ∙ drop_at (xs ++ 58 ∷ []) ys 17 seam
+    past xs ys l = ap (λ (zs : List ℕ). drop 17 zs) (sym (append_assoc xs (58 ∷ []) ys)) ∙ drop_at (xs ++ 58 ∷ []) ys 17 (omega (arith, length-append xs (58 ∷ [])))
 
 -- ---- segments
 
@@ -87,16 +64,13 @@ segments_next field fields segments says = both_there (λ x rest. x ∷ rest) (s
 pub segments_written : (fields : List (List ℕ)) (segments : List Segment) → segments_of fields ≡ Some segments →
     (are_written (map segment_field segments) fields ≡ true) × All FitsSegment segments × (length fields ≡ length segments)
 unfolding segments_of
-segments_written [] segments says =
-    let none : [] ≡ segments = cc says in
-    subst (λ (xs : List Segment). (are_written (map segment_field xs) [] ≡ true) × All FitsSegment xs × (0 ≡ length xs)) none (refl, All-nil FitsSegment, refl)
+segments_written [] segments says = search (rules, All-nil)
 segments_written (field ∷ fields) segments says =
     let p = segments_next field fields segments says in
-    let here = segment_written field p.0 p.2 in
     let ih = segments_written fields p.1 p.3 in
     subst (λ (xs : List Segment). (are_written (map segment_field xs) (field ∷ fields) ≡ true) × All FitsSegment xs × (length (field ∷ fields) ≡ length xs)) p.4 (
-      and_from (may_be_written (segment_field p.0) field) (are_written (map segment_field p.1) fields) here.0 ih.0,
-      All-cons FitsSegment p.0 p.1 here.1 ih.1,
+      and_from (may_be_written (segment_field p.0) field) (are_written (map segment_field p.1) fields) (segment_written field p.0 p.2).0 ih.0,
+      All-cons FitsSegment p.0 p.1 (segment_written field p.0 p.2).1 ih.1,
       ap suc ih.2,
     )
 
@@ -108,6 +82,5 @@ segments_read [] (field ∷ fields) fit written = cc written
 segments_read (segment ∷ segments) [] fit written = cc written
 segments_read (segment ∷ segments) (field ∷ fields) fit written =
     let parts = and_parts (may_be_written (segment_field segment) field) (are_written (map segment_field segments) fields) written in
-    let here = segment_read field segment (All-head FitsSegment segment segments fit) parts.0 in
     let ih = segments_read segments fields (All-tail FitsSegment segment segments fit) parts.1 in
-    both_of (λ x rest. x ∷ rest) (segment_of field) (segments_of fields) segment segments here ih
+    both_of (λ x rest. x ∷ rest) (segment_of field) (segments_of fields) segment segments (segment_read field segment (All-head FitsSegment segment segments fit) parts.0) ih

@@ -1,6 +1,5 @@
 -- The fields of rows and rings: none is empty or has a space, and all fit a line
-use Rattle.std.proofs.Common.{◌≡◌, ◌*◌, ◌<◌, ◌≤◌, ◌∷◌, ◌++◌, ◌∙◌, ℕ, true, List, [], length, map, All, refl, ap, arith, length-append, codes, nat_lt, w8, w16, w32, w64, ltb-true}
-use Rattle.trace_reader.proofs.Words.{flat_map, list_all, to_ascii_lowercase, str_to_ascii_lowercase, map-append, AllPass-from_list_all, All-weaker, All-append, All-head, All-tail, digits_of, digits_stay_lower, length-digits_of, spaced_length, IsBlock, ring_name, Block, RingKind, Cmd, Evt, Xfer, Segment, register_name, most_bytes, most_declared, Word, Digits, printed, block_fields, segment_field, row_fields, ring_fields, Register, Usbcmd, Usbsts, Dnctrl, Crcr, Dcbaap, Config, Iman, Imod, Erstsz, Erstba, Erdp, Ring, Row, Sub, Write, Reg, Bell, Read, TraceRow, Plain, Comes, Goes, Withdraws, trace_row_fields}
+use Rattle.trace_reader.proofs.Words.{rules, common_steps, ◌≡◌, ◌*◌, ◌<◌, ◌≤◌, ◌∷◌, ◌∙◌, ℕ, true, List, [], length, map, All, refl, ap, arith, codes, nat_lt, w8, w32, w64, ltb-true, flat_map, list_all, map-append, AllPass-from_list_all, All-weaker, All-append, All-head, All-tail, digits_of, digits_stay_lower, length-digits_of, spaced_length, IsBlock, ring_name, Block, RingKind, Segment, register_name, most_bytes, most_declared, Word, Digits, printed, block_fields, segment_field, row_fields, ring_fields, Register, Ring, Row, Sub, Write, Reg, Bell, Read, TraceRow, Goes, Withdraws, trace_row_fields}
 use Rattle.trace_reader.proofs.SpelledFields.{IsSound, AllSound, sound_word, sound_digits, sound_append, sound_map, plain_digits, are_same_bytes, spaced_length-append}
 use Rattle.trace_reader.proofs.SpelledValues.{word_field}
 
@@ -12,23 +11,8 @@ plain_word word plain = All-weaker (λ c. nat_lt 32 c ≡ true) (λ c. 32 < c) (
 pub sound_named : (word : List ℕ) → 0 < length word → list_all (λ c. nat_lt 32 c) word ≡ true → IsSound (Word word)
 sound_named word some plain = sound_word word some (plain_word word plain)
 
-register_sound : (register : Register) → IsSound (Word (register_name register))
-register_sound Usbcmd = sound_named (codes "usbcmd") (omega arith) refl
-register_sound Usbsts = sound_named (codes "usbsts") (omega arith) refl
-register_sound Dnctrl = sound_named (codes "dnctrl") (omega arith) refl
-register_sound Crcr = sound_named (codes "crcr") (omega arith) refl
-register_sound Dcbaap = sound_named (codes "dcbaap") (omega arith) refl
-register_sound Config = sound_named (codes "config") (omega arith) refl
-register_sound Iman = sound_named (codes "iman") (omega arith) refl
-register_sound Imod = sound_named (codes "imod") (omega arith) refl
-register_sound Erstsz = sound_named (codes "erstsz") (omega arith) refl
-register_sound Erstba = sound_named (codes "erstba") (omega arith) refl
-register_sound Erdp = sound_named (codes "erdp") (omega arith) refl
-
 kind_sound : (kind : RingKind) → IsSound (Word (ring_name kind))
-kind_sound Cmd = sound_named (codes "cmd") (omega arith) refl
-kind_sound Evt = sound_named (codes "evt") (omega arith) refl
-kind_sound Xfer = sound_named (codes "xfer") (omega arith) refl
+kind_sound kind = search (rules, sound_named)
 
 pub digits_8 : (n : ℕ) → IsSound (Digits (digits_of w8 n))
 digits_8 n = sound_digits w8 n (omega arith)
@@ -40,29 +24,10 @@ pub digits_64 : (n : ℕ) → IsSound (Digits (digits_of w64 n))
 digits_64 n = sound_digits w64 n (omega arith)
 
 segment_length : (segment : Segment) → length (printed (segment_field segment)) ≡ 21
-segment_length segment =
-    let bases = digits_of w64 segment.base in
-    let counts = digits_of w16 segment.count in
-    let sixteen : length bases ≡ 16 = length-digits_of w64 segment.base in
-    let four : length counts ≡ 4 = length-digits_of w16 segment.count in
-    let front : length (bases ++ codes ":") ≡ 17 = omega (arith, length-append bases (codes ":"), sixteen) in
-    omega (arith, length-append (bases ++ codes ":") counts, front, four)
+segment_length segment = grind (arith, common_steps, length-digits_of)
 
 segment_sound : (segment : Segment) → IsSound (segment_field segment)
-segment_sound segment =
-    let bases = digits_of w64 segment.base in
-    let counts = digits_of w16 segment.count in
-    let lower : str_to_ascii_lowercase (bases ++ codes ":" ++ counts) ≡ bases ++ codes ":" ++ counts =
-    map-append to_ascii_lowercase (bases ++ codes ":") counts
-    ∙ ap (λ (xs : List ℕ). xs ++ str_to_ascii_lowercase counts) (map-append to_ascii_lowercase bases (codes ":") ∙ ap (λ (xs : List ℕ). xs ++ codes ":") (digits_stay_lower w64 segment.base))
-    ∙ ap (λ (xs : List ℕ). (bases ++ codes ":") ++ xs) (digits_stay_lower w16 segment.count) in
-    record {
-      some = omega (arith, segment_length segment);
-      plain =
-          All-append (λ c. 32 < c) (bases ++ codes ":") counts
-          (All-append (λ c. 32 < c) bases (codes ":") (plain_digits w64 segment.base) (plain_word (codes ":") refl)) (plain_digits w16 segment.count);
-      writes = are_same_bytes (str_to_ascii_lowercase (bases ++ codes ":" ++ counts)) (bases ++ codes ":" ++ counts) lower;
-    }
+segment_sound segment = grind (arith, common_steps, digits_stay_lower, segment_length, All-append, plain_digits, plain_word, are_same_bytes)
 
 pub block_sound : (block : Block) → AllSound (block_fields block)
 block_sound block = sound_map word_field digits_32 block.w
@@ -73,11 +38,7 @@ blocks_sound (block ∷ blocks) = sound_append (block_fields block) (flat_map bl
 
 pub row_sound : (row : Row) → AllSound (row_fields row)
 unfolding row_fields
-row_sound (Sub ring blocks) = (sound_named (codes "sub") (omega arith) refl, (digits_8 ring, blocks_sound blocks))
-row_sound (Write at word) = (sound_named (codes "w") (omega arith) refl, (digits_64 at, (digits_32 word, tt)))
-row_sound (Reg register value) = (sound_named (codes "reg") (omega arith) refl, (register_sound register, (digits_64 value, tt)))
-row_sound (Bell slot target) = (sound_named (codes "db") (omega arith) refl, (digits_8 slot, (digits_8 target, tt)))
-row_sound (Read event) = (sound_named (codes "ev") (omega arith) refl, block_sound event)
+row_sound row = search (rules, sound_named, digits_8, blocks_sound, digits_64, digits_32, block_sound)
 
 pub ring_sound : (ring : Ring) → AllSound (ring_fields ring)
 unfolding ring_fields
@@ -88,19 +49,15 @@ ring_sound ring = (
 
 pub trace_row_sound : (row : TraceRow) → AllSound (trace_row_fields row)
 unfolding trace_row_fields
-trace_row_sound (Plain row) = row_sound row
-trace_row_sound (Comes ring) = ring_sound ring
-trace_row_sound (Goes ring) = (sound_named (codes "free") (omega arith) refl, (digits_8 ring, tt))
-trace_row_sound (Withdraws ring position) = (sound_named (codes "nop") (omega arith) refl, (digits_8 ring, (digits_64 position, tt)))
+trace_row_sound row = search (rules, row_sound, ring_sound, sound_named, digits_8, digits_64)
 
 -- ---- lengths
 
 words_length : (words : List ℕ) → spaced_length (map printed (map word_field words)) ≡ 9 * length words
 words_length [] = refl
 words_length (x ∷ words) =
-    let ih = words_length words in
     let eight : length (digits_of w32 x) ≡ 8 = length-digits_of w32 x in
-    omega (arith, ih, eight)
+    omega (arith, words_length words, eight)
 
 pub block_length : (block : Block) → IsBlock block → spaced_length (map printed (block_fields block)) ≡ 36
 block_length block is = let l = words_length block.w in omega (arith, l, is.0)
@@ -108,33 +65,19 @@ block_length block is = let l = words_length block.w in omega (arith, l, is.0)
 pub blocks_length : (blocks : List Block) → All IsBlock blocks → spaced_length (map printed (flat_map block_fields blocks)) ≡ 36 * length blocks
 blocks_length [] are = refl
 blocks_length (block ∷ blocks) are =
-    let here = block_length block (All-head IsBlock block blocks are) in
-    let ih = blocks_length blocks (All-tail IsBlock block blocks are) in
     let parts = map-append printed (block_fields block) (flat_map block_fields blocks) in
     let all = ap (λ (xs : List (List ℕ)). spaced_length xs) parts ∙ spaced_length-append (map printed (block_fields block)) (map printed (flat_map block_fields blocks)) in
-    omega (arith, here, ih, all)
+    omega (arith, block_length block (All-head IsBlock block blocks are), blocks_length blocks (All-tail IsBlock block blocks are), all)
 
 segments_length : (segments : List Segment) → spaced_length (map printed (map segment_field segments)) ≡ 22 * length segments
 segments_length [] = refl
 segments_length (segment ∷ segments) = let ih = segments_length segments in omega (arith, ih, segment_length segment)
 
 register_length : (register : Register) → length (register_name register) ≤ 6
-register_length Usbcmd = omega arith
-register_length Usbsts = omega arith
-register_length Dnctrl = omega arith
-register_length Crcr = omega arith
-register_length Dcbaap = omega arith
-register_length Config = omega arith
-register_length Iman = omega arith
-register_length Imod = omega arith
-register_length Erstsz = omega arith
-register_length Erstba = omega arith
-register_length Erdp = omega arith
+register_length register = search rules
 
 kind_length : (kind : RingKind) → length (ring_name kind) ≤ 4
-kind_length Cmd = omega arith
-kind_length Evt = omega arith
-kind_length Xfer = omega arith
+kind_length kind = search rules
 
 pub two_digits : (n : ℕ) → length (digits_of w8 n) ≡ 2
 two_digits n = length-digits_of w8 n

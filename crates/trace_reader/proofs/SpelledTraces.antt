@@ -1,9 +1,8 @@
 -- What is read of a text's lines, and what the lines spell
-use Rattle.std.proofs.Common.{◌≡◌, ◌+◌, ◌≤◌, ◌&&◌, ◌∷◌, ◌++◌, ◌∙◌, ℕ, Bool, true, false, not, List, [], length, map, nat_lt, Option, Some, None, Result, Ok, Err, All, refl, sym, ap, subst, arith, append_assoc, append-nil, le-ltb, ltb-true, lt-ltb}
-use Rattle.trace_reader.proofs.Words.{list_any, list_all, and_parts, and_from, not-false, not-true, or_parts, or_from, All-cons, All-head, All-nil, All-tail, fields_of, TextLine, is_shape, LineFault, Ring, Row, Sub, Write, Reg, Bell, Read, TraceRow, Plain, Comes, Goes, Withdraws, Version, has_ring_rows, IsTraceRow, is_of_version, begins_with_ring, has_no_shape, has_used_id, have_new_ids, ids_with, behind_row, clash, may_stand_together, most_of, most_declared, State, go_on, is_misplaced, is_too_much, next_number, read_line, read_lines, with_row, with_said, IsRow, Field, are_written, is_written, lines_written, ring_fields, trace_row_fields, FitsLine, Said, SaysRow, SaysRing}
-use Rattle.trace_reader.proofs.SpelledSaid.{FitsRow, FitsText, row_of_version, stands}
+use Rattle.trace_reader.proofs.Words.{common_steps, rules, ◌≡◌, ◌+◌, ◌≤◌, ◌&&◌, ◌∷◌, ◌++◌, ◌∙◌, ℕ, Bool, true, false, not, List, [], length, map, nat_lt, Option, Some, None, Result, Ok, All, refl, sym, ap, subst, arith, append_assoc, append-nil, ltb-true, list_any, list_all, and_parts, and_from, not-true, or_parts, or_from, All-head, All-tail, fields_of, TextLine, is_shape, LineFault, Ring, TraceRow, Version, has_ring_rows, IsTraceRow, is_of_version, begins_with_ring, has_no_shape, has_used_id, have_new_ids, ids_with, behind_row, clash, may_stand_together, most_of, State, go_on, is_misplaced, is_too_much, next_number, read_line, read_lines, with_said, Field, are_written, lines_written, ring_fields, trace_row_fields, Said, SaysRow, SaysRing}
+use Rattle.trace_reader.proofs.SpelledSaid.{FitsRow, stands}
 use Rattle.trace_reader.proofs.SpelledHeaders.{no_clash, ring_fits, together_with}
-use Rattle.trace_reader.proofs.SpelledLines.{IsGood, few_blocks, read_from_good, step_from_read}
+use Rattle.trace_reader.proofs.SpelledLines.{IsGood, read_from_good, step_from_read}
 
 -- ---- rows
 
@@ -11,67 +10,25 @@ use Rattle.trace_reader.proofs.SpelledLines.{IsGood, few_blocks, read_from_good,
 abbrev pub IsLineRow : Version → TraceRow → Type 0
 IsLineRow version row = IsTraceRow row × (is_of_version version row ≡ true)
 
-plain_line : (row : Row) → IsRow row → FitsText row → is_too_much (SaysRow (Plain row)) ≡ false → IsRow row × FitsLine row
-plain_line (Sub ring blocks) is fits few = (is, (fits, few_blocks (length blocks) few))
-plain_line (Write at word) is fits few = (is, tt)
-plain_line (Reg register value) is fits few = (is, fits)
-plain_line (Bell slot target) is fits few = (is, tt)
-plain_line (Read event) is fits few = (is, tt)
-
 line_row : (rings : List Ring) (later : List ℕ) (row : TraceRow) → FitsRow row → is_too_much (SaysRow row) ≡ false → is_misplaced rings later (SaysRow row) ≡ false → IsTraceRow row
-line_row rings later (Plain row) is few placed = plain_line row is.0 is.1 few
-line_row rings later (Comes ring) is few placed =
-    let shaped = not-false (is_shape ring.shape) ((or_parts (not (is_shape ring.shape)) (has_used_id rings later (Comes ring)) placed).0) in
-    (is.0.id, shaped, is.1)
-line_row rings later (Goes ring) is few placed = is
-line_row rings later (Withdraws ring position) is few placed = is
-
-plain_text : (row : Row) → FitsLine row → FitsText row
-plain_text (Sub ring blocks) is = is.0
-plain_text (Write at word) is = tt
-plain_text (Reg register value) is = is
-plain_text (Bell slot target) is = tt
-plain_text (Read event) is = tt
+line_row rings later row is few placed = search (rules, or_parts)
 
 row_text : (row : TraceRow) → IsTraceRow row → FitsRow row
-row_text (Plain row) is = (is.0, plain_text row is.1)
-row_text (Comes ring) is = (ring_fits ring is.0 is.1, is.2)
-row_text (Goes ring) is = is
-row_text (Withdraws ring position) is = is
-
-plain_few : (row : Row) → FitsLine row → is_too_much (SaysRow (Plain row)) ≡ false
-plain_few (Sub ring blocks) is = le-ltb most_declared (length blocks) is.1
-plain_few (Write at word) is = refl
-plain_few (Reg register value) is = refl
-plain_few (Bell slot target) is = refl
-plain_few (Read event) is = refl
+row_text row is = search (rules, ring_fits)
 
 row_few : (row : TraceRow) → IsTraceRow row → is_too_much (SaysRow row) ≡ false
-row_few (Plain row) is = plain_few row is.1
-row_few (Comes ring) is = refl
-row_few (Goes ring) is = refl
-row_few (Withdraws ring position) is = refl
+row_few row is = search rules
 
 row_shape : (row : TraceRow) → IsTraceRow row → has_no_shape row ≡ false
-row_shape (Plain row) is = refl
-row_shape (Comes ring) is = ap not is.1
-row_shape (Goes ring) is = refl
-row_shape (Withdraws ring position) is = refl
+row_shape row is = search rules
 
 -- a ring is a row where rows have begun
 row_stands : (version : Version) (begun : Bool) (row : TraceRow) (rows : List TraceRow) → is_of_version version row ≡ true → (begun ≡ false → begins_with_ring (row ∷ rows) ≡ false) →
     stands (has_ring_rows version) begun (SaysRow row) ≡ true
-row_stands version begun (Plain row) rows of begins = refl
-row_stands version true (Comes ring) rows of begins = and_from (has_ring_rows version) true of refl
-row_stands version false (Comes ring) rows of begins = cc (begins refl)
-row_stands version begun (Goes ring) rows of begins = of
-row_stands version begun (Withdraws ring position) rows of begins = of
+row_stands version begun row rows of begins = search (rules, and_from)
 
 no_ring_first : (version : Version) (begun : Bool) (row : TraceRow) (rows : List TraceRow) → stands (has_ring_rows version) begun (SaysRow row) ≡ true → begun ≡ false → begins_with_ring (row ∷ rows) ≡ false
-no_ring_first version begun (Plain row) rows there fresh = refl
-no_ring_first version begun (Comes ring) rows there fresh = let both = (and_parts (has_ring_rows version) begun there).1 in cc (sym both ∙ fresh)
-no_ring_first version begun (Goes ring) rows there fresh = refl
-no_ring_first version begun (Withdraws ring position) rows there fresh = refl
+no_ring_first version begun row rows there fresh = search (rules, and_parts)
 
 -- a ring with an ID of its field and an allowed shape
 abbrev pub is_line_ring : Ring → Bool
@@ -102,54 +59,11 @@ behind_ring st ring = record st { lines = next_number st; rings = st.rings ++ ri
 
 good_line : (st : State) (line : TextLine) (s : Said) (fields : List Field) (rest : List (List Field)) (lines : List TextLine) →
     line.is_ended ≡ true → are_written fields (fields_of line.content) ≡ true → lines_written rest lines ≡ true → lines_written (fields ∷ rest) (line ∷ lines) ≡ true
-good_line st line s fields rest lines ended written others =
-    and_from (is_written fields line) (lines_written rest lines) (and_from line.is_ended (are_written fields (fields_of line.content)) ended written) others
-
-spelled_row : (st end : State) (line : TextLine) (row : TraceRow) (rows : List TraceRow) (lines : List TextLine) → IsGood st line (SaysRow row) →
-    IsSpelledAs (behind_row st row) end [] rows lines → IsSpelledAs st end [] (row ∷ rows) (line ∷ lines)
-spelled_row st end line row rows lines good rest = record {
-  written = good_line st line (SaysRow row) (trace_row_fields row) (map trace_row_fields rows) lines good.ended good.spelled.written rest.written;
-  rings_are = rest.rings_are;
-  size_is = rest.size_is;
-  version_is = rest.version_is;
-  count = omega (arith, rest.count);
-  fit =
-      All-cons (IsLineRow st.version) row rows (line_row st.rings st.later row good.spelled.fits good.few good.placed, row_of_version st.version st.begun row good.ordered) rest.fit;
-  begins = no_ring_first st.version st.begun row rows good.ordered;
-  new_ids =
-      let fresh = (or_parts (has_no_shape row) (has_used_id st.rings st.later row) good.placed).1 in
-      let others = subst (λ (rings : List Ring). have_new_ids rings (ids_with st.later row) rows ≡ true) (append-nil st.rings) rest.new_ids in
-      subst (λ (rings : List Ring). have_new_ids rings st.later (row ∷ rows) ≡ true) (sym (append-nil st.rings))
-      (and_from (not (has_used_id st.rings st.later row)) (have_new_ids st.rings (ids_with st.later row) rows) (ap not fresh) others);
-  shapes = refl;
-  ordered = λ begun. refl;
-  within = λ within. rest.within good.within;
-  together = rest.together;
-}
-
-ring_placed : (rings : List Ring) (later : List ℕ) (ring : Ring) → is_misplaced rings later (SaysRing ring) ≡ false → (is_shape ring.shape ≡ true) × (list_any (clash ring) rings ≡ false)
-ring_placed rings later ring placed =
-    let parts = or_parts (not (is_shape ring.shape)) (list_any (clash ring) rings) placed in
-    (not-false (is_shape ring.shape) parts.0, parts.1)
+good_line st line s fields rest lines ended written others = search (rules, and_from)
 
 spelled_ring : (st end : State) (line : TextLine) (ring : Ring) (rings : List Ring) (rows : List TraceRow) (lines : List TextLine) → IsGood st line (SaysRing ring) →
     IsSpelledAs (behind_ring st ring) end rings rows lines → IsSpelledAs st end (ring ∷ rings) rows (line ∷ lines)
-spelled_ring st end line ring rings rows lines good rest =
-    let placed = ring_placed st.rings st.later ring good.placed in
-    record {
-      written = good_line st line (SaysRing ring) (ring_fields ring) (lines_for rings rows) lines good.ended good.spelled.written rest.written;
-      rings_are = rest.rings_are ∙ append_assoc st.rings (ring ∷ []) rings;
-      size_is = rest.size_is;
-      version_is = rest.version_is;
-      count = omega (arith, rest.count);
-      fit = rest.fit;
-      begins = rest.begins;
-      new_ids = rw (append_assoc st.rings (ring ∷ []) rings) at rest.new_ids;
-      shapes = and_from (is_line_ring ring) (list_all is_line_ring rings) (and_from (nat_lt ring.id 256) (is_shape ring.shape) (lt-ltb ring.id 256 good.spelled.fits.id) placed.0) rest.shapes;
-      ordered = λ begun. let both : not true ≡ true = ap not (sym begun) ∙ good.ordered in cc both;
-      within = λ within. rest.within good.within;
-      together = λ together. rw (append_assoc st.rings (ring ∷ []) rings) at (rest.together (together_with st.rings ring together placed.1));
-    }
+spelled_ring st end line ring rings rows lines good rest = grind (arith, common_steps, good_line, and_from, together_with, or_parts)
 
 -- ---- from what is read
 
@@ -166,19 +80,9 @@ pub record GoesOn (step : Result (State × Option TraceRow) LineFault) (rest : S
   pub end_is : others.0 ≡ r.0
   pub rows_are : with_front next.1 others.1 ≡ r.1
 
-front_there : (row : Option TraceRow) (rest : Result (State × List TraceRow) (ℕ × LineFault)) (r : State × List TraceRow) → with_row row rest ≡ Ok r →
-    (q : State × List TraceRow) × (rest ≡ Ok q) × (q.0 ≡ r.0) × (with_front row q.1 ≡ r.1)
-front_there (Some row) (Ok (st, rows)) r is = let same : (st, row ∷ rows) ≡ r = cc is in ((st, rows), refl, ap (λ (x : State × List TraceRow). x.0) same, ap (λ (x : State × List TraceRow). x.1) same)
-front_there None (Ok (st, rows)) r is = let same : (st, rows) ≡ r = cc is in ((st, rows), refl, ap (λ (x : State × List TraceRow). x.0) same, ap (λ (x : State × List TraceRow). x.1) same)
-front_there (Some row) (Err fault) r is = cc is
-front_there None (Err fault) r is = cc is
-
 goes_on : (number : ℕ) (step : Result (State × Option TraceRow) LineFault) (rest : State → Result (State × List TraceRow) (ℕ × LineFault)) (r : State × List TraceRow) →
     go_on number step rest ≡ Ok r → GoesOn step rest r
-goes_on number (Ok (st, row)) rest r is =
-    let p = front_there row (rest st) r is in
-    record { next = (st, row); others = p.0; step_is = refl; rest_is = p.1; end_is = p.2; rows_are = p.3 }
-goes_on number (Err fault) rest r is = cc is
+goes_on number step rest r is = search rules
 
 pub lines_go_on : (st : State) (line : TextLine) (lines : List TextLine) (r : State × List TraceRow) → read_lines st (line ∷ lines) ≡ Ok r →
     GoesOn (read_line st line) (λ next. read_lines next lines) r
@@ -190,49 +94,24 @@ pub record Spells (st : State) (lines : List TextLine) (r : State × List TraceR
   pub rings : List Ring
   pub are : IsSpelledAs st r.0 rings r.1 lines
 
-nothing_read : (st : State) → IsSpelledAs st st [] [] []
-nothing_read st = record {
-  written = refl;
-  rings_are = sym (append-nil st.rings);
-  size_is = refl;
-  version_is = refl;
-  count = omega arith;
-  fit = All-nil (IsLineRow st.version);
-  begins = λ fresh. refl;
-  new_ids = refl;
-  shapes = refl;
-  ordered = λ begun. refl;
-  within = λ within. within;
-  together = λ together. rw (append-nil st.rings) together;
-}
-
 spells_on : (st : State) (line : TextLine) (lines : List TextLine) (s : Said) (others : State × List TraceRow) → IsGood st line s →
     Spells ((with_said st (Some s)).0) lines others → Spells st (line ∷ lines) (others.0, with_front ((with_said st (Some s)).1) others.1)
-spells_on st line lines (SaysRow row) others good rest =
-    let none : rest.rings ≡ [] = rest.are.ordered refl in
-    let are : IsSpelledAs (behind_row st row) others.0 [] others.1 lines = subst (λ (rings : List Ring). IsSpelledAs (behind_row st row) others.0 rings others.1 lines) none rest.are in
-    record { rings = []; are = spelled_row st others.0 line row others.1 lines good are }
-spells_on st line lines (SaysRing ring) others good rest =
-    record { rings = ring ∷ rest.rings; are = spelled_ring st others.0 line ring rest.rings others.1 lines good rest.are }
+spells_on st line lines (SaysRow row) others good rest = search rules
+spells_on st line lines (SaysRing ring) others good rest = record { rings = ring ∷ rest.rings; are = spelled_ring st others.0 line ring rest.rings others.1 lines good rest.are }
 
 pub spells_from_read : (lines : List TextLine) (st : State) (r : State × List TraceRow) → 2 ≤ st.lines → read_lines st lines ≡ Ok r → Spells st lines r
 unfolding read_lines
-spells_from_read [] st r behind is =
-    let same : (st, []) ≡ r = cc is in
-    subst (λ (x : State × List TraceRow). Spells st [] x) same (record { rings = []; are = nothing_read st })
+spells_from_read [] st r behind is = search rules
 spells_from_read (line ∷ lines) st r behind is =
     let g = lines_go_on st line lines r is in
     let step = step_from_read st line g.next behind g.step_is in
     let next_is : with_said st (Some step.0) ≡ g.next = step.2 in
-    let state_is : (with_said st (Some step.0)).0 ≡ g.next.0 = ap (λ (x : State × Option TraceRow). x.0) next_is in
     let row_is : (with_said st (Some step.0)).1 ≡ g.next.1 = ap (λ (x : State × Option TraceRow). x.1) next_is in
     let later : 2 ≤ ((with_said st (Some step.0)).0).lines = counted st step.0 behind in
     let ih : Spells ((with_said st (Some step.0)).0) lines g.others =
-    spells_from_read lines ((with_said st (Some step.0)).0) g.others later (ap (λ (x : State). read_lines x lines) state_is ∙ g.rest_is) in
-    let here = spells_on st line lines step.0 g.others step.1 ih in
-    let rows : with_front ((with_said st (Some step.0)).1) g.others.1 ≡ r.1 = ap (λ (o : Option TraceRow). with_front o g.others.1) row_is ∙ g.rows_are in
-    let same : (g.others.0, with_front ((with_said st (Some step.0)).1) g.others.1) ≡ r = λ k. (g.end_is k, rows k) in
-    subst (λ (x : State × List TraceRow). Spells st (line ∷ lines) x) same here
+    spells_from_read lines ((with_said st (Some step.0)).0) g.others later (ap (λ (x : State). read_lines x lines) (ap (λ (x : State × Option TraceRow). x.0) next_is) ∙ g.rest_is) in
+    let same : (g.others.0, with_front ((with_said st (Some step.0)).1) g.others.1) ≡ r = λ k. (g.end_is k, (ap (λ (o : Option TraceRow). with_front o g.others.1) row_is ∙ g.rows_are) k) in
+    subst (λ (x : State × List TraceRow). Spells st (line ∷ lines) x) same (spells_on st line lines step.0 g.others step.1 ih)
   where
     counted : (st : State) (s : Said) → 2 ≤ st.lines → 2 ≤ ((with_said st (Some s)).0).lines
     counted st (SaysRow row) behind = omega arith
@@ -251,15 +130,11 @@ pub record IsReadAs (st : State) (lines : List TextLine) (rings : List Ring) (ro
 pub read_on : (st next : State) (line : TextLine) (lines : List TextLine) (row : Option TraceRow) (end : State) (rows : List TraceRow) → read_line st line ≡ Ok (next, row) →
     read_lines next lines ≡ Ok (end, rows) → read_lines st (line ∷ lines) ≡ Ok (end, with_front row rows)
 unfolding read_lines
-read_on st next line lines (Some row) end rows step rest = rw (step, rest) refl
-read_on st next line lines None end rows step rest = rw (step, rest) refl
+read_on st next line lines row end rows step rest = search rules
 
 pub written_line : (fields : List Field) (line : TextLine) (rest : List (List Field)) (lines : List TextLine) → lines_written (fields ∷ rest) (line ∷ lines) ≡ true →
     (line.is_ended ≡ true) × (are_written fields (fields_of line.content) ≡ true) × (lines_written rest lines ≡ true)
-written_line fields line rest lines written =
-    let p = and_parts (is_written fields line) (lines_written rest lines) written in
-    let q = and_parts line.is_ended (are_written fields (fields_of line.content)) p.0 in
-    (q.0, q.1, p.1)
+written_line fields line rest lines written = search (rules, and_parts)
 
 pub rows_read : (rows : List TraceRow) (lines : List TextLine) (st : State) → 2 ≤ st.lines → All (IsLineRow st.version) rows → (st.begun ≡ false → begins_with_ring rows ≡ false) →
     have_new_ids st.rings st.later rows ≡ true → lines_written (map trace_row_fields rows) lines ≡ true → st.lines + length rows ≤ most_of st → IsReadAs st lines [] rows

@@ -1,6 +1,5 @@
 -- What number fields say, and how the numbers are written
-use Rattle.std.proofs.Common.{◌≡◌, ◌*◌, ◌<◌, ◌^◌, ◌&&◌, ◌∷◌, ◌++◌, ◌∙◌, ℕ, zero, suc, Bool, true, false, List, [], length, slice_index, map, Some, All, refl, ap, arith, subst, append-nil, w32}
-use Rattle.trace_reader.proofs.Words.{flat_map, and_parts, All-cons, All-nil, All-head, All-tail, digits_of, number_of, bytes_of_32, IsBlock, Block, Field, Digits, may_be_written, are_written, block_fields, block_of, blocks_of, event_of}
+use Rattle.trace_reader.proofs.Words.{rules, ◌≡◌, ◌*◌, ◌<◌, ◌^◌, ◌&&◌, ◌∷◌, ◌++◌, ◌∙◌, ℕ, Bool, true, false, List, [], length, slice_index, map, Some, All, refl, ap, arith, subst, append-nil, w32, flat_map, and_parts, All-cons, All-nil, All-head, All-tail, digits_of, number_of, bytes_of_32, IsBlock, Block, Field, Digits, may_be_written, are_written, block_fields, block_of, blocks_of, event_of}
 use Rattle.trace_reader.proofs.SpelledFields.{both_there, both_of, mapped_there, number_written, number_read}
 
 -- the digits of a word
@@ -21,38 +20,12 @@ pub record Words (a b c d : List ℕ) (block : Block) : Type 0 where
   pub fourth : number_of w32 d ≡ Some u
   pub are : record { w = x ∷ y ∷ z ∷ u ∷ [] } ≡ block
 
-rebuilt : (x y z u : ℕ) (e s r q w : List ℕ) (block : Block) → [] ≡ e → u ∷ e ≡ s → z ∷ s ≡ r → y ∷ r ≡ q → x ∷ q ≡ w → record { w = w } ≡ block → record { w = x ∷ y ∷ z ∷ u ∷ [] } ≡ block
-rebuilt x y z u e s r q w block nothing us zs ys xs is =
-    let words : x ∷ y ∷ z ∷ u ∷ [] ≡ w = cc in
-    ap (λ (ws : List ℕ). record { w = ws }) words ∙ is
-
 pub words_there : (a b c d : List ℕ) (block : Block) → block_of a b c d ≡ Some block → Words a b c d block
 unfolding block_of
-words_there a b c d block says =
-    let of = mapped_there (λ words. record { w = words }) _ block says in
-    let p = both_there (λ n rest. n ∷ rest) (number_of w32 a) _ of.0 of.1 in
-    let q = both_there (λ n rest. n ∷ rest) (number_of w32 b) _ p.1 p.3 in
-    let r = both_there (λ n rest. n ∷ rest) (number_of w32 c) _ q.1 q.3 in
-    let s = both_there (λ n rest. n ∷ rest) (number_of w32 d) _ r.1 r.3 in
-    let nothing : [] ≡ s.1 = cc (s.3) in
-    record {
-      x = p.0;
-      y = q.0;
-      z = r.0;
-      u = s.0;
-      first = p.2;
-      second = q.2;
-      third = r.2;
-      fourth = s.2;
-      are = rebuilt p.0 q.0 r.0 s.0 s.1 r.1 q.1 p.1 of.0 block nothing s.4 r.4 q.4 p.4 of.2;
-    }
+words_there a b c d block says = search (rules, mapped_there, both_there)
 
 word_below : (x y z u : ℕ) → x < 2 ^ 32 → y < 2 ^ 32 → z < 2 ^ 32 → u < 2 ^ 32 → (i : ℕ) → slice_index (x ∷ y ∷ z ∷ u ∷ []) i < 2 ^ 32
-word_below x y z u hx hy hz hu zero = hx
-word_below x y z u hx hy hz hu (suc zero) = hy
-word_below x y z u hx hy hz hu (suc (suc zero)) = hz
-word_below x y z u hx hy hz hu (suc (suc (suc zero))) = hu
-word_below x y z u hx hy hz hu (suc (suc (suc (suc i)))) = omega arith
+word_below x y z u hx hy hz hu i = search rules
 
 four_written : (x y z u : ℕ) (a b c d : List ℕ) (fields : List Field) (texts : List (List ℕ)) →
     may_be_written (word_field x) a ≡ true → may_be_written (word_field y) b ≡ true → may_be_written (word_field z) c ≡ true → may_be_written (word_field u) d ≡ true →
@@ -64,18 +37,16 @@ pub block_written : (a b c d : List ℕ) (block : Block) (fields : List Field) (
     (are_written (block_fields block ++ fields) (a ∷ b ∷ c ∷ d ∷ texts) ≡ true) × IsBlock block
 block_written a b c d block fields texts says rest =
     let p = words_there a b c d block says in
-    let ha = number_written w32 bytes_of_32 a p.x p.first in
     let hb = number_written w32 bytes_of_32 b p.y p.second in
     let hc = number_written w32 bytes_of_32 c p.z p.third in
     let hd = number_written w32 bytes_of_32 d p.u p.fourth in
-    let written = four_written p.x p.y p.z p.u a b c d fields texts ha.0 hb.0 hc.0 hd.0 rest in (
+    let written = four_written p.x p.y p.z p.u a b c d fields texts (number_written w32 bytes_of_32 a p.x p.first).0 hb.0 hc.0 hd.0 rest in (
       subst (λ (bl : Block). are_written (block_fields bl ++ fields) (a ∷ b ∷ c ∷ d ∷ texts) ≡ true) p.are written,
-      subst (λ (bl : Block). IsBlock bl) p.are (refl, word_below p.x p.y p.z p.u ha.1 hb.1 hc.1 hd.1),
+      subst (λ (bl : Block). IsBlock bl) p.are (refl, word_below p.x p.y p.z p.u (number_written w32 bytes_of_32 a p.x p.first).1 hb.1 hc.1 hd.1),
     )
 
 never : (t : Bool) → (t && false) ≡ true → ⊥
-never true is = cc is
-never false is = cc is
+never t is = search rules
 
 -- four fields that are written so
 record FourWritten (x y z u : ℕ) (fields : List Field) (texts : List (List ℕ)) : Type 0 where
@@ -93,21 +64,7 @@ record FourWritten (x y z u : ℕ) (fields : List Field) (texts : List (List ℕ
 
 four_there : (x y z u : ℕ) (fields : List Field) (texts : List (List ℕ)) → are_written (word_field x ∷ word_field y ∷ word_field z ∷ word_field u ∷ fields) texts ≡ true →
     FourWritten x y z u fields texts
-four_there x y z u fields [] written = cc written
-four_there x y z u fields (a ∷ []) written = absurd (never (may_be_written (word_field x) a) written)
-four_there x y z u fields (a ∷ b ∷ []) written =
-    let p = and_parts (may_be_written (word_field x) a) (may_be_written (word_field y) b && false) written in
-    absurd (never (may_be_written (word_field y) b) p.1)
-four_there x y z u fields (a ∷ b ∷ c ∷ []) written =
-    let p = and_parts (may_be_written (word_field x) a) (may_be_written (word_field y) b && (may_be_written (word_field z) c && false)) written in
-    let q = and_parts (may_be_written (word_field y) b) (may_be_written (word_field z) c && false) p.1 in
-    absurd (never (may_be_written (word_field z) c) q.1)
-four_there x y z u fields (a ∷ b ∷ c ∷ d ∷ rest) written =
-    let p = and_parts (may_be_written (word_field x) a) (are_written (word_field y ∷ word_field z ∷ word_field u ∷ fields) (b ∷ c ∷ d ∷ rest)) written in
-    let q = and_parts (may_be_written (word_field y) b) (are_written (word_field z ∷ word_field u ∷ fields) (c ∷ d ∷ rest)) p.1 in
-    let r = and_parts (may_be_written (word_field z) c) (are_written (word_field u ∷ fields) (d ∷ rest)) q.1 in
-    let s = and_parts (may_be_written (word_field u) d) (are_written fields rest) r.1 in
-    record { a = a; b = b; c = c; d = d; rest = rest; are = refl; first = p.0; second = q.0; third = r.0; fourth = s.0; others = s.1 }
+four_there x y z u fields texts written = search (rules, never, and_parts)
 
 -- the fields that say a block, and the rest
 pub record BlockRead (block : Block) (fields : List Field) (texts : List (List ℕ)) : Type 0 where
@@ -123,12 +80,7 @@ pub record BlockRead (block : Block) (fields : List Field) (texts : List (List �
 read_of : (x y z u : ℕ) (fields : List Field) (texts : List (List ℕ)) → x < 2 ^ 32 → y < 2 ^ 32 → z < 2 ^ 32 → u < 2 ^ 32 →
     FourWritten x y z u fields texts → BlockRead (record { w = x ∷ y ∷ z ∷ u ∷ [] }) fields texts
 unfolding block_of
-read_of x y z u fields texts hx hy hz hu p =
-    let ha = number_read w32 bytes_of_32 p.a x hx p.first in
-    let hb = number_read w32 bytes_of_32 p.b y hy p.second in
-    let hc = number_read w32 bytes_of_32 p.c z hz p.third in
-    let hd = number_read w32 bytes_of_32 p.d u hu p.fourth in
-    record { a = p.a; b = p.b; c = p.c; d = p.d; rest = p.rest; are = p.are; says = rw (ha, hb, hc, hd) refl; others = p.others }
+read_of x y z u fields texts hx hy hz hu p = search (rules, number_read, bytes_of_32)
 
 words_read : (words : List ℕ) (fields : List Field) (texts : List (List ℕ)) → length words ≡ 4 → ((i : ℕ) → slice_index words i < 2 ^ 32) →
     are_written (map word_field words ++ fields) texts ≡ true → BlockRead (record { w = words }) fields texts
@@ -156,9 +108,7 @@ pub record BlocksWritten (words : List (List ℕ)) (blocks : List Block) : Type 
 
 pub blocks_written : (words : List (List ℕ)) (blocks : List Block) → blocks_of words ≡ Some blocks → BlocksWritten words blocks
 unfolding blocks_of
-blocks_written [] blocks says =
-    let none : [] ≡ blocks = cc says in
-    subst (λ (bs : List Block). BlocksWritten [] bs) none (record { written = refl; fit = All-nil IsBlock; count = refl })
+blocks_written [] blocks says = search (rules, All-nil)
 blocks_written (a ∷ []) blocks says = cc says
 blocks_written (a ∷ b ∷ []) blocks says = cc says
 blocks_written (a ∷ b ∷ c ∷ []) blocks says = cc says
@@ -166,11 +116,7 @@ blocks_written (a ∷ b ∷ c ∷ d ∷ words) blocks says =
     let p = blocks_four a b c d words blocks says in
     let ih = blocks_written words p.1 p.3 in
     let here = block_written a b c d p.0 (flat_map block_fields p.1) words p.2 ih.written in
-    subst (λ (bs : List Block). BlocksWritten (a ∷ b ∷ c ∷ d ∷ words) bs) p.4 (record {
-      written = here.0;
-      fit = All-cons IsBlock p.0 p.1 here.1 ih.fit;
-      count = omega (arith, ih.count);
-    })
+    subst (λ (bs : List Block). BlocksWritten (a ∷ b ∷ c ∷ d ∷ words) bs) p.4 (record { written = here.0; fit = All-cons IsBlock p.0 p.1 here.1 ih.fit; count = omega (arith, ih.count) })
 
 pub blocks_read : (blocks : List Block) (words : List (List ℕ)) → All IsBlock blocks → are_written (flat_map block_fields blocks) words ≡ true →
     (blocks_of words ≡ Some blocks) × (length words ≡ 4 * length blocks)
@@ -180,8 +126,7 @@ blocks_read [] (word ∷ words) fit written = cc written
 blocks_read (block ∷ blocks) words fit written =
     let p = block_read block (flat_map block_fields blocks) words (All-head IsBlock block blocks fit) written in
     let ih = blocks_read blocks p.rest (All-tail IsBlock block blocks fit) p.others in
-    let there : blocks_of (p.a ∷ p.b ∷ p.c ∷ p.d ∷ p.rest) ≡ Some (block ∷ blocks) = both_of (λ x rest. x ∷ rest) (block_of p.a p.b p.c p.d) (blocks_of p.rest) block blocks p.says ih.0 in
-    (ap blocks_of p.are ∙ there, omega (arith, ap length p.are, ih.1))
+    (ap blocks_of p.are ∙ (both_of (λ x rest. x ∷ rest) (block_of p.a p.b p.c p.d) (blocks_of p.rest) block blocks p.says ih.0), omega (arith, ap length p.are, ih.1))
 
 -- ---- an event
 
@@ -190,14 +135,11 @@ event_written [] event says = cc says
 event_written (a ∷ []) event says = cc says
 event_written (a ∷ b ∷ []) event says = cc says
 event_written (a ∷ b ∷ c ∷ []) event says = cc says
-event_written (a ∷ b ∷ c ∷ d ∷ []) event says =
-    let p = block_written a b c d event [] [] says refl in
-    (rw append-nil at p.0, p.1)
+event_written (a ∷ b ∷ c ∷ d ∷ []) event says = (rw append-nil at (block_written a b c d event [] [] says refl).0, (block_written a b c d event [] [] says refl).1)
 event_written (a ∷ b ∷ c ∷ d ∷ e ∷ rest) event says = cc says
 
 pub only : (texts : List (List ℕ)) → are_written [] texts ≡ true → texts ≡ []
-only [] written = refl
-only (text ∷ texts) written = cc written
+only texts written = search rules
 
 pub event_read : (event : Block) (words : List (List ℕ)) → IsBlock event → are_written (block_fields event) words ≡ true → (event_of words ≡ Some event) × (length words ≡ 4)
 event_read event words is written =

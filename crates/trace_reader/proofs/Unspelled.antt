@@ -1,6 +1,5 @@
 -- A refused text spells no trace
-use Rattle.std.proofs.Common.{◌≡◌, ◌∙◌, ℕ, List, Bool, true, false, Result, Ok, Err, refl, sym, IfOk, IfErr}
-use Rattle.trace_reader.proofs.Words.{LineFault, ReadFault, IfBadLine, DriverText, all_plain, driver_trace_of, spells, IsTrace}
+use Rattle.trace_reader.proofs.Words.{rules, ◌≡◌, ◌∙◌, ℕ, List, Bool, true, false, Result, Ok, Err, refl, sym, IfOk, IfErr, LineFault, ReadFault, IfBadLine, DriverText, all_plain, driver_trace_of, spells, IsTrace}
 use Rattle.trace_reader.specs.declared.fault.ReadFault.TheVariants.{Line, Memory}
 use Rattle.trace_reader.proofs.DriverTraces.{driver_trace}
 use Rattle.trace_reader.proofs.Spelled.{read_if_spelled}
@@ -17,14 +16,10 @@ none_spelled reads spelled Is read Memory refused = tt
 
 pub refused_unspelled : (text : List ℕ) (e : ReadFault) → IfBadLine e (λ line code. driver_trace_of text ≡ Err (line, code)) →
     IfBadLine e (λ line code. (trace : DriverText) → IsTrace (all_plain trace) → spells (all_plain trace) text ≡ false)
-refused_unspelled text e refused =
-    none_spelled (driver_trace_of text) (λ trace. spells (all_plain trace) text) (λ trace. IsTrace (all_plain trace))
-    (λ trace spelled is. driver_trace text trace (read_if_spelled text (all_plain trace) spelled is)) e refused
+refused_unspelled text e refused = search (rules, none_spelled, driver_trace, read_if_spelled)
 
 pub ok_also : {T E : Type 0} {P Q : T → Type 0} (r : Result T E) → ((x : T) → P x → Q x) → IfOk r P → IfOk r Q
-ok_also (Ok x) f is = f x is
-ok_also (Err e) f is = is
+ok_also r f is = search rules
 
 pub err_also : {T E : Type 0} {P Q : E → Type 0} (r : Result T E) → ((e : E) → P e → Q e) → IfErr r P → IfErr r Q
-err_also (Ok x) f is = is
-err_also (Err e) f is = f e is
+err_also r f is = search rules

@@ -1,13 +1,5 @@
 -- That what is right of the bytes of an input is right of the input, of which nothing may be known
-use Rattle.std.proofs.Common.{◌≡◌, ℕ, Bool, false, List, Option, Some, None, ◌⊎◌, inl, inr, refl, Result, Ok, Err, subst}
-use Rattle.std.specs.Prelude.{IfSome}
-use Rattle.xhci_cli.specs.CheckAnswers.{IsCheckAnswer, IsHindered}
-use Rattle.answers.proofs.Writing.{begun}
-use Rattle.answers.specs.Keeping.{kept_bytes}
-use Rattle.certificate.specs.Spelling.{spelling}
-use Rattle.xhci_cli.specs.PlanAnswers.{IsPlanAnswer}
-use Rattle.answers.specs.declared.answer.Answer.{Answer}
-use Rattle.answers.specs.declared.answer.Answer.TheVariants.{Accepted, Written, Refused, HarmShown, Unfollowed, BadLine, Memory, Device}
+use Rattle.xhci_cli.proofs.Words.{Accepted, Answer, BadLine, Bool, Device, HarmShown, IfSome, IsCheckAnswer, IsHindered, IsPlanAnswer, List, Memory, None, Option, Refused, Some, Unfollowed, Written, begun, false, inl, inr, kept_bytes, spelling, subst, ℕ, ◌≡◌}
 
 -- what is right of bytes is right of an input of which nothing is known
 forget_hindered : {C : Type 0} (keeps : Bool) (contents : C → Option (List ℕ)) (before after : Option C) (text : List ℕ) → IsHindered keeps contents before after (Some text) → IsHindered keeps contents before after None

@@ -1,13 +1,7 @@
 -- That what is right of the bytes that were read is right of the input, of which nothing may be known
-use Rattle.std.proofs.Common.{true, ◌≡◌, ℕ, List, Option, Some, None, Ok, Err, inl, inr, subst}
-use Rattle.std.specs.Prelude.{IfSome}
+use Rattle.xhci_cli.proofs.Words.{Answer, BadLine, Err, IfSome, List, None, Ok, Option, ReadFault, Some, TraceText, answer_of_fault, inl, inr, subst, trace_of, true, ℕ, ◌≡◌}
 use Rattle.trace_reader.specs.Entries.{IfBadLine}
-use Rattle.trace_reader.specs.Reading.{TraceText, trace_of}
-use Rattle.trace_reader.specs.declared.fault.ReadFault.{ReadFault}
 use Rattle.trace_reader.specs.declared.fault.ReadFault.TheVariants.{Line, Memory as OutOfMemory}
-use Rattle.answers.specs.Answers.{answer_of_fault}
-use Rattle.answers.specs.declared.answer.Answer.{Answer}
-use Rattle.answers.specs.declared.answer.Answer.TheVariants.{BadLine}
 use Rattle.xhci_cli.specs.KeptTexts.{IsTextOf, IsTraceAnswer, IsUnread}
 
 pub text_held : (known : Option (List ℕ)) (text : List ℕ) (trace : TraceText) → IfSome known (λ xs. text ≡ xs) → trace_of true text ≡ Ok trace → IsTextOf known trace

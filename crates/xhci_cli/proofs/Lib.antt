@@ -1,3 +1,4 @@
+pub mod Words
 mod VersionNotes
 pub mod Certified
 pub mod HeldAnswers

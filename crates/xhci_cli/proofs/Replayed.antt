@@ -1,12 +1,5 @@
 -- That the answer to a trace and a schedule is right
-use Rattle.std.proofs.Common.{◌≡◌, ℕ, List, Option, Some, None, Ok, subst}
-use Rattle.std.specs.Prelude.{IfSome}
-use Rattle.traces.specs.declared.schedule.Schedule.{Schedule}
-use Rattle.trace_reader.specs.Reading.{TraceText}
-use Rattle.trace_reader.specs.Schedules.{schedule_of}
-use Rattle.xhci_cli.specs.ReplayAnswers.{IsReplayBeside, IsReplayed}
-use Rattle.answers.specs.declared.answer.Answer.{Answer}
-use Rattle.answers.specs.declared.answer.Answer.TheVariants.{Replayed, BadLine, Memory}
+use Rattle.xhci_cli.proofs.Words.{Answer, BadLine, IfSome, IsReplayBeside, IsReplayed, List, Memory, None, Ok, Option, Replayed, Schedule, Some, TraceText, schedule_of, subst, ℕ, ◌≡◌}
 
 pub beside_right : (trace : TraceText) (schedule : Schedule) (text : List ℕ) (a : Answer) → schedule_of text ≡ Ok schedule.steps → IsReplayed trace schedule a →
     IsReplayBeside trace (Some text) a

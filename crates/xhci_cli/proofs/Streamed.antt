@@ -1,31 +1,9 @@
 -- That what is right of the text that a device gave, with what it still holds, is right of the input, of which nothing may be known
-use Rattle.std.proofs.Common.{◌≡◌, ◌∙◌, ℕ, Bool, true, false, List, length, Option, Some, None, Result, Ok, Err, not, inl, inr, refl, subst, sym}
-use Rattle.std.specs.Prelude.{IfErr, IfOk, is_some}
-use Rattle.trace_reader.specs.DriverRows.{text_taken}
-use Rattle.trace_reader.specs.Reading.{TraceText, trace_of}
-use Rattle.ownership_checker.proofs.RingPasses.RowsTaken.{text_is_trace}
-use Rattle.xhci_cli.specs.HarmAnswers.{IsHarmFound}
-use Rattle.answers.specs.declared.answer.FoundHarm.{FoundHarm}
-use Rattle.trace_reader.specs.declared.fault.LineFault.{LineFault}
-use Rattle.trace_reader.specs.declared.row_reader.fault.StreamFault.{StreamFault}
+use Rattle.xhci_cli.proofs.Words.{Accepted, Answer, BadLine, Bool, Device, Err, FoundHarm, HarmShown, IfBadLineIn, IfErr, IfOk, IfRefusedIn, IsBadLine, IsCheckAnswer, IsFirstBad, IsHarmFound, IsHindered, IsKept, IsKeptInPart, IsSound, IsVerdictAlone, IsVerdictBeside, IsVerified, Lease, LineFault, List, Memory, None, OfStream, OfTrace, Ok, Option, Refused, Result, Some, StreamCheckFault, StreamFault, TraceText, Unread, Verified, answer_of_check_fault, answer_of_stream_fault, false, inl, inr, is_some, known_text, length, not, refl, ring_row, ring_verdict, subst, sym, text_is_trace, text_taken, trace_of, true, ℕ, ◌∙◌, ◌≡◌}
 use Rattle.trace_reader.specs.declared.row_reader.fault.StreamFault.TheVariants.{Line, Device as NoDevice, Memory as NoMemory}
-use Rattle.ring_knowledge.specs.declared.lease.Lease.{Lease}
-use Rattle.trace_reader.specs.Streaming.Streams.{IfBadLine, OfStream}
-use Rattle.trace_reader.proofs.Streaming.Streams.{known_text}
-use Rattle.ownership_checker.specs.RingPasses.Accepted.{IsSound}
-use Rattle.ownership_checker.specs.RingPasses.Reading.{IsBadLine, OfTrace}
-use Rattle.ownership_checker.specs.RingPasses.RingRows.{ring_row}
-use Rattle.ownership_checker.specs.RingPasses.Rules.{ring_verdict}
-use Rattle.ownership_checker.specs.Streams.{IfBadLineIn, IfRefusedIn}
-use Rattle.ownership_checker.specs.declared.fault.StreamCheckFault.{StreamCheckFault}
-use Rattle.ownership_checker.specs.declared.fault.StreamCheckFault.TheVariants.{Refused as RefusedRow, Unread}
-use Rattle.answers.specs.Answers.{answer_of_stream_fault}
-use Rattle.answers.specs.Keeping.{IsKept, IsKeptInPart}
-use Rattle.answers.specs.declared.answer.Answer.{Answer}
-use Rattle.answers.specs.declared.answer.Answer.TheVariants.{Accepted, Refused, HarmShown, BadLine, Memory, Device, Verified}
-use Rattle.xhci_cli.specs.CheckAnswers.{IsCheckAnswer, IsHindered, IsVerdictAlone, answer_of_check_fault}
-use Rattle.xhci_cli.specs.JudgedTexts.{IsFirstBad, IsTextOf, IsTraceAnswer, IsUnread}
-use Rattle.xhci_cli.specs.VerifyAnswers.{IsVerdictBeside, IsVerified}
+use Rattle.trace_reader.specs.Streaming.Streams.{IfBadLine}
+use Rattle.ownership_checker.specs.declared.fault.StreamCheckFault.TheVariants.{Refused as RefusedRow}
+use Rattle.xhci_cli.specs.JudgedTexts.{IsTextOf, IsTraceAnswer, IsUnread}
 
 text_known : (keeps : Bool) (known known' : Option (List ℕ)) (trace : TraceText) → OfStream known known' (λ text. text_taken keeps ring_row text ≡ Ok trace) → IsTextOf keeps known trace
 text_known keeps None known' trace read = tt

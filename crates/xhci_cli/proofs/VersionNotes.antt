@@ -1,11 +1,5 @@
 -- What the verdict of version 3 says of a row that an older version refuses
-use Rattle.std.proofs.Common.{◌≡◌, ℕ, true, nat_lt, Option, None, Some, ap, subst, sym}
-use Rattle.traces.specs.declared.header.Header.{Header}
-use Rattle.traces.specs.Header.{IsHeader}
-use Rattle.trace_reader.specs.Reading.{TraceText}
-use Rattle.ownership_rules.specs.declared.refusal.Refusal.{Refusal}
-use Rattle.ownership_checker.specs.RingPasses.Rules.{ring_verdict}
-use Rattle.xhci_cli.specs.VersionNotes.{breaks_no_rule_of_three, in_version_three, is_behind}
+use Rattle.xhci_cli.proofs.Words.{Header, IsHeader, None, Refusal, Some, TraceText, ap, breaks_no_rule_of_three, in_version_three, is_behind, nat_lt, ring_verdict, subst, sym, true, ℕ, ◌≡◌}
 
 -- which rings may stand together doesn't depend on the version
 pub headed_in_three : (h made : Header) → made ≡ in_version_three h → IsHeader h → IsHeader made

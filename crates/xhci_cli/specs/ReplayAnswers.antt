@@ -5,7 +5,6 @@ use Rattle.trace_reader.specs.Reading.{TraceText}
 use Rattle.trace_reader.specs.Schedules.{schedule_of}
 use Rattle.trace_reader.specs.declared.fault.LineFault.{LineFault}
 use Rattle.controller_model.specs.Scenes.{scene_replayed}
-use Rattle.controller_model.specs.Showing.{Replay}
 use Rattle.controller_model.specs.Steps.{Ending, NoHarm as EndsSafe, NotPossible as Stuck, Harmful as Harms}
 use Rattle.answers.specs.declared.replay_lines.ReplayEnd.{ReplayEnd}
 use Rattle.answers.specs.declared.replay_lines.ReplayEnd.TheVariants.{NoHarm, Harmful, NotPossible}

@@ -4,7 +4,6 @@ use Rattle.trace_reader.specs.Reading.{TraceText}
 use Rattle.trace_reader.specs.Schedules.{schedule_of}
 use Rattle.trace_reader.specs.ScheduleSpelling.{printed_schedule}
 use Rattle.controller_model.specs.Scenes.{scene_replayed}
-use Rattle.controller_model.specs.Showing.{Replay}
 use Rattle.controller_model.specs.Steps.{NoHarm}
 use Rattle.ownership_checker.specs.RingPasses.Clean.{AreClean}
 use Rattle.ownership_checker.specs.RingPasses.Rules.{ring_verdict}

@@ -1,30 +1,7 @@
 -- A trace, row by row: what was checked so far, and how far the list was followed
-use Rattle.std.proofs.Common.{◌≡◌, ℕ, ◌+◌, ◌<◌, ◌≤◌, List, [], ◌∷◌, Some, ap, sym, ◌∙◌, arith, length, subst, get_or}
-use Rattle.std.specs.Prelude.{reverse, take}
-use Rattle.std.proofs.lemmas.Grind.{common_steps}
-use Rattle.traces.specs.declared.row.Row.{Row}
-use Rattle.traces.specs.declared.header.Header.{Header}
-use Rattle.traces.specs.Header.{IsHeader}
-use Rattle.ring_knowledge.specs.Known.{Known, nothing}
-use Rattle.ring_knowledge.specs.Learned.{known}
-use Rattle.ring_knowledge.specs.declared.lease.Lease.{Lease}
-use Rattle.ownership_rules.specs.declared.refusal.Refusal.{Refusal}
-use Rattle.ownership_rules.specs.Rules.{verdict_from}
-use Rattle.ownership_rules.specs.Leases.{leases as leases_of, without_end}
-use Rattle.leases.specs.LeaseBooks.Lents.{lents}
-use Rattle.leases.specs.declared.book.ranges.RangeIndexes.{RangeIndexes}
-use Rattle.leases.specs.LeaseRows.CleanRows.{FollowsBook, IsCleanRow}
-use Rattle.trace_record.specs.declared.trace_record.TraceRecord.{TraceRecord}
-use Rattle.trace_record.specs.FollowsTrace.{FollowsTrace}
-use Rattle.trace_record.specs.Fresh.{IsWithin}
-use Rattle.trace_record.specs.Steps.{IsRowStep}
-use Rattle.leases.specs.declared.log.certificate_log.CertificateLog.{CertificateLog}
-use Rattle.leases.specs.CertificateLogs.Logs.{FollowsCertificate}
-use Rattle.ownership_checker.specs.JudgedRows.Accepted.{IsAccepted}
-use Rattle.ownership_checker.specs.JudgedRows.Tracking.{IsTracked}
-use Rattle.ownership_checker.proofs.JudgedRows.CleanHistories.{lenient_history, lenient_row}
+use Rattle.certificate.proofs.Words.{◌≡◌, ℕ, ◌+◌, ◌<◌, ◌≤◌, List, [], ◌∷◌, Some, ap, sym, ◌∙◌, arith, length, subst, get_or, reverse, take, common_steps, Row, Header, IsHeader, Known, nothing, known, Lease, Refusal, verdict_from, without_end, lents, RangeIndexes, FollowsBook, IsCleanRow, TraceRecord, FollowsTrace, IsWithin, IsRowStep, CertificateLog, FollowsCertificate, IsAccepted, IsTracked, lenient_history, lenient_row, IsFollowed}
+use Rattle.ownership_rules.specs.Leases.{leases as leases_of}
 use Rattle.ownership_checker.proofs.JudgedRows.Passes as passes
-use Rattle.certificate.specs.Verifying.Following.{IsFollowed}
 
 length_reversed : (rows : List Row) → length (reverse rows) ≡ length rows
 length_reversed rows = grind (arith, common_steps)

@@ -1,28 +1,5 @@
 -- What a pass over the rows of a trace says of a list of leases
-use Rattle.std.proofs.Common.{◌≡◌, ◌≢◌, ◌++◌, ◌∙◌, ℕ, Bool, true, false, List, Option, Some, Err, refl, ap, subst, sym, map}
-use Rattle.std.specs.Prelude.{reverse}
-use Rattle.traces.specs.declared.header.Header.{Header}
-use Rattle.trace_reader.specs.Reading.{TraceText}
-use Rattle.ring_knowledge.specs.declared.lease.Lease.{Lease}
-use Rattle.ownership_rules.specs.declared.refusal.Refusal.{Refusal}
-use Rattle.leases.specs.LeaseBooks.Lents.{Lent, lease_of}
-use Rattle.leases.specs.declared.log.certificate_log.CertificateLog.{CertificateLog}
-use Rattle.leases.specs.CertificateLogs.Logs.{FollowsCertificate}
-use Rattle.trace_reader.specs.declared.row_reader.fault.StreamFault.{StreamFault}
-use Rattle.trace_reader.specs.declared.row_reader.fault.StreamFault.TheVariants.{Line, Device, Memory}
-use Rattle.trace_reader.specs.Streaming.ReaderState.{IsOpened}
-use Rattle.trace_reader.specs.Streaming.Streams.{IfBadLine}
-use Rattle.trace_reader.specs.Streaming.WholeTexts.{joined_behind}
-unfoldable use Rattle.trace_reader.specs.Streaming.WholeTexts.{taken_by_calls}
-use Rattle.trace_reader.proofs.Streaming.CallsJoined.{calls_say_what_is_taken}
-use Rattle.safety.specs.RingChanges.Histories.{header_now}
-use Rattle.leases.specs.RingLeases.RingLents.{ring_lents}
-use Rattle.ownership_checker.specs.declared.pass.reading.Passed.{Passed}
-use Rattle.ownership_checker.specs.declared.pass.reading.Passed.TheVariants.{Whole, Refused}
-use Rattle.ownership_checker.specs.RingPasses.Accepted.{IsVerified}
-use Rattle.ownership_checker.specs.RingPasses.Reading.{IfRefusedRow, IfWhole, IsBadLine, IsWholeLog}
-use Rattle.ownership_checker.specs.RingPasses.RingRows.{ring_row}
-use Rattle.ownership_checker.specs.RingPasses.Rules.{ring_verdict}
+use Rattle.certificate.proofs.Words.{◌≡◌, ◌≢◌, ◌++◌, ◌∙◌, ℕ, Bool, true, false, List, Option, Some, Err, refl, ap, subst, sym, map, reverse, Header, TraceText, Lease, Refusal, Lent, lease_of, CertificateLog, FollowsCertificate, StreamFault, Line, Device, Memory, IsOpened, IfBadLine, joined_behind, taken_by_calls, calls_say_what_is_taken, header_now, ring_lents, Passed, Whole, Refused, IsVerified, IfRefusedRow, IfWhole, IsBadLine, IsWholeLog, ring_row, ring_verdict}
 
 -- a bad line before the rows
 pub opened_bad : (keeps : Bool) (held held' : Option (List ℕ)) (e : StreamFault) → IsOpened keeps held held' (Err e) → IfBadLine e (IsBadLine keeps held held')

@@ -1,5 +1,5 @@
 -- One turn of the pass that fills the needs into the notes
-use Rattle.replayer.proofs.LazySteps.Words.{◌≡◌, ◌+◌, ◌<◌, ◌≤◌, ◌∷◌, ◌++◌, ◌-◌, ◌∙◌, ℕ, List, [], length, take, drop, slice_index, replicate, sym, ap, arith, get_or, add-one, append_assoc, get_or-take, length-take-le, append-nil, take_all, set, get_or-append, drop-cons, set-append_seam, take_more, get_or-replicate, drop_all, Note, need_before, need_in, with_need, filled, IsTable}
+use Rattle.replayer.proofs.Words.{◌≡◌, ◌+◌, ◌<◌, ◌∷◌, ◌++◌, ◌∙◌, ℕ, List, [], length, take, drop, slice_index, replicate, sym, ap, arith, get_or, add-one, append_assoc, get_or-take, length-take-le, append-nil, take_all, set, get_or-append, drop-cons, set-append_seam, take_more, get_or-replicate, drop_all, Note, need_before, need_in, with_need, filled, IsTable}
 
 -- the notes, of which those from position i on are filled
 abbrev pub filled_from : ℕ → List Note → List Note
@@ -43,25 +43,9 @@ unfolding need_in
 all_zero s t zeros r lt =
     ap (λ l. slice_index l r) zeros ∙ get_or-replicate 256 r 0 0 lt ∙ sym (ap (λ (l : List Note). need_in l r) (drop_all (length s) s (omega arith)))
 
-module _ (s now : List Note) (left : ℕ) (within : left ≤ length s) (some_left : 0 < left) (is : now ≡ filled_from left s) where
-  one_more : left ≡ (left - 1) + 1
-  one_more = omega arith
+module _ (s now : List Note) (i left : ℕ) (inside : i < length s) (one : left ≡ i + 1) (is : now ≡ filled_from left s) where
+  pub turn_notes : (x y d : Note) → x ≡ get_or now i d → y ≡ with_need (need_in (drop left s)) x → set now i y ≡ filled_from i s
+  turn_notes x y d read same = rw (same, read, is, one, one_left s i d inside) (one_filled s i d inside)
 
-  in_place : left - 1 < length s
-  in_place = omega arith
-
-  note_is : (x d : Note) → x ≡ get_or now (left - 1) d → x ≡ get_or s (left - 1) d
-  note_is x d read =
-      read ∙ ap (λ (l : List Note). get_or l (left - 1) d) (is ∙ ap (λ n. filled_from n s) one_more) ∙ one_left s (left - 1) d in_place
-
-  pub turn_notes : (x y d : Note) → x ≡ get_or now (left - 1) d → y ≡ with_need (need_in (drop left s)) x → set now (left - 1) y ≡ filled_from (left - 1) s
-  turn_notes x y d read same =
-      ap (λ (l : List Note). set l (left - 1) y) (is ∙ ap (λ n. filled_from n s) one_more)
-      ∙ ap (λ (v : Note). set (filled_from (left - 1 + 1) s) (left - 1) v)
-      (same ∙ ap (λ (v : Note). with_need (need_in (drop left s)) v) (note_is x d read) ∙ ap (λ n. with_need (need_in (drop n s)) (get_or s (left - 1) d)) one_more)
-      ∙ one_filled s (left - 1) d in_place
-
-  pub turn_table : (t : List ℕ) (x d : Note) → x ≡ get_or now (left - 1) d → IsTable t (λ r. need_before x r (need_in (drop left s) r)) → IsTable t (need_in (drop (left - 1) s))
-  turn_table t x d read table r lt =
-      table r lt ∙ ap (λ (v : Note). need_before v r (need_in (drop left s) r)) (note_is x d read)
-      ∙ ap (λ n. need_before (get_or s (left - 1) d) r (need_in (drop n s) r)) one_more ∙ need_from s (left - 1) d r in_place
+  pub turn_table : (t : List ℕ) (x d : Note) → x ≡ get_or now i d → IsTable t (λ r. need_before x r (need_in (drop left s) r)) → IsTable t (need_in (drop i s))
+  turn_table t x d read table r lt = table r lt ∙ rw (read, is, one, one_left s i d inside) (need_from s i d r inside)

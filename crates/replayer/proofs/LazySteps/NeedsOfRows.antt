@@ -1,5 +1,5 @@
 -- The notes of rows need of each ring what the rows need
-use Rattle.replayer.proofs.LazySteps.Words.{◌≡◌, ◌+◌, ◌==◌, ◌&&◌, ◌||◌, ◌∷◌, ◌++◌, if◌then◌else◌, ◌∙◌, ℕ, Bool, true, false, not, max, List, [], map, Option, Some, None, refl, sym, ap, arith, append_assoc, Block, BlockKind, TransferEvent, CommandCompletion, kind, code, slot, is_command_completion, is_transfer_event, is_success, is_stopping, number, Header, Row, Sub, Write, Reg, Bell, Read, TraceRow, Comes, Goes, Plain, Withdraws, is_ring, Known, RingSpot, event_at, command_at, next_command, number_behind, is_placed_by, is_placed, begins_anew, number_reported, ends_need, number_needed, need, header_after, known_after, any_notes, Next, post_of, Note, Begun, Succeeded, Made, listed, open_stopped, placed, placed_note, reporting_look, transfer_notes, completing_look, event_notes, row_notes, notes, need_before, need_in, NeedsLaw}
+use Rattle.replayer.proofs.Words.{◌≡◌, ◌+◌, ◌==◌, ◌&&◌, ◌||◌, ◌∷◌, ◌++◌, if◌then◌else◌, ◌∙◌, ℕ, Bool, true, false, not, max, List, [], map, Option, Some, None, refl, sym, ap, arith, append_assoc, Block, BlockKind, TransferEvent, CommandCompletion, kind, code, slot, is_command_completion, is_transfer_event, is_success, is_stopping, number, Header, Row, Bell, Read, TraceRow, Goes, Plain, is_ring, Known, RingSpot, event_at, command_at, next_command, number_behind, is_placed_by, is_placed, begins_anew, number_reported, ends_need, number_needed, need, header_after, known_after, any_notes, Next, post_of, Note, Begun, Succeeded, Made, listed, open_stopped, placed, placed_note, reporting_look, transfer_notes, completing_look, event_notes, row_notes, notes, need_before, need_in, NeedsLaw}
 use Rattle.replayer.proofs.LazySteps.PlacedRings.{has, has_listed, has_placed}
 
 zero_most : (n : ℕ) → max 0 n ≡ n
@@ -104,17 +104,14 @@ module _ (h : Header) where
   unfolding row_notes begins_anew number_reported is_placed
   row_need k (Bell s t) rest r = bell_need (s == 0) (k.ring_of s t) rest r
   row_need k (Read b) rest r = event_need k (kind b) b rest r
-  row_need k (Sub q blocks) rest r = sym (zero_most (need_in rest r))
-  row_need k (Write a x) rest r = sym (zero_most (need_in rest r))
-  row_need k (Reg a x) rest r = sym (zero_most (need_in rest r))
+  row_need k _ rest r = sym (zero_most (need_in rest r))
 
   any_need : (k : Known) (row : TraceRow) (rest : List Note) (r : ℕ) →
       need_in (any_notes h k row ++ rest) r ≡ (if ends_need h k r row then 0 else max (number_needed h k r row) (need_in rest r))
   unfolding any_notes ends_need number_needed need_in need_before
   any_need k (Plain row) rest r = row_need k row rest r
-  any_need k (Comes ring) rest r = sym (zero_most (need_in rest r))
   any_need k (Goes id) rest r = ap (λ n. if id == r then 0 else n) (sym (zero_most (need_in rest r)))
-  any_need k (Withdraws q p) rest r = sym (zero_most (need_in rest r))
+  any_need k _ rest r = sym (zero_most (need_in rest r))
 
 needs_of : (rows : List TraceRow) (h : Header) (k : Known) (r : ℕ) → need_in (notes h k rows) r ≡ need h k r rows
 unfolding notes need need_in need_before

@@ -1,32 +1,17 @@
 -- The steps of the notes of one row are those of the lazy schedule before it
-use Rattle.replayer.proofs.LazySteps.Words.{◌≡◌, ◌+◌, ◌==◌, ◌&&◌, ◌||◌, ◌∷◌, ◌++◌, if◌then◌else◌, ◌∙◌, ℕ, Bool, true, false, List, [], map, Option, Some, None, refl, sym, ap, eq-eqb, inl, inr, eqb-true, append_assoc, flat_map, fun_ext, cases_Bool, false≢true, put, Block, BlockKind, TransferEvent, CommandCompletion, kind, code, slot, is_command_completion, is_success, is_stopping, Spot, number, is_open, Command, StopEndpoint, Header, Row, Sub, Write, Reg, Bell, Read, Step, command_id, Known, learned, RingSpot, event_at, command_at, next_command, is_placed_by, is_placed, need, taken_up_to, stop_goal, command_taken, report_goals, open_goals, stopped_goals, goals, post_of, looks_to, steps_before, brought, pointers_after, Note, Begun, Succeeded, Taken, StoppedAt, StoppedOpen, Made, header_behind, rows_behind, any_notes, TraceRow, Comes, Goes, Plain, Withdraws, IsDriverRow, header_after, known_after, restored_on, ring_restored, steps_for, pointers_for, listed, if_open, open_stopped, placed, placed_note, reporting_look, transfer_notes, completing_look, event_notes, row_notes, need_before, need_in, with_need, filled, note_goals, note_steps, pointers_behind, steps_of}
+use Rattle.replayer.proofs.Words.{ne_eqb, ◌≡◌, ◌+◌, ◌==◌, ◌&&◌, ◌||◌, ◌∷◌, ◌++◌, if◌then◌else◌, ◌∙◌, ℕ, Bool, true, false, List, [], map, Option, Some, None, refl, sym, ap, eq-eqb, inl, inr, eqb-true, append_assoc, flat_map, fun_ext, cases_Bool, false≢true, put, Block, BlockKind, TransferEvent, CommandCompletion, kind, code, slot, is_command_completion, is_success, is_stopping, Spot, number, is_open, Command, StopEndpoint, Header, Row, Bell, Read, Step, command_id, Known, learned, RingSpot, event_at, command_at, next_command, is_placed_by, is_placed, need, taken_up_to, stop_goal, command_taken, report_goals, open_goals, stopped_goals, goals, post_of, looks_to, steps_before, brought, pointers_after, Note, Begun, Succeeded, Taken, StoppedAt, StoppedOpen, Made, header_behind, rows_behind, any_notes, TraceRow, Plain, header_after, known_after, restored_on, ring_restored, steps_for, pointers_for, listed, if_open, open_stopped, placed, placed_note, reporting_look, transfer_notes, completing_look, event_notes, row_notes, need_before, need_in, with_need, filled, note_goals, note_steps, pointers_behind, steps_of}
 use Rattle.replayer.proofs.LazySteps.PlacedRings.{has, has_placed}
 use Rattle.replayer.proofs.LazySteps.NeedsOfRows.{placed_need}
 
-same_spot : (f p : ℕ → Spot) (q r : ℕ) → (if r == q then f q else p r) ≡ (if q == r then f r else p r)
-same_spot f p q r =
-    elim (cases_Bool (q == r)) [
-      | inl same ↦
-          let equal : q ≡ r = eqb-true q r same in
-          ap (λ t. if t then f q else p r) (eq-eqb r q (sym equal)) ∙ ap f equal ∙ ap (λ t. if t then f r else p r) (sym same)
-      | inr other ↦
-          elim (cases_Bool (r == q)) [
-            | inl same ↦ absurd (false≢true (sym other ∙ eq-eqb q r (sym (eqb-true r q same))))
-            | inr apart ↦ ap (λ t. if t then f q else p r) apart ∙ ap (λ t. if t then f r else p r) (sym other)
-          ]
-    ]
-
 put_first : (f p : ℕ → Spot) (q r : ℕ) (b : Bool) → (if b then f r else (if r == q then f q else p r)) ≡ (if (q == r) || b then f r else p r)
-put_first f p q r true = one_way (q == r)
+put_first f p q r b = elim (cases_Bool (q == r)) [
+  | inl same ↦ let equal : q ≡ r = eqb-true q r same in rw (equal, eq-eqb r r refl) (by b)
+  | inr other ↦ rw (other, ne_eqb r q (λ e. absurd (false≢true (sym other ∙ eq-eqb q r (sym e))))) refl
+]
   where
-    one_way : (t : Bool) → f r ≡ (if t || true then f r else p r)
-    one_way true = refl
-    one_way false = refl
-put_first f p q r false = same_spot f p q r ∙ or_no (q == r)
-  where
-    or_no : (t : Bool) → (if t then f r else p r) ≡ (if t || false then f r else p r)
-    or_no true = refl
-    or_no false = refl
+    by : (b : Bool) → (if b then f r else f r) ≡ f r
+    by true = refl
+    by false = refl
 
 module _ (h : Header) (rows : List TraceRow) where
   begun_steps : (p : ℕ → Spot) (l : List ℕ) (rest : List Note) → steps_of h rows p (filled (map Begun l ++ rest)) ≡ steps_of h rows p (filled rest)
@@ -164,24 +149,11 @@ module _ (h : Header) (rows : List TraceRow) where
   unfolding row_notes steps_before pointers_after is_placed floor_behind
   event_row_steps k p b later rest needs = event_steps k later b p rest needs (kind b)
 
-  pub driver_row_steps : (k : Known) (p : ℕ → Spot) (row : Row) (rest : List Note) → IsDriverRow row → steps_of h rows p (filled (row_notes h k row ++ rest)) ≡ steps_of h rows p (filled rest)
-  unfolding row_notes
-  driver_row_steps k p (Bell s t) rest driver_row = ringing_steps p (s == 0) (k.ring_of s t) rest
-  driver_row_steps k p (Read b) rest driver_row = absurd driver_row
-  driver_row_steps k p (Sub q blocks) rest driver_row = refl
-  driver_row_steps k p (Write a x) rest driver_row = refl
-  driver_row_steps k p (Reg a x) rest driver_row = refl
-
   -- ---- the row of any kind
 
   pub any_steps : (k : Known) (p : ℕ → Spot) (row : TraceRow) (later : List TraceRow) (rest : List Note) → ((r : ℕ) → need_in rest r ≡ need (header_after h row) (known_after h k row) r later) →
       steps_of h rows p (filled (any_notes h k row ++ rest)) ≡ steps_for h k p row later ++ steps_of h rows (pointers_for h k p row later) (filled rest)
-  unfolding any_notes steps_for pointers_for steps_before pointers_after ring_restored restored_on steps_of filled with_need note_steps note_goals pointers_behind header_behind rows_behind brought
+  unfolding any_notes row_notes steps_for pointers_for steps_before pointers_after ring_restored restored_on steps_of filled with_need note_steps note_goals pointers_behind header_behind rows_behind brought
   any_steps k p (Plain (Read b)) later rest needs = event_row_steps k p b later rest needs
-  any_steps k p (Plain (Bell s t)) later rest needs = driver_row_steps k p (Bell s t) rest tt
-  any_steps k p (Plain (Sub q blocks)) later rest needs = driver_row_steps k p (Sub q blocks) rest tt
-  any_steps k p (Plain (Write a x)) later rest needs = driver_row_steps k p (Write a x) rest tt
-  any_steps k p (Plain (Reg a x)) later rest needs = driver_row_steps k p (Reg a x) rest tt
-  any_steps k p (Comes ring) later rest needs = refl
-  any_steps k p (Goes id) later rest needs = refl
-  any_steps k p (Withdraws q n) later rest needs = refl
+  any_steps k p (Plain (Bell s t)) later rest needs = ringing_steps p (s == 0) (k.ring_of s t) rest
+  any_steps k p _ later rest needs = refl

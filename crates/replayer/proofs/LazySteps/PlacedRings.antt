@@ -1,5 +1,5 @@
 -- The rings that an event's command binds or moves, as a list and as a test
-use Rattle.replayer.proofs.LazySteps.Words.{◌≡◌, ◌==◌, ◌&&◌, ◌||◌, ◌∷◌, if◌then◌else◌, ◌∙◌, ℕ, Bool, true, false, List, [], Option, Some, None, refl, ap, list_any, or-false, list_any-append, Block, code, slot, Command, Change, changes, Header, is_ring, Known, command_at, next_command, changed_by, ring_placed, is_placed_by_all, is_placed_by, listed, placed_by_all, placed_by, placed}
+use Rattle.replayer.proofs.Words.{◌≡◌, ◌==◌, ◌&&◌, ◌||◌, ◌∷◌, if◌then◌else◌, ◌∙◌, ℕ, Bool, true, false, List, [], Option, Some, None, refl, ap, list_any, or-false, list_any-append, Block, code, slot, Command, Change, changes, Header, is_ring, Known, command_at, next_command, changed_by, ring_placed, is_placed_by_all, is_placed_by, listed, placed_by_all, placed_by, placed}
 
 abbrev pub has : ℕ → List ℕ → Bool
 has r rings = list_any (λ q. q == r) rings
@@ -28,6 +28,4 @@ module _ (h : Header) where
 
   pub has_placed : (k : Known) (b : Block) (r : ℕ) → has r (placed h k b) ≡ code b == 1 && is_placed_by h k r (slot b) (command_at h k (next_command h k))
   unfolding placed
-  has_placed k b r =
-      let o : Option Command = command_at h k (next_command h k) in
-      if_so (code b == 1) r (placed_by h k (slot b) o) ∙ ap (λ t. code b == 1 && t) (has_by k r (slot b) o)
+  has_placed k b r = if_so (code b == 1) r _ ∙ ap (λ t. code b == 1 && t) (has_by k r (slot b) (command_at h k (next_command h k)))

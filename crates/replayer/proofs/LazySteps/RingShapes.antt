@@ -1,5 +1,5 @@
 -- The shape of an ID, by the number that a search finds
-use Rattle.replayer.proofs.LazySteps.Words.{◌≡◌, ◌==◌, ◌∙◌, ℕ, List, Bool, Some, None, length, nat_lt, position, slice_get, refl, sym, ap, get_or, inl, inr, position_or_len, cases_Bool, cond-true, cond-false, find_at, Xfer, Ring, Header, no_shape, shape_or, shape_of, not_found, ring_here, none_here}
+use Rattle.replayer.proofs.Words.{◌≡◌, ◌==◌, ◌∙◌, ℕ, List, Bool, Some, None, length, nat_lt, position, slice_get, refl, sym, ap, get_or, inl, inr, position_or_len, cases_Bool, cond-true, cond-false, find_at, Xfer, Ring, Header, no_shape, shape_or, shape_of, not_found, ring_here, none_here}
 
 found_first : (p : Ring → Bool) (rings : List Ring) (n : ℕ) → position p rings ≡ Some n → position_or_len p rings ≡ n
 found_first p rings n some =

@@ -1,17 +1,7 @@
 -- The steps of a trace's notes are its lazy schedule
-use Rattle.replayer.proofs.LazySteps.Words.{◌≡◌, ◌∷◌, ◌++◌, ◌∙◌, ℕ, List, [], reverse, refl, sym, ap, append-nil, append_assoc, reverse-append, reverse-reverse, Spot, Header, TraceRow, Step, NextRow, Known, header_after, header_now, known_after, known_now, steps_for, brought, pointers_for, pointers_at, lazy_run, lazy_steps, Note, Next, notes, need_before, need_in, with_need, filled, note_goals, note_steps, pointers_behind, header_behind, rows_behind, steps_of, StepsLaw}
-use Rattle.safety.proofs.LazyRuns.Induction.{one_more}
+use Rattle.replayer.proofs.Words.{◌≡◌, ◌∷◌, ◌++◌, ◌∙◌, ℕ, List, [], reverse, sym, ap, append-nil, append_assoc, reverse-append, reverse-reverse, Spot, Header, TraceRow, Step, NextRow, Known, header_after, header_now, known_after, known_now, steps_for, brought, pointers_for, pointers_at, lazy_run, lazy_steps, Note, Next, notes, need_before, need_in, with_need, filled, note_goals, note_steps, pointers_behind, header_behind, rows_behind, steps_of, StepsLaw, one_more}
 use Rattle.replayer.proofs.LazySteps.NeedsOfRows.{needs_law}
 use Rattle.replayer.proofs.LazySteps.NoteSteps.{any_steps}
-
-next_row : (h : Header) (row : TraceRow) (rows : List TraceRow) (p : ℕ → Spot) (rest : List Note) →
-    steps_of h (row ∷ rows) p (filled (Next ∷ rest)) ≡ NextRow ∷ steps_of (header_after h row) rows p (filled rest)
-unfolding steps_of filled with_need note_steps note_goals pointers_behind header_behind rows_behind brought
-next_row h row rows p rest = refl
-
-next_needs : (h : Header) (k : Known) (rows : List TraceRow) (r : ℕ) → need_in (Next ∷ notes h k rows) r ≡ need_in (notes h k rows) r
-unfolding need_in need_before
-next_needs h k rows r = refl
 
 module _ (h : Header) where
   -- one more row of the run
@@ -28,7 +18,7 @@ module _ (h : Header) where
   so_far : (past later : List TraceRow) →
       reverse (lazy_run h past later) ++ steps_of (header_now h past) later (pointers_at h past later) (filled (notes (header_now h past) (known_now h past) later))
       ≡ reverse (lazy_run h (reverse later ++ past) [])
-  unfolding notes steps_of filled pointers_at
+  unfolding notes steps_of filled pointers_at with_need note_steps note_goals pointers_behind header_behind rows_behind brought need_in need_before
   so_far past [] = append-nil (reverse (lazy_run h past []))
   so_far past (row ∷ later) =
       let g : Header = header_now h past in
@@ -39,8 +29,7 @@ module _ (h : Header) where
       let before : List Step = steps_for g k p row later in
       let left : List Step = steps_of (header_after g row) later (pointers_for g k p row later) (filled rest) in
       ap (λ (s : List Step). run ++ s)
-      (any_steps g (row ∷ later) k p row later (Next ∷ rest) (λ r. next_needs (header_after g row) (known_after g k row) later r ∙ needs_law (header_after g row) (known_after g k row) later r)
-      ∙ ap (λ (s : List Step). before ++ s) (next_row g row later (pointers_for g k p row later) rest)
+      (any_steps g (row ∷ later) k p row later (Next ∷ rest) (λ r. needs_law (header_after g row) (known_after g k row) later r)
       ∙ sym (append_assoc before (NextRow ∷ []) left))
       ∙ sym (append_assoc run (before ++ NextRow ∷ []) left)
       ∙ ap (λ (s : List Step). s ++ left) (sym (one_row past later row))

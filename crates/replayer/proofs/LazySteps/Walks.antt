@@ -1,5 +1,5 @@
 -- The spots before another one, one by one
-use Rattle.replayer.proofs.LazySteps.Words.{◌≡◌, ◌+◌, ◌-◌, ◌*◌, ◌<◌, ◌≤◌, if◌then◌else◌, ◌∷◌, ◌++◌, ◌∙◌, ℕ, suc, zero, Bool, true, false, List, [], nat_lt, filter, map, refl, sym, ap, arith, append_assoc, append-nil, cond-true, cond-false, nat_tests, Shape, is_crossing, Spot, Data, Link, number, rank, next, spots_from, Step, Look, spots_before}
+use Rattle.replayer.proofs.Words.{◌≡◌, ◌+◌, ◌-◌, ◌*◌, ◌<◌, ◌≤◌, if◌then◌else◌, ◌∷◌, ◌++◌, ◌∙◌, ℕ, suc, zero, Bool, true, false, List, [], nat_lt, filter, map, refl, sym, ap, arith, append_assoc, append-nil, cond-true, cond-false, nat_tests, Shape, is_crossing, Spot, Data, Link, number, rank, next, spots_from, Step, Look, spots_before}
 
 number_low : (s : Spot) → 2 * number s ≤ rank s
 number_low (Data q) = omega arith
@@ -59,9 +59,7 @@ module _ (shape : Shape) (t : Spot) where
 -- the looks of a walk, from the steps made so far
 pub one_look : (made : List Step) (ring : ℕ) (shape : Shape) (s t : Spot) → rank s < rank t →
     (made ++ Look ring ∷ []) ++ map (λ u. Look ring) (spots_before shape (next shape s) t) ≡ made ++ map (λ u. Look ring) (spots_before shape s t)
-one_look made ring shape s t before =
-    append_assoc made (Look ring ∷ []) (map (λ u. Look ring) (spots_before shape (next shape s) t))
-    ∙ ap (λ (l : List Spot). made ++ map (λ u. Look ring) l) (sym (walk_goes shape t s before))
+one_look made ring shape s t before = rw (walk_goes shape t s before) (append_assoc made _ _)
 
 pub no_look : (made : List Step) (ring : ℕ) (shape : Shape) (s t : Spot) → rank t ≤ rank s → made ++ map (λ u. Look ring) (spots_before shape s t) ≡ made
-no_look made ring shape s t past = ap (λ (l : List Spot). made ++ map (λ u. Look ring) l) (walk_ends shape t s past) ∙ append-nil made
+no_look made ring shape s t past = rw (walk_ends shape t s past) (append-nil made)

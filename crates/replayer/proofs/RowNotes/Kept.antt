@@ -1,24 +1,6 @@
 -- What is kept of single rings
-use Rattle.std.proofs.Common.{◌≡◌, ℕ, ◌∙◌, true, List, Option, Some, None, refl, ap, sym, subst}
-use Rattle.std.specs.Prelude.{◌==◌, is_some, position, slice_get}
-use Rattle.std.proofs.lemmas.Bool.{eqb-true, false≢true}
-use Rattle.std.proofs.lemmas.Option.{same_Some}
-use Rattle.segments.specs.RingView.{floor_number}
-use Rattle.traces.specs.declared.ring.Ring.{Ring}
-use Rattle.traces.specs.declared.header.Header.{Header}
-use Rattle.traces.specs.Header.{IsHeader, command_id, command_ring, id_or_none, is_transfer_kind, ring_with}
-use Rattle.ring_knowledge.specs.declared.ring_record.RingRecord.{RingRecord}
-use Rattle.ring_knowledge.specs.RingRecords.{FollowsRing}
-use Rattle.ring_knowledge.specs.Known.{Known}
-use Rattle.ring_knowledge.specs.Rings.{next_command}
-use Rattle.trace_record.specs.RingFinder.RecordsOfRings.{FollowsRings}
-use Rattle.trace_record.proofs.RingFinder.RingsApart.{among_at}
-use Rattle.trace_record.proofs.RingFinder.HeaderRings.{find_some, ring_found}
-use Rattle.safety.specs.Keeps.{DriverKeeps, IsDriverRing, IsTransferRing}
-use Rattle.safety.proofs.RingIds.{none_has_256}
-use Rattle.safety.proofs.SafeContext.{command_is_ring, next_is}
-use Rattle.driver_rows.proofs.DoorbellRows.Followed.{found_at, none_found, command_id_is}
-use Rattle.event_rows.proofs.TransferEvents.Reports.{driven}
+use Rattle.replayer.proofs.Words.{◌≡◌, ℕ, ◌∙◌, true, List, Option, Some, None, refl, ap, sym, subst, ◌==◌, is_some, position, slice_get, eqb-true, false≢true, same_Some, floor_number, Ring, Header, IsHeader, command_id, command_ring, id_or_none, is_transfer_kind, ring_with, RingRecord, FollowsRing, Known, next_command, FollowsRings, among_at, find_some, ring_found, DriverKeeps, IsDriverRing, IsTransferRing, none_has_256, command_is_ring, next_is, found_at, none_found, driven}
+use Rattle.driver_rows.proofs.DoorbellRows.Followed.{command_id_is}
 
 module _ (h : Header) (headed : IsHeader h) where
   -- ---- the command ring

@@ -1,8 +1,6 @@
 -- Notes that are added one after another
-use Rattle.std.proofs.Common.{◌≡◌, ℕ, zero, suc, ◌≤◌, ◌+◌, ◌<◌, ◌∙◌, List, [], ◌∷◌, ◌++◌, Result, Ok, Err, map, length, drop, get_or, refl, ap, sym, append_assoc, add-one, drop-cons, arith}
-use Rattle.std.specs.Prelude.{OnOk, IfOk}
-use Rattle.std.proofs.lemmas.List.{append-nil}
-use Rattle.replayer.specs.declared.lazy_steps.note.Note.{Note}
+use Rattle.replayer.proofs.Words.{drop_all, ◌≡◌, ℕ, ◌≤◌, ◌+◌, ◌<◌, ◌∙◌, List, [], ◌∷◌, ◌++◌, Result, Ok, Err, map, length, drop, get_or, refl, ap, sym, append_assoc, add-one, OnOk, IfOk, append-nil, Note}
+use Rattle.std.proofs.Common.{drop-cons}
 
 pub on_more : {X E P Q : Type 0} (answer : Result X E) → (P → Q) → OnOk answer P → OnOk answer Q
 on_more (Ok x) f p = f p
@@ -13,15 +11,7 @@ at_head xs i inside = rw (add-one, drop-cons xs i 0) refl
 
 pub one_more : (f : ℕ → Note) (xs : List ℕ) (i : ℕ) (old new base : List Note) → i < length xs → new ≡ old ++ f (get_or xs i 0) ∷ [] → old ++ map f (drop i xs) ≡ base →
     new ++ map f (drop (i + 1) xs) ≡ base
-one_more f xs i old new base inside added so_far =
-    ap (λ l. l ++ map f (drop (i + 1) xs)) added ∙ append_assoc old (f (get_or xs i 0) ∷ []) (map f (drop (i + 1) xs))
-    ∙ ap (λ ys. old ++ map f ys) (sym (at_head xs i inside)) ∙ so_far
-
-drop_past : (xs : List ℕ) (i : ℕ) → length xs ≤ i → drop i xs ≡ []
-drop_past [] zero past = refl
-drop_past [] (suc i) past = refl
-drop_past (x ∷ rest) zero past = absurd (omega (arith, past))
-drop_past (x ∷ rest) (suc i) past = drop_past rest i (omega (arith, past))
+one_more f xs i old new base inside added so_far = rw (added, append_assoc) (rw (at_head xs i inside) at so_far)
 
 pub in_turn : (old m : List Note) (x y : Note) (first second third : List Note) → first ≡ old ++ m → second ≡ first ++ x ∷ [] → third ≡ second ++ y ∷ [] → third ≡ old ++ m ++ x ∷ y ∷ []
 in_turn old m x y first second third e f g = g ∙ ap (λ l. l ++ y ∷ []) (f ∙ ap (λ l. l ++ x ∷ []) e) ∙ simp append_assoc
@@ -44,4 +34,4 @@ pub from_none : (new old more all : List ℕ) → new ≡ old ++ more → old �
 from_none new old more all e none is = e ∙ ap (λ xs. xs ++ more) none ∙ is
 
 pub none_left : (f : ℕ → Note) (xs : List ℕ) (i : ℕ) (old base : List Note) → length xs ≤ i → old ++ map f (drop i xs) ≡ base → old ≡ base
-none_left f xs i old base past e = nothing_more old (map f (drop i xs)) (ap (λ ys. map f ys) (drop_past xs i past)) ∙ e
+none_left f xs i old base past e = sym (append-nil old) ∙ rw (drop_all i xs past) at e

@@ -1,39 +1,7 @@
 -- The rings that the success of a command binds or moves
-use Rattle.std.proofs.Common.{◌≡◌, ℕ, suc, ◌+◌, ◌-◌, ◌<◌, ◌∙◌, List, [], ◌∷◌, ◌++◌, Bool, true, false, Option, Some, None, map, refl, ap, sym, subst, arith, get_or, inl, inr}
-use Rattle.std.specs.Prelude.{◌==◌, if◌then◌else◌, All, filter}
+use Rattle.replayer.proofs.Words.{cond_both, ◌≡◌, ℕ, suc, ◌+◌, ◌-◌, ◌<◌, ◌∙◌, List, [], ◌∷◌, ◌++◌, Bool, true, false, Option, Some, None, map, refl, ap, sym, arith, get_or, inl, inr, ◌==◌, All, filter, cases_Bool, cond-true, cond-false, or_parts, none-some, All-head, All-tail, All-nil, All-cons, All-append, Block, code, slot, ContextSize, added_endpoints, context_pointer, input_add_flag, Command, AddressDevice, ConfigureEndpoint, SetTrDequeue, EndpointState, Stopped, is_off, Change, Places, changes, placed_by_context, Header, IsHeader, is_ring, ring_having, Known, changed_by, is_among, has_repeats, binds, binding_in, ring_bound, EndpointsKeep, DriverKeeps, IsTransferRing, StillHolds, RingsKeep, endpoints_of, transfer_ring, change_keeps, ReadyAt, all_ready, dropped, map_map, ready_next, ring_at, having_transfer, each_fails, any_of_map, ring_placed, listed, placed, placed_by, placed_by_all, rings_added}
 use Rattle.std.specs.List.{cons_option, filter_map, list_any, range_with_len}
-use Rattle.std.proofs.lemmas.Bool.{cases_Bool, cond-true, cond-false, or_parts}
-use Rattle.std.proofs.lemmas.Option.{none-some}
-use Rattle.std.proofs.lemmas.List.Elements.{All-head, All-tail, All-nil, All-cons, All-append}
-use Rattle.trb.specs.declared.block.Block.{Block}
-use Rattle.trb.specs.Block.{code, slot}
-use Rattle.contexts.specs.declared.size.ContextSize.{ContextSize}
-use Rattle.contexts.specs.Contexts.{added_endpoints, context_pointer, input_add_flag}
-use Rattle.commands.specs.declared.command.Command.{Command}
-use Rattle.commands.specs.declared.command.Command.TheVariants.{AddressDevice, ConfigureEndpoint, SetTrDequeue}
-use Rattle.commands.specs.declared.state.EndpointState.{EndpointState}
-use Rattle.commands.specs.declared.state.EndpointState.TheVariants.{Stopped}
-use Rattle.commands.specs.States.{is_off}
-use Rattle.commands.specs.Changes.{Change, Places, changes, placed_by_context}
-use Rattle.traces.specs.declared.header.Header.{Header}
-use Rattle.traces.specs.Header.{IsHeader, is_ring, ring_having}
-use Rattle.ring_knowledge.specs.Known.{Known}
-use Rattle.ring_knowledge.specs.Rings.{command_at, next_command}
-use Rattle.ring_knowledge.specs.Completions.{changed_by}
-use Rattle.ownership_rules.specs.Moves.{is_among, has_repeats, binds, binding_in, ring_bound}
-use Rattle.safety.specs.EndpointsKeep.{EndpointsKeep}
 use Rattle.safety.specs.EndpointsKeep as endpoints
-use Rattle.safety.specs.Keeps.{DriverKeeps, IsTransferRing}
-use Rattle.safety.specs.Placings.{StillHolds}
-use Rattle.safety.specs.RingsKeep.{RingsKeep}
-use Rattle.safety.proofs.DriverRings.{endpoints_of, transfer_ring}
-use Rattle.safety.proofs.Endpoints.{change_keeps}
-use Rattle.safety.proofs.Placings.{ReadyAt, all_ready, dropped, map_map, ready_next, ring_at}
-use Rattle.safety.proofs.RingIds.{having_transfer}
-use Rattle.safety.proofs.TestsPassed.{each_fails, any_of_map}
-use Rattle.safety.specs.LazyRuns.Needs.{ring_placed}
-use Rattle.replayer.specs.LazySteps.Notes.{listed, placed, placed_by, placed_by_all}
-use Rattle.replayer.specs.RowNotes.Added.{rings_added}
 
 listed_alone : (o : Option ℕ) → listed o ++ [] ≡ listed o
 listed_alone None = refl
@@ -72,25 +40,16 @@ module _ (h : Header) where
 
     pub added_next : i < 32 → input_add_flag memory a i ≡ true → listed (begins i) ++ rings_added h memory a (i + 1) ≡ rings_added h memory a i
     unfolding rings_added
-    added_next below e =
-        listed_before (begins i) (filter_map begins later)
-        ∙ ap (λ xs. filter_map begins xs) (sym (cond-true (input_add_flag memory a i) (i ∷ later) later e))
-        ∙ ap (λ xs. filter_map begins (filter (input_add_flag memory a) xs)) (sym (range_is below))
+    added_next below e = rw (range_is below, e) (listed_before (begins i) (filter_map begins later))
 
     pub added_later : i < 32 → input_add_flag memory a i ≡ false → rings_added h memory a (i + 1) ≡ rings_added h memory a i
     unfolding rings_added
-    added_later below e =
-        ap (λ xs. filter_map begins xs) (sym (cond-false (input_add_flag memory a i) (i ∷ later) later e))
-        ∙ ap (λ xs. filter_map begins (filter (input_add_flag memory a) xs)) (sym (range_is below))
+    added_later below e = rw (range_is below, e) refl
 
   pub added_end : (memory : ℕ → ℕ) (a i : ℕ) → i ≡ 32 → rings_added h memory a i ≡ []
   unfolding rings_added
   added_end memory a i e =
       ap (λ n. filter_map (λ j. ring_having h (context_pointer h.context_size memory a j)) (filter (input_add_flag memory a) (range_with_len i n))) (let none : 32 - i ≡ 0 = omega arith in none)
-
-  all_added : (memory : ℕ → ℕ) (a : ℕ) → filter_map (λ j. ring_having h (context_pointer h.context_size memory a j)) (added_endpoints memory a) ≡ rings_added h memory a 2
-  unfolding rings_added added_endpoints
-  all_added memory a = refl
 
   module _ (is : IsHeader h) where
     -- each that is added is off when its turn comes
@@ -115,17 +74,15 @@ module _ (h : Header) where
 
     configured_places : (k : Known) → RingsKeep h k → (n s a : ℕ) → StillHolds h k (ConfigureEndpoint s false a) →
         placed_by_all h (ConfigureEndpoint s false a) k (changes h.context_size k.memory n (ConfigureEndpoint s false a)) ≡ rings_added h k.memory a 2
-    unfolding changes placed_by_all ring_placed binds binding_in ring_bound
+    unfolding changes placed_by_all ring_placed binds binding_in ring_bound rings_added added_endpoints
     configured_places k rings n s a still =
         let c : Command = ConfigureEndpoint s false a in
         placed_each c k.memory s a (added_endpoints k.memory a) (dropped h is c k s a) (all_ready h is k rings s a still)
         (ap has_repeats (sym (map_map h is (ring_bound h) (binding_in h k a) (added_endpoints k.memory a))) ∙ still.repeats)
-        ∙ all_added k.memory a
 
     pub of_configure : (c : Command) (k : Known) → RingsKeep h k → (n s a : ℕ) → c ≡ ConfigureEndpoint s false a → StillHolds h k c →
         placed_by_all h c k (changes h.context_size k.memory n c) ≡ rings_added h k.memory a 2
-    of_configure c k rings n s a e still =
-        ap (λ d. placed_by_all h d k (changes h.context_size k.memory n d)) e ∙ configured_places k rings n s a (subst (λ d. StillHolds h k d) e still)
+    of_configure c k rings n s a e still = rw e (configured_places k rings n s a (rw e at still))
 
     -- ---- each is a transfer ring
 
@@ -157,15 +114,9 @@ module _ (h : Header) where
     by_transfer k keeps n None = All-nil (IsTransferRing h)
     by_transfer k keeps n (Some c) = all_transfer c (changes h.context_size k.memory n c) k keeps
 
-    if_transfer : (one : Bool) (rings : List ℕ) → All (IsTransferRing h) rings → All (IsTransferRing h) (if one then rings else [])
-    if_transfer true rings all = all
-    if_transfer false rings all = All-nil (IsTransferRing h)
-
     pub placed_transfer : (k : Known) → DriverKeeps h k → (b : Block) → All (IsTransferRing h) (placed h k b)
     unfolding placed
-    placed_transfer k d b =
-        let o : Option Command = command_at h k (next_command h k) in
-        if_transfer (code b == 1) (placed_by h k (slot b) o) (by_transfer k (endpoints_of h k d.states) (slot b) o)
+    placed_transfer k d b = cond_both (code b == 1) _ [] (All (IsTransferRing h)) (λ _. by_transfer k (endpoints_of h k d.states) (slot b) _) (λ _. All-nil (IsTransferRing h))
 
   -- ---- the other commands
 
@@ -173,26 +124,17 @@ module _ (h : Header) where
     abbrev rings_of : Command → List ℕ
     rings_of c = placed_by_all h c k (changes h.context_size k.memory n c)
 
-    addressed_places : (s a : ℕ) (bsr : Bool) → rings_of (AddressDevice s bsr a) ≡ listed (ring_placed h k (placed_by_context h.context_size k.memory s a 1))
-    unfolding changes placed_by_all ring_placed changed_by
-    addressed_places s a bsr = listed_alone (ring_placed h k (placed_by_context h.context_size k.memory s a 1))
-
     pub of_address : (c : Command) (s a : ℕ) (bsr : Bool) → c ≡ AddressDevice s bsr a → rings_of c ≡ listed (ring_placed h k (placed_by_context h.context_size k.memory s a 1))
-    of_address c s a bsr e = ap rings_of e ∙ addressed_places s a bsr
-
-    moved_places : (s i p : ℕ) (cycle : Bool) → rings_of (SetTrDequeue s i p cycle) ≡ listed (ring_placed h k (Places s i p cycle Stopped))
-    unfolding changes placed_by_all
-    moved_places s i p cycle = listed_alone (ring_placed h k (Places s i p cycle Stopped))
+    unfolding changes placed_by_all ring_placed changed_by
+    of_address c s a bsr e = rw e (listed_alone (ring_placed h k (placed_by_context h.context_size k.memory s a 1)))
 
     pub of_dequeue : (c : Command) (s i p : ℕ) (cycle : Bool) → c ≡ SetTrDequeue s i p cycle → rings_of c ≡ listed (ring_placed h k (Places s i p cycle Stopped))
-    of_dequeue c s i p cycle e = ap rings_of e ∙ moved_places s i p cycle
-
-    dropped_places : (s a : ℕ) → rings_of (ConfigureEndpoint s true a) ≡ []
-    unfolding changes placed_by_all ring_placed
-    dropped_places s a = refl
+    unfolding changes placed_by_all
+    of_dequeue c s i p cycle e = rw e (listed_alone (ring_placed h k (Places s i p cycle Stopped)))
 
     pub of_deconfigure : (c : Command) (s a : ℕ) → c ≡ ConfigureEndpoint s true a → rings_of c ≡ []
-    of_deconfigure c s a e = ap rings_of e ∙ dropped_places s a
+    unfolding changes placed_by_all ring_placed
+    of_deconfigure c s a e = rw e refl
 
     pub of_others : (c : Command) → ((s : ℕ) (bsr : Bool) (a : ℕ) → c ≡ AddressDevice s bsr a → ⊥) → ((s : ℕ) (dc : Bool) (a : ℕ) → c ≡ ConfigureEndpoint s dc a → ⊥) →
         ((s i p : ℕ) (cycle : Bool) → c ≡ SetTrDequeue s i p cycle → ⊥) → rings_of c ≡ []

@@ -1,51 +1,6 @@
 -- The lazy schedule of a clean trace names rings and blocks that there are
-use Rattle.std.proofs.Common.{◌≡◌, ℕ, ◌+◌, ◌<◌, ◌-◌, List, [], ◌∷◌, ◌++◌, Option, Some, None, refl, arith, append-nil, length, subst, sym}
-use Rattle.std.specs.Prelude.{◌==◌, ◌&&◌, reverse, nat_lt, All, option_map}
+use Rattle.replayer.proofs.Words.{◌≡◌, ℕ, ◌+◌, ◌<◌, ◌-◌, List, [], ◌∷◌, ◌++◌, Option, Some, None, refl, arith, append-nil, length, subst, sym, ◌==◌, ◌&&◌, reverse, nat_lt, All, option_map, and_parts, cond_both, eqb-true, ltb-true, none-some, same_Some, get_or-reverse, length-reverse, All-append, All-cons, All-head, All-map, All-nil, All-tail, All-weaker, Block, BlockKind, CommandCompletion, TransferEvent, IsBlock, code, endpoint, kind, pointer, slot, is_stopping, Spot, is_open, named, is_shape, number, Command, StopEndpoint, Header, Row, Read, Step, Look, NextRow, IsHeader, command_id, shape_of, AreSteps, IsRow, IsStep, IsTraceRow, TraceRow, Comes, Goes, Plain, Withdraws, Known, learned, RingSpot, command_at, event_at, next_command, spot_on, lenient, DriverKeeps, IsDriverRing, event_facts, header_parts, transfer_driver, found_allowed, found_passes, command_is_ring, AreKept, FitsFields, IsKept, header_now, known_now, restored, gone_ring_header, row_keeps, comes_header, Keeps, now_keeps, kept_on, later_kept, one_more, KeepHeaders, need, command_taken, goals, lazy_run, lazy_steps, looks_to, open_goals, pointers_at, post_of, report_goals, spots_before, steps_before, steps_for, stop_goal, stopped_goals, taken_up_to}
 use Rattle.std.specs.List.{flat_map}
-use Rattle.std.proofs.lemmas.Bool.{and_parts, cond_both, eqb-true, ltb-true}
-use Rattle.std.proofs.lemmas.Option.{none-some, same_Some}
-use Rattle.std.proofs.lemmas.List.{get_or-reverse, length-reverse}
-use Rattle.std.proofs.lemmas.List.Elements.{All-append, All-cons, All-head, All-map, All-nil, All-tail, All-weaker}
-use Rattle.trb.specs.declared.block.Block.{Block}
-use Rattle.trb.specs.declared.kind.BlockKind.{BlockKind}
-use Rattle.trb.specs.declared.kind.BlockKind.TheVariants.{CommandCompletion, TransferEvent}
-use Rattle.trb.specs.Block.{IsBlock, code, endpoint, kind, pointer, slot}
-use Rattle.trb.specs.CompletionCode.{is_stopping}
-use Rattle.segments.specs.declared.spot.Spot.{Spot}
-use Rattle.segments.specs.Ceiling.{is_open, named}
-use Rattle.segments.specs.Shape.{is_shape}
-use Rattle.segments.specs.Spots.{number}
-use Rattle.commands.specs.declared.command.Command.{Command}
-use Rattle.commands.specs.declared.command.Command.TheVariants.{StopEndpoint}
-use Rattle.traces.specs.declared.header.Header.{Header}
-use Rattle.traces.specs.declared.row.Row.{Row}
-use Rattle.traces.specs.declared.row.Row.TheVariants.{Bell, Read, Reg, Sub, Write}
-use Rattle.traces.specs.declared.step.Step.{Step}
-use Rattle.traces.specs.declared.step.Step.TheVariants.{Look, NextRow}
-use Rattle.traces.specs.Header.{IsHeader, command_id, shape_of}
-use Rattle.traces.specs.Rows.{AreSteps, IsRow, IsStep}
-use Rattle.traces.specs.TraceRows.{IsTraceRow}
-use Rattle.traces.specs.declared.trace_row.TraceRow.{TraceRow}
-use Rattle.traces.specs.declared.trace_row.TraceRow.TheVariants.{Comes, Goes, Plain, Withdraws}
-use Rattle.ring_knowledge.specs.Known.{Known}
-use Rattle.ring_knowledge.specs.Learned.{learned}
-use Rattle.ring_knowledge.specs.Rings.{RingSpot, command_at, event_at, next_command, spot_on}
-use Rattle.ownership_rules.specs.Rules.{lenient}
-use Rattle.safety.specs.Keeps.{DriverKeeps, IsDriverRing}
-use Rattle.safety.proofs.CleanRows.{event_facts}
-use Rattle.safety.proofs.Headers.{header_parts, transfer_driver}
-use Rattle.safety.proofs.RingsOfHeader.{found_allowed, found_passes}
-use Rattle.safety.proofs.SafeContext.{command_is_ring}
-use Rattle.safety.specs.RingChanges.Histories.{AreKept, FitsFields, IsKept, header_now, known_now}
-use Rattle.safety.specs.RingChanges.Withdrawals.{restored}
-use Rattle.safety.proofs.RingChanges.GoneRings.{gone_ring_header}
-use Rattle.safety.proofs.RingChanges.Restored.{row_keeps}
-use Rattle.safety.proofs.RingChanges.RingRuns.{comes_header}
-use Rattle.safety.proofs.RingChanges.RingsHeadline.{Keeps, now_keeps}
-use Rattle.safety.proofs.LazyRuns.Induction.{kept_on, later_kept, one_more}
-use Rattle.replayer.specs.LazySteps.Headers.{KeepHeaders}
-use Rattle.safety.specs.LazyRuns.Needs.{need}
-use Rattle.safety.specs.LazyRuns.Lazy.{command_taken, goals, lazy_run, lazy_steps, looks_to, open_goals, pointers_at, post_of, report_goals, spots_before, steps_before, steps_for, stop_goal, stopped_goals, taken_up_to}
 
 all_reverse : {X : Type 0} (P : X → Type 0) (xs : List X) → All P xs → All P (reverse xs)
 all_reverse P xs are = λ k d inside.
@@ -138,10 +93,7 @@ module _ (h : Header) (headed : IsHeader h) where
       let command_low : command_id h < 256 = low (command_id h) (command_is_ring h k d (event_facts h k b clean).started) in
       All-append IsStep (flat_map (looks_to h p) (goals h k later (kind b) b)) (post_of h (kind b) b ∷ []) (all_looks p (goals h k later (kind b) b) (goals_low k d later b command_low (kind b)))
       (All-cons IsStep (post_of h (kind b) b) [] (post_is (kind b) b is) (All-nil IsStep))
-  row_steps_are k p (Sub r blocks) later d is clean = All-nil IsStep
-  row_steps_are k p (Write a w) later d is clean = All-nil IsStep
-  row_steps_are k p (Reg r x) later d is clean = All-nil IsStep
-  row_steps_are k p (Bell s t) later d is clean = All-nil IsStep
+  row_steps_are k p _ later d is clean = All-nil IsStep
 
 module _ (h : Header) (headed : IsHeader h) where
   for_row : (past later : List TraceRow) (row : TraceRow) (p : ℕ → Spot) → Keeps h headed past → FitsFields row → IsKept (header_now h past) (known_now h past) row →
@@ -151,9 +103,7 @@ module _ (h : Header) (headed : IsHeader h) where
       let g : Header = header_now h past in
       let k : Known = known_now h past in
       row_steps_are g keeps.headed (restored g k row) p row later (row_keeps g keeps.headed k keeps.keeps row kept.1) is kept.0
-  for_row past later (Comes ring) p keeps is kept = All-nil IsStep
-  for_row past later (Goes id) p keeps is kept = All-nil IsStep
-  for_row past later (Withdraws r q) p keeps is kept = All-nil IsStep
+  for_row past later _ p keeps is kept = All-nil IsStep
 
   run_is : (past later : List TraceRow) → All FitsFields past → AreKept h past → AreSteps (lazy_run h past later)
   unfolding lazy_run

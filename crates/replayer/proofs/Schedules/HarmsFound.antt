@@ -1,15 +1,6 @@
 -- A replay that ends with harm: up to there the steps are a run, and the world after them isn't safe
-use Rattle.std.proofs.Common.{◌≡◌, ◌∙◌, ℕ, suc, ◌+◌, ◌≤◌, List, [], ◌∷◌, ◌++◌, Option, Some, None, refl, sym, ap, arith, length}
-use Rattle.std.specs.Prelude.{take, reverse, option_and_then}
-use Rattle.std.proofs.lemmas.Grind.{common_steps}
-use Rattle.traces.specs.declared.header.Header.{Header}
-use Rattle.traces.specs.declared.trace_row.TraceRow.{TraceRow}
-use Rattle.traces.specs.declared.step.Step.{Step}
-use Rattle.world_state.specs.declared.harm.Harm.{Harm}
-use Rattle.world_state.specs.Harms.{harm_of}
-use Rattle.controller_model.specs.Steps.{Ending, NoHarm, Harmful, judged}
-use Rattle.controller_model.specs.Scenes.{Scene, scene_before, scene_ending_from, scene_reached, scene_replayed, step_made}
-use Rattle.replayer.specs.Schedules.Harmful.{DoesHarm, rows_made}
+use Rattle.replayer.proofs.Words.{◌≡◌, ◌∙◌, ℕ, suc, ◌+◌, ◌≤◌, List, [], ◌∷◌, ◌++◌, Option, Some, None, refl, sym, ap, arith, length, take, reverse, append-nil, option_and_then, common_steps, Header, TraceRow, Step, Harm, harm_of, NoHarm, Harmful, judged, Scene, scene_before, scene_ending_from, scene_reached, scene_replayed, step_made, DoesHarm, rows_made}
+use Rattle.replayer.proofs.Schedules.Replays.{turned}
 
 module _ (h : Header) (rows : List TraceRow) where
   -- the first so many of these steps, behind those done, lead to a world that isn't safe, and the replay of them alone ends as that of all
@@ -22,51 +13,32 @@ module _ (h : Header) (rows : List TraceRow) where
     pub harmful : harm_of scene.header scene.world ≡ Some k
     pub replay : scene_ending_from m from (take count steps) ≡ Harmful n k
 
-  turned : (s : Step) (xs ys : List Step) → reverse xs ++ s ∷ ys ≡ reverse (s ∷ xs) ++ ys
-  turned s xs ys = grind (arith, common_steps)
-
-  abbrev harm_at : ℕ → Harm → Ending
-  harm_at m j = Harmful m j
-
-  same_number : (m n : ℕ) (j k : Harm) → harm_at m j ≡ harm_at n k → m ≡ n
-  same_number m n j k e = cc
-
-  same_harm : (m n : ℕ) (j k : Harm) → harm_at m j ≡ harm_at n k → j ≡ k
-  same_harm m n j k e = cc
-
-  harm_now : (w : Scene) (steps done : List Step) (m n : ℕ) (j k : Harm) → scene_reached h rows done ≡ Some w → harm_of w.header w.world ≡ Some j → harm_at m j ≡ harm_at n k → IsFound steps done (Some w) m n k
+  harm_now : (w : Scene) (steps done : List Step) (m n : ℕ) (j k : Harm) → scene_reached h rows done ≡ Some w → harm_of w.header w.world ≡ Some j → Harmful m j ≡ Harmful n k → IsFound steps done (Some w) m n k
   unfolding scene_ending_from judged
   harm_now w steps done m n j k here is e =
-      let number = same_number m n j k e in
+      let number : m ≡ n = cc in
+      let same : j ≡ k = cc in
       record {
         count = 0;
         numbered = omega (arith, number);
         within = omega arith;
         scene = w;
         run = here;
-        harmful = is ∙ ap Some (same_harm m n j k e);
+        harmful = is ∙ ap Some same;
         replay = ap (λ o. judged m o NoHarm) is ∙ e;
       }
 
-  goes_on : (w : Scene) (s : Step) (rest : List Step) (m : ℕ) → harm_of w.header w.world ≡ None → scene_ending_from m (Some w) (s ∷ rest) ≡ scene_ending_from (m + 1) (step_made w s) rest
-  unfolding scene_ending_from judged
-  goes_on w s rest m safe = ap (λ o. judged m o (scene_ending_from (m + 1) (step_made w s) rest)) safe
-
-  one_more : (w : Scene) (s : Step) (done : List Step) → scene_reached h rows done ≡ Some w → scene_reached h rows (s ∷ done) ≡ step_made w s
-  one_more w s done here = ap (λ o. option_and_then (λ v. step_made v s) o) here
-
   harm_later : (w : Scene) (s : Step) (rest done : List Step) (m n : ℕ) (k : Harm) → harm_of w.header w.world ≡ None → IsFound rest (s ∷ done) (step_made w s) (m + 1) n k → IsFound (s ∷ rest) done (Some w) m n k
+  unfolding scene_ending_from judged
   harm_later w s rest done m n k safe later =
-      let numbered = later.numbered in
-      let within = later.within in
       record {
         count = suc later.count;
-        numbered = omega (arith, numbered);
-        within = omega (arith, within);
+        numbered = omega (arith, later.numbered);
+        within = omega (arith, later.within);
         scene = later.scene;
-        run = ap (λ l. scene_reached h rows l) (sym (turned s (take later.count rest) done)) ∙ later.run;
+        run = ap (λ l. scene_reached h rows l) (turned s (take later.count rest) done) ∙ later.run;
         harmful = later.harmful;
-        replay = goes_on w s (take later.count rest) m safe ∙ later.replay;
+        replay = rw safe later.replay;
       }
 
   found : (steps done : List Step) (o : Option Scene) (m n : ℕ) (k : Harm) → scene_reached h rows done ≡ o → scene_ending_from m o steps ≡ Harmful n k → IsFound steps done o m n k
@@ -78,7 +50,7 @@ module _ (h : Header) (rows : List TraceRow) where
       by None is e = absurd (cc)
       by (Some j) is e = harm_now w [] done m n j k here is e
   found (s ∷ rest) done (Some w) m n k here e =
-      by (harm_of w.header w.world) refl e (λ next. found rest (s ∷ done) (step_made w s) (m + 1) n k (one_more w s done here) next)
+      by (harm_of w.header w.world) refl e (λ next. found rest (s ∷ done) (step_made w s) (m + 1) n k (ap (λ o. option_and_then (λ v. step_made v s) o) here) next)
     where
       by : (j : Option Harm) → harm_of w.header w.world ≡ j → judged m j (scene_ending_from (m + 1) (step_made w s) rest) ≡ Harmful n k →
           (scene_ending_from (m + 1) (step_made w s) rest ≡ Harmful n k → IsFound rest (s ∷ done) (step_made w s) (m + 1) n k) → IsFound (s ∷ rest) done (Some w) m n k
@@ -99,14 +71,11 @@ module _ (h : Header) (rows : List TraceRow) where
     length_done : length (take n steps) ≡ n
     length_done = grind (arith, common_steps, within_steps)
 
-    none_behind : (xs : List Step) → xs ++ [] ≡ xs
-    none_behind xs = grind (arith, common_steps)
-
     pub does_harm : (most : ℕ) → rows_made (take n steps) ≤ most → DoesHarm h rows most (take n steps) k
     unfolding scene_replayed
     does_harm most few = record {
       scene = all_found.scene;
-      run = ap (λ i. scene_reached h rows (reverse (take i steps))) counted ∙ ap (λ l. scene_reached h rows l) (sym (none_behind (reverse (take all_found.count steps)))) ∙ all_found.run;
+      run = ap (λ i. scene_reached h rows (reverse (take i steps))) counted ∙ ap (λ l. scene_reached h rows l) (sym (append-nil (reverse (take all_found.count steps)))) ∙ all_found.run;
       few = few;
       harmful = all_found.harmful;
       replay = ap (λ i. scene_ending_from 0 (Some (scene_before h rows)) (take i steps)) counted ∙ all_found.replay ∙ ap (λ i. Harmful i k) (sym length_done);

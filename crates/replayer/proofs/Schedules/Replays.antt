@@ -1,18 +1,7 @@
 -- A run whose worlds are all safe is replayed without harm
-use Rattle.std.proofs.Common.{◌≡◌, ℕ, ◌+◌, List, [], ◌∷◌, Option, Some, None, refl, sym, ◌∙◌, ap, subst, arith}
-use Rattle.std.specs.Prelude.{◌++◌, reverse, option_and_then, All}
-use Rattle.std.proofs.lemmas.Grind.{common_steps}
-use Rattle.std.proofs.lemmas.List.Elements.{All-cons, All-head, All-nil, All-tail}
-use Rattle.traces.specs.declared.header.Header.{Header}
-use Rattle.traces.specs.declared.step.Step.{Step}
-use Rattle.traces.specs.declared.trace_row.TraceRow.{TraceRow}
-use Rattle.traces.specs.Rows.{IsStep}
-use Rattle.controller_model.specs.Steps.{NoHarm, judged}
-use Rattle.controller_model.specs.Scenes.{Scene, scene_before, scene_ending_from, scene_reached, scene_replayed, step_made}
-use Rattle.safety.specs.LazyRuns.Law.{ContainsAll}
-use Rattle.ownership_checker.specs.RingPasses.Passing.{DoNoHarm}
+use Rattle.replayer.proofs.Words.{append-nil, ◌≡◌, ℕ, ◌+◌, List, [], ◌∷◌, Option, Some, None, refl, sym, ◌∙◌, ap, subst, arith, ◌++◌, reverse, option_and_then, All, common_steps, All-cons, All-head, All-nil, All-tail, Header, Step, TraceRow, IsStep, NoHarm, judged, Scene, scene_before, scene_ending_from, scene_reached, scene_replayed, step_made, ContainsAll, DoNoHarm}
 
-turned : (s : Step) (steps past : List Step) → reverse (s ∷ steps) ++ past ≡ reverse steps ++ s ∷ past
+pub turned : (s : Step) (steps past : List Step) → reverse (s ∷ steps) ++ past ≡ reverse steps ++ s ∷ past
 turned s steps past = grind (arith, common_steps)
 
 module _ (h : Header) (rows : List TraceRow) where
@@ -36,17 +25,12 @@ module _ (h : Header) (rows : List TraceRow) where
     unfolding scene_ending_from judged
     from_here [] past n x are were here run = rw (harmless past x were here) refl
     from_here (s ∷ steps) past n x are were here run =
-        let later : scene_reached h rows (reverse steps ++ s ∷ past) ≡ Some scene = subst (λ l. scene_reached h rows l ≡ Some scene) (turned s steps past) run in
+        let later = subst (λ l. scene_reached h rows l ≡ Some scene) (turned s steps past) run in
         let next = earlier (reverse steps) (s ∷ past) scene later in
-        ap (λ o. judged n o (scene_ending_from (n + 1) (step_made x s) steps)) (harmless past x were here)
-        ∙ ap (λ o. scene_ending_from (n + 1) o steps) (last_step s past x next.0 here next.1)
-        ∙ from_here steps (s ∷ past) (n + 1) next.0 (All-tail IsStep s steps are) (All-cons IsStep s past (All-head IsStep s steps are) were) next.1 later
+        rw (harmless past x were here, last_step s past x next.0 here next.1) (from_here steps (s ∷ past) (n + 1) next.0 (All-tail IsStep s steps are) (All-cons IsStep s past (All-head IsStep s steps are) were) next.1 later)
 
   pub without_harm : DoNoHarm h rows → (steps : List Step) → All IsStep steps → ContainsAll h rows (reverse steps) → (scene_replayed h rows steps).ending ≡ NoHarm
   unfolding scene_replayed
   without_harm harmless steps are contains =
       from_here harmless contains.scene steps [] 0 (scene_before h rows) are (All-nil IsStep) refl
-      (subst (λ l. scene_reached h rows l ≡ Some contains.scene) (nothing_before (reverse steps)) contains.run)
-    where
-      nothing_before : (l : List Step) → l ≡ l ++ []
-      nothing_before l = grind (arith, common_steps)
+      (subst (λ l. scene_reached h rows l ≡ Some contains.scene) (sym (append-nil (reverse steps))) contains.run)

@@ -1,29 +1,7 @@
 -- What one call answers, by the first line of the bytes that stand ahead
-use Rattle.std.proofs.Common.{◌≡◌, inl, inr, ◌≤◌, ◌<◌, ◌∷◌, ◌++◌, ◌∙◌, ℕ, List, [], Bool, true, false, Option, Some, None, Result, Ok, Err, refl, ap, sym, subst, append-nil, append_assoc, drop, length, length-append, arith, lt-ltb}
-use Rattle.std.proofs.KnownBytes.{Consumes-nil}
-use Rattle.std.proofs.lemmas.Bool.{cases_Bool}
-use Rattle.std.proofs.lemmas.List.{drop_at}
-use Rattle.std.specs.Io.KnownBytes.{IsAtEnd}
-use Rattle.traces.specs.Limits.{most_bytes}
-use Rattle.traces.specs.TraceRows.{ids_with}
-use Rattle.traces.specs.declared.row.Row.{Row}
-use Rattle.traces.specs.declared.trace_row.TraceRow.{TraceRow}
-use Rattle.traces.specs.declared.trace_row.TraceRow.TheVariants.{Plain}
-use Rattle.line_text.proofs.Joins.{lines_of-ended, lines_of-nothing}
-use Rattle.line_text.specs.Lines.{TextLine, behind_content, lines_of}
-use Rattle.trace_reader.specs.declared.fault.LineFault.{LineFault}
-use Rattle.trace_reader.specs.declared.fault.LineError.{LineError}
-use Rattle.trace_reader.specs.declared.fault.LineError.TheVariants.{Fault, Memory}
-use Rattle.trace_reader.specs.Entries.{AnswersRow}
-use Rattle.trace_reader.specs.Reading.{State, behind_row, most_of, next_number, read_line}
-use Rattle.trace_reader.specs.RowsAhead.{BeginsWithRow}
-unfoldable use Rattle.trace_reader.specs.Reading.{is_too_long}
-use Rattle.trace_reader.specs.declared.row_reader.fault.StreamFault.{StreamFault}
+use Rattle.trace_reader.proofs.Words.{rules, ◌≡◌, ◌≤◌, ◌<◌, ◌∷◌, ◌++◌, ◌∙◌, ℕ, List, [], Bool, true, false, Option, Some, None, Result, Ok, Err, refl, ap, sym, subst, append-nil, append_assoc, drop, length, length-append, arith, lt-ltb, Consumes-nil, drop_at, IsAtEnd, most_bytes, ids_with, Row, TraceRow, Plain, lines_of-ended, lines_of-nothing, TextLine, behind_content, lines_of, LineFault, LineError, Fault, Memory, AnswersRow, State, behind_row, most_of, next_number, read_line, BeginsWithRow, is_too_long, StreamFault, IsFilled, IsHeld, OfText, IsCall, behind_answer, fault_of, Call, call_in, call_on, next_row}
 use Rattle.trace_reader.specs.declared.row_reader.fault.StreamFault.TheVariants.{Line}
-use Rattle.trace_reader.specs.Streaming.Ahead.{Comes, IsFilled, IsHeld, OfText}
-use Rattle.trace_reader.specs.Streaming.Answers.{IsCall, behind_answer, fault_of}
-use Rattle.trace_reader.specs.Streaming.RowByRow.{Call, call_in, call_on}
-unfoldable use Rattle.trace_reader.specs.Streaming.RowByRow.{next_row}
+use Rattle.trace_reader.specs.Streaming.Ahead.{Comes}
 use Rattle.trace_reader.proofs.Streaming.FirstLines.{IsCut, NoFeed, ended_behind, ended_lines, long_line, no_feed_in, unended_whole}
 use Rattle.trace_reader.proofs.Streaming.LineEnds.{ended_if_read, long_alike}
 
@@ -45,8 +23,7 @@ some_held None = ([], tt)
 some_held (Some bytes) = (bytes, refl)
 
 pub none_held : (held : Option (List ℕ)) → IsAtEnd held → IsHeld held []
-none_held None ended = tt
-none_held (Some bytes) ended = sym ended
+none_held held ended = search rules
 
 -- ---- the first line
 
@@ -57,7 +34,7 @@ pub record StandsAhead (held held' : Option (List ℕ)) (before ahead text : Lis
   pub whole : text ≡ line.content ++ behind_content line.is_ended rest
   pub one : NoFeed line.content
 
-module _ (held held' : Option (List ℕ)) (before ahead text : List ℕ) (line : TextLine) (rest : List ℕ) where
+module _ {held held' : Option (List ℕ)} {before ahead text : List ℕ} {line : TextLine} {rest : List ℕ} where
   pub cut_of : StandsAhead held held' before ahead text line rest → IsCut ahead line rest
   cut_of stands = record { whole = sym stands.is ∙ stands.whole; one = stands.one }
 
@@ -93,35 +70,21 @@ module _ (st : State) (held : Option (List ℕ)) (ahead rest : List ℕ) (line :
     long_bad : 0 < length ahead → most_bytes < length ahead → IsBadAhead st held ahead fault
     long_bad some many =
         let later = some_held held in
-        let clear : NoFeed ahead = subst NoFeed (sym same) cut.one in
-        let first = long_line ahead later.0 some clear in
-        let long : most_bytes < length line.content = omega (arith, ap length same, many) in
+        let first = long_line ahead later.0 some (subst NoFeed (sym same) cut.one) in
         record {
           later = later.0;
           is = later.1;
           first = first.line;
           others = first.lines;
           are = first.are;
-          bad = long_alike st line first.line fault (long_is line long) (long_is first.line (omega (arith, first.long, many))) is;
+          bad = long_alike st line first.line fault (long_is line (omega (arith, ap length same, many))) (long_is first.line (omega (arith, first.long, many))) is;
         }
 
     no_feed : (content more : List ℕ) → ahead ≡ content ++ 10 ∷ more → ⊥
     no_feed content more feed = no_feed_in content more (subst NoFeed (sym same ∙ feed) cut.one)
 
   pub bad_ahead : lines_of ahead ≡ line ∷ lines_of rest → IsFilled true held ahead → IsBadAhead st held ahead fault
-  bad_ahead lines filled =
-      elim (cases_Bool line.is_ended) [
-        | inl ended ↦ ended_bad ended
-        | inr unended ↦
-            elim (filled.1) [
-              | inl long ↦
-                  elim long [
-                    | inl feed ↦ absurd (no_feed unended feed.0 feed.1 feed.2)
-                    | inr many ↦ long_bad unended filled.0 many
-                  ]
-              | inr at_end ↦ last_bad lines at_end
-            ]
-      ]
+  bad_ahead lines filled = search (rules, ended_bad, no_feed, long_bad, last_bad)
 
 -- ---- a call
 
@@ -130,60 +93,44 @@ pub call_of : (st : State) (text : List ℕ) (line : TextLine) (lines : List Tex
 unfolding next_row
 call_of st text line lines are = ap (call_in st text) are
 
-pub row_given : (st : State) (held held' : Option (List ℕ)) (before ahead text left : List ℕ) (line : TextLine) (rest : List ℕ) (number : ℕ) (row : TraceRow) → StandsAhead held held' before ahead text line rest →
+pub row_given : (st : State) {held held' : Option (List ℕ)} {before ahead text : List ℕ} (left : List ℕ) {line : TextLine} {rest : List ℕ} (number : ℕ) (row : TraceRow) → StandsAhead held held' before ahead text line rest →
     read_line st line ≡ Ok (behind_row st row, Some row) → (line.is_ended ≡ true → left ≡ rest) → number ≡ next_number st →
     IsCall (record { read = st; ended = false }) (behind_answer st (Ok (Some (number, row)))) held held' before left (Ok (Some (number, row)))
-row_given st held held' before ahead text left line rest number row stands read is at =
-    let cut = cut_of held held' before ahead text line rest stands in
+row_given st {held} {held'} {before} {ahead} {text} left {line} {rest} number row stands read is at =
     let ended = ended_if_read st line (behind_row st row, Some row) read in
-    let next : State = behind_row st row in
-    let call : ℕ → List ℕ → Call = λ (n : ℕ) (l : List ℕ). record { answer = Ok (Some (n, row)); progress = record { read = next; ended = false }; left = l } in
+    let call : ℕ → List ℕ → Call = λ (n : ℕ) (l : List ℕ). record { answer = Ok (Some (n, row)); progress = record { read = behind_row st row; ended = false }; left = l } in
     of_all held held' before ahead left (λ t l. next_row (record { read = st; ended = false }) t ≡ call number l) stands.comes (λ later.
-    call_of st (ahead ++ later) line (lines_of (rest ++ later)) (ended_lines ahead rest later line cut ended)
-    ∙ ap (call_on st (ahead ++ later)) read
-    ∙ ap (call (next_number st)) (ended_behind ahead rest later line cut ended ∙ ap (λ l. l ++ later) (sym (is ended)))
-    ∙ ap (λ n. call n (left ++ later)) (sym at))
+    call_of st (ahead ++ later) line (lines_of (rest ++ later)) (ended_lines ahead rest later line (cut_of stands) ended) ∙ ap (call_on st (ahead ++ later)) read
+    ∙ ap (call (next_number st)) (ended_behind ahead rest later line (cut_of stands) ended ∙ ap (λ l. l ++ later) (sym (is ended))) ∙ ap (λ n. call n (left ++ later)) (sym at))
 
-pub row_bad : (st : State) (held held' : Option (List ℕ)) (before ahead text : List ℕ) (line : TextLine) (rest : List ℕ) (number : ℕ) (fault : LineFault) → StandsAhead held held' before ahead text line rest →
+row_bad : (st : State) {held held' : Option (List ℕ)} {before ahead text : List ℕ} {line : TextLine} {rest : List ℕ} (number : ℕ) (fault : LineFault) → StandsAhead held held' before ahead text line rest →
     IsFilled true held' ahead → read_line st line ≡ Err fault → number ≡ next_number st →
     IsCall (record { read = st; ended = false }) (record { read = st; ended = true }) held held' before ahead (Err (Line number fault))
-row_bad st held held' before ahead text line rest number fault stands filled read at =
-    let bad = bad_ahead st held' ahead rest line fault (cut_of held held' before ahead text line rest stands) read (lines_are held held' before ahead text line rest stands) filled in
+row_bad st {held} {held'} {before} {ahead} {text} {line} {rest} number fault stands filled read at =
+    let bad = bad_ahead st held' ahead rest line fault (cut_of stands) read (lines_are stands) filled in
     let call : ℕ → List ℕ → Call = λ (n : ℕ) (l : List ℕ). record { answer = Err (n, fault); progress = record { read = st; ended = true }; left = l } in
     of_one held held' before ahead ahead bad.later (λ t l. next_row (record { read = st; ended = false }) t ≡ call number l) stands.comes bad.is
     (call_of st (ahead ++ bad.later) bad.first bad.others bad.are ∙ ap (call_on st (ahead ++ bad.later)) bad.bad ∙ ap (λ n. call n (ahead ++ bad.later)) (sym at))
 
-pub bad_told : (st : State) (held held' : Option (List ℕ)) (before ahead text : List ℕ) (line : TextLine) (rest : List ℕ) (number : ℕ) (e : LineError) → StandsAhead held held' before ahead text line rest →
+pub bad_told : (st : State) {held held' : Option (List ℕ)} {before ahead text : List ℕ} {line : TextLine} {rest : List ℕ} (number : ℕ) (e : LineError) → StandsAhead held held' before ahead text line rest →
     IsFilled true held' ahead → AnswersRow st (Err e) line → number ≡ next_number st →
     IsCall (record { read = st; ended = false }) (record { read = st; ended = true }) held held' before ahead (Err (fault_of number e))
-bad_told st held held' before ahead text line rest number (Fault fault) stands filled read at = row_bad st held held' before ahead text line rest number fault stands filled read at
-bad_told st held held' before ahead text line rest number Memory stands filled read at = tt
-
-no_line : (st : State) → next_row (record { read = st; ended = false }) [] ≡ record { answer = Ok None; progress = record { read = st; ended = true }; left = [] }
-unfolding next_row
-no_line st = ap (call_in st []) lines_of-nothing
+bad_told st number (Fault fault) stands filled read at = row_bad st number fault stands filled read at
+bad_told st number Memory stands filled read at = tt
 
 pub no_row : (st : State) (held held' : Option (List ℕ)) (before ahead : List ℕ) → Comes held held' before ahead → IsFilled false held' ahead →
     IsCall (record { read = st; ended = false }) (record { read = st; ended = true }) held held' before ahead (Ok None)
-no_row st held held' before ahead comes none =
-    let empty : ahead ++ [] ≡ [] = ap (λ a. a ++ []) none.0 in
-    of_one held held' before ahead ahead [] (λ t l. next_row (record { read = st; ended = false }) t ≡ record { answer = Ok None; progress = record { read = st; ended = true }; left = l }) comes (none_held held' none.1)
-    (subst (λ (t : List ℕ). next_row (record { read = st; ended = false }) t ≡ record { answer = Ok None; progress = record { read = st; ended = true }; left = t }) (sym empty) (no_line st))
+unfolding next_row
+no_row st held held' before ahead comes none = search (rules, of_one, none_held, lines_of-nothing)
 
 -- ---- how far the reading has come behind a call
 
 pub given : (st : State) (ended : Bool) (number : ℕ) (row : TraceRow) (ids : List ℕ) (held held' : Option (List ℕ)) (ahead ahead' : List ℕ) → ended ≡ false → number ≡ next_number st → ids ≡ ids_with st.later row →
     IsCall (record { read = st; ended = false }) (record { read = behind_row st row; ended = false }) held held' ahead ahead' (Ok (Some (number, row))) →
     IsCall (record { read = st; ended = ended }) (record { read = record st { lines = number; begun = true; later = ids }; ended = ended }) held held' ahead ahead' (Ok (Some (number, row)))
-given st true number row ids held held' ahead ahead' is at noted right = cc is
-given st false number row ids held held' ahead ahead' is at noted right =
-    subst (λ (later : List ℕ). IsCall (record { read = st; ended = false }) (record { read = record st { lines = number; begun = true; later = later }; ended = false }) held held' ahead ahead' (Ok (Some (number, row)))) (sym noted)
-    (subst (λ (n : ℕ). IsCall (record { read = st; ended = false }) (record { read = record st { lines = n; begun = true; later = ids_with st.later row }; ended = false }) held held' ahead ahead' (Ok (Some (number, row)))) (sym at) right)
+given st ended number row ids held held' ahead ahead' is at noted right = search rules
 
 -- the bytes ahead begin with a line that says a row
-pub begun_within : (ahead : List ℕ) (row : Row) (count : ℕ) → BeginsWithRow row count ahead → count ≤ length ahead
-begun_within ahead row count begins = omega (arith, ap length begins.2, length-append begins.0 (10 ∷ begins.1), begins.3)
-
 pub row_begins : (st : State) (ended : Bool) (held : Option (List ℕ)) (ahead left : List ℕ) (row : Row) (count : ℕ) → BeginsWithRow row count ahead → 2 ≤ st.lines → next_number st ≤ most_of st →
     ended ≡ false → left ≡ drop count ahead →
     IsCall (record { read = st; ended = ended }) (record { read = record st { lines = next_number st; begun = true }; ended = ended }) held held ahead left (Ok (Some (next_number st, Plain row)))
@@ -196,13 +143,12 @@ row_begins st ended held ahead left row count begins behind within going is =
     let long : length (content ++ 10 ∷ []) ≡ count = omega (arith, length-append content (10 ∷ []), begins.3) in
     let behind_it : drop count ahead ≡ rest = ap (drop count) (begins.2 ∙ sym (append_assoc content (10 ∷ []) rest)) ∙ drop_at (content ++ 10 ∷ []) rest count long in
     given st ended (next_number st) (Plain row) st.later held held ahead left going refl refl
-    (row_given st held held ahead ahead ahead left line rest (next_number st) (Plain row) stands (begins.5 st behind within) (λ e. is ∙ behind_it) refl)
+    (row_given st left (next_number st) (Plain row) stands (begins.5 st behind within) (λ e. is ∙ behind_it) refl)
 
 pub stopped : (st : State) (ended : Bool) (result : Result (Option (ℕ × TraceRow)) StreamFault) (held held' : Option (List ℕ)) (ahead ahead' : List ℕ) → ended ≡ false →
     IsCall (record { read = st; ended = false }) (record { read = st; ended = true }) held held' ahead ahead' result →
     IsCall (record { read = st; ended = ended }) (record { read = st; ended = true }) held held' ahead ahead' result
-stopped st true result held held' ahead ahead' is right = cc is
-stopped st false result held held' ahead ahead' is right = right
+stopped st ended result held held' ahead ahead' is right = search rules
 
 pub still : (st : State) (ended : Bool) (held : Option (List ℕ)) (ahead : List ℕ) → ended ≡ true →
     IsCall (record { read = st; ended = ended }) (record { read = st; ended = ended }) held held ahead ahead (Ok None)
@@ -210,5 +156,4 @@ unfolding next_row
 still st false held ahead is = cc is
 still st true held ahead is =
     let later = some_held held in
-    let call : List ℕ → Call = λ (l : List ℕ). record { answer = Ok None; progress = record { read = st; ended = true }; left = l ++ later.0 } in
-    ([], Consumes-nil held, (later.0, later.1, ap call (append-nil ahead)))
+    ([], Consumes-nil held, (later.0, later.1, ap (λ (l : List ℕ). record { answer = Ok None; progress = record { read = st; ended = true }; left = l ++ later.0 }) (append-nil ahead)))

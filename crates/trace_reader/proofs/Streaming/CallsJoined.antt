@@ -1,23 +1,9 @@
 -- All calls on a text say what is read of the whole text
-use Rattle.std.proofs.Common.{◌≡◌, inl, inr, ◌+◌, ◌-◌, ◌≤◌, ◌∷◌, ◌∙◌, ℕ, List, [], Bool, true, false, not, cond, Option, Some, None, Result, Ok, Err, refl, ap, sym, subst, length, map, nat_lt, le-ltb, arith}
-use Rattle.traces.specs.Versions.{has_ring_rows}
-use Rattle.traces.specs.declared.trace_row.TraceRow.{TraceRow}
-use Rattle.traces.specs.declared.trace_row.TraceRow.TheVariants.{Plain, Comes, Goes, Withdraws}
-use Rattle.line_text.proofs.Joins.{lines_of-ended, lines_of-nothing}
-use Rattle.line_text.specs.Lines.{TextLine, lines_of}
-use Rattle.trace_reader.specs.declared.fault.LineFault.{LineFault}
+use Rattle.trace_reader.proofs.Words.{rules, ◌≡◌, inl, inr, ◌+◌, ◌-◌, ◌≤◌, ◌∷◌, ◌∙◌, ℕ, List, [], Bool, true, false, cond, Option, Some, None, Result, Ok, Err, refl, ap, sym, subst, length, map, nat_lt, arith, has_ring_rows, TraceRow, lines_of-ended, lines_of-nothing, TextLine, lines_of, LineFault, taken, with_taken, take_lines, text_taken, State, behind_row, go_on, next_number, read_line, start, trace_of, whole, with_said, Said, SaysRing, SaysRow, Call, behind_line, call_in, call_on, opened_by, with_rows, next_row, opened, opened_in, GivenOf, answered, given_taken, joined, joined_behind, read_by_calls, rows_given, with_given, taken_by_calls}
 use Rattle.trace_reader.specs.declared.fault.LineFault.TheVariants.{Header as BadHeader}
-use Rattle.trace_reader.specs.DriverRows.{taken, with_taken}
-unfoldable use Rattle.trace_reader.specs.DriverRows.{take_lines, text_taken}
-use Rattle.trace_reader.specs.Reading.{State, behind_row, go_on, next_number, read_line, start, trace_of, whole, with_row, with_said}
 use Rattle.trace_reader.proofs.DriverTraces.{all_taken}
 use Rattle.trace_reader.proofs.SpelledSaid.{stands}
-use Rattle.trace_reader.specs.Values.{Said, SaysRing, SaysRow}
 use Rattle.trace_reader.proofs.SpelledLines.{IsGood, read_from_good, step_from_read}
-use Rattle.trace_reader.specs.Streaming.RowByRow.{Call, behind_line, call_in, call_on, opened_by, with_rows}
-unfoldable use Rattle.trace_reader.specs.Streaming.RowByRow.{next_row, opened, opened_in}
-use Rattle.trace_reader.specs.Streaming.WholeTexts.{GivenOf, answered, given_taken, joined, joined_behind, read_by_calls, rows_given, with_given}
-unfoldable use Rattle.trace_reader.specs.Streaming.WholeTexts.{taken_by_calls}
 use Rattle.trace_reader.proofs.Streaming.Calls.{call_of}
 use Rattle.trace_reader.proofs.Streaming.FirstLines.{alone, cut, dropped}
 use Rattle.trace_reader.proofs.Streaming.LineEnds.{ended_if_read}
@@ -29,11 +15,7 @@ empty_lines : (line : TextLine) (lines : List TextLine) → lines_of [] ≡ line
 empty_lines line lines are = let none : [] ≡ line ∷ lines = sym lines_of-nothing ∙ are in cc none
 
 last_unended : (text : List ℕ) (line : TextLine) (lines : List TextLine) → lines_of text ≡ line ∷ lines → lines_of text ≡ record { content = text; is_ended = false } ∷ [] → line.is_ended ≡ true → ⊥
-last_unended text line lines are last ended =
-    let same : line ∷ lines ≡ record { content = text; is_ended = false } ∷ [] = sym are ∙ last in
-    let first : line ≡ record { content = text; is_ended = false } = cc same in
-    let both : true ≡ false = sym ended ∙ ap (λ (l : TextLine). l.is_ended) first in
-    cc both
+last_unended text line lines are last ended = search rules
 
 pub lines_left : (text : List ℕ) (line : TextLine) (lines : List TextLine) → lines_of text ≡ line ∷ lines → line.is_ended ≡ true → lines_of (behind_line text) ≡ lines
 lines_left [] line lines are ended = absurd (empty_lines line lines are)
@@ -41,27 +23,21 @@ lines_left (byte ∷ text) line lines are ended =
     elim (cut (byte ∷ text)) [
       | inl p ↦
           let same : line ∷ lines ≡ record { content = p.0; is_ended = true } ∷ lines_of p.1 = sym are ∙ ap lines_of p.2 ∙ lines_of-ended p.0 p.1 p.3 in
-          let rest : lines ≡ lines_of p.1 = cc same in
-          ap (λ t. lines_of (behind_line t)) p.2 ∙ ap lines_of (dropped p.0 p.1 p.3) ∙ sym rest
+          ap (λ t. lines_of (behind_line t)) p.2 ∙ ap lines_of (dropped p.0 p.1 p.3) ∙ sym (cc same)
       | inr none ↦ absurd (last_unended (byte ∷ text) line lines are (alone (byte ∷ text) (omega arith) none) ended)
     ]
 
 -- ---- the rows
 
 ring_said : (st next : State) (line : TextLine) (said : Said) → st.begun ≡ true → IsGood st line said → with_said st (Some said) ≡ (next, None) → ⊥
-ring_said st next line (SaysRow row) begun good is = let some : Some row ≡ None = ap (λ (p : State × Option TraceRow). p.1) is in cc some
-ring_said st next line (SaysRing ring) begun good is = let both : not true ≡ true = ap not (sym begun) ∙ good.ordered in cc both
+ring_said st next line said begun good is = search rules
 
 pub no_ring_read : (st next : State) (line : TextLine) → st.begun ≡ true → 2 ≤ st.lines → read_line st line ≡ Ok (next, None) → ⊥
 no_ring_read st next line begun behind is = let s = step_from_read st line (next, None) behind is in ring_said st next line s.0 begun s.1 s.2
 
 -- a row that may stand where no row is may stand behind rows
 stands_behind : (ring_rows begun : Bool) (row : TraceRow) → stands ring_rows begun (SaysRow row) ≡ true → stands ring_rows true (SaysRow row) ≡ true
-stands_behind ring_rows begun (Plain row) there = refl
-stands_behind true begun (Comes ring) there = refl
-stands_behind false begun (Comes ring) there = cc there
-stands_behind ring_rows begun (Goes ring) there = there
-stands_behind ring_rows begun (Withdraws ring position) there = there
+stands_behind ring_rows begun row there = search rules
 
 -- a row's line is read so too where rows have begun
 row_alike : (st next : State) (line : TextLine) (row : TraceRow) (said : Said) → 2 ≤ st.lines → IsGood st line said → with_said st (Some said) ≡ (next, Some row) →
@@ -75,29 +51,14 @@ row_alike st next line row (SaysRing ring) behind good is = let none : None ≡ 
 module _ {R : Type 0} (take : TraceRow → Result R LineFault) where
   -- so is what calls gave, of what was read
   abbrev IsRead : State → GivenOf R → Result (State × List R) (ℕ × LineFault) → Type 0
-  IsRead st (rows, None) (Ok (end, read)) =
-      (map (λ r. r.1) rows ≡ read) × (end.version ≡ st.version) × (end.size ≡ st.size) × (end.rings ≡ st.rings) × (end.lines ≡ st.lines + length read)
+  IsRead st (rows, None) (Ok (end, read)) = (map (λ r. r.1) rows ≡ read) × (end.version ≡ st.version) × (end.size ≡ st.size) × (end.rings ≡ st.rings) × (end.lines ≡ st.lines + length read)
   IsRead st (rows, Some fault) (Err other) = fault ≡ other
   IsRead st (rows, None) (Err other) = ⊥
   IsRead st (rows, Some fault) (Ok read) = ⊥
 
-  one_row_more : (st next : State) (row : TraceRow) (one : R) (given : GivenOf R) (read : Result (State × List R) (ℕ × LineFault)) → next ≡ behind_row st row →
-      IsRead next given read → IsRead st ((next.lines, one) ∷ given.0, given.1) (with_row (Some one) read)
-  one_row_more st next row one (rows, None) (Ok (end, others)) is so = (
-    ap (λ l. one ∷ l) so.0,
-    so.1 ∙ ap (λ (s : State). s.version) is,
-    so.2 ∙ ap (λ (s : State). s.size) is,
-    so.3 ∙ ap (λ (s : State). s.rings) is,
-    omega (arith, so.4, ap (λ (s : State). s.lines) is),
-  )
-  one_row_more st next row one (rows, Some fault) (Err other) is so = so
-  one_row_more st next row one (rows, None) (Err other) is so = absurd so
-  one_row_more st next row one (rows, Some fault) (Ok read) is so = absurd so
-
   taken_more : (st next : State) (row : TraceRow) (one : Result R LineFault) (given : GivenOf R) (lines : List TextLine) → next ≡ behind_row st row → IsRead next given (take_lines take next lines) →
       IsRead st (with_given next.lines one given) (go_on (next_number st) (with_taken next one) (λ s. take_lines take s lines))
-  taken_more st next row (Ok one) given lines is so = one_row_more st next row one given (take_lines take next lines) is so
-  taken_more st next row (Err fault) given lines is so = ap (λ n. (n, fault)) (ap (λ (s : State). s.lines) is)
+  taken_more st next row one given lines is so = search rules
 
   abbrev RowsLaw : List TextLine → Type 0
   RowsLaw lines =
@@ -111,9 +72,8 @@ module _ {R : Type 0} (take : TraceRow → Result R LineFault) where
     by_line (Ok (next, Some row)) is =
         let step = (step_of st line (next, Some row) is).row row refl in
         let ended = ended_if_read st line (next, Some row) is in
-        let more : 2 ≤ next.lines = omega (arith, behind, ap (λ (s : State). s.lines) step.1) in
         taken_more st next row (take row) (given_taken take (rows_given lines (record { read = next; ended = false }) (behind_line text))) lines step.1
-        (later next (behind_line text) (lines_left text line lines are ended) (ap (λ (s : State). s.begun) step.1) more)
+        (later next (behind_line text) (lines_left text line lines are ended) (ap (λ (s : State). s.begun) step.1) (omega (arith, behind, ap (λ (s : State). s.lines) step.1)))
     by_line (Ok (next, None)) is = absurd (no_ring_read st next line begun behind is)
     by_line (Err fault) is = refl
 
@@ -128,17 +88,7 @@ module _ {R : Type 0} (take : TraceRow → Result R LineFault) where
   -- ---- the whole text
 
   closed : (st : State) (given : GivenOf R) (read : Result (State × List R) (ℕ × LineFault)) → 2 ≤ st.lines → IsRead st given read → joined st given ≡ whole read
-  closed st (rows, None) (Ok (end, read)) behind so =
-      let first : next_number end - length read ≡ st.lines + 1 = omega (arith, so.4) in
-      let there : nat_lt end.lines 2 ≡ false = le-ltb end.lines 2 (omega (arith, so.4, behind)) in
-      rw (there, so.0, so.1, so.2, so.3, first) refl
-  closed st (rows, Some fault) (Err other) behind so = ap (λ f. Err f) so
-  closed st (rows, None) (Err other) behind so = absurd so
-  closed st (rows, Some fault) (Ok read) behind so = absurd so
-
-  without_row : (read : Result (State × List R) (ℕ × LineFault)) → with_row None read ≡ read
-  without_row (Ok (st, rows)) = refl
-  without_row (Err fault) = refl
+  closed st given read behind so = search rules
 
   abbrev OpenLaw : List TextLine → Type 0
   OpenLaw lines = (st : State) (text : List ℕ) → lines_of text ≡ lines → joined_behind take (opened_in st lines text) ≡ whole (take_lines take st lines)
@@ -147,28 +97,22 @@ module _ {R : Type 0} (take : TraceRow → Result R LineFault) where
     opened_law : (r : Result (State × Option TraceRow) LineFault) → read_line st line ≡ r →
         joined_behind take (opened_by st text r (λ next. opened_in next lines (behind_line text))) ≡ whole (go_on (next_number st) (taken take r) (λ next. take_lines take next lines))
     unfolding take_lines
-    opened_law (Ok (next, None)) is =
-        later next (behind_line text) (lines_left text line lines are (ended_if_read st line (next, None) is)) ∙ ap whole (sym (without_row (take_lines take next lines)))
+    opened_law (Ok (next, None)) is = search (rules, lines_left, ended_if_read)
     opened_law (Ok (next, Some row)) is =
         let step = (step_of st line (next, Some row) is).row row refl in
         let said = step_from_read st line (next, Some row) step.0 is in
-        let alike = row_alike st next line row said.0 step.0 said.1 said.2 in
         let begun : State = record st { begun = true } in
         let rows = rows_law (line ∷ lines) begun text are refl step.0 in
         ap (λ ls. joined begun (given_taken take (rows_given ls (record { read = begun; ended = false }) text))) are
         ∙ closed begun (given_taken take (rows_given (line ∷ lines) (record { read = begun; ended = false }) text)) (take_lines take begun (line ∷ lines)) step.0 rows
-        ∙ ap (λ r. whole (go_on (next_number st) (taken take r) (λ next. take_lines take next lines))) alike
+        ∙ ap (λ r. whole (go_on (next_number st) (taken take r) (λ next. take_lines take next lines))) (row_alike st next line row said.0 step.0 said.1 said.2)
     opened_law (Err fault) is = refl
 
   no_line_law : (st : State) (text : List ℕ) → lines_of text ≡ [] → (few : Bool) → nat_lt st.lines 2 ≡ few →
       joined_behind take (cond few (Err (next_number st, BadHeader)) (Ok (with_rows st true, text)))
       ≡ cond few (Err (next_number st, BadHeader)) (Ok (record { header = record { version = st.version; context_size = st.size; rings = st.rings }; first = next_number st - 0; rows = [] }))
   unfolding next_row
-  no_line_law st text are true is = refl
-  no_line_law st text are false is =
-      let first : st.lines + 1 ≡ next_number st - 0 = omega arith in
-      ap (λ ls. joined (record st { begun = true }) (given_taken take (rows_given ls (with_rows st true) text))) are
-      ∙ ap (λ n. Ok (record { header = record { version = st.version; context_size = st.size; rings = st.rings }; first = n; rows = [] })) first
+  no_line_law st text are few is = search rules
 
   open_law : (lines : List TextLine) → OpenLaw lines
   unfolding take_lines opened_in

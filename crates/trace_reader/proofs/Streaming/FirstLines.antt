@@ -1,13 +1,5 @@
 -- The first line of a text of which a part stands ahead
-use Rattle.std.proofs.Common.{◌≡◌, ◌⊎◌, inl, inr, ◌<◌, ◌≤◌, ◌==◌, ◌∷◌, ◌++◌, ◌∙◌, ℕ, List, [], true, false, All, refl, ap, sym, append_assoc, length, length-append, arith, eqb-true}
-use Rattle.std.proofs.lemmas.Bool.{cases_Bool}
-use Rattle.std.proofs.lemmas.List.Elements.{All-append, All-cons, All-head, All-nil, All-tail}
-use Rattle.std.proofs.lemmas.List.Splits.{slice_split_none}
-use Rattle.std.specs.Io.BufRead.{drop_through}
-use Rattle.line_text.proofs.Joins.{lines_of-ended}
-use Rattle.line_text.specs.Lines.{TextLine, behind_content, is_line_feed, last_line, lines_between}
-unfoldable use Rattle.line_text.specs.Lines.{lines_of}
-use Rattle.trace_reader.specs.Streaming.RowByRow.{behind_line}
+use Rattle.trace_reader.proofs.Words.{rules, common_steps, ◌≡◌, ◌⊎◌, inl, inr, ◌<◌, ◌≤◌, ◌==◌, ◌∷◌, ◌++◌, ◌∙◌, ℕ, List, [], true, false, All, refl, ap, sym, append_assoc, length, length-append, arith, eqb-true, cases_Bool, All-append, All-cons, All-head, All-nil, All-tail, slice_split_none, drop_through, lines_of-ended, TextLine, behind_content, is_line_feed, last_line, lines_between, lines_of, behind_line}
 
 -- no byte is a line feed
 abbrev pub NoFeed : List ℕ → Type 0
@@ -20,22 +12,17 @@ pub record IsCut (text : List ℕ) (line : TextLine) (rest : List ℕ) : Type 0 
 
 pub dropped : (content more : List ℕ) → NoFeed content → drop_through 10 (content ++ 10 ∷ more) ≡ more
 dropped [] more none = refl
-dropped (x ∷ xs) more none =
-    let here : (x == 10) ≡ false = All-head (λ byte. is_line_feed byte ≡ false) x xs none in
-    rw here (dropped xs more (All-tail (λ byte. is_line_feed byte ≡ false) x xs none))
+dropped (x ∷ xs) more none = rw (All-head (λ byte. is_line_feed byte ≡ false) x xs none) (dropped xs more (All-tail (λ byte. is_line_feed byte ≡ false) x xs none))
 
 cut_at_feed : (text rest : List ℕ) (line : TextLine) → IsCut text line rest → line.is_ended ≡ true → text ≡ line.content ++ 10 ∷ rest
 cut_at_feed text rest line cut ended = cut.whole ∙ ap (λ b. line.content ++ behind_content b rest) ended
 
 with_later : (text rest later : List ℕ) (line : TextLine) → IsCut text line rest → line.is_ended ≡ true → text ++ later ≡ line.content ++ 10 ∷ (rest ++ later)
-with_later text rest later line cut ended =
-    ap (λ t. t ++ later) (cut_at_feed text rest line cut ended) ∙ append_assoc line.content (10 ∷ rest) later
+with_later text rest later line cut ended = grind (arith, common_steps, cut_at_feed)
 
 -- a line that is ended stays the first, whatever comes later
 pub ended_lines : (text rest later : List ℕ) (line : TextLine) → IsCut text line rest → line.is_ended ≡ true → lines_of (text ++ later) ≡ line ∷ lines_of (rest ++ later)
-ended_lines text rest later line cut ended =
-    let same : record { content = line.content; is_ended = true } ≡ line = λ k. record { content = line.content; is_ended = sym ended k } in
-    ap lines_of (with_later text rest later line cut ended) ∙ lines_of-ended line.content (rest ++ later) cut.one ∙ ap (λ l. l ∷ lines_of (rest ++ later)) same
+ended_lines text rest later line cut ended = grind (arith, common_steps, with_later, lines_of-ended)
 
 pub ended_behind : (text rest later : List ℕ) (line : TextLine) → IsCut text line rest → line.is_ended ≡ true → behind_line (text ++ later) ≡ rest ++ later
 ended_behind text rest later line cut ended = ap behind_line (with_later text rest later line cut ended) ∙ dropped line.content (rest ++ later) cut.one
@@ -68,8 +55,7 @@ cut (x ∷ xs) =
     ]
 
 last_is : (text : List ℕ) → 0 < length text → last_line text ≡ record { content = text; is_ended = false } ∷ []
-last_is [] some = absurd (omega arith)
-last_is (byte ∷ rest) some = refl
+last_is text some = search rules
 
 pub alone : (text : List ℕ) → 0 < length text → NoFeed text → lines_of text ≡ record { content = text; is_ended = false } ∷ []
 unfolding lines_of

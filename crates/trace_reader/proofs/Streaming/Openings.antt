@@ -1,30 +1,10 @@
 -- What is read of a line before the first row
-use Rattle.std.proofs.Common.{◌≡◌, inl, inr, ◌+◌, ◌<◌, ◌≤◌, ◌∷◌, ◌++◌, ◌∙◌, ℕ, List, [], Bool, true, false, Option, Some, None, Result, Ok, Err, refl, ap, sym, subst, append_assoc, le-ltb, lt-ltb}
-use Rattle.contexts.specs.declared.size.ContextSize.{ContextSize}
-use Rattle.traces.specs.declared.trace_row.TraceRow.{TraceRow}
-use Rattle.traces.specs.declared.version.Version.{Version}
-use Rattle.line_text.proofs.Joins.{lines_of-nothing}
-use Rattle.line_text.specs.Lines.{TextLine, lines_of}
-use Rattle.std.specs.Io.KnownBytes.{Consumes}
-use Rattle.std.proofs.KnownBytes.{Consumes-nil, Consumes-trans}
-use Rattle.trace_reader.specs.declared.fault.LineFault.{LineFault}
+use Rattle.trace_reader.proofs.Words.{rules, ◌≡◌, inl, inr, ◌+◌, ◌<◌, ◌≤◌, ◌∷◌, ◌++◌, ◌∙◌, ℕ, List, [], Bool, true, false, Option, Some, None, Result, Ok, Err, refl, ap, sym, subst, append_assoc, ContextSize, TraceRow, Version, lines_of-nothing, TextLine, lines_of, Consumes, Consumes-nil, Consumes-trans, LineFault, LineError, Fault, Memory, TraceSoFar, IfFault, state_of, State, behind_row, next_number, read_line, size_of, start, version_of, with_said, Said, StreamFault, Device, RowReader, IsFilled, IsHeld, OfText, ahead_of, fault_of, IsOpened, IsTold, progress_of, behind_line, opened_by, with_rows, opened, opened_in}
 use Rattle.trace_reader.specs.declared.fault.LineFault.TheVariants.{Header as BadHeader}
-use Rattle.trace_reader.specs.declared.fault.LineError.{LineError}
-use Rattle.trace_reader.specs.declared.fault.LineError.TheVariants.{Fault, Memory}
-use Rattle.trace_reader.specs.declared.so_far.TraceSoFar.{TraceSoFar}
-use Rattle.trace_reader.specs.Entries.{IfFault, state_of}
-use Rattle.trace_reader.specs.Reading.{State, behind_row, next_number, read_line, size_of, start, version_of, with_said}
-use Rattle.trace_reader.specs.Values.{Said, SaysRing, SaysRow}
 use Rattle.trace_reader.proofs.ReadSteps.{no_size, no_version, size_read, version_read}
 use Rattle.trace_reader.proofs.SpelledLines.{step_from_read}
-use Rattle.trace_reader.specs.declared.row_reader.fault.StreamFault.{StreamFault}
-use Rattle.trace_reader.specs.declared.row_reader.fault.StreamFault.TheVariants.{Line, Device, Memory as NoMemory}
-use Rattle.trace_reader.specs.declared.row_reader.reader.RowReader.{RowReader}
-use Rattle.trace_reader.specs.Streaming.Ahead.{Comes, IsFilled, IsHeld, OfText, ahead_of}
-use Rattle.trace_reader.specs.Streaming.Answers.{fault_of}
-use Rattle.trace_reader.specs.Streaming.ReaderState.{IsOpened, IsTold, progress_of}
-use Rattle.trace_reader.specs.Streaming.RowByRow.{Progress, behind_line, opened_by, with_rows}
-unfoldable use Rattle.trace_reader.specs.Streaming.RowByRow.{opened, opened_in}
+use Rattle.trace_reader.specs.declared.row_reader.fault.StreamFault.TheVariants.{Line, Memory as NoMemory}
+use Rattle.trace_reader.specs.Streaming.Ahead.{Comes}
 use Rattle.trace_reader.proofs.Streaming.Calls.{bad_ahead, none_held}
 use Rattle.trace_reader.proofs.Streaming.FirstLines.{IsCut, ended_behind, ended_lines}
 use Rattle.trace_reader.proofs.Streaming.LineEnds.{ended_if_read, three}
@@ -58,26 +38,13 @@ no_row st next p lines later kept is = record {
 }
 
 first_step : (st : State) (line : TextLine) (p : State × Option TraceRow) (version : Option Version) → st.lines ≡ 0 → version_of line ≡ version → read_line st line ≡ Ok p → IsStep st p
-first_step st line p (Some version) at of is =
-    no_row st (record st { lines = next_number st; version = version }) p refl refl refl (same_step (record st { lines = next_number st; version = version }, None) p (sym (version_read st line version at of) ∙ is))
-first_step st line p None at of is = let bad = no_version st line at of in cc (sym bad ∙ is)
+first_step st line p version at of is = search (rules, no_row, same_step, version_read, no_version)
 
 second_step : (st : State) (line : TextLine) (p : State × Option TraceRow) (size : Option ContextSize) → st.lines ≡ 1 → size_of line ≡ size → read_line st line ≡ Ok p → IsStep st p
-second_step st line p (Some size) at of is =
-    no_row st (record st { lines = next_number st; size = size }) p refl refl refl (same_step (record st { lines = next_number st; size = size }, None) p (sym (size_read st line size at of) ∙ is))
-second_step st line p None at of is = let bad = no_size st line at of in cc (sym bad ∙ is)
+second_step st line p size at of is = search (rules, no_row, same_step, size_read, no_size)
 
 later_step : (st : State) (p : State × Option TraceRow) (said : Said) → 2 ≤ st.lines → with_said st (Some said) ≡ p → IsStep st p
-later_step st p (SaysRow row) behind is = record {
-  lines = sym (ap (λ (q : State × Option TraceRow). q.0.lines) is);
-  row = λ other some.
-      let both : Some row ≡ Some other = ap (λ (q : State × Option TraceRow). q.1) is ∙ some in
-      let same : row ≡ other = cc both in
-      (behind, sym (ap (λ (q : State × Option TraceRow). q.0) is) ∙ ap (behind_row st) same);
-  later = λ none. let some : Some row ≡ None = ap (λ (q : State × Option TraceRow). q.1) is ∙ none in cc some;
-  kept = λ none. let some : Some row ≡ None = ap (λ (q : State × Option TraceRow). q.1) is ∙ none in cc some;
-}
-later_step st p (SaysRing ring) behind is = no_row st (record st { lines = next_number st; rings = st.rings ++ ring ∷ [] }) p refl refl refl is
+later_step st p said behind is = search (rules, behind, no_row)
 
 pub step_of : (st : State) (line : TextLine) (p : State × Option TraceRow) → read_line st line ≡ Ok p → IsStep st p
 step_of st line p is =
@@ -102,14 +69,12 @@ pub ring_read : (st next : State) (ahead rest left later : List ℕ) (line : Tex
 ring_read st next ahead rest left later line cut read is =
     let ended = ended_if_read st line (next, None) read in
     opened_at st (ahead ++ later) line (lines_of (rest ++ later)) (Ok (next, None)) (ended_lines ahead rest later line cut ended) read
-    ∙ ap (λ t. opened_in next (lines_of (rest ++ later)) t) (ended_behind ahead rest later line cut ended)
-    ∙ ap (λ r. opened_in next (lines_of (r ++ later)) (r ++ later)) (sym is)
+    ∙ ap (λ t. opened_in next (lines_of (rest ++ later)) t) (ended_behind ahead rest later line cut ended) ∙ ap (λ r. opened_in next (lines_of (r ++ later)) (r ++ later)) (sym is)
 
 pub row_next : (st next : State) (ahead rest later : List ℕ) (line : TextLine) (row : TraceRow) → IsCut ahead line rest → read_line st line ≡ Ok (next, Some row) →
     opened_in st (lines_of (ahead ++ later)) (ahead ++ later) ≡ Ok (with_rows st false, ahead ++ later)
 row_next st next ahead rest later line row cut read =
-    let ended = ended_if_read st line (next, Some row) read in
-    opened_at st (ahead ++ later) line (lines_of (rest ++ later)) (Ok (next, Some row)) (ended_lines ahead rest later line cut ended) read
+    opened_at st (ahead ++ later) line (lines_of (rest ++ later)) (Ok (next, Some row)) (ended_lines ahead rest later line cut (ended_if_read st line (next, Some row) read)) read
 
 pub bad_next : (st : State) (held : Option (List ℕ)) (ahead rest : List ℕ) (line : TextLine) (fault : LineFault) → IsCut ahead line rest → lines_of ahead ≡ line ∷ lines_of rest →
     read_line st line ≡ Err fault → IsFilled true held ahead →
@@ -120,16 +85,14 @@ bad_next st held ahead rest line fault cut lines read filled =
 
 -- ---- what is told of the line
 
-module _ (st next : State) (ahead rest left : List ℕ) (line : TextLine) (cut : IsCut ahead line rest) where
+module _ (st next : State) {ahead rest : List ℕ} (left : List ℕ) {line : TextLine} (cut : IsCut ahead line rest) where
   pub told_row : (row : TraceRow) → read_line st line ≡ Ok (next, Some row) → left ≡ ahead → IsTold st ahead next left (Ok true)
   told_row row read same =
       let step = (step_of st line (next, Some row) read).row row refl in
       ((row, step.1), step.0, λ later. row_next st next ahead rest later line row cut read ∙ ap (λ l. Ok (with_rows st false, l ++ later)) (sym same))
 
   pub told_ring : read_line st line ≡ Ok (next, None) → (line.is_ended ≡ true → left ≡ rest) → IsTold st ahead next left (Ok false)
-  told_ring read is =
-      let step = step_of st line (next, None) read in
-      (step.later refl, step.lines, λ later. ring_read st next ahead rest left later line cut read (is (ended_if_read st line (next, None) read)), step.kept refl)
+  told_ring read is = search (rules, step_of, ring_read, ended_if_read)
 
   pub told_bad : (number : ℕ) (e : LineError) → lines_of ahead ≡ line ∷ lines_of rest → number ≡ next_number st → IfFault e (λ fault. read_line st line ≡ Err fault) →
       IsTold st ahead next left (Err (fault_of number e))
@@ -160,7 +123,7 @@ nothing_read keeps held so_far ahead state empty = record {
       ap (λ (s : State). opened_in s (lines_of later) later) (sym state) ∙ ap (λ a. opened_in (state_of so_far) (lines_of (a ++ later)) (a ++ later)) (sym empty);
 }
 
-module _ (keeps : Bool) (held held' held'' : Option (List ℕ)) (so_far : TraceSoFar) (ahead ahead' : List ℕ) (read : HasRead keeps held held' so_far ahead) (comes : Comes held' held'' ahead ahead') where
+module _ {keeps : Bool} {held held' : Option (List ℕ)} (held'' : Option (List ℕ)) {so_far : TraceSoFar} {ahead : List ℕ} (ahead' : List ℕ) (read : HasRead keeps held held' so_far ahead) (comes : Comes held' held'' ahead ahead') where
   pub more_came : HasRead keeps held held'' so_far ahead'
   more_came = record {
     came = read.came ++ comes.0;
@@ -172,7 +135,7 @@ module _ (keeps : Bool) (held held' held'' : Option (List ℕ)) (so_far : TraceS
         ∙ ap (λ t. opened_in (state_of so_far) (lines_of t) t) (sym (append_assoc ahead comes.0 later) ∙ ap (λ a. a ++ later) (sym comes.2));
   }
 
-module _ (keeps : Bool) (held held' : Option (List ℕ)) (so_far : TraceSoFar) (ahead : List ℕ) (read : HasRead keeps held held' so_far ahead) where
+module _ {keeps : Bool} {held held' : Option (List ℕ)} {so_far : TraceSoFar} {ahead : List ℕ} (read : HasRead keeps held held' so_far ahead) where
   pub line_more : (so_far' : TraceSoFar) (left : List ℕ) → IsTold (state_of so_far) ahead (state_of so_far') left (Ok false) → HasRead keeps held held' so_far' left
   line_more so_far' left told = record { came = read.came; consumed = read.consumed; none = told.0 ∙ read.none; kept = told.3 ∙ read.kept; goes_on = λ later. read.goes_on later ∙ told.2 later }
 
@@ -190,20 +153,11 @@ module _ (keeps : Bool) (held held' : Option (List ℕ)) (so_far : TraceSoFar) (
   fault_told so_far' left NoMemory told filled = tt
 
   at_the_end : IsFilled false held' ahead → opened keeps (read.came ++ []) ≡ opened_in (state_of so_far) [] []
-  at_the_end none =
-      read.goes_on [] ∙ ap (λ a. opened_in (state_of so_far) (lines_of (a ++ [])) (a ++ [])) none.0 ∙ ap (λ ls. opened_in (state_of so_far) ls []) lines_of-nothing
-
-  no_header : so_far.lines < 2 → opened_in (state_of so_far) [] [] ≡ Err (next_number (state_of so_far), BadHeader)
-  unfolding opened_in
-  no_header few = rw (lt-ltb so_far.lines 2 few) refl
-
-  header_there : 2 ≤ so_far.lines → opened_in (state_of so_far) [] [] ≡ Ok (with_rows (state_of so_far) true, [])
-  unfolding opened_in
-  header_there there = rw (le-ltb so_far.lines 2 there) refl
+  at_the_end none = search (rules, lines_of-nothing)
 
   pub no_header_told : (line : ℕ) → IsFilled false held' ahead → so_far.lines < 2 → line ≡ so_far.lines + 1 → IsOpened keeps held held' (Err (Line line BadHeader))
-  no_header_told line none few at =
-      (read.came, read.consumed, ([], none_held held' none.1, at_the_end none ∙ no_header few ∙ ap (λ n. Err (n, BadHeader)) (sym at)))
+  unfolding opened_in
+  no_header_told line none few at = search (rules, none_held, at_the_end)
 
   -- the reader that stands before the rows
   progress_is : (reader : RowReader) (st : State) (ended : Bool) → (progress_of reader).read ≡ record st { begun = true } → reader.ended ≡ ended → with_rows st ended ≡ progress_of reader
@@ -223,17 +177,9 @@ module _ (keeps : Bool) (held held' : Option (List ℕ)) (so_far : TraceSoFar) (
 
   pub end_told : (reader : RowReader) → IsFilled false held' ahead → 2 ≤ so_far.lines → (progress_of reader).read ≡ record (state_of so_far) { lines = so_far.lines; begun = true; later = [] } →
       reader.ended ≡ true → ahead_of reader.ahead ≡ ahead → IsOpened keeps held held' (Ok reader)
-  end_told reader none there is over same =
-      let at : with_rows (state_of so_far) true ≡ progress_of reader = progress_is reader (state_of so_far) true (is ∙ none_later) over in
-      opened_with reader true [] (ap (λ (s : State). s.keeps) is ∙ read.kept) over (same ∙ none.0)
-      (read.came, read.consumed, ([], none_held held' none.1, at_the_end none ∙ header_there there ∙ ap (λ (p : Progress). Ok (p, [])) at))
+  unfolding opened_in
+  end_told reader none there is over same = search (rules, progress_is, none_later, opened_with, none_held, at_the_end)
 
   pub row_told : (so_far' : TraceSoFar) (left : List ℕ) (reader : RowReader) → IsTold (state_of so_far) ahead (state_of so_far') left (Ok true) →
       (progress_of reader).read ≡ record (state_of so_far') { lines = so_far.lines; begun = true; later = [] } → reader.ended ≡ false → ahead_of reader.ahead ≡ left → IsOpened keeps held held' (Ok reader)
-  row_told so_far' left reader told is over same =
-      let st = state_of so_far in
-      let before : record (state_of so_far') { lines = so_far.lines; begun = true; later = [] } ≡ record st { begun = true } =
-      ap (λ (s : State). record s { lines = so_far.lines; begun = true; later = [] }) told.0.1 ∙ none_later in
-      let at : with_rows st false ≡ progress_of reader = progress_is reader st false (is ∙ before) over in
-      opened_with reader false left (ap (λ (s : State). s.keeps) is ∙ ap (λ (s : State). s.keeps) told.0.1 ∙ read.kept) over same
-      (read.came, read.consumed, λ later. read.goes_on later ∙ told.2 later ∙ ap (λ (p : Progress). Ok (p, left ++ later)) at)
+  row_told so_far' left reader told is over same = search (rules, none_later, progress_is, opened_with)

@@ -1,21 +1,12 @@
 -- The rows that calls give are those of the lines before the bad one, by their numbers
-use Rattle.std.proofs.Common.{◌≡◌, ◌+◌, ◌≤◌, ◌∷◌, ◌∙◌, ℕ, List, [], true, false, Option, Some, None, Result, Ok, Err, refl, ap, sym, subst, length, map, take, arith}
-use Rattle.traces.specs.declared.trace_row.TraceRow.{TraceRow}
-use Rattle.line_text.specs.Lines.{TextLine, lines_of}
-use Rattle.trace_reader.specs.declared.fault.LineFault.{LineFault}
-use Rattle.trace_reader.specs.Reading.{State, go_on, next_number, read_line, with_row}
-unfoldable use Rattle.trace_reader.specs.Reading.{read_lines}
-use Rattle.trace_reader.specs.Streaming.RowByRow.{Call, behind_line, call_in, call_on}
-unfoldable use Rattle.trace_reader.specs.Streaming.RowByRow.{next_row}
-use Rattle.trace_reader.specs.Streaming.WholeTexts.{AreNumbered, AreOfLines, GivenRows, IsBehind, answered, rows_given}
+use Rattle.trace_reader.proofs.Words.{rules, ◌≡◌, ◌+◌, ◌≤◌, ◌∷◌, ◌∙◌, ℕ, List, [], true, false, Option, Some, None, Result, Ok, Err, refl, ap, sym, subst, length, map, take, arith, TraceRow, TextLine, lines_of, LineFault, State, go_on, next_number, read_line, with_row, read_lines, Call, behind_line, call_in, call_on, next_row, AreNumbered, AreOfLines, GivenRows, IsBehind, answered, rows_given}
 use Rattle.trace_reader.proofs.Streaming.Calls.{call_of}
 use Rattle.trace_reader.proofs.Streaming.CallsJoined.{lines_left, no_ring_read}
 use Rattle.trace_reader.proofs.Streaming.LineEnds.{ended_if_read}
 use Rattle.trace_reader.proofs.Streaming.Openings.{step_of}
 
 behind_more : (number : ℕ) (row : ℕ × TraceRow) (given : GivenRows) → IsBehind (number + 1) given → IsBehind number (row ∷ given.0, given.1)
-behind_more number row (rows, None) is = tt
-behind_more number row (rows, Some fault) is = omega (arith, is)
+behind_more number row given is = search rules
 
 abbrev LinesLaw : List TextLine → Type 0
 LinesLaw lines = (st : State) (text : List ℕ) → lines_of text ≡ lines → st.begun ≡ true → 2 ≤ st.lines → AreOfLines st lines (rows_given lines (record { read = st; ended = false }) text)
@@ -27,9 +18,8 @@ module _ (st : State) (text : List ℕ) (line : TextLine) (lines : List TextLine
   by_line (Ok (next, Some row)) is =
       let step = (step_of st line (next, Some row) is).row row refl in
       let number : next.lines ≡ next_number st = ap (λ (s : State). s.lines) step.1 in
-      let more : 2 ≤ next.lines = omega (arith, behind, number) in
       let given = rows_given lines (record { read = next; ended = false }) (behind_line text) in
-      let rest = later next (behind_line text) (lines_left text line lines are (ended_if_read st line (next, Some row) is)) (ap (λ (s : State). s.begun) step.1) more in
+      let rest = later next (behind_line text) (lines_left text line lines are (ended_if_read st line (next, Some row) is)) (ap (λ (s : State). s.begun) step.1) (omega (arith, behind, number)) in
       let read : read_lines st (take (length ((next.lines, row) ∷ given.0)) (line ∷ lines)) ≡ Ok (rest.1.0, row ∷ map (λ r. r.1) given.0) =
       ap (λ r. go_on (next_number st) r (λ after. read_lines after (take (length given.0) lines))) is ∙ ap (with_row (Some row)) rest.1.1 in (
         (number, subst (λ (n : ℕ). AreNumbered (n + 1) given.0) number rest.0),

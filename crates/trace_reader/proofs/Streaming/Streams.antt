@@ -1,23 +1,7 @@
 -- The rows so far and what further calls give are what the whole text says
-use Rattle.std.proofs.Common.{◌≡◌, ◌+◌, ◌∷◌, ◌++◌, ◌∙◌, ℕ, List, [], Bool, true, false, Option, Some, None, Result, Ok, Err, refl, ap, sym, subst, append-nil, append_assoc, map}
-use Rattle.std.proofs.KnownBytes.{Consumes-trans}
-use Rattle.traces.specs.declared.header.Header.{Header}
-use Rattle.traces.specs.declared.trace_row.TraceRow.{TraceRow}
-use Rattle.line_text.specs.Lines.{TextLine, lines_of}
-use Rattle.trace_reader.specs.declared.fault.LineFault.{LineFault}
-use Rattle.trace_reader.specs.DriverRows.{text_taken}
-use Rattle.trace_reader.specs.Reading.{State, TextOf, next_number, read_line}
-use Rattle.trace_reader.specs.declared.row_reader.reader.RowReader.{RowReader}
+use Rattle.trace_reader.proofs.Words.{arith, common_steps, rules, ◌≡◌, ◌+◌, ◌∷◌, ◌++◌, ◌∙◌, ℕ, List, [], Bool, true, false, Option, Some, None, Result, Ok, Err, refl, ap, sym, subst, append-nil, append_assoc, Consumes-trans, Header, TraceRow, TextLine, lines_of, LineFault, text_taken, State, TextOf, next_number, RowReader, OfLater, OfText, ahead_of, IsCall, IsSameTrace, IsOpened, progress_of, Call, Progress, opened, next_row, HasRead, IsBadTaken, IsReadTo, OfStream, read_with, GivenOf, GivenRows, answered, given_taken, joined, joined_behind, rows_given, with_given, taken_by_calls}
 use Rattle.trace_reader.specs.declared.row_reader.fault.StreamFault.TheVariants.{Line}
-use Rattle.trace_reader.specs.Streaming.Ahead.{OfLater, OfText, ahead_of}
-use Rattle.trace_reader.specs.Streaming.Answers.{IsCall}
-use Rattle.trace_reader.specs.Streaming.ReaderState.{IsSameTrace, IsOpened, progress_of}
-use Rattle.trace_reader.specs.Streaming.RowByRow.{Call, Progress, call_in, call_on, opened}
-unfoldable use Rattle.trace_reader.specs.Streaming.RowByRow.{next_row}
-use Rattle.trace_reader.specs.Streaming.Streams.{HasRead, IsBadTaken, IsReadTo, OfStream, read_with}
-use Rattle.trace_reader.specs.Streaming.WholeTexts.{GivenOf, GivenRows, answered, given_taken, joined, joined_behind, rows_given, with_given}
-unfoldable use Rattle.trace_reader.specs.Streaming.WholeTexts.{taken_by_calls}
-use Rattle.trace_reader.proofs.Streaming.Calls.{call_of, some_held}
+use Rattle.trace_reader.proofs.Streaming.Calls.{call_of}
 use Rattle.trace_reader.proofs.Streaming.CallsJoined.{calls_say_what_is_taken, lines_left}
 use Rattle.trace_reader.proofs.Streaming.LineEnds.{ended_if_read}
 use Rattle.trace_reader.proofs.Streaming.Openings.{step_of}
@@ -25,13 +9,11 @@ use Rattle.trace_reader.proofs.Streaming.Openings.{step_of}
 -- ---- of a text, what follows of it
 
 later_too : (ended : Bool) (held : Option (List ℕ)) (P Q : List ℕ → Type 0) → ((later : List ℕ) → P later → Q later) → OfLater ended held P → OfLater ended held Q
-later_too false held P Q step all = λ later. step later (all later)
-later_too true held P Q step (later, is, so) = (later, is, step later so)
+later_too ended held P Q step all = search rules
 
 text_too : (ended : Bool) (held held' : Option (List ℕ)) (ahead ahead' : List ℕ) (P Q : List ℕ → List ℕ → Type 0) → ((text left : List ℕ) → P text left → Q text left) →
     OfText ended held held' ahead ahead' P → OfText ended held held' ahead ahead' Q
-text_too ended held held' ahead ahead' P Q step (came, used, so) =
-    (came, used, later_too ended held' (λ later. P (ahead ++ came ++ later) (ahead' ++ later)) (λ later. Q (ahead ++ came ++ later) (ahead' ++ later)) (λ later. step (ahead ++ came ++ later) (ahead' ++ later)) so)
+text_too ended held held' ahead ahead' P Q step (came, used, so) = search (rules, later_too)
 
 -- what came before and what came now
 text_then : (ended : Bool) (held held' held'' : Option (List ℕ)) (ahead ahead' : List ℕ) (P Q R : List ℕ → List ℕ → Type 0) →
@@ -40,20 +22,14 @@ text_then : (ended : Bool) (held held' held'' : Option (List ℕ)) (ahead ahead'
 text_then ended held held' held'' ahead ahead' P Q R step (came, used, all) (more, used', so) = (
   came ++ more,
   Consumes-trans held held' held'' came more used used',
-  later_too ended held'' (λ later. Q (ahead ++ more ++ later) (ahead' ++ later)) (λ later. R ((came ++ more) ++ later) (ahead' ++ later))
-      (λ later q.
+  later_too ended held'' (λ later. Q (ahead ++ more ++ later) (ahead' ++ later)) (λ later. R ((came ++ more) ++ later) (ahead' ++ later)) (λ later q.
       subst (λ (text : List ℕ). R text (ahead' ++ later)) (sym (append_assoc came more later))
       (step (came ++ (more ++ later)) ((ahead ++ more) ++ later) (ahead' ++ later) (subst (P (came ++ (more ++ later))) (sym (append_assoc ahead more later)) (all (more ++ later))) q)) so,
 )
 
 -- where the device's bytes are known the text is these
 pub known_text : (bytes : List ℕ) (held' : Option (List ℕ)) (P : List ℕ → Type 0) → OfStream (Some bytes) held' P → P bytes
-known_text bytes None P (came, used, so) = absurd used
-known_text bytes (Some rest) P (came, used, (later, is, so)) = subst P (ap (λ l. came ++ l) is ∙ sym used) so
-
--- of all texts that may still come, one
-some_text : (held held' : Option (List ℕ)) (ahead ahead' : List ℕ) (P : List ℕ → Type 0) → OfText false held held' ahead ahead' (λ text left. P text) → OfText true held held' ahead [] (λ text left. P text)
-some_text held held' ahead ahead' P (came, used, all) = let later = some_held held' in (came, used, (later.0, later.1, all later.0))
+known_text bytes held' P x3 = search rules
 
 -- ---- one call, and those behind it
 
@@ -64,8 +40,7 @@ over st (line ∷ lines) left = refl
 
 given_first : (p : Progress) (left : List ℕ) (c : Call) (lines : List TextLine) → next_row p left ≡ c → (given : GivenRows) × (rows_given lines p left ≡ answered c.answer given)
 given_first p left c [] is = (([], None), ap (λ (d : Call). answered d.answer ([], None)) is)
-given_first p left c (line ∷ lines) is =
-    (rows_given lines c.progress c.left, ap (λ (d : Call). answered d.answer (rows_given lines d.progress d.left)) is)
+given_first p left c (line ∷ lines) is = (rows_given lines c.progress c.left, ap (λ (d : Call). answered d.answer (rows_given lines d.progress d.left)) is)
 
 none_given : (p p' : Progress) (left left' : List ℕ) (lines : List TextLine) → next_row p left ≡ record { answer = Ok None; progress = p'; left = left' } → rows_given lines p left ≡ ([], None)
 none_given p p' left left' lines is = (given_first p left (record { answer = Ok None; progress = p'; left = left' }) lines is).1
@@ -84,36 +59,19 @@ module _ (st : State) (p' : Progress) (left left' : List ℕ) (row : ℕ × Trac
     number : row.0 ≡ next_number st
     behind : p'.read.lines ≡ row.0
 
-  line_read : (line : TextLine) (lines : List TextLine) → lines_of left ≡ line ∷ lines → (r : Result (State × Option TraceRow) LineFault) → read_line st line ≡ r → GivesRow (call_on st left r) →
-      LineRead line lines
-  line_read line lines are (Ok (next, Some r)) is gives =
-      let step = step_of st line (next, Some r) is in
-      let ended = ended_if_read st line (next, Some r) is in
-      let at : Ok (Some (next.lines, r)) ≡ Ok (Some row) = ap (λ (c : Call). c.answer) gives in
-      let number : next.lines ≡ row.0 = cc at in
-      record {
-        others = sym (ap (λ (c : Call). lines_of c.left) gives) ∙ lines_left left line lines are ended;
-        number = sym number ∙ step.lines;
-        behind = sym (ap (λ (c : Call). c.progress.read.lines) gives) ∙ number;
-      }
-  line_read line lines are (Ok (next, None)) is gives = let none = ap (λ (c : Call). c.answer) gives in cc none
-  line_read line lines are (Err fault) is gives = let none = ap (λ (c : Call). c.answer) gives in cc none
-
   over_gives : GivesRow (next_row (record { read = st; ended = true }) left) → ⊥
   unfolding next_row
   over_gives gives = let none = ap (λ (c : Call). c.answer) gives in cc none
 
   row_line : (lines : List TextLine) → lines_of left ≡ lines → GivesRow (next_row (record { read = st; ended = false }) left) → (line : TextLine) × (others : List TextLine) × (lines_of left ≡ line ∷ others) × LineRead line others
   unfolding next_row
-  row_line [] are gives = let none : Ok None ≡ Ok (Some row) = ap (λ ls. (call_in st left ls).answer) (sym are) ∙ ap (λ (c : Call). c.answer) gives in cc none
-  row_line (line ∷ lines) are gives = (line, lines, are, line_read line lines are (read_line st line) refl (sym (call_of st left line lines are) ∙ gives))
+  row_line lines are gives = search (rules, call_of, step_of, ended_if_read, lines_left)
 
   row_given : GivesRow (next_row (record { read = st; ended = false }) left) →
       rows_given (lines_of left) (record { read = st; ended = false }) left ≡ answered (Ok (Some row)) (rows_given (lines_of left') p' left')
   row_given gives =
       let l = row_line (lines_of left) refl gives in
-      ap (λ ls. rows_given ls (record { read = st; ended = false }) left) l.2
-      ∙ ap (λ (c : Call). answered c.answer (rows_given l.1 c.progress c.left)) gives
+      ap (λ ls. rows_given ls (record { read = st; ended = false }) left) l.2 ∙ ap (λ (c : Call). answered c.answer (rows_given l.1 c.progress c.left)) gives
       ∙ ap (λ ls. answered (Ok (Some row)) (rows_given ls p' left')) (sym l.3.others)
 
 module _ {R : Type 0} (take : TraceRow → Result R LineFault) where
@@ -121,25 +79,18 @@ module _ {R : Type 0} (take : TraceRow → Result R LineFault) where
 
   module _ (h : Header) (first : ℕ) (done : List R) where
     with_row_read : (number : ℕ) (one : R) (given : GivenOf R) → read_with h first done (with_given number (Ok one) given) ≡ read_with h first (done ++ one ∷ []) given
-    with_row_read number one (rows, None) = ap (λ (rs : List R). Ok (record { header = h; first = first; rows = rs })) (sym (append_assoc done (one ∷ []) (map (λ r. r.1) rows)))
-    with_row_read number one (rows, Some fault) = refl
+    with_row_read number one given = grind (arith, common_steps)
 
     -- the row is taken
     row_taken : (row : ℕ × TraceRow) (one : R) (given : GivenRows) → take row.1 ≡ Ok one →
         read_with h first done (given_taken take (answered (Ok (Some row)) given)) ≡ read_with h first (done ++ one ∷ []) (given_taken take given)
     row_taken row one given is = ap (λ o. read_with h first done (with_given row.0 o (given_taken take given))) is ∙ with_row_read row.0 one (given_taken take given)
 
-    -- the row isn't taken
-    row_untaken : (row : ℕ × TraceRow) (fault : LineFault) (given : GivenRows) → take row.1 ≡ Err fault →
-        read_with h first done (given_taken take (answered (Ok (Some row)) given)) ≡ Err (row.0, fault)
-    row_untaken row fault given is = ap (λ o. read_with h first done (with_given row.0 o (given_taken take given))) is
-
     with_none : read_with h first done ([], None) ≡ Ok (record { header = h; first = first; rows = done })
     with_none = ap (λ (rs : List R). Ok (record { header = h; first = first; rows = rs })) (append-nil done)
 
   joined_so : (st : State) (given : GivenOf R) → joined st given ≡ read_with (record { version = st.version; context_size = st.size; rings = st.rings }) (st.lines + 1) [] given
-  joined_so st (rows, None) = refl
-  joined_so st (rows, Some fault) = refl
+  joined_so st given = search rules
 
   opened_so : (keeps : Bool) (st : State) (ended : Bool) (text left : List ℕ) → opened keeps text ≡ Ok (record { read = st; ended = ended }, left) →
       text_taken keeps take text ≡ read_with (record { version = st.version; context_size = st.size; rings = st.rings }) (st.lines + 1) [] (given_taken take (rows_given (lines_of left) (record { read = st; ended = ended }) left))
@@ -158,9 +109,6 @@ module _ {R : Type 0} (take : TraceRow → Result R LineFault) where
     abbrev Stands : Bool → Type 0
     Stands ended = IsReadTo keeps take held held' h first done (record { read = st; ended = ended }) ahead
 
-    abbrev Says : Call → List ℕ → List ℕ → Type 0
-    Says c text left = next_row (record { read = st; ended = false }) text ≡ record c { left = left }
-
     row_more : (ended : Bool) (row : ℕ × TraceRow) (one : R) → take row.1 ≡ Ok one → Stands ended → IsCall (record { read = st; ended = ended }) (record { read = st'; ended = false }) held' held'' ahead ahead' (Ok (Some row)) →
         IsReadTo keeps take held held'' h first (done ++ one ∷ []) (record { read = st'; ended = false }) ahead'
     row_more true row one is stands (came, used, all) = absurd (over_gives st (record { read = st'; ended = false }) (ahead ++ came ++ []) (ahead' ++ []) row (all []))
@@ -170,19 +118,6 @@ module _ {R : Type 0} (take : TraceRow → Result R LineFault) where
         (λ text left. next_row (record { read = st; ended = false }) text ≡ record { answer = Ok (Some row); progress = p'; left = left })
         (λ text left. text_taken keeps take text ≡ read_with h first (done ++ one ∷ []) (given_taken take (rows_given (lines_of left) p' left)))
         (λ text left left' told gives. told ∙ ap (λ g. read_with h first done (given_taken take g)) (row_given st p' left left' row gives) ∙ row_taken h first done row one (rows_given (lines_of left') p' left') is) stands call
-
-    -- a row that isn't taken, whatever follows it
-    row_refused : (ended : Bool) (row : ℕ × TraceRow) (fault : LineFault) → take row.1 ≡ Err fault → Stands ended →
-        IsCall (record { read = st; ended = ended }) (record { read = st'; ended = false }) held' held'' ahead ahead' (Ok (Some row)) → IsBadTaken keeps take held held'' row.0 fault
-    row_refused true row fault is stands (came, used, all) = absurd (over_gives st (record { read = st'; ended = false }) (ahead ++ came ++ []) (ahead' ++ []) row (all []))
-    row_refused false row fault is stands call =
-        let p' : Progress = record { read = st'; ended = false } in
-        some_text held held'' [] ahead' (λ text. text_taken keeps take text ≡ Err (row.0, fault))
-        (text_then false held held' held'' ahead ahead' (λ text left. text_taken keeps take text ≡ read_with h first done (given_taken take (rows_given (lines_of left) (record { read = st; ended = false }) left)))
-        (λ text left. next_row (record { read = st; ended = false }) text ≡ record { answer = Ok (Some row); progress = p'; left = left })
-        (λ text left. text_taken keeps take text ≡ Err (row.0, fault))
-        (λ text left left' told gives. told ∙ ap (λ g. read_with h first done (given_taken take g)) (row_given st p' left left' row gives) ∙ row_untaken h first done row fault (rows_given (lines_of left') p' left') is)
-        stands call)
 
     -- the answers that end the reading, and what they say of the whole text
     end_more : (answer : Result (Option (ℕ × TraceRow)) (ℕ × LineFault)) (said : Result (TextOf R) (ℕ × LineFault)) →
@@ -197,14 +132,9 @@ module _ {R : Type 0} (take : TraceRow → Result R LineFault) where
 
     all_read : (ended : Bool) → Stands ended → IsCall (record { read = st; ended = ended }) (record { read = st'; ended = true }) held' held'' ahead ahead' (Ok None) → (ended ≡ true → held'' ≡ held') →
         OfStream held held'' (λ text. text_taken keeps take text ≡ Ok (record { header = h; first = first; rows = done }))
-    all_read true stands call still =
-        subst (λ (x : Option (List ℕ)). OfStream held x (λ text. text_taken keeps take text ≡ Ok (record { header = h; first = first; rows = done }))) (sym (still refl))
-        (text_too true held held' [] ahead (λ text left. text_taken keeps take text ≡ read_with h first done (given_taken take (rows_given (lines_of left) (record { read = st; ended = true }) left)))
-        (λ text left. text_taken keeps take text ≡ Ok (record { header = h; first = first; rows = done }))
-        (λ text left told. told ∙ ap (λ g. read_with h first done (given_taken take g)) (over st (lines_of left) left) ∙ with_none h first done) stands)
+    all_read true stands call still = search (rules, text_too, over, with_none)
     all_read false stands call still =
-        end_more (Ok None) (Ok (record { header = h; first = first; rows = done }))
-        (λ left left' gives.
+        end_more (Ok None) (Ok (record { header = h; first = first; rows = done })) (λ left left' gives.
         ap (λ g. read_with h first done (given_taken take g)) (none_given (record { read = st; ended = false }) (record { read = st'; ended = true }) left left' (lines_of left) gives) ∙ with_none h first done) stands call
 
     over_bad : (left : List ℕ) (fault : ℕ × LineFault) (c : Call) → next_row (record { read = st; ended = true }) left ≡ record c { answer = Err fault } → ⊥
@@ -216,8 +146,7 @@ module _ {R : Type 0} (take : TraceRow → Result R LineFault) where
     bad_read true line fault stands (came, used, (later, is, call)) =
         absurd (over_bad (ahead ++ came ++ later) (line, fault) (record { answer = Err (line, fault); progress = record { read = st'; ended = true }; left = ahead' ++ later }) call)
     bad_read false line fault stands call =
-        end_more (Err (line, fault)) (Err (line, fault))
-        (λ left left' gives.
+        end_more (Err (line, fault)) (Err (line, fault)) (λ left left' gives.
         ap (λ g. read_with h first done (given_taken take g)) (bad_given (record { read = st; ended = false }) (record { read = st'; ended = true }) left left' (line, fault) (lines_of left) gives)) stands call
 
   -- ---- the same of a reader
@@ -245,12 +174,6 @@ module _ {R : Type 0} (take : TraceRow → Result R LineFault) where
         (subst (λ (e : Bool). IsReadTo r.keeps take held held'' r.header first (done ++ one ∷ []) (record { read = (progress_of r').read; ended = e }) (ahead_of r'.ahead)) (sym on)
         (row_more r.keeps held held' held'' r.header first done (progress_of r).read (progress_of r').read (ahead_of r.ahead) (ahead_of r'.ahead) r.ended row one is read
         (subst (λ (e : Bool). IsCall (progress_of r) (record { read = (progress_of r').read; ended = e }) held' held'' (ahead_of r.ahead) (ahead_of r'.ahead) (Ok (Some row))) on call))))
-
-    pub row_read_refused : (row : ℕ × TraceRow) (fault : LineFault) → take row.1 ≡ Err fault → r'.ended ≡ false → IsCall (progress_of r) (progress_of r') held' held'' (ahead_of r.ahead) (ahead_of r'.ahead) (Ok (Some row)) →
-        IsBadTaken r.keeps take held held'' row.0 fault
-    row_read_refused row fault is on call =
-        row_refused r.keeps held held' held'' r.header first done (progress_of r).read (progress_of r').read (ahead_of r.ahead) (ahead_of r'.ahead) r.ended row fault is read
-        (subst (λ (e : Bool). IsCall (progress_of r) (record { read = (progress_of r').read; ended = e }) held' held'' (ahead_of r.ahead) (ahead_of r'.ahead) (Ok (Some row))) on call)
 
     pub end_read : r'.ended ≡ true → IsCall (progress_of r) (progress_of r') held' held'' (ahead_of r.ahead) (ahead_of r'.ahead) (Ok None) → (r.ended ≡ true → held'' ≡ held') →
         OfStream held held'' (λ text. text_taken r.keeps take text ≡ Ok (record { header = r.header; first = first; rows = done }))

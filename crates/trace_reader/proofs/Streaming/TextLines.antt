@@ -1,18 +1,5 @@
 -- A text whose rows are kept, line by line
-use Rattle.std.proofs.Common.{true, ◌≡◌, ◌∷◌, ◌∙◌, ◌-◌, ◌≤◌, ℕ, List, Option, Some, None, Result, Ok, Err, All, refl, ap, sym, length, arith}
-use Rattle.std.proofs.lemmas.List.Elements.{All-weaker}
-use Rattle.traces.specs.TraceRows.{IsTraceRow}
-use Rattle.traces.specs.declared.trace_row.TraceRow.{TraceRow}
-use Rattle.line_text.specs.Lines.{TextLine, lines_of}
-use Rattle.trace_reader.specs.DriverRows.{take_lines, taken, text_taken}
-use Rattle.trace_reader.specs.Entries.{IfBadLine, IfFault, at_line, took_in}
-use Rattle.trace_reader.specs.Reading.{State, TraceText, next_number, read_line, start, trace_of, whole}
-use Rattle.trace_reader.specs.Valid.{IsTrace}
-use Rattle.trace_reader.specs.declared.fault.LineError.{LineError}
-use Rattle.trace_reader.specs.declared.fault.LineError.TheVariants.{Fault, Memory}
-use Rattle.trace_reader.specs.declared.fault.LineFault.{LineFault}
-use Rattle.trace_reader.specs.declared.fault.ReadFault.{ReadFault}
-use Rattle.trace_reader.specs.declared.fault.ReadFault.TheVariants.{Line, Memory as NoMemory}
+use Rattle.trace_reader.proofs.Words.{rules, true, ◌≡◌, ◌∷◌, ◌∙◌, ◌-◌, ◌≤◌, ℕ, List, Option, Result, Ok, Err, All, ap, sym, length, arith, All-weaker, IsTraceRow, TraceRow, TextLine, lines_of, take_lines, taken, text_taken, IfBadLine, IfFault, at_line, took_in, State, TraceText, next_number, read_line, start, trace_of, whole, IsTrace, LineError, LineFault, ReadFault}
 use Rattle.trace_reader.proofs.DriverTraces.{all_taken}
 use Rattle.trace_reader.proofs.ReadSteps.{ended, header_there, prepend, read_on, stopped}
 use Rattle.trace_reader.proofs.Spelled.{spelled_if_read}
@@ -23,9 +10,7 @@ abbrev pub each : TraceRow → Result TraceRow LineFault
 each row = Ok row
 
 same_taken : (r : Result (State × Option TraceRow) LineFault) → taken each r ≡ r
-same_taken (Ok (st, Some row)) = refl
-same_taken (Ok (st, None)) = refl
-same_taken (Err fault) = refl
+same_taken r = search rules
 
 -- these rows were read, and these lines of the text are left
 abbrev pub HasLines : List ℕ → List TraceRow → State → List TextLine → Type 0
@@ -33,16 +18,13 @@ HasLines text rows st lines = take_lines each (start true) (lines_of text) ≡ p
 
 pub line_more : (text : List ℕ) (rows later : List TraceRow) (st next : State) (line : TextLine) (rest : List ℕ) (lines : List TextLine) → HasLines text rows st lines → lines ≡ line ∷ lines_of rest →
     took_in rows (read_line st line) ≡ Ok (next, later) → HasLines text later next (lines_of rest)
-line_more text rows later st next line rest lines so_far is took =
-    read_on true each text rows later st next line rest lines so_far is (ap (took_in rows) (same_taken (read_line st line)) ∙ took)
+line_more text rows later st next line rest lines so_far is took = search (rules, read_on, same_taken)
 
 fault_taken : (st : State) (line : TextLine) (e : LineError) → IfFault e (λ f. read_line st line ≡ Err f) → IfFault e (λ f. taken each (read_line st line) ≡ Err f)
-fault_taken st line (Fault fault) is = same_taken (read_line st line) ∙ is
-fault_taken st line Memory is = tt
+fault_taken st line e is = search (rules, same_taken)
 
 bad_read : (text : List ℕ) (e : ReadFault) → IfBadLine e (λ number code. text_taken true each text ≡ Err (number, code)) → IfBadLine e (λ number code. trace_of true text ≡ Err (number, code))
-bad_read text (Line line code) is = sym (all_taken true text) ∙ is
-bad_read text NoMemory is = tt
+bad_read text e is = search (rules, all_taken)
 
 pub line_bad : (text : List ℕ) (rows : List TraceRow) (st : State) (line : TextLine) (rest : List ℕ) (lines : List TextLine) (e : LineError) → HasLines text rows st lines → lines ≡ line ∷ lines_of rest →
     IfFault e (λ f. read_line st line ≡ Err f) → IfBadLine (at_line (next_number st) e) (λ number code. trace_of true text ≡ Err (number, code))

@@ -1,6 +1,4 @@
-use Rattle.std.proofs.Common.{refl}
-use Rattle.std.proofs.lemmas.List.{take_rest}
-use Rattle.certificate.specs.Spelling.{leases_in}
+use Rattle.certificate.proofs.Words.{refl, take_rest, leases_in}
 use Rattle.certificate.proofs.Records.{leases_in-push}
 use Rattle.certificate.proofs.reading.leases_in.Goals as goal
 

@@ -1,5 +1,4 @@
-use Rattle.std.proofs.Common.{◌≡◌}
-use Rattle.certificate.specs.Spelling.{leases_in}
+use Rattle.certificate.proofs.Words.{◌≡◌, leases_in}
 use Rattle.certificate.proofs.reading.leases_in.Given as goal
 
 abbrev pub invariant-loop-record : goal.invariant-loop-record

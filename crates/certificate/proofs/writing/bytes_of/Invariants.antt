@@ -1,6 +1,5 @@
-use Rattle.std.proofs.Common.{◌≡◌, ◌++◌, take}
+use Rattle.certificate.proofs.Words.{◌≡◌, ◌++◌, take, lease_bytes, magic}
 use Rattle.std.specs.List.{flat_map}
-use Rattle.certificate.specs.Spelling.{lease_bytes, magic}
 use Rattle.certificate.proofs.writing.bytes_of.Given as goal
 
 abbrev pub invariant-loop-lease : goal.invariant-loop-lease

@@ -1,5 +1,4 @@
-use Rattle.std.proofs.Common.{ap, ◌∙◌}
-use Rattle.certificate.specs.Spelling.{certificate_of}
+use Rattle.certificate.proofs.Words.{ap, ◌∙◌, certificate_of}
 use Rattle.certificate.proofs.RoundTrip.{reread}
 use Rattle.certificate.proofs.writing.encode.Goals as goal
 

@@ -1,7 +1,5 @@
-use Rattle.std.proofs.Common.{◌≡◌, ◌∙◌, ◌+◌, ◌++◌, [], refl, ap, sym, arith, length, length-append, append_assoc}
-use Rattle.std.proofs.lemmas.Result.{err_from_is_err_and}
+use Rattle.certificate.proofs.Words.{◌≡◌, ◌∙◌, ◌+◌, ◌++◌, [], refl, ap, sym, arith, length, length-append, append_assoc, err_from_is_err_and, lease_bytes, magic, spelling}
 use Rattle.std.specs.List.{flat_map}
-use Rattle.certificate.specs.Spelling.{lease_bytes, magic, spelling}
 use Rattle.certificate.proofs.Appending.{appends_nothing, cut_off, joined, length_behind, parted}
 use Rattle.certificate.proofs.writing.encode_to.Goals as goal
 

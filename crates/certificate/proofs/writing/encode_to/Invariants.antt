@@ -1,7 +1,5 @@
-use Rattle.std.proofs.Common.{◌≡◌, ℕ, List, ◌++◌, length}
-use Rattle.std.specs.Io.KnownBytes.{Appends}
+use Rattle.certificate.proofs.Words.{◌≡◌, ℕ, List, ◌++◌, length, Appends, lease_bytes, spelling}
 use Rattle.std.specs.List.{flat_map}
-use Rattle.certificate.specs.Spelling.{lease_bytes, spelling}
 use Rattle.certificate.proofs.writing.encode_to.Given as goal
 
 abbrev pub decreases-loop-rest : goal.decreases-loop-rest

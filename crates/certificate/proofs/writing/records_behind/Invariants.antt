@@ -1,6 +1,5 @@
-use Rattle.std.proofs.Common.{◌≡◌, ◌≤◌, ◌+◌, ◌-◌, ◌*◌, ◌++◌, length, take}
+use Rattle.certificate.proofs.Words.{◌≡◌, ◌≤◌, ◌+◌, ◌-◌, ◌*◌, ◌++◌, length, take, lease_bytes}
 use Rattle.std.specs.List.{flat_map}
-use Rattle.certificate.specs.Spelling.{lease_bytes}
 use Rattle.certificate.proofs.writing.records_behind.Given as goal
 
 -- there is room for the records that are left

@@ -1,5 +1,4 @@
-use Rattle.std.proofs.Common.{◌∙◌, ◌≤◌, ℕ, List, arith, subst, length, take, drop, length-drop}
-use Rattle.std.specs.Io.KnownBytes.{Appends}
+use Rattle.certificate.proofs.Words.{◌∙◌, ◌≤◌, ℕ, List, arith, subst, length, take, drop, length-drop, Appends}
 use Rattle.certificate.proofs.Appending.{more, rest_of}
 use Rattle.certificate.proofs.writing.write_all.Goals as goal
 

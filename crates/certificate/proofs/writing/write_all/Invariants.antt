@@ -1,5 +1,4 @@
-use Rattle.std.proofs.Common.{◌≡◌, ◌-◌, ◌≤◌, length, take}
-use Rattle.std.specs.Io.KnownBytes.{Appends}
+use Rattle.certificate.proofs.Words.{◌≡◌, ◌-◌, ◌≤◌, length, take, Appends}
 use Rattle.certificate.proofs.writing.write_all.Given as goal
 
 abbrev pub decreases-loop-taken : goal.decreases-loop-taken

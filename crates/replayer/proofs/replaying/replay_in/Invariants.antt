@@ -1,6 +1,4 @@
-use Rattle.std.proofs.Common.{◌≡◌, ℕ, ◌++◌, drop, Some}
-use Rattle.controller_model.specs.Scenes.{Scene, scene_ending_from, scene_replayed, scene_seen_from}
-use Rattle.controller_model.specs.Worlds.{StandsFor}
+use Rattle.replayer.proofs.Words.{◌≡◌, ◌++◌, drop, Some, Scene, scene_ending_from, scene_replayed, scene_seen_from, StandsFor}
 use Rattle.replayer.proofs.replaying.replay_in.Given as goal
 
 -- so many steps were made, and what the replay answers is what was seen and what it answers from here on

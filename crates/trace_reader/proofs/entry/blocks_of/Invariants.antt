@@ -1,5 +1,4 @@
-use Rattle.std.proofs.Common.{◌≡◌, length}
-use Rattle.trace_reader.specs.Values.{blocks_of}
+use Rattle.trace_reader.proofs.Words.{◌≡◌, length, blocks_of}
 use Rattle.trace_reader.proofs.Prefixes.{behind}
 use Rattle.trace_reader.proofs.entry.blocks_of.Given as goal
 

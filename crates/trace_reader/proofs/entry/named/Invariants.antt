@@ -1,5 +1,4 @@
-use Rattle.std.proofs.Common.{◌≡◌, drop}
-use Rattle.trace_reader.specs.Forms.{named}
+use Rattle.trace_reader.proofs.Words.{◌≡◌, drop, named}
 use Rattle.trace_reader.proofs.entry.named.Given as goal
 
 abbrev pub invariant-loop-register : goal.invariant-loop-register

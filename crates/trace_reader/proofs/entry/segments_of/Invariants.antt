@@ -1,6 +1,5 @@
-use Rattle.std.proofs.Common.{◌≡◌, length, map}
+use Rattle.trace_reader.proofs.Words.{◌≡◌, length, map, segments_of}
 use Rattle.segments.specs.ShapeValue.{segment_of}
-use Rattle.trace_reader.specs.Values.{segments_of}
 use Rattle.trace_reader.proofs.Prefixes.{behind}
 use Rattle.trace_reader.proofs.entry.segments_of.Given as goal
 

@@ -1,5 +1,4 @@
-use Rattle.std.proofs.Common.{◌≤◌, ◌<◌, ◌∙◌, sym, arith}
-use Rattle.trace_reader.proofs.Words.{err_from_is_err_and, said_alone, value_of, most_of, next_number}
+use Rattle.trace_reader.proofs.Words.{◌≤◌, ◌<◌, ◌∙◌, sym, arith, err_from_is_err_and, said_alone, value_of, most_of, next_number}
 use Rattle.trace_reader.proofs.LineFields.{alone, same_most, passed_on, past_limit, too_much, not_limited}
 use Rattle.trace_reader.proofs.line.entry_in.Goals as goal
 
@@ -11,8 +10,7 @@ returns-in_err-entry-clause-answer c st keeps of at started =
 
 pub returns-then-lines-most-clause-answer : goal.returns-then-lines-most-clause-answer
 returns-then-lines-most-clause-answer c st keeps of at started =
-    let most = same_most st c.args.keeps c.args.version keeps of ∙ sym c.most_lines_of-most.ensures in
-    let past : most_of st < next_number st = rw most (omega (arith, at, c.if-lines-most.true)) in
+    let past : most_of st < next_number st = rw (same_most st c.args.keeps c.args.version keeps of ∙ sym c.most_lines_of-most.ensures) (omega (arith, at, c.if-lines-most.true)) in
     rw (c.into.ensures, alone st c.args.line.now c.args.version c.args.begun of started)
     (past_limit (most_of st) (next_number st) (value_of c.in_ok-entry.entry) (said_alone c.args.version c.args.begun c.args.line.now) c.in_ok-entry.ensures past)
 
@@ -23,7 +21,6 @@ returns-then-is_too_much-clause-answer c st keeps of at started =
 
 pub returns-clause-answer : goal.returns-clause-answer
 returns-clause-answer c st keeps of at started =
-    let most = same_most st c.args.keeps c.args.version keeps of ∙ sym c.most_lines_of-most.ensures in
-    let within : next_number st ≤ most_of st = rw most (omega (arith, at, c.if-lines-most.false)) in
+    let within : next_number st ≤ most_of st = rw (same_most st c.args.keeps c.args.version keeps of ∙ sym c.most_lines_of-most.ensures) (omega (arith, at, c.if-lines-most.false)) in
     alone st c.args.line.now c.args.version c.args.begun of started
     ∙ not_limited (most_of st) (next_number st) (value_of c.in_ok-entry.entry) (said_alone c.args.version c.args.begun c.args.line.now) c.in_ok-entry.ensures within (sym c.is_too_much.ensures ∙ c.if-is_too_much.false)

@@ -1,5 +1,4 @@
-use Rattle.std.proofs.Common.{◌≤◌, refl, true, arith}
-use Rattle.trace_reader.proofs.Words.{err_from_is_err_and, ring_of, row_of, start, SaysRow, State}
+use Rattle.trace_reader.proofs.Words.{◌≤◌, refl, true, arith, err_from_is_err_and, ring_of, row_of, start, SaysRow, State}
 use Rattle.trace_reader.proofs.ReadSteps.{line_entry}
 use Rattle.trace_reader.proofs.RowLines.{no_ring, row_error, row_placed}
 use Rattle.trace_reader.proofs.line.row_in.Goals as goal
@@ -7,8 +6,7 @@ use Rattle.trace_reader.proofs.line.row_in.Goals as goal
 pub returns-in_err-row-clause-answer : goal.returns-in_err-row-clause-answer
 returns-in_err-row-clause-answer c st keeps of rings later at begun =
     let p = err_from_is_err_and c.from_residual.result c.from_residual.ensures.1 in
-    let behind : 2 ≤ st.lines = omega (arith, at, c.requires) in
-    rw (p.1, p.2) (row_error st c.args.line.now c.in_err-row.field-0.0 behind (c.in_err-row.ensures.answer st keeps of at begun))
+    rw (p.1, p.2) (row_error st c.args.line.now c.in_err-row.field-0.0 (omega (arith, at, c.requires)) (c.in_err-row.ensures.answer st keeps of at begun))
 
 pub returns-clause-answer : goal.returns-clause-answer
 returns-clause-answer c st keeps of rings later at begun =

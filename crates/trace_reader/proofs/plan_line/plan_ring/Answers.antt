@@ -1,5 +1,4 @@
-use Rattle.std.proofs.Common.{◌∙◌, ap, sym}
-use Rattle.trace_reader.proofs.Words.{err_from_is_err_and, Ring, ring_of, valued_by, plan_ring_fault, ring_line_form, ring_value}
+use Rattle.trace_reader.proofs.Words.{◌∙◌, ap, sym, err_from_is_err_and, Ring, ring_of, valued_by, plan_ring_fault, ring_line_form, ring_value}
 use Rattle.trace_reader.proofs.LineSteps.{content_faulty, content_whole, passed_by}
 use Rattle.trace_reader.proofs.plan_line.plan_ring.Goals as goal
 
@@ -11,13 +10,9 @@ returns-in_err-content c =
 pub returns-in_err-entry : goal.returns-in_err-entry
 returns-in_err-entry c =
     let p = err_from_is_err_and c.from_residual-in_err-entry.result c.from_residual-in_err-entry.ensures.1 in
-    let whole = content_whole ring_line_form ring_value plan_ring_fault c.args.line.now c.in_ok-content.content.now c.in_ok-content.ensures.whole c.in_ok-content.ensures.content in
-    let passed =
-    passed_by ring_of (λ (ring : Ring). ring) plan_ring_fault c.in_err-entry.field-0.0 (valued_by ring_value (ring_line_form c.of-2.result)) c.in_err-entry.ensures in
-    rw (p.1, p.2, whole, sym c.of-2.ensures) passed
+    rw (p.1, p.2, content_whole ring_line_form ring_value plan_ring_fault c.args.line.now _ c.in_ok-content.ensures.whole c.in_ok-content.ensures.content, sym c.of-2.ensures)
+    (passed_by ring_of (λ (ring : Ring). ring) plan_ring_fault c.in_err-entry.field-0.0 (valued_by ring_value (ring_line_form c.of-2.result)) c.in_err-entry.ensures)
 
 pub returns : goal.returns
 returns c =
-    let whole = content_whole ring_line_form ring_value plan_ring_fault c.args.line.now c.in_ok-content.content.now c.in_ok-content.ensures.whole c.in_ok-content.ensures.content in
-    let said = ap (λ xs. valued_by ring_value (ring_line_form xs)) (sym c.of-2.ensures) ∙ c.in_ok-entry.ensures in
-    rw (whole, said) c.made_ring.ensures
+    rw (content_whole ring_line_form ring_value plan_ring_fault c.args.line.now _ c.in_ok-content.ensures.whole c.in_ok-content.ensures.content, ap (λ xs. valued_by ring_value (ring_line_form xs)) (sym c.of-2.ensures) ∙ c.in_ok-entry.ensures) c.made_ring.ensures

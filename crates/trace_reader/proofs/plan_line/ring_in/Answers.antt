@@ -1,6 +1,5 @@
-use Rattle.std.proofs.Common.{◌≡◌, ◌∙◌, true, false, sym, refl, codes}
+use Rattle.trace_reader.proofs.Words.{◌≡◌, ◌∙◌, true, false, sym, refl, codes, not-false, not-true}
 use Rattle.std.specs.Str.{bytes_eq}
-use Rattle.std.proofs.lemmas.Bool.{not-false, not-true}
 use Rattle.trace_reader.proofs.RingLines.{no_line, no_ring_line, named_ring_line}
 use Rattle.trace_reader.proofs.plan_line.ring_in.Goals as goal
 

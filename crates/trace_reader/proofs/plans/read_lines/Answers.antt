@@ -1,13 +1,9 @@
-use Rattle.std.proofs.Common.{sym, length, arith, eqb-true}
-use Rattle.trace_reader.proofs.Words.{lines_of, lines_say, plan_line}
+use Rattle.trace_reader.proofs.Words.{sym, length, arith, eqb-true, lines_of, lines_say, plan_line}
 use Rattle.trace_reader.proofs.LineSteps.{at_start, bad_line_there, lines_ended, one_line_more}
 use Rattle.trace_reader.proofs.plans.read_lines.Goals as goal
 
 pub loop-rest-init : goal.loop-rest-init
-loop-rest-init c = record {
-  so_far = rw c.new-lines.ensures.items (sym (at_start (lines_say plan_line 3 (lines_of c.args.text.now))));
-  within = omega arith;
-}
+loop-rest-init c = record { so_far = rw c.new-lines.ensures.items (sym (at_start (lines_say plan_line 3 (lines_of c.args.text.now)))); within = omega arith }
 
 pub returns-in-Err-clause-err : goal.returns-in-Err-clause-err
 returns-in-Err-clause-err c =

@@ -1,5 +1,4 @@
-use Rattle.trace_reader.specs.Plans.{PlanText, plan_of}
-use Rattle.trace_reader.specs.PlanSpelling.{IsPlan, spells_plan}
+use Rattle.trace_reader.proofs.Words.{PlanText, plan_of, IsPlan, spells_plan}
 use Rattle.trace_reader.proofs.SpelledPlans.{one_plan, plan_read_if_spelled, plan_spelled_if_read}
 use Rattle.trace_reader.proofs.Unspelled.{none_spelled}
 use Rattle.trace_reader.proofs.plans.read_plan.Goals as goal
@@ -8,18 +7,10 @@ pub invariant_of-result : goal.invariant_of-result
 invariant_of-result c =
     let plan : PlanText = record { ring = c.in-Ok.ring; lines = c.in-Ok.lines.items } in
     let valid : IsPlan plan = (plan_spelled_if_read c.args.text.now plan c.in-Ok.ensures.ok).1 in
-    record {
-      named = valid.id;
-      allowed = valid.shape;
-      driven = valid.driven;
-      fitting = rw c.new.ensures valid.lines;
-      within = rw c.new.ensures valid.within;
-    }
+    record { named = valid.id; allowed = valid.shape; driven = valid.driven; fitting = rw c.new.ensures valid.lines; within = rw c.new.ensures valid.within }
 
 pub returns-in-Ok-clause-spelled : goal.returns-in-Ok-clause-spelled
-returns-in-Ok-clause-spelled c =
-    let plan : PlanText = record { ring = c.in-Ok.ring; lines = c.in-Ok.lines.items } in
-    rw c.new.ensures ((plan_spelled_if_read c.args.text.now plan c.in-Ok.ensures.ok).0)
+returns-in-Ok-clause-spelled c = rw c.new.ensures ((plan_spelled_if_read c.args.text.now (record { ring = c.in-Ok.ring; lines = c.in-Ok.lines.items }) c.in-Ok.ensures.ok).0)
 
 pub returns-in-Ok-clause-alone : goal.returns-in-Ok-clause-alone
 returns-in-Ok-clause-alone c other valid spelled =

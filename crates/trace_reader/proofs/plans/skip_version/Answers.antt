@@ -3,8 +3,7 @@ use Rattle.trace_reader.proofs.PlanSteps.{no_text, no_version, version_there}
 use Rattle.trace_reader.proofs.plans.skip_version.Goals as goal
 
 pub returns-then-is_empty-clause-err : goal.returns-then-is_empty-clause-err
-returns-then-is_empty-clause-err c =
-    rw (c.at_line.ensures, c.into.ensures) (no_text c.args.text.now (eqb-true (length c.args.text.now) 0 (sym c.is_empty.ensures ∙ c.if-is_empty.true)))
+returns-then-is_empty-clause-err c = rw (c.at_line.ensures, c.into.ensures) (no_text c.args.text.now (eqb-true (length c.args.text.now) 0 (sym c.is_empty.ensures ∙ c.if-is_empty.true)))
 
 pub returns-then-not-is_version-clause-err : goal.returns-then-not-is_version-clause-err
 returns-then-not-is_version-clause-err c =

@@ -1,5 +1,4 @@
-use Rattle.std.proofs.Common.{◌≡◌, ◌∙◌, rules, ap}
-use Rattle.trace_reader.proofs.Words.{all_plain, driver_trace_of, text_of, printed_trace, IsTrace}
+use Rattle.trace_reader.proofs.Words.{◌≡◌, ◌∙◌, rules, ap, all_plain, driver_trace_of, text_of, printed_trace, IsTrace}
 use Rattle.trace_reader.proofs.DriverTraces.{driver_trace, is_trace}
 use Rattle.trace_reader.proofs.LinePieces.{plain_rows, whole_text}
 use Rattle.trace_reader.proofs.Printed.{printed_reads}

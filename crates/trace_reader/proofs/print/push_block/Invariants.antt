@@ -1,5 +1,4 @@
-use Rattle.std.proofs.Common.{◌≡◌, ◌++◌, map, take, w32}
-use Rattle.trace_reader.proofs.Words.{digits_of, spaced, Digits}
+use Rattle.trace_reader.proofs.Words.{◌≡◌, ◌++◌, map, take, w32, digits_of, spaced, Digits}
 use Rattle.trace_reader.proofs.print.push_block.Given as goal
 
 abbrev pub invariant-loop-word : goal.invariant-loop-word

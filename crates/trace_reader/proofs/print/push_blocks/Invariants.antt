@@ -1,5 +1,4 @@
-use Rattle.std.proofs.Common.{◌≡◌, ◌++◌, take}
-use Rattle.trace_reader.proofs.Words.{flat_map, spaced, block_fields}
+use Rattle.trace_reader.proofs.Words.{◌≡◌, ◌++◌, take, flat_map, spaced, block_fields}
 use Rattle.trace_reader.proofs.print.push_blocks.Given as goal
 
 abbrev pub invariant-loop-block : goal.invariant-loop-block

@@ -1,6 +1,5 @@
-use Rattle.std.proofs.Common.{◌≡◌, ◌++◌, map, take}
+use Rattle.trace_reader.proofs.Words.{◌≡◌, ◌++◌, map, take, printed_line, ring_fields}
 use Rattle.std.specs.List.{flat_map}
-use Rattle.trace_reader.specs.Spelling.{printed_line, ring_fields}
 use Rattle.trace_reader.proofs.print.push_rings.Given as goal
 
 abbrev pub invariant-loop-ring : goal.invariant-loop-ring

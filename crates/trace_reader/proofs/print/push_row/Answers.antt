@@ -1,6 +1,4 @@
-use Rattle.std.proofs.Common.{arith}
-use Rattle.std.proofs.lemmas.Grind.{common_steps}
-use Rattle.trace_reader.specs.Spelling.{row_fields}
+use Rattle.trace_reader.proofs.Words.{arith, common_steps, row_fields}
 use Rattle.trace_reader.proofs.LinePieces.{line_of}
 use Rattle.trace_reader.proofs.print.push_row.Goals as goal
 

@@ -1,6 +1,4 @@
-use Rattle.std.proofs.Common.{◌≡◌, ◌++◌, map, take}
-use Rattle.trace_reader.specs.Printing.{spaced}
-use Rattle.trace_reader.specs.Spelling.{segment_field}
+use Rattle.trace_reader.proofs.Words.{◌≡◌, ◌++◌, map, take, spaced, segment_field}
 use Rattle.trace_reader.proofs.print.push_segments.Given as goal
 
 abbrev pub invariant-loop-segment : goal.invariant-loop-segment

@@ -1,10 +1,6 @@
-use Rattle.std.proofs.Common.{arith}
-use Rattle.std.proofs.lemmas.List.{length-take-le}
+use Rattle.trace_reader.proofs.Words.{arith, length-take-le}
 use Rattle.trace_reader.proofs.RowsAhead.{cut_at}
 use Rattle.trace_reader.proofs.quick.content_ahead.Goals as goal
 
 pub returns : goal.returns
-returns c =
-    let text = c.args.text.now in
-    let inside = c.if-text-count.false in
-    (length-take-le c.args.count text (omega (arith, inside)), cut_at text c.args.count inside c.if-text-count-ne10.false)
+returns c = (length-take-le c.args.count c.args.text.now (omega (arith, c.if-text-count.false)), cut_at c.args.text.now c.args.count c.if-text-count.false c.if-text-count-ne10.false)

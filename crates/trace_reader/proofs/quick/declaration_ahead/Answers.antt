@@ -1,14 +1,7 @@
-use Rattle.std.proofs.Common.{◌+◌, ap, refl}
-use Rattle.std.specs.Prelude.{[], ◌∷◌}
-use Rattle.traces.specs.declared.row.Row.TheVariants.{Sub}
-use Rattle.trace_reader.specs.Entries.{SaysAlone}
-use Rattle.trace_reader.specs.RowsAhead.{BeginsWithRow}
-use Rattle.trace_reader.proofs.RowsAhead.{begins_with, if_some}
+use Rattle.trace_reader.proofs.Words.{refl, [], ◌∷◌, Sub}
+use Rattle.trace_reader.proofs.RowsAhead.{found_ahead}
 use Rattle.trace_reader.proofs.quick.declaration_ahead.Goals as goal
 
 pub returns : goal.returns
 returns c =
-    let cut = c.in_ok-content_ahead.ensures in
-    let content = c.in_ok-content_ahead.field-0.now in
-    if_some (λ said. SaysAlone (Sub said.0 (said.1 ∷ [])) content) (λ said. BeginsWithRow (Sub said.0 (said.1 ∷ [])) 43 c.args.text.now) c.quick_declaration.result
-    (λ said says. begins_with c.args.text.now content 43 (Sub said.0 (said.1 ∷ [])) says refl (ap (λ n. n + 1) cut.0) cut.1) c.quick_declaration.ensures
+    found_ahead (λ said. Sub said.0 (said.1 ∷ [])) c.args.text.now c.in_ok-content_ahead.field-0.now 42 c.quick_declaration.result (λ said. refl) c.in_ok-content_ahead.ensures c.quick_declaration.ensures

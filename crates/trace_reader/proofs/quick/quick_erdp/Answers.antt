@@ -1,8 +1,5 @@
-use Rattle.std.proofs.Common.{sym, ◌∙◌}
+use Rattle.trace_reader.proofs.Words.{sym, ◌∙◌, Erdp, Reg, SaysAlone}
 use Rattle.std.specs.Cmp.Lexicographic.{same_text}
-use Rattle.traces.specs.declared.register.Register.TheVariants.{Erdp}
-use Rattle.traces.specs.declared.row.Row.TheVariants.{Reg}
-use Rattle.trace_reader.specs.Entries.{SaysAlone}
 use Rattle.trace_reader.proofs.FixedPlaces.{erdp_says}
 use Rattle.trace_reader.proofs.RowsAhead.{if_is}
 use Rattle.trace_reader.proofs.quick.quick_erdp.Goals as goal

@@ -1,6 +1,4 @@
-use Rattle.std.proofs.Common.{sym, ◌∙◌}
-use Rattle.traces.specs.declared.row.Row.TheVariants.{Read}
-use Rattle.trace_reader.specs.Entries.{SaysAlone}
+use Rattle.trace_reader.proofs.Words.{sym, ◌∙◌, Read, SaysAlone}
 use Rattle.trace_reader.proofs.FixedPlaces.{event_says}
 use Rattle.trace_reader.proofs.RowsAhead.{if_is}
 use Rattle.trace_reader.proofs.quick.quick_event.Goals as goal

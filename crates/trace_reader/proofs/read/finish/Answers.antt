@@ -1,5 +1,4 @@
-use Rattle.std.proofs.Common.{◌≤◌, ◌∙◌, arith}
-use Rattle.trace_reader.specs.Entries.{state_of}
+use Rattle.trace_reader.proofs.Words.{◌∙◌, arith, state_of}
 use Rattle.trace_reader.proofs.DriverTraces.{few_rows, is_driver_trace, plain_trace}
 use Rattle.trace_reader.proofs.ReadSteps.{header_there}
 use Rattle.trace_reader.proofs.Spelled.{spelled_if_read}
@@ -8,10 +7,8 @@ use Rattle.trace_reader.proofs.read.finish.Goals as goal
 pub invariant_of-result : goal.invariant_of-result
 invariant_of-result c =
     let r = c.args.so_far in
-    let there : 2 ≤ r.lines = omega (arith, c.if-so_far-lt2.false) in
     let text = c.requires.0 in
-    let read = c.requires.1 ∙ header_there (state_of r) c.args.rows.items there in
-    let valid = is_driver_trace _ (spelled_if_read text _ (plain_trace text _ read)).1 in
+    let valid = is_driver_trace _ (spelled_if_read text _ (plain_trace text _ (c.requires.1 ∙ header_there (state_of r) c.args.rows.items (omega (arith, c.if-so_far-lt2.false))))).1 in
     record {
       headed = rw c.into_header.ensures.said valid.headed;
       placed = rw (c.into_header.ensures.said, c.len.ensures) (omega (arith, valid.first, c.args.rows.ok));
@@ -21,10 +18,7 @@ invariant_of-result c =
 
 pub overflow_cast-first : goal.overflow_cast-first
 overflow_cast-first c =
-    let there : 2 ≤ c.args.so_far.lines = omega (arith, c.if-so_far-lt2.false) in
-    omega (arith, few_rows c.requires.0 (state_of c.args.so_far) c.args.rows.items c.requires.1 there, c.len.ensures, c.args.rows.ok, c.args.so_far.within)
+    omega (arith, few_rows c.requires.0 (state_of c.args.so_far) c.args.rows.items c.requires.1 (omega (arith, c.if-so_far-lt2.false)), c.len.ensures, c.args.rows.ok, c.args.so_far.within)
 
 pub overflow_sub-first : goal.overflow_sub-first
-overflow_sub-first c =
-    let there : 2 ≤ c.args.so_far.lines = omega (arith, c.if-so_far-lt2.false) in
-    omega (arith, few_rows c.requires.0 (state_of c.args.so_far) c.args.rows.items c.requires.1 there, c.len.ensures, c.args.rows.ok)
+overflow_sub-first c = omega (arith, few_rows c.requires.0 (state_of c.args.so_far) c.args.rows.items c.requires.1 (omega (arith, c.if-so_far-lt2.false)), c.len.ensures, c.args.rows.ok)

@@ -1,5 +1,4 @@
-use Rattle.std.proofs.Common.{true, ◌∙◌, ap, sym, length, eqb-true}
-use Rattle.trace_reader.proofs.Words.{lines_of, state_of, text_of, all_plain, driver_row, start, take_lines}
+use Rattle.trace_reader.proofs.Words.{true, ◌∙◌, ap, sym, length, eqb-true, lines_of, state_of, text_of, all_plain, driver_row, start, take_lines}
 use Rattle.trace_reader.proofs.DriverTraces.{plain_trace}
 use Rattle.trace_reader.proofs.Lowered.{lowered}
 use Rattle.trace_reader.proofs.ReadSteps.{ended, nothing_before, prepend, read_on, stopped}
@@ -12,31 +11,26 @@ loop-rest-init c = rw (c.new-so_far.ensures, c.new-rows.ensures.items) (sym (not
 
 pub loop-rest-preserved : goal.loop-rest-preserved
 loop-rest-preserved c =
-    let r = c.loop-rest.so_far in
-    read_on true driver_row c.args.text.now c.loop-rest.rows.items c.add_driver_line.new.rows.items (state_of r) (state_of c.add_driver_line.new.so_far) c.first_line-line.result.0 c.first_line-line.result.1.now
+    read_on true driver_row c.args.text.now c.loop-rest.rows.items c.add_driver_line.new.rows.items (state_of c.loop-rest.so_far) (state_of c.add_driver_line.new.so_far) c.first_line-line.result.0 c.first_line-line.result.1.now
     (lines_of c.loop-rest.rest.now) c.loop-rest.invariant c.first_line-line.ensures.lines c.in_default.ensures.ok
 
 pub returns-in-Err-clause-refused : goal.returns-in-Err-clause-refused
 returns-in-Err-clause-refused c =
-    let r = c.loop-rest.so_far in
     rw c.at_line.ensures
-    (stopped true driver_row c.args.text.now c.loop-rest.rows.items (state_of r) c.first_line-line.result.0 (lines_of c.first_line-line.result.1.now) c.in-Err.error
-    (c.loop-rest.invariant ∙ ap (λ ls. prepend c.loop-rest.rows.items (take_lines driver_row (state_of r) ls)) c.first_line-line.ensures.lines) c.in-Err.ensures.err)
+    (stopped true driver_row c.args.text.now c.loop-rest.rows.items (state_of c.loop-rest.so_far) c.first_line-line.result.0 (lines_of c.first_line-line.result.1.now) c.in-Err.error
+    (c.loop-rest.invariant ∙ ap (λ ls. prepend c.loop-rest.rows.items (take_lines driver_row (state_of c.loop-rest.so_far) ls)) c.first_line-line.ensures.lines) c.in-Err.ensures.err)
 
 pub finish-requires : goal.finish-requires
 finish-requires c =
-    let r = c.loop-rest.so_far in
-    (c.args.text.now, ended true driver_row c.args.text.now c.loop-rest.rest.now c.loop-rest.rows.items (state_of r) c.loop-rest.invariant (eqb-true (length c.loop-rest.rest.now) 0 (sym c.loop-rest-test.ensures)))
+    (c.args.text.now, ended true driver_row c.args.text.now c.loop-rest.rest.now c.loop-rest.rows.items (state_of c.loop-rest.so_far) c.loop-rest.invariant (eqb-true (length c.loop-rest.rest.now) 0 (sym c.loop-rest-test.ensures)))
 
 pub returns-clause-read : goal.returns-clause-read
 returns-clause-read c =
-    let r = c.loop-rest.so_far in
-    rw (ended true driver_row c.args.text.now c.loop-rest.rest.now c.loop-rest.rows.items (state_of r) c.loop-rest.invariant (eqb-true (length c.loop-rest.rest.now) 0 (sym c.loop-rest-test.ensures))) c.finish.ensures.read
+    rw (ended true driver_row c.args.text.now c.loop-rest.rest.now c.loop-rest.rows.items (state_of c.loop-rest.so_far) c.loop-rest.invariant (eqb-true (length c.loop-rest.rest.now) 0 (sym c.loop-rest-test.ensures))) c.finish.ensures.read
 
 pub returns-clause-refused : goal.returns-clause-refused
 returns-clause-refused c =
-    let r = c.loop-rest.so_far in
-    rw (ended true driver_row c.args.text.now c.loop-rest.rest.now c.loop-rest.rows.items (state_of r) c.loop-rest.invariant (eqb-true (length c.loop-rest.rest.now) 0 (sym c.loop-rest-test.ensures))) c.finish.ensures.refused
+    rw (ended true driver_row c.args.text.now c.loop-rest.rest.now c.loop-rest.rows.items (state_of c.loop-rest.so_far) c.loop-rest.invariant (eqb-true (length c.loop-rest.rest.now) 0 (sym c.loop-rest-test.ensures))) c.finish.ensures.refused
 
 pub returns-in-Err-clause-unspelled : goal.returns-in-Err-clause-unspelled
 returns-in-Err-clause-unspelled c = refused_unspelled c.args.text.now c.at_line.result (returns-in-Err-clause-refused c)
@@ -47,8 +41,7 @@ returns-clause-spelled c =
 
 pub returns-clause-alone : goal.returns-clause-alone
 returns-clause-alone c =
-    ok_also c.finish.result
-    (λ trace is other valid spelled.
+    ok_also c.finish.result (λ trace is other valid spelled.
     let s = spelled_if_read c.args.text.now (all_plain (text_of trace)) (plain_trace c.args.text.now (text_of trace) is) in
     one_trace c.args.text.now other (all_plain (text_of trace)) spelled valid s.0 s.1) (returns-clause-read c)
 

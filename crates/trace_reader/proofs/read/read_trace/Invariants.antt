@@ -1,5 +1,4 @@
-use Rattle.std.proofs.Common.{true, ◌≡◌, length}
-use Rattle.trace_reader.proofs.Words.{lines_of, state_of, driver_row, start, take_lines}
+use Rattle.trace_reader.proofs.Words.{true, ◌≡◌, length, lines_of, state_of, driver_row, start, take_lines}
 use Rattle.trace_reader.proofs.ReadSteps.{prepend}
 use Rattle.trace_reader.proofs.read.read_trace.Given as goal
 

@@ -1,6 +1,4 @@
-use Rattle.std.proofs.Common.{arith}
-use Rattle.std.proofs.lemmas.Grind.{common_steps}
-use Rattle.trace_reader.specs.ScheduleSpelling.{step_fields}
+use Rattle.trace_reader.proofs.Words.{arith, common_steps, step_fields}
 use Rattle.trace_reader.proofs.LinePieces.{line_of}
 use Rattle.trace_reader.proofs.schedules.push_step.Goals as goal
 

@@ -1,5 +1,4 @@
-use Rattle.std.proofs.Common.{◌≡◌, ◌++◌, map, take}
-use Rattle.trace_reader.proofs.Words.{flat_map, step_fields, printed_line}
+use Rattle.trace_reader.proofs.Words.{◌≡◌, ◌++◌, map, take, flat_map, step_fields, printed_line}
 use Rattle.trace_reader.proofs.schedules.push_steps.Given as goal
 
 abbrev pub invariant-loop-step : goal.invariant-loop-step

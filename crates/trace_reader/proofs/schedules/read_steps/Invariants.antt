@@ -1,5 +1,4 @@
-use Rattle.std.proofs.Common.{◌≡◌, ◌≤◌, ◌+◌, length}
-use Rattle.trace_reader.proofs.Words.{lines_of, most_schedule_lines, lines_say, step_line}
+use Rattle.trace_reader.proofs.Words.{◌≡◌, ◌≤◌, ◌+◌, length, lines_of, most_schedule_lines, lines_say, step_line}
 use Rattle.trace_reader.proofs.LineSteps.{prepended}
 use Rattle.trace_reader.proofs.schedules.read_steps.Given as goal
 

@@ -1,4 +1,4 @@
-use Rattle.std.proofs.Common.{false, ◌∙◌, ap, not}
+use Rattle.xhci_cli.proofs.Words.{ap, false, not, ◌∙◌}
 use Rattle.xhci_cli.proofs.Streamed.{alone_right}
 use Rattle.xhci_cli.proofs.check_run.answer_as_read.Goals as goal
 

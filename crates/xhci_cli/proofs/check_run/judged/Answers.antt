@@ -1,6 +1,4 @@
-use Rattle.std.proofs.Common.{ap, subst, sym}
-use Rattle.std.specs.Prelude.{Bool, is_some}
-use Rattle.xhci_cli.specs.CheckAnswers.{IsCheckAnswer}
+use Rattle.xhci_cli.proofs.Words.{Bool, IsCheckAnswer, ap, is_some, subst, sym}
 use Rattle.xhci_cli.proofs.check_run.judged.Goals as goal
 
 pub returns-in-Some-clause-right : goal.returns-in-Some-clause-right

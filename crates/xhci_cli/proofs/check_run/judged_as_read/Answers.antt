@@ -1,8 +1,4 @@
-use Rattle.std.proofs.Common.{ℕ, List, Option, subst, sym}
-use Rattle.std.specs.Prelude.{false}
-use Rattle.answers.proofs.Told.{failure}
-use Rattle.answers.specs.declared.answer.Answer.{Answer}
-use Rattle.xhci_cli.specs.CheckAnswers.{IsCheckAnswer, IsHindered}
+use Rattle.xhci_cli.proofs.Words.{Answer, IsCheckAnswer, IsHindered, List, Option, failure, false, subst, sym, ℕ}
 use Rattle.xhci_cli.proofs.check_run.judged_as_read.Goals as goal
 
 pub returns-in-Err-clause-right : goal.returns-in-Err-clause-right

@@ -1,7 +1,4 @@
-use Rattle.std.proofs.Common.{◌≡◌, length, subst, sym}
-use Rattle.std.specs.Prelude.{false}
-use Rattle.answers.specs.declared.answer.Answer.{Answer}
-use Rattle.xhci_cli.specs.CheckAnswers.{IsCheckAnswer}
+use Rattle.xhci_cli.proofs.Words.{Answer, IsCheckAnswer, false, length, subst, sym, ◌≡◌}
 use Rattle.xhci_cli.proofs.Streamed.{cut_right, kept_right, unkept_right}
 use Rattle.xhci_cli.proofs.check_run.kept_answer.Goals as goal
 

@@ -1,9 +1,4 @@
-use Rattle.std.proofs.Common.{inl, refl}
-use Rattle.std.specs.Prelude.{is_some}
-use Rattle.answers.specs.Inputs.{opened}
-use Rattle.answers.proofs.Held.{opened_holds}
-use Rattle.answers.proofs.Told.{failure, told_right}
-use Rattle.xhci_cli.specs.CheckAnswers.{IsCheckAnswer, IsHindered}
+use Rattle.xhci_cli.proofs.Words.{IsCheckAnswer, failure, inl, is_some, opened, opened_holds, refl, told_right}
 use Rattle.xhci_cli.proofs.HeldAnswers.{hindered}
 use Rattle.xhci_cli.proofs.check_run.run_check.Goals as goal
 

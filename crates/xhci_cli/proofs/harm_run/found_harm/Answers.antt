@@ -1,4 +1,4 @@
-use Rattle.trace_reader.specs.Streaming.TextRows.{trace_kept}
+use Rattle.xhci_cli.proofs.Words.{trace_kept}
 use Rattle.xhci_cli.proofs.Streamed.{harm_found}
 use Rattle.xhci_cli.proofs.harm_run.found_harm.Goals as goal
 

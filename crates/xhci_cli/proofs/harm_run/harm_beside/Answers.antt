@@ -1,4 +1,4 @@
-use Rattle.std.proofs.Common.{ap, arith, length}
+use Rattle.xhci_cli.proofs.Words.{ap, arith, length}
 use Rattle.xhci_cli.proofs.harm_run.harm_beside.Goals as goal
 
 pub harmful_run-requires-clause-few : goal.harmful_run-requires-clause-few

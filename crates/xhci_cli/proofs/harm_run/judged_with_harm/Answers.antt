@@ -1,8 +1,4 @@
-use Rattle.std.proofs.Common.{subst, sym}
-use Rattle.std.specs.Prelude.{true}
-use Rattle.answers.proofs.Told.{failure}
-use Rattle.answers.specs.declared.answer.Answer.{Answer}
-use Rattle.xhci_cli.specs.CheckAnswers.{IsCheckAnswer}
+use Rattle.xhci_cli.proofs.Words.{Answer, IsCheckAnswer, failure, subst, sym, true}
 use Rattle.xhci_cli.proofs.HeldAnswers.{check_held, hindered_held}
 use Rattle.xhci_cli.proofs.harm_run.judged_with_harm.Goals as goal
 

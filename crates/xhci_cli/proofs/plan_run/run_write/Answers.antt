@@ -1,6 +1,4 @@
-use Rattle.xhci_cli.specs.PlanAnswers.{IsPlanAnswer}
-use Rattle.answers.specs.Inputs.{opened}
-use Rattle.answers.proofs.Told.{failure, told_right}
+use Rattle.xhci_cli.proofs.Words.{IsPlanAnswer, failure, opened, told_right}
 use Rattle.xhci_cli.proofs.HeldAnswers.{plan_held}
 use Rattle.xhci_cli.proofs.plan_run.run_write.Goals as goal
 

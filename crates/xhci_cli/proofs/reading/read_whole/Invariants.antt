@@ -1,4 +1,4 @@
-use Rattle.std.specs.Io.KnownBytes.{Consumes}
+use Rattle.xhci_cli.proofs.Words.{Consumes}
 use Rattle.xhci_cli.proofs.reading.read_whole.Given as goal
 
 -- what was read so far is gone from the reader

@@ -1,4 +1,4 @@
-use Rattle.trace_reader.specs.Streaming.TextRows.{trace_kept}
+use Rattle.xhci_cli.proofs.Words.{trace_kept}
 use Rattle.xhci_cli.proofs.Replayed.{beside_right}
 use Rattle.xhci_cli.proofs.replay_run.replay_answer.Goals as goal
 

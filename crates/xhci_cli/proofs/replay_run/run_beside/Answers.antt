@@ -1,8 +1,5 @@
-use Rattle.answers.specs.Inputs.{opened}
-use Rattle.trace_reader.specs.Streaming.TextRows.{trace_kept}
-use Rattle.xhci_cli.specs.ReplayAnswers.{IsReplayBeside}
+use Rattle.xhci_cli.proofs.Words.{IsReplayBeside, failure, opened, told_right, trace_kept}
 use Rattle.xhci_cli.proofs.Replayed.{beside_held}
-use Rattle.answers.proofs.Told.{failure, told_right}
 use Rattle.xhci_cli.proofs.replay_run.run_beside.Goals as goal
 
 pub returns-in-Ok-clause-told : goal.returns-in-Ok-clause-told

@@ -1,8 +1,4 @@
-use Rattle.std.proofs.Common.{inl, inr, subst, sym}
-use Rattle.answers.specs.Inputs.{opened}
-use Rattle.answers.specs.declared.answer.Answer.{Answer}
-use Rattle.answers.proofs.Told.{failure, told_right}
-use Rattle.trace_reader.specs.Streaming.TextRows.{trace_kept}
+use Rattle.xhci_cli.proofs.Words.{Answer, failure, inl, inr, opened, subst, sym, told_right, trace_kept}
 use Rattle.xhci_cli.proofs.KeptHeld.{text_held, unread_right}
 use Rattle.xhci_cli.specs.KeptTexts.{IsUnread}
 use Rattle.xhci_cli.proofs.replay_run.run_replay.Goals as goal

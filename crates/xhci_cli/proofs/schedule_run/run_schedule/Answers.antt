@@ -1,8 +1,5 @@
-use Rattle.std.proofs.Common.{inl}
-use Rattle.answers.specs.Inputs.{opened}
-use Rattle.answers.proofs.Told.{failure, told_right}
+use Rattle.xhci_cli.proofs.Words.{IsScheduleAnswer, IsScheduled, failure, inl, opened, told_right}
 use Rattle.xhci_cli.proofs.KeptHeld.{answer_held}
-use Rattle.xhci_cli.specs.ScheduleAnswers.{IsScheduleAnswer, IsScheduled}
 use Rattle.xhci_cli.proofs.schedule_run.run_schedule.Goals as goal
 
 pub returns-in-Ok-clause-told : goal.returns-in-Ok-clause-told

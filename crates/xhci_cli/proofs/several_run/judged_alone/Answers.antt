@@ -1,9 +1,4 @@
-use Rattle.std.proofs.Common.{false, inl, subst, sym}
-use Rattle.answers.specs.Inputs.{opened}
-use Rattle.answers.proofs.Held.{opened_holds}
-use Rattle.answers.proofs.Told.{failure}
-use Rattle.answers.specs.declared.answer.Answer.{Answer}
-use Rattle.xhci_cli.specs.CheckAnswers.{IsVerdictAlone}
+use Rattle.xhci_cli.proofs.Words.{IsVerdictAlone, false, opened_holds}
 use Rattle.xhci_cli.specs.JudgedTexts.{IsTraceAnswer}
 use Rattle.xhci_cli.proofs.several_run.judged_alone.Goals as goal
 

@@ -1,7 +1,4 @@
-use Rattle.std.proofs.Common.{inl}
-use Rattle.answers.specs.Inputs.{opened}
-use Rattle.answers.proofs.Told.{failure, told_right}
-use Rattle.xhci_cli.specs.ShowAnswers.{IsPageAnswer, IsShowAnswer}
+use Rattle.xhci_cli.proofs.Words.{IsPageAnswer, IsShowAnswer, failure, inl, opened, told_right}
 use Rattle.xhci_cli.proofs.KeptHeld.{answer_held}
 use Rattle.xhci_cli.proofs.show_run.run_show.Goals as goal
 

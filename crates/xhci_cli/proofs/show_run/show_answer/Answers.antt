@@ -1,5 +1,4 @@
-use Rattle.std.proofs.Common.{inr}
-use Rattle.trace_reader.specs.Streaming.TextRows.{trace_kept}
+use Rattle.xhci_cli.proofs.Words.{inr, trace_kept}
 use Rattle.xhci_cli.proofs.show_run.show_answer.Goals as goal
 
 pub returns-in-Ok : goal.returns-in-Ok

@@ -1,5 +1,4 @@
-use Rattle.std.proofs.Common.{false, inl, subst, sym}
-use Rattle.answers.specs.declared.answer.Answer.{Answer}
+use Rattle.xhci_cli.proofs.Words.{Answer, false, inl, subst, sym}
 use Rattle.xhci_cli.specs.JudgedTexts.{IsUnread}
 use Rattle.xhci_cli.proofs.Streamed.{unread_right, verified_right}
 use Rattle.xhci_cli.proofs.stream_answers.verified_answer.Goals as goal

@@ -1,8 +1,4 @@
-use Rattle.std.proofs.Common.{inl, inr, subst, sym}
-use Rattle.answers.specs.Inputs.{opened}
-use Rattle.answers.specs.declared.answer.Answer.{Answer}
-use Rattle.answers.proofs.Told.{failure, told_right}
-use Rattle.xhci_cli.specs.VerifyAnswers.{IsUncertified}
+use Rattle.xhci_cli.proofs.Words.{Answer, IsUncertified, failure, inl, inr, opened, subst, sym, told_right}
 use Rattle.xhci_cli.proofs.Certified.{certificate_held, uncertified_right}
 use Rattle.xhci_cli.proofs.verify_run.run_verify.Goals as goal
 

@@ -1,8 +1,4 @@
-use Rattle.std.proofs.Common.{inl}
-use Rattle.answers.specs.Inputs.{opened}
-use Rattle.answers.proofs.Held.{opened_holds}
-use Rattle.answers.proofs.Told.{failure, told_right}
-use Rattle.xhci_cli.specs.VerifyAnswers.{IsVerdictBeside}
+use Rattle.xhci_cli.proofs.Words.{IsVerdictBeside, failure, inl, opened, opened_holds, told_right}
 use Rattle.xhci_cli.proofs.verify_run.verify_beside.Goals as goal
 
 pub returns-in-Ok-clause-told : goal.returns-in-Ok-clause-told

@@ -1,4 +1,4 @@
-use Rattle.trace_reader.specs.Streaming.TextRows.{trace_kept}
+use Rattle.xhci_cli.proofs.Words.{trace_kept}
 use Rattle.xhci_cli.proofs.VersionNotes.{accepted_by_three, headed_in_three, refused_by_three}
 use Rattle.xhci_cli.proofs.version_note.breaks_no_rule_of_three.Goals as goal
 

@@ -1,7 +1,4 @@
-use Rattle.std.proofs.Common.{false, subst}
-use Rattle.std.proofs.lemmas.Result.{err_from_is_err_and}
-use Rattle.leases.specs.LeaseBooks.Lents.{lents}
-use Rattle.leases.specs.CertificateLogs.Logs.{FollowsCertificate}
+use Rattle.certificate.proofs.Words.{false, subst, err_from_is_err_and, lents, FollowsCertificate}
 use Rattle.certificate.proofs.Verifying.Streams.{is_refused, is_whole, opened_bad, unverified, verified}
 use Rattle.certificate.proofs.verifier.stream.verify_stream.Goals as goal
 

@@ -1,7 +1,4 @@
-use Rattle.std.proofs.Common.{◌≡◌, true, subst, Result, Ok, Err}
-use Rattle.std.specs.Prelude.{IfOk}
-use Rattle.ownership_checker.specs.JudgedRows.Accepted.{IsAccepted}
-use Rattle.ownership_checker.proofs.JudgedRows.Harmless.{harmless}
+use Rattle.certificate.proofs.Words.{◌≡◌, true, subst, Result, Ok, Err, IfOk, IsAccepted, harmless}
 use Rattle.certificate.proofs.verifier.verifying.verify.Goals as goal
 
 if_ok : {T E : Type 0} (P Q : T → Type 0) (r : Result T E) → ((x : T) → P x → Q x) → IfOk r P → IfOk r Q

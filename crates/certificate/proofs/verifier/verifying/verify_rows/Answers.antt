@@ -1,9 +1,4 @@
-use Rattle.std.proofs.Common.{◌∙◌, length, sym, arith}
-use Rattle.std.specs.Prelude.{reverse}
-use Rattle.leases.specs.LeaseBooks.Lents.{lents}
-use Rattle.leases.proofs.LeaseBooks.Growing.{leases_are}
-use Rattle.ring_knowledge.specs.Learned.{known}
-use Rattle.ownership_checker.proofs.JudgedRows.Passes.{by_place, refused, room_for}
+use Rattle.certificate.proofs.Words.{◌∙◌, length, sym, arith, reverse, lents, leases_are, known, by_place, refused, room_for}
 use Rattle.certificate.proofs.Verifying.Following.{accepted, held, listed, many, refused_none, started, stepped}
 use Rattle.certificate.proofs.verifier.verifying.verify_rows.Goals as goal
 

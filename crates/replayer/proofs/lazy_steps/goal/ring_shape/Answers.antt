@@ -1,5 +1,4 @@
-use Rattle.std.proofs.Common.{ap, sym, ◌∙◌}
-use Rattle.traces.specs.declared.ring.Ring.{Ring}
+use Rattle.replayer.proofs.Words.{ap, sym, ◌∙◌, Ring}
 use Rattle.replayer.proofs.LazySteps.RingShapes.{no_ring, one_ring}
 use Rattle.replayer.proofs.lazy_steps.goal.ring_shape.Goals as goal
 

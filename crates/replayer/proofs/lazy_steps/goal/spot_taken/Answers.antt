@@ -1,4 +1,4 @@
-use Rattle.replayer.proofs.LazySteps.Words.{arith, ◌∙◌, shape_behind}
+use Rattle.replayer.proofs.Words.{arith, ◌∙◌, shape_behind}
 use Rattle.replayer.proofs.LazySteps.PointerTables.{some_taken, none_taken}
 use Rattle.replayer.proofs.lazy_steps.goal.spot_taken.Goals as goal
 

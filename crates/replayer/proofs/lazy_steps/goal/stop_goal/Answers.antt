@@ -1,4 +1,4 @@
-use Rattle.replayer.proofs.LazySteps.Words.{◌≡◌, ◌+◌, ◌==◌, ◌∙◌, true, false, arith, sym, cond-true, cond-false, nat_tests, number, RingSpot, stop_goal, taken_up_to, place_of}
+use Rattle.replayer.proofs.Words.{refl, ◌≡◌, ◌+◌, ◌==◌, true, false, arith, nat_tests, number, RingSpot, stop_goal, place_of}
 use Rattle.replayer.proofs.lazy_steps.goal.stop_goal.Goals as goal
 use Rattle.replayer.proofs.lazy_steps.goal.stop_goal.Goals.{else-need-gt0-via-then-need-gt0+else-need-number, else-need-gt0-via-else-need-gt0}
 
@@ -8,7 +8,7 @@ returns-then-need-number c =
     let at : RingSpot = place_of c.args.at in
     let one_behind : c.args.need ≡ number at.spot + 1 = omega (arith, c.if-need-number.true, c.number.ensures) in
     let it : (c.args.need == number at.spot + 1) ≡ true = grind (arith, nat_tests) in
-    c.taken_up_to.ensures ∙ sym (cond-true (c.args.need == number at.spot + 1) (taken_up_to c.args.header.now at.ring c.args.need) at it)
+    rw it c.taken_up_to.ensures
 
 pub returns-else-need-gt0 : goal.returns-else-need-gt0
 unfolding stop_goal
@@ -18,4 +18,4 @@ returns-else-need-gt0 c =
       | else-need-gt0-via-then-need-gt0+else-need-number w ↦ grind (arith, nat_tests, w.if-need-gt0.true, w.if-need-number.false, w.number.ensures)
       | else-need-gt0-via-else-need-gt0 w ↦ grind (arith, nat_tests, w.if-need-gt0.false)
     ] in
-    sym (cond-false (c.args.need == number at.spot + 1) (taken_up_to c.args.header.now at.ring c.args.need) at other)
+    rw other refl

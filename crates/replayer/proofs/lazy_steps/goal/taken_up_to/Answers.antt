@@ -1,4 +1,4 @@
-use Rattle.replayer.proofs.LazySteps.Words.{◌∙◌, ℕ, ap, Shape, Spot, RingSpot, behind_taken, taken_up_to}
+use Rattle.replayer.proofs.Words.{◌∙◌, ℕ, ap, Shape, Spot, RingSpot, behind_taken, taken_up_to}
 use Rattle.replayer.proofs.lazy_steps.goal.taken_up_to.Goals as goal
 
 spot_on : ℕ → Spot → RingSpot

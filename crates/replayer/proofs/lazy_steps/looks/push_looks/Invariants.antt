@@ -1,4 +1,4 @@
-use Rattle.replayer.proofs.LazySteps.Words.{◌≡◌, ◌-◌, ◌++◌, map, rank, Look, spots_before, shape_behind}
+use Rattle.replayer.proofs.Words.{◌≡◌, ◌-◌, ◌++◌, map, rank, Look, spots_before, shape_behind}
 use Rattle.replayer.proofs.lazy_steps.looks.push_looks.Given as goal
 
 abbrev pub invariant-loop-to : goal.invariant-loop-to

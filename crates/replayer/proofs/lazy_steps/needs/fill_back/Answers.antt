@@ -1,4 +1,4 @@
-use Rattle.replayer.proofs.LazySteps.Words.{refl, ℕ, ◌-◌, ◌<◌, length, arith, get_or, drop, ◌∙◌, ap, length-replicate, need_in}
+use Rattle.replayer.proofs.Words.{refl, ℕ, ◌-◌, ◌<◌, length, arith, get_or, drop, ◌∙◌, ap, length-replicate, need_in}
 use Rattle.replayer.proofs.LazySteps.Filling.{none_filled, all_zero, turn_notes, turn_table}
 use Rattle.replayer.proofs.lazy_steps.needs.fill_back.Goals as goal
 
@@ -18,9 +18,9 @@ loop-left-preserved c =
     let some_left : 0 < left = omega arith in
     record {
       within = omega arith;
-      notes = turn_notes s c.loop-left.notes left i.within some_left i.notes (get_or c.loop-left.notes (left - 1) c.index-notes-last.result) c.filled_note-filled.result c.index-notes-last.result refl
+      notes = turn_notes s c.loop-left.notes (left - 1) left (omega arith) (omega arith) i.notes (get_or c.loop-left.notes (left - 1) c.index-notes-last.result) c.filled_note-filled.result c.index-notes-last.result refl
           (c.filled_note-filled.ensures (need_in (drop left s)) i.table);
       size = c.go_before.ensures.size;
-      table = turn_table s c.loop-left.notes left i.within some_left i.notes c.go_before.new.needs (get_or c.loop-left.notes (left - 1) c.index-notes-last-in-loop-left.result) c.index-notes-last-in-loop-left.result refl
+      table = turn_table s c.loop-left.notes (left - 1) left (omega arith) (omega arith) i.notes c.go_before.new.needs (get_or c.loop-left.notes (left - 1) c.index-notes-last-in-loop-left.result) c.index-notes-last-in-loop-left.result refl
           (c.go_before.ensures.needs (need_in (drop left s)) i.table);
     }

@@ -1,5 +1,5 @@
-use Rattle.replayer.proofs.LazySteps.Words.{◌++◌, ◌∙◌, List, map, ap, Shape, Step, Look, looks_to, spots_before, shape_behind, spot_in}
-use Rattle.replayer.proofs.LazySteps.PointerTables.{on_ok}
+use Rattle.replayer.proofs.Words.{◌++◌, ◌∙◌, List, map, ap, Shape, Step, Look, looks_to, spots_before, shape_behind, spot_in}
+use Rattle.replayer.proofs.RowNotes.Lists.{on_more}
 use Rattle.replayer.proofs.lazy_steps.pointers.look_towards.Goals as goal
 
 pub returns : goal.returns
@@ -8,7 +8,7 @@ returns c =
     let t = c.args.pointers.now in
     let ring = c.args.goal.ring in
     let made : List Step = c.args.steps.now.items in
-    on_ok c.push_looks.result _ _
+    on_more c.push_looks.result
     (λ pushed.
     pushed
     ∙ ap (λ n. made ++ map (λ u. Look ring) (spots_before (shape_behind c.ring_shape-shape.result) (spot_in t n) c.args.goal.spot)) c.from.ensures

@@ -1,8 +1,4 @@
-use Rattle.std.proofs.Common.{◌≡◌, ◌∙◌, ◌∷◌, ◌++◌, [], true, ap, subst, sym}
-use Rattle.traces.specs.Header.{may_stand_together}
-use Rattle.trace_record.specs.RingFinder.Finding.{IsFinder}
-use Rattle.safety.proofs.Headers.{header_parts}
-use Rattle.controller_model.specs.RingRows.{with_ring}
+use Rattle.replayer.proofs.Words.{◌≡◌, ◌∙◌, ◌∷◌, ◌++◌, [], true, ap, subst, sym, may_stand_together, IsFinder, header_parts, with_ring}
 use Rattle.replayer.proofs.lazy_steps.there.add_ring.Goals as goal
 
 pub returns-clause-header : goal.returns-clause-header

@@ -1,13 +1,10 @@
-use Rattle.replayer.proofs.LazySteps.Words.{◌≡◌, ◌==◌, ◌<◌, ◌∙◌, [], List, not, filter, ap, length, sym, arith, Header, Ring}
-use Rattle.std.proofs.lemmas.List.Edits.{length-remove}
+use Rattle.replayer.proofs.Words.{◌≡◌, ◌==◌, ◌<◌, ◌∙◌, [], List, not, filter, ap, length, sym, arith, Header, Ring, length-remove, none_dropped, nothing_listed, one_dropped, without_is}
 use Rattle.std.specs.List.{remove}
-use Rattle.controller_model.proofs.RingRowLemmas.{none_dropped, nothing_listed, one_dropped, without_is}
 use Rattle.replayer.proofs.lazy_steps.there.drop_ring.Goals as goal
 
 pub returns-in-None : goal.returns-in-None
 returns-in-None c =
-    let i = c.loop.invariant in
-    i.head ∙ without_is c.args.header.now c.args.id c.loop.header.rings (sym (none_dropped c.loop.header.rings c.args.id (sym c.place_of.ensures.value ∙ c.in-None.is)) ∙ i.rest)
+    c.loop.invariant.head ∙ without_is c.args.header.now c.args.id c.loop.header.rings (sym (none_dropped c.loop.header.rings c.args.id (sym c.place_of.ensures.value ∙ c.in-None.is)) ∙ c.loop.invariant.rest)
 
 pub loop-preserved : goal.loop-preserved
 loop-preserved c =

@@ -1,5 +1,6 @@
-use Rattle.replayer.proofs.LazySteps.Words.{◌∙◌, drop, sym}
-use Rattle.replayer.proofs.LazySteps.RowsToCome.{header_goes, header_last, other_header, other_rows, rows_go, rows_last}
+use Rattle.replayer.proofs.Words.{drop_all, header_behind, rows_behind, drop, sym}
+use Rattle.replayer.proofs.LazySteps.RowsToCome.{other_header, other_rows}
+use Rattle.replayer.proofs.Runs.{from_here}
 use Rattle.replayer.proofs.lazy_steps.walk.follow_note.Goals as goal
 
 pub returns-in_default : goal.returns-in_default
@@ -15,15 +16,18 @@ returns-in_default c =
     }
 
 pub returns-in-None-clause-header : goal.returns-in-None-clause-header
-returns-in-None-clause-header c = sym (header_last c.args.header.now c.args.rows.now c.args.next c.args.note.now c.in-Next.is c.in-None.ensures.lookup.3)
+unfolding header_behind
+returns-in-None-clause-header c = rw (c.in-Next.is, drop_all c.args.next c.args.rows.now c.in-None.ensures.lookup.3)
 
 pub returns-in-None-clause-next : goal.returns-in-None-clause-next
-returns-in-None-clause-next c = sym (rows_last c.args.header.now c.args.rows.now c.args.next c.args.note.now c.in-Next.is c.in-None.ensures.lookup.3)
+unfolding rows_behind
+returns-in-None-clause-next c = rw (c.in-Next.is, drop_all c.args.next c.args.rows.now c.in-None.ensures.lookup.3)
 
 pub returns-in_ok-follow_row-in-Some-clause-header : goal.returns-in_ok-follow_row-in-Some-clause-header
+unfolding header_behind
 returns-in_ok-follow_row-in-Some-clause-header c =
-    c.in_ok-follow_row-in-Some.ensures.header
-    ∙ sym (header_goes c.args.header.now c.args.rows.now c.args.next c.args.note.now c.in-Next.is c.in-Some.row.now c.in-Some.ensures.lookup.3.0 c.in-Some.ensures.lookup.1)
+    rw (c.in-Next.is, from_here c.args.rows.now c.args.next c.in-Some.row.now c.in-Some.ensures.lookup.3.0 c.in-Some.ensures.lookup.1) c.in_ok-follow_row-in-Some.ensures.header
 
 pub returns-in_ok-follow_row-in-Some-clause-next : goal.returns-in_ok-follow_row-in-Some-clause-next
-returns-in_ok-follow_row-in-Some-clause-next c = sym (rows_go c.args.header.now c.args.rows.now c.args.next c.args.note.now c.in-Next.is c.in-Some.row.now c.in-Some.ensures.lookup.3.0 c.in-Some.ensures.lookup.1)
+unfolding rows_behind
+returns-in_ok-follow_row-in-Some-clause-next c = rw (c.in-Next.is, from_here c.args.rows.now c.args.next c.in-Some.row.now c.in-Some.ensures.lookup.3.0 c.in-Some.ensures.lookup.1)

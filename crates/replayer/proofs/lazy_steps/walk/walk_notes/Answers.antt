@@ -1,4 +1,4 @@
-use Rattle.replayer.proofs.LazySteps.Words.{◌+◌, drop, sym, ◌∙◌, refl, arith, Header, Step, List, TraceRow, header_behind, rows_behind, spot_in}
+use Rattle.replayer.proofs.Words.{◌+◌, drop, sym, ◌∙◌, refl, arith, Header, List, TraceRow, spot_in}
 use Rattle.replayer.proofs.LazySteps.WalkedNotes.{first_notes, one_note, no_note, steps_with}
 use Rattle.replayer.proofs.lazy_steps.walk.walk_notes.Goals as goal
 

@@ -1,5 +1,4 @@
-use Rattle.std.proofs.Common.{◌≡◌, ◌++◌, map, drop}
-use Rattle.replayer.specs.declared.lazy_steps.note.Note.TheVariants.{Begun}
+use Rattle.replayer.proofs.Words.{◌≡◌, ◌++◌, map, drop, Begun}
 use Rattle.replayer.proofs.row_notes.completions.note_begun.Given as goal
 
 -- the notes of the rings before the index are added

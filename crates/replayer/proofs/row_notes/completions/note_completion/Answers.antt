@@ -1,9 +1,4 @@
-use Rattle.std.proofs.Common.{◌∙◌, ◌++◌, ◌∷◌, [], ap, map}
-use Rattle.trb.specs.Block.{code}
-use Rattle.replayer.specs.LazySteps.Notes.{completing_look, open_stopped}
-use Rattle.replayer.specs.declared.lazy_steps.note.Note.TheVariants.{Begun}
-use Rattle.event_rows.proofs.CommandCompletions.Ends.{said_well}
-use Rattle.event_rows.proofs.CommandCompletions.Finished.{was_started}
+use Rattle.replayer.proofs.Words.{◌∙◌, ◌++◌, ◌∷◌, [], ap, map, code, completing_look, open_stopped, Begun, said_well, was_started}
 use Rattle.replayer.proofs.RowNotes.Kept.{some_command}
 use Rattle.replayer.proofs.RowNotes.Lists.{from_none, in_turn}
 use Rattle.replayer.proofs.RowNotes.Notings.{may_place, placed_is}

@@ -1,6 +1,4 @@
-use Rattle.std.proofs.Common.{◌≡◌, ◌∙◌, ◌++◌, ◌∷◌, [], ap, sym}
-use Rattle.std.proofs.lemmas.Option.{none-some, same_Some}
-use Rattle.replayer.specs.LazySteps.Notes.{completing_look, open_stopped}
+use Rattle.replayer.proofs.Words.{◌≡◌, ◌∙◌, ◌++◌, ◌∷◌, [], ap, sym, none-some, same_Some, completing_look, open_stopped}
 use Rattle.replayer.proofs.RowNotes.Lists.{on_more}
 use Rattle.replayer.proofs.RowNotes.Looks.{place_of}
 use Rattle.replayer.proofs.row_notes.completions.note_look.Goals as goal

@@ -1,10 +1,4 @@
-use Rattle.std.proofs.Common.{◌∙◌, ◌++◌, ap}
-use Rattle.contexts.specs.View.{View}
-use Rattle.contexts.specs.Contexts.{context_cycle, context_pointer}
-use Rattle.commands.specs.declared.state.EndpointState.TheVariants.{Running}
-use Rattle.commands.specs.Changes.{Places}
-use Rattle.safety.specs.LazyRuns.Needs.{ring_placed}
-use Rattle.replayer.specs.LazySteps.Notes.{listed}
+use Rattle.replayer.proofs.Words.{◌∙◌, ◌++◌, ap, View, context_cycle, context_pointer, Running, Places, ring_placed, listed}
 use Rattle.replayer.proofs.RowNotes.Lists.{on_more}
 use Rattle.replayer.proofs.row_notes.placing.add_addressed.Goals as goal
 

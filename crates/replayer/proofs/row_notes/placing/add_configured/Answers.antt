@@ -1,6 +1,4 @@
-use Rattle.std.proofs.Common.{◌∙◌, ◌++◌, ap, arith}
-use Rattle.contexts.specs.View.{View}
-use Rattle.replayer.specs.RowNotes.Added.{rings_added}
+use Rattle.replayer.proofs.Words.{◌∙◌, ◌++◌, ap, arith, View, rings_added}
 use Rattle.replayer.proofs.RowNotes.Lists.{nothing_more}
 use Rattle.replayer.proofs.RowNotes.Placings.{added_end}
 use Rattle.replayer.proofs.row_notes.placing.add_configured.Goals as goal

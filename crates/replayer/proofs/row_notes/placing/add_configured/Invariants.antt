@@ -1,5 +1,4 @@
-use Rattle.std.proofs.Common.{◌≡◌, ◌++◌}
-use Rattle.replayer.specs.RowNotes.Added.{rings_added}
+use Rattle.replayer.proofs.Words.{◌≡◌, ◌++◌, rings_added}
 use Rattle.replayer.proofs.row_notes.placing.add_configured.Given as goal
 
 -- the rings of the endpoints below the index are added

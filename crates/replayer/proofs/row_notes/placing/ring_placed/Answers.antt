@@ -1,5 +1,4 @@
-use Rattle.std.proofs.Common.{◌∙◌, sym}
-use Rattle.safety.proofs.StatesPlaced.{is_off_of, on_is}
+use Rattle.replayer.proofs.Words.{◌∙◌, sym, is_off_of, on_is}
 use Rattle.replayer.proofs.RowNotes.Placings.{placed_off, placed_on}
 use Rattle.replayer.proofs.row_notes.placing.ring_placed.Goals as goal
 

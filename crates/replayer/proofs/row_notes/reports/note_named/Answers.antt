@@ -1,18 +1,11 @@
-use Rattle.std.proofs.Common.{◌≡◌, ◌∙◌, ◌++◌, ◌∷◌, [], Some, ap, get_or, sym}
-use Rattle.std.proofs.lemmas.Option.{same_Some, slice_get-get_or, slice_get_within}
-use Rattle.traces.specs.declared.ring.Ring.{Ring}
-use Rattle.ring_knowledge.specs.Rings.{RingSpot}
-use Rattle.replayer.specs.LazySteps.Notes.{transfer_notes}
-use Rattle.event_rows.specs.TransferEvents.NamedSpots.{IsNamedAt}
-use Rattle.replayer.proofs.RowNotes.Lists.{nothing_more, on_more, one_behind}
+use Rattle.replayer.proofs.Words.{append-nil, ◌≡◌, ◌∙◌, ◌++◌, ◌∷◌, [], Some, ap, get_or, sym, same_Some, slice_get-get_or, slice_get_within, Ring, RingSpot, transfer_notes, IsNamedAt}
+use Rattle.replayer.proofs.RowNotes.Lists.{on_more, one_behind}
 use Rattle.replayer.proofs.RowNotes.Looks.{transfer_is}
-use Rattle.replayer.proofs.RowNotes.Notings.{no_spot}
 use Rattle.replayer.proofs.row_notes.reports.note_named.Goals as goal
 
 pub returns-in_default : goal.returns-in_default
-returns-in_default c = λ k m f d some.
-    let x = c.args in
-    nothing_more x.notes.now.items _ (no_spot x.header.now k x.event (c.in_default.ensures.named k m f d))
+unfolding transfer_notes
+returns-in_default c = λ k m f d some. rw (c.in_default.ensures.named k m f d) (sym (append-nil c.args.notes.now.items))
 
 pub returns : goal.returns
 returns c =
@@ -23,8 +16,7 @@ returns c =
     on_more c.add_note.result (λ added. λ k m f d some.
     let named : IsNamedAt h k x.event at = c.in-Some.ensures.named k m f d in
     let same : item ≡ named.ring = same_Some item named.ring (ap (λ xs. Some (get_or xs at.number c.index-rings-at.result)) c.as_slice-rings.ensures ∙ sym (slice_get-get_or h.rings at.number c.index-rings-at.result (slice_get_within h.rings at.number named.ring named.here)) ∙ named.here) in
-    let look = c.reporting_look-look.ensures k m f some in
-    one_behind x.notes.now.items _ _ _ _ c.in_ok-note_success.ensures (added ∙ ap (λ l. c.note_success.new.notes.items ++ l ∷ []) look)
+    one_behind x.notes.now.items _ _ _ _ c.in_ok-note_success.ensures (added ∙ ap (λ l. c.note_success.new.notes.items ++ l ∷ []) (c.reporting_look-look.ensures k m f some))
     ∙ ap (λ l. x.notes.now.items ++ l) (transfer_is h k x.event item.id at.spot)
     ∙ ap (λ (q : Ring). x.notes.now.items ++ transfer_notes h k x.event (Some (let s : RingSpot = record { ring = q.id; spot = at.spot } in s))) same
     ∙ ap (λ o. x.notes.now.items ++ transfer_notes h k x.event o) (sym named.names)) c.add_note.ensures

@@ -1,5 +1,4 @@
-use Rattle.std.proofs.Common.{sym, ◌∙◌}
-use Rattle.trace_record.proofs.RingFinder.CommandRings.{read_at}
+use Rattle.replayer.proofs.Words.{sym, ◌∙◌, read_at}
 use Rattle.replayer.proofs.RowNotes.Kept.{kept_there, not_there}
 use Rattle.replayer.proofs.row_notes.rings.floor_of.Goals as goal
 

@@ -1,10 +1,4 @@
-use Rattle.std.proofs.Common.{◌≡◌, Some, get_or, ap, sym, ◌∙◌}
-use Rattle.std.proofs.lemmas.Option.{same_Some, slice_get-get_or, slice_get_within}
-use Rattle.traces.specs.declared.ring.Ring.{Ring}
-use Rattle.traces.specs.Header.{command_id}
-use Rattle.ring_knowledge.specs.Rings.{next_command}
-use Rattle.trace_record.proofs.RingFinder.FoundRings.{no_command_ring}
-use Rattle.trace_record.proofs.RingFinder.CommandRings.{IsCommandNumber, command_id_is, command_number, has_commands, read_at}
+use Rattle.replayer.proofs.Words.{◌≡◌, Some, get_or, ap, sym, ◌∙◌, same_Some, slice_get-get_or, slice_get_within, Ring, command_id, next_command, no_command_ring, IsCommandNumber, command_id_is, command_number, has_commands, read_at}
 use Rattle.replayer.proofs.RowNotes.Kept.{next_there}
 use Rattle.replayer.proofs.row_notes.rings.next_place.Goals as goal
 

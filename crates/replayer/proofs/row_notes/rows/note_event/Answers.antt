@@ -1,8 +1,4 @@
-use Rattle.std.proofs.Common.{◌∙◌, ◌++◌, ap, refl, sym}
-use Rattle.trb.specs.declared.kind.BlockKind.TheVariants.{TransferEvent}
-use Rattle.trb.specs.Block.{kind}
-use Rattle.traces.specs.declared.row.Row.TheVariants.{Read}
-use Rattle.safety.proofs.CleanRows.{event_facts}
+use Rattle.replayer.proofs.Words.{◌∙◌, ◌++◌, ap, refl, sym, TransferEvent, kind, Read, event_facts}
 use Rattle.replayer.proofs.RowNotes.Kept.{some_command}
 use Rattle.replayer.proofs.RowNotes.Lists.{both_ok}
 use Rattle.replayer.proofs.RowNotes.Notings.{alone, completed, completion_possible, notes_read, other_notes}
@@ -24,8 +20,7 @@ returns-in-CommandCompletion g c =
     let b = c.args.event in
     let is = sym c.kind.ensures ∙ c.in-CommandCompletion.is in
     both_ok _ _ _ c.note_completion.result (λ rings placed noted. λ k f d clean.
-    let possible = completion_possible h k b clean is in
-    completed h k b c.requires.headed d is c.args.notes.now.items c.note_completion.new.notes.items rings.items (placed k f d possible) (noted k f d possible))
+    completed h k b c.requires.headed d is c.args.notes.now.items c.note_completion.new.notes.items rings.items (placed k f d (completion_possible h k b clean is)) (noted k f d (completion_possible h k b clean is)))
     c.note_completion.ensures.placed c.note_completion.ensures.noted
 
 pub returns-in_ok-add_note-in_default : goal.returns-in_ok-add_note-in_default

@@ -1,11 +1,4 @@
-use Rattle.std.proofs.Common.{◌≡◌, ◌++◌, ℕ, map, drop}
-use Rattle.std.specs.Prelude.{All}
-use Rattle.traces.specs.declared.row.Row.{Row}
-use Rattle.ring_knowledge.specs.Known.{Known}
-use Rattle.ring_knowledge.specs.Learned.{learned}
-use Rattle.safety.specs.Keeps.{IsTransferRing}
-use Rattle.replayer.specs.LazySteps.Notes.{placed_note}
-use Rattle.trace_record.specs.FollowsTrace.{FollowsTrace}
+use Rattle.replayer.proofs.Words.{◌≡◌, ◌++◌, ℕ, map, drop, All, Row, Known, learned, IsTransferRing, placed_note, FollowsTrace}
 use Rattle.replayer.proofs.row_notes.rows.note_placed.Given as goal
 
 -- where the rings before the index stand is noted

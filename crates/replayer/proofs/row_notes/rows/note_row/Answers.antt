@@ -1,6 +1,4 @@
-use Rattle.std.proofs.Common.{◌∙◌, ◌++◌, ap, subst, sym}
-use Rattle.replayer.specs.LazySteps.Notes.{row_notes}
-use Rattle.replayer.specs.RowNotes.Noted.{AreNoted, MayBeRead}
+use Rattle.replayer.proofs.Words.{◌∙◌, ◌++◌, ap, sym, row_notes}
 use Rattle.replayer.proofs.RowNotes.Lists.{more_ok}
 use Rattle.replayer.proofs.RowNotes.Notings.{alone, none_said, quiet}
 use Rattle.replayer.proofs.row_notes.rows.note_row.Goals as goal
@@ -14,10 +12,7 @@ returns-in_ok-note_bell-in-Bell g c = λ k f d clean.
 
 pub returns-in-Read : goal.returns-in-Read
 returns-in-Read g c =
-    let h = c.args.header.now in
-    more_ok _ _ c.note_event.result (λ placed says. λ k f d clean.
-    subst (λ r. AreNoted h k r c.args.notes.now.items c.note_event.new.notes.items placed.items) (sym c.in-Read.is) (says k f d (subst (λ r. MayBeRead h k r) c.in-Read.is clean)))
-    c.note_event.ensures
+    more_ok _ _ c.note_event.result (λ placed says. λ k f d clean. rw c.in-Read.is (says k f d (rw c.in-Read.is at clean))) c.note_event.ensures
 
 pub returns-in_default : goal.returns-in_default
 returns-in_default g c = λ k f d clean.

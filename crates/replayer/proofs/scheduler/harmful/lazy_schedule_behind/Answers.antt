@@ -1,8 +1,4 @@
-use Rattle.std.proofs.Common.{◌≡◌, ◌∙◌, sym, subst}
-use Rattle.std.specs.Prelude.{reverse}
-use Rattle.traces.specs.Rows.{AreSteps}
-use Rattle.safety.specs.LazyRuns.Lazy.{lazy_steps}
-use Rattle.ownership_checker.proofs.RingPasses.Histories.{kept_now}
+use Rattle.replayer.proofs.Words.{◌≡◌, ◌∙◌, sym, subst, reverse, AreSteps, lazy_steps, kept_now}
 use Rattle.replayer.proofs.Schedules.Fitting.{lazy_steps_are, rows_fit}
 use Rattle.replayer.proofs.scheduler.harmful.lazy_schedule_behind.Goals as goal
 

@@ -1,7 +1,4 @@
-use Rattle.std.proofs.Common.{◌∙◌, ◌∷◌, ◌++◌, [], ap, append_assoc}
-use Rattle.segments.specs.declared.spot.Spot.TheVariants.{Data}
-use Rattle.replayer.specs.declared.lazy_steps.note.Note.TheVariants.{Begun, Placed}
-use Rattle.replayer.specs.LazySteps.Notes.{any_notes}
+use Rattle.replayer.proofs.Words.{◌∙◌, ◌∷◌, ◌++◌, [], ap, append_assoc, Data, Begun, Placed, any_notes}
 use Rattle.replayer.proofs.RowNotes.Lists.{on_more}
 use Rattle.replayer.proofs.scheduler.notes.note_end.Goals as goal
 

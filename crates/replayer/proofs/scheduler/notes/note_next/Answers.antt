@@ -1,6 +1,4 @@
-use Rattle.std.proofs.Common.{◌∙◌, ◌++◌, ap, sym}
-use Rattle.safety.specs.RingChanges.Histories.{header_now, known_now}
-use Rattle.replayer.specs.LazySteps.Notes.{any_notes}
+use Rattle.replayer.proofs.Words.{◌∙◌, ◌++◌, ap, sym, header_now, known_now, any_notes}
 use Rattle.replayer.proofs.RowNotes.Lists.{nothing_more, on_more}
 use Rattle.replayer.proofs.Schedules.Noting.{on_any}
 use Rattle.replayer.proofs.scheduler.notes.note_next.Goals as goal

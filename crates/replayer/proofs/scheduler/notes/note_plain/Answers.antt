@@ -1,12 +1,4 @@
-use Rattle.std.proofs.Common.{◌≡◌, ℕ, List, ◌++◌, ap, refl, subst, sym}
-use Rattle.std.specs.Prelude.{All, map}
-use Rattle.traces.specs.declared.row.Row.{Row}
-use Rattle.ring_knowledge.specs.Known.{Known}
-use Rattle.ring_knowledge.specs.Learned.{learned}
-use Rattle.safety.specs.RingChanges.Histories.{known_now}
-use Rattle.safety.specs.Keeps.{IsTransferRing}
-use Rattle.trace_record.specs.FollowsTrace.{FollowsTrace}
-use Rattle.replayer.specs.LazySteps.Notes.{placed_note}
+use Rattle.replayer.proofs.Words.{◌≡◌, ℕ, List, ◌++◌, ap, refl, subst, All, map, Row, Known, learned, known_now, IsTransferRing, FollowsTrace, placed_note}
 use Rattle.replayer.proofs.Schedules.Noting.{followed, plain_noted}
 use Rattle.replayer.proofs.scheduler.notes.note_plain.Goals as goal
 

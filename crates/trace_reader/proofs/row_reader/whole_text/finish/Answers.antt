@@ -1,26 +1,21 @@
-use Rattle.std.proofs.Common.{◌≤◌, arith}
-use Rattle.trace_reader.specs.Entries.{state_of}
+use Rattle.trace_reader.proofs.Words.{◌≤◌, arith, state_of}
 use Rattle.trace_reader.proofs.Streaming.TextLines.{few_rows, rows_fit, valid}
 use Rattle.trace_reader.proofs.row_reader.whole_text.finish.Goals as goal
 
 pub invariant_of-result : goal.invariant_of-result
 invariant_of-result c =
-    let r = c.args.so_far in
-    let there : 2 ≤ r.lines = omega (arith, c.if-so_far-lt2.false) in
-    let is = valid c.requires.0 (state_of r) c.args.rows.items c.requires.1 there in
+    let there : 2 ≤ c.args.so_far.lines = omega (arith, c.if-so_far-lt2.false) in
+    let is = valid c.requires.0 (state_of c.args.so_far) c.args.rows.items c.requires.1 there in
     record {
       headed = rw c.into_header.ensures.said is.headed;
       fitting = rows_fit _ is;
-      placed = rw c.into_header.ensures.said (omega (arith, is.first, few_rows c.requires.0 (state_of r) c.args.rows.items c.requires.1 there, c.len.ensures, c.args.rows.ok));
-      within = omega (arith, is.within, few_rows c.requires.0 (state_of r) c.args.rows.items c.requires.1 there, c.len.ensures, c.args.rows.ok);
+      placed = rw c.into_header.ensures.said (omega (arith, is.first, few_rows c.requires.0 (state_of c.args.so_far) c.args.rows.items c.requires.1 there, c.len.ensures, c.args.rows.ok));
+      within = omega (arith, is.within, few_rows c.requires.0 (state_of c.args.so_far) c.args.rows.items c.requires.1 there, c.len.ensures, c.args.rows.ok);
     }
 
 pub overflow_cast-first : goal.overflow_cast-first
 overflow_cast-first c =
-    let there : 2 ≤ c.args.so_far.lines = omega (arith, c.if-so_far-lt2.false) in
-    omega (arith, few_rows c.requires.0 (state_of c.args.so_far) c.args.rows.items c.requires.1 there, c.len.ensures, c.args.rows.ok, c.args.so_far.counted)
+    omega (arith, few_rows c.requires.0 (state_of c.args.so_far) c.args.rows.items c.requires.1 (omega (arith, c.if-so_far-lt2.false)), c.len.ensures, c.args.rows.ok, c.args.so_far.counted)
 
 pub overflow_sub-first : goal.overflow_sub-first
-overflow_sub-first c =
-    let there : 2 ≤ c.args.so_far.lines = omega (arith, c.if-so_far-lt2.false) in
-    omega (arith, few_rows c.requires.0 (state_of c.args.so_far) c.args.rows.items c.requires.1 there, c.len.ensures, c.args.rows.ok)
+overflow_sub-first c = omega (arith, few_rows c.requires.0 (state_of c.args.so_far) c.args.rows.items c.requires.1 (omega (arith, c.if-so_far-lt2.false)), c.len.ensures, c.args.rows.ok)

@@ -1,8 +1,4 @@
-use Rattle.std.proofs.Common.{true, eqb-true, length, sym}
-use Rattle.line_text.specs.Lines.{lines_of}
-use Rattle.trace_reader.specs.DriverRows.{take_lines}
-use Rattle.trace_reader.specs.Entries.{state_of}
-use Rattle.trace_reader.specs.Reading.{start}
+use Rattle.trace_reader.proofs.Words.{true, eqb-true, length, sym, lines_of, take_lines, state_of, start}
 use Rattle.trace_reader.proofs.ReadSteps.{nothing_before}
 use Rattle.trace_reader.proofs.Streaming.TextLines.{all_read, each, line_bad, line_more}
 use Rattle.trace_reader.proofs.row_reader.whole_text.read_rows.Goals as goal
@@ -12,8 +8,7 @@ loop-rest-init c = rw (c.new-so_far.ensures, c.new-rows.ensures.items) (sym (not
 
 pub loop-rest-preserved : goal.loop-rest-preserved
 loop-rest-preserved c =
-    let r = c.loop-rest.so_far in
-    line_more c.args.text.now c.loop-rest.rows.items c.add_line.new.rows.items (state_of r) (state_of c.add_line.new.so_far) c.first_line-line.result.0 c.first_line-line.result.1.now
+    line_more c.args.text.now c.loop-rest.rows.items c.add_line.new.rows.items (state_of c.loop-rest.so_far) (state_of c.add_line.new.so_far) c.first_line-line.result.0 c.first_line-line.result.1.now
     (lines_of c.loop-rest.rest.now) c.loop-rest.invariant c.first_line-line.ensures.lines c.in_default.ensures.ok
 
 pub returns-in-Err-clause-refused : goal.returns-in-Err-clause-refused

@@ -1,6 +1,4 @@
-use Rattle.std.proofs.Common.{length}
-use Rattle.line_text.specs.Lines.{lines_of}
-use Rattle.trace_reader.specs.Entries.{state_of}
+use Rattle.trace_reader.proofs.Words.{length, lines_of, state_of}
 use Rattle.trace_reader.proofs.Streaming.TextLines.{HasLines}
 use Rattle.trace_reader.proofs.row_reader.whole_text.read_rows.Given as goal
 

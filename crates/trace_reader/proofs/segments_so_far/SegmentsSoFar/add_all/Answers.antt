@@ -1,5 +1,4 @@
-use Rattle.std.proofs.Common.{◌+◌, ◌∷◌, drop, get_or, rules, subst}
-use Rattle.std.proofs.lemmas.List.{drop_more}
+use Rattle.trace_reader.proofs.Words.{◌+◌, ◌∷◌, drop, get_or, rules, subst, drop_more}
 use Rattle.trace_reader.proofs.SegmentsSearched.{AreLeft, one_less}
 use Rattle.trace_reader.proofs.segments_so_far.SegmentsSoFar.add_all.Goals as goal
 

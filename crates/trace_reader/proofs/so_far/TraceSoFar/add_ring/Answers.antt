@@ -1,5 +1,4 @@
-use Rattle.std.proofs.Common.{arith, ◌≡◌, ◌<◌, ◌||◌, ◌∙◌, false, ap, rules, sym}
-use Rattle.trace_reader.proofs.Words.{clash, list_any}
+use Rattle.trace_reader.proofs.Words.{arith, ◌≡◌, ◌<◌, ◌||◌, ◌∙◌, false, ap, rules, sym, clash, list_any}
 use Rattle.trace_reader.specs.SegmentsApart.{segments_of}
 use Rattle.trace_reader.proofs.LineFields.{some_lines}
 use Rattle.trace_reader.proofs.RingsClash.{all_with, none_overlapped}
@@ -11,10 +10,7 @@ add_all-requires-clause-some c = rw c.segments.ensures (its_segments c.in_ok-rin
 
 pub add_all-requires-clause-free : goal.add_all-requires-clause-free
 add_all-requires-clause-free c =
-    let r = c.args.self.now in
-    let ring = c.in_ok-ring.ring in
-    let none : list_any (clash ring) r.rings.items ≡ false = search rules in
-    rw c.segments.ensures (none_overlapped ring r.rings.items r.segments (r.searched c.if-not-self.false) none)
+    rw c.segments.ensures (none_overlapped c.in_ok-ring.ring c.args.self.now.rings.items c.args.self.now.segments (c.args.self.now.searched c.if-not-self.false) (search rules))
 
 pub invariant_of-self-2-clause-headed : goal.invariant_of-self-2-clause-headed
 invariant_of-self-2-clause-headed c =
@@ -27,8 +23,7 @@ invariant_of-self-2-clause-headed c =
 pub invariant_of-self-2-clause-searched : goal.invariant_of-self-2-clause-searched
 invariant_of-self-2-clause-searched c = λ same p.
     let r = c.args.self.now in
-    let ring = c.in_ok-ring.ring in
-    all_with r.rings.items ring r.segments c.add_all.new.self (r.searched c.if-not-self.false)
+    all_with r.rings.items c.in_ok-ring.ring r.segments c.add_all.new.self (r.searched c.if-not-self.false)
     (λ q. c.in_ok-add_all.ensures q ∙ ap (λ ss. list_any q ss || list_any q r.segments) c.segments.ensures) p
     ∙ ap (λ rs. list_any p (segments_of rs)) (sym c.in_ok-push.ensures.items)
 

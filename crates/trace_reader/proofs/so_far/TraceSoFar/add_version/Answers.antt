@@ -1,5 +1,4 @@
-use Rattle.std.proofs.Common.{sym, arith}
-use Rattle.trace_reader.specs.Entries.{state_of}
+use Rattle.trace_reader.proofs.Words.{sym, arith, state_of}
 use Rattle.trace_reader.proofs.LineFields.{some_lines}
 use Rattle.trace_reader.proofs.ReadSteps.{version_read, no_version}
 use Rattle.trace_reader.proofs.so_far.TraceSoFar.add_version.Goals as goal

@@ -1,10 +1,8 @@
-use Rattle.std.proofs.Common.{◌≡◌, ◌+◌, ◌-◌, ◌∙◌, drop, take, sym, ap, arith}
-use Rattle.std.proofs.lemmas.List.{drop-take}
+use Rattle.trace_reader.proofs.Words.{◌-◌, ◌∙◌, drop, take, sym, ap, arith, drop-take}
 use Rattle.trace_reader.proofs.row_reader.ahead.Ahead.as_slice.Goals as goal
 
 pub returns : goal.returns
 returns c =
     let ahead = c.args.self.now in
-    let whole : ahead.done + (ahead.end - ahead.done) ≡ ahead.end = omega (arith, ahead.within) in
     ap (λ items. take (ahead.end - ahead.done) (drop ahead.done items)) c.deref.ensures.value
-    ∙ sym (drop-take ahead.done (ahead.end - ahead.done) ahead.bytes.items) ∙ ap (λ n. drop ahead.done (take n ahead.bytes.items)) whole
+    ∙ sym (drop-take ahead.done (ahead.end - ahead.done) ahead.bytes.items) ∙ ap (λ n. drop ahead.done (take n ahead.bytes.items)) (omega (arith, ahead.within))

@@ -1,11 +1,9 @@
-use Rattle.std.proofs.Common.{◌≡◌, ◌+◌, ◌-◌, length}
-use Rattle.traces.specs.Limits.{most_bytes}
-use Rattle.trace_reader.specs.Streaming.Ahead.{Comes, ahead_of}
+use Rattle.trace_reader.proofs.Words.{◌≡◌, ◌+◌, ◌-◌, length, most_bytes, ahead_of}
+use Rattle.trace_reader.specs.Streaming.Ahead.{Comes}
 use Rattle.trace_reader.proofs.row_reader.ahead.Ahead.fill_line.Given as goal
 
 abbrev pub invariant-loop-self : goal.invariant-loop-self
-invariant-loop-self g l =
-    Comes (g.S.Source.held l.fn.source) (g.S.Source.held l.source) (ahead_of l.fn.self) (ahead_of l.self) × (g.S.Source.failed l.source ≡ g.S.Source.failed l.fn.source)
+invariant-loop-self g l = Comes (g.S.Source.held l.fn.source) (g.S.Source.held l.source) (ahead_of l.fn.self) (ahead_of l.self) × (g.S.Source.failed l.source ≡ g.S.Source.failed l.fn.source)
 
 -- the bytes that the line may still have
 abbrev pub decreases-loop-self : goal.decreases-loop-self

@@ -1,8 +1,5 @@
-use Rattle.std.proofs.Common.{sym, take}
-use Rattle.std.proofs.lemmas.List.{drop-drop}
+use Rattle.trace_reader.proofs.Words.{sym, take, drop-drop}
 use Rattle.trace_reader.proofs.row_reader.ahead.Ahead.skip.Goals as goal
 
 pub returns : goal.returns
-returns c =
-    let ahead = c.args.self.now in
-    sym (drop-drop c.args.count ahead.done (take ahead.end ahead.bytes.items))
+returns c = sym (drop-drop c.args.count c.args.self.now.done (take c.args.self.now.end c.args.self.now.bytes.items))

@@ -1,5 +1,4 @@
-use Rattle.std.proofs.Common.{◌<◌, arith}
-use Rattle.trace_reader.proofs.Words.{nat_tests}
+use Rattle.trace_reader.proofs.Words.{◌<◌, arith, nat_tests}
 use Rattle.trace_reader.proofs.LineFields.{some_lines}
 use Rattle.trace_reader.proofs.row_reader.reader.RowReader.is_full.Goals as goal
 

@@ -1,5 +1,4 @@
-use Rattle.trace_reader.specs.Streaming.Ahead.{ahead_of}
-use Rattle.trace_reader.specs.Streaming.ReaderState.{progress_of}
+use Rattle.trace_reader.proofs.Words.{ahead_of, progress_of}
 use Rattle.trace_reader.proofs.Streaming.Calls.{row_begins}
 use Rattle.trace_reader.proofs.Streaming.RowsFit.{answer_fits}
 use Rattle.trace_reader.proofs.row_reader.reader.RowReader.next_row.Goals as goal

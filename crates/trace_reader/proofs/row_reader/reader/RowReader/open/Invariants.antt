@@ -1,6 +1,4 @@
-use Rattle.std.proofs.Common.{◌≡◌, ◌-◌}
-use Rattle.traces.specs.Limits.{most_streamed_lines}
-use Rattle.trace_reader.specs.Streaming.Ahead.{ahead_of}
+use Rattle.trace_reader.proofs.Words.{◌≡◌, ◌-◌, most_streamed_lines, ahead_of}
 use Rattle.trace_reader.proofs.Streaming.Openings.{HasRead}
 use Rattle.trace_reader.proofs.row_reader.reader.RowReader.open.Given as goal
 
