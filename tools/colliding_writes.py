@@ -5,7 +5,7 @@ N lines, 2^20 where N is left out, the most that a trace may have: a header with
 a page of its own, so that neither a map of words nor a map of pages finds them close together. They are taken so that std's
 `FoldHasher`, whose seed is fixed, has each begin its search in the first eighth of a map's groups: a hash map over them takes time
 by the square of N. With --ascending the addresses follow one another, word by word. A check of the first trace is to take no more
-than three times one of the second.
+than twice the instructions of one of the second.
 """
 import sys
 
