@@ -64,10 +64,20 @@ impl TraceRecord {
         ensures { (k : Known) → FollowsRings header.now k self.now.rings.items → IsPlacedSo header.now k at word result }
     {
         let mut place = self.word_place(header, finder, at, word);
-        if place.giving.is_some() {
-            place.command = self.command_there(header, &place);
-        }
+        self.add_command(header, &mut place);
         place
+    }
+
+    /// Adds the command that a write gives which has this place.
+    #[inline(always)]
+    pub fn add_command(&self, header: &Header, place: &mut RowPlace)
+        requires bare { place.old.command ≡ None }
+        ensures { (k : Known) (at word : ℕ) → FollowsRings header.now k self.now.rings.items → IsPlacedSo header.now k at word (with_command place.old (command_of_place header.now k place.old)) →
+            IsPlacedSo header.now k at word place.new }
+    {
+        if place.giving.is_some() {
+            place.command = self.command_there(header, place);
+        }
     }
 
     /// The command that a write gives which has this place and gives something of its ring: none but on the Command Ring.
@@ -94,7 +104,7 @@ impl TraceRecord {
 
     /// Where a word lies, and what its write gives of its ring, but for a command. It stays out of `place`, which has nothing to do for most rows.
     #[inline(never)]
-    fn word_place(&self, header: &Header, finder: &Finder, at: Addr, word: u32) -> RowPlace
+    pub fn word_place(&self, header: &Header, finder: &Finder, at: Addr, word: u32) -> RowPlace
         requires headed { IsHeader header.now }
         requires found { IsFinder header.now.rings finder.now }
         ensures placed { (k : Known) → FollowsRings header.now k self.now.rings.items → IsPlacedSo header.now k at word (with_command result (command_of_place header.now k result)) }

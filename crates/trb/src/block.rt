@@ -17,6 +17,7 @@ impl Block {
     ghost use Rattle.trb.specs.Block.{word, kind, cycle, with_cycle, is_chained, pointer, code, slot, endpoint};
 
     /// The type (TRB Type, word 3 bits 15:10).
+    #[inline(always)]
     pub fn kind(self) -> BlockKind
         ensures { result ≡ kind self }
     {

@@ -39,6 +39,7 @@ pub enum BlockKind {
 
 impl BlockKind {
     /// The type with this number, the TRB Type field of a block (6 bits, xHCI 6.4.6).
+    #[inline(always)]
     pub fn from_number(number: u8) -> BlockKind
         ensures kind { result ≡ kind_numbered number }
         ensures number { number_of result ≡ number }

@@ -101,8 +101,11 @@ impl<B: LeaseLog + Drop, M: WordMemory + Drop> RingPass<B, M> {
             return self.row_behind_withdrawals(number, row);
         }
         match row {
-            Row::Write { .. } => {
-                let place = self.record.place(&self.header, &self.finder, row);
+            Row::Write { at, word } => {
+                let mut place = self
+                    .record
+                    .word_place(&self.header, &self.finder, *at, *word);
+                self.record.add_command(&self.header, &mut place);
                 self.placed_row(number, row, &place)
             }
             Row::Read { event } if event.kind() == BlockKind::CommandCompletion => {

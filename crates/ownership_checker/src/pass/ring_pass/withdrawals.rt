@@ -1,6 +1,6 @@
 //! Rows of a trace in which descriptors are withdrawn: of what was handed over some may be the driver's again, until the ring is started or moved
 //! (xHCI 4.6.9, 4.6.10).
-ghost use Rattle.std.specs.Prelude.{◌≡◌, ◌+◌, ◌<◌, ◌≤◌, ℕ, true, false, [], ◌∷◌, List, Some, length, IfErr, OnOk};
+ghost use Rattle.std.specs.Prelude.{◌≡◌, ◌+◌, ◌<◌, ◌≤◌, ℕ, true, false, [], ◌∷◌, List, None, Some, length, IfErr, OnOk};
 ghost use Rattle.segments.specs.RingView.{Restores, Withdraws as WithdrawsAt, floor_number};
 ghost use Rattle.traces.specs.Header.{IsHeader, ring_with};
 ghost use Rattle.traces.specs.declared.header.Header.{Header};
@@ -128,7 +128,7 @@ impl<B: LeaseLog + Drop, M: WordMemory + Drop> RingPass<B, M> {
         }
         self.note_leases(number, row, &place, ring)?;
         restore_ring(&self.header, &self.finder, &mut self.record, ring);
-        self.check_restored(row)
+        self.check_restored(row, &place, ring)
     }
 
     /// The least rule that a row breaks that starts or moves a ring which doesn't stand as declared: rule 33 is the last of them.
@@ -151,8 +151,27 @@ impl<B: LeaseLog + Drop, M: WordMemory + Drop> RingPass<B, M> {
         }
     }
 
-    /// Checks a row, and notes it, whose ring stands as declared and is the controller's again.
-    fn check_restored(&mut self, row: &Row) -> Result<(), StepFault>
+    /// The place of a row behind the restoring of this ring: where no ring is restored, the one that was found before.
+    #[inline(always)]
+    fn place_behind(&self, row: &Row, before: &RowPlace, ring: Option<u8>) -> RowPlace
+        requires headed { IsHeader self.now.header }
+        requires found { IsFinder self.now.header.rings self.now.finder }
+        ensures { (k : Known) (memory : ℕ → ℕ) → FollowsTrace self.now.header k self.now.record memory →
+            (ring ≡ None → IsPlaced self.now.header k row.now before.now) → IsPlaced self.now.header k row.now result }
+    {
+        match ring {
+            None => *before,
+            Some(_) => self.record.place(&self.header, &self.finder, row),
+        }
+    }
+
+    /// Checks a row, and notes it, whose ring stands as declared and is the controller's again; `before` is the place that it had.
+    fn check_restored(
+        &mut self,
+        row: &Row,
+        before: &RowPlace,
+        ring: Option<u8>,
+    ) -> Result<(), StepFault>
         requires headed { IsHeader self.old.header }
         requires found { IsFinder self.old.header.rings self.old.finder }
         requires as_many { length self.old.record.rings.items ≡ length self.old.header.rings }
@@ -163,12 +182,14 @@ impl<B: LeaseLog + Drop, M: WordMemory + Drop> RingPass<B, M> {
         ensures ranges { self.new.ranges ≡ self.old.ranges }
         ensures withdrawn { self.new.has_withdrawn ≡ self.old.has_withdrawn }
         ensures ok { OnOk result ((k : Known) → IsTracked self.old.header k self.old.record (M.words self.old.memory) →
+            (ring ≡ None → IsPlaced self.old.header k row.now before.now) →
             (some_flips self.old.header k row.now ≡ false) × IsRowStep self.old.header k row.now self.new.record (M.words self.new.memory)) }
         ensures refused { IfErr result (λ e. IfRefused e (λ c. (k : Known) → IsTracked self.old.header k self.old.record (M.words self.old.memory) →
+            (ring ≡ None → IsPlaced self.old.header k row.now before.now) →
             first_of (broken_restored self.old.header k row.now) ≡ Some c)) }
         ensures reads { OnOk result ((n : ℕ) → IsWithin self.old.record.events n → IsWithin self.new.record.events (n + 1)) }
     {
-        let place = self.record.place(&self.header, &self.finder, row);
+        let place = self.place_behind(row, before, ring);
         if some_flips(&self.header, &self.record, row, &place) {
             return Err(StepFault::Refused(Refusal::WriteToOwned));
         }
