@@ -42,12 +42,6 @@ module _ (h : Header) (c : Command) where
   unfolding changed_by_all
   all_made w final e = cc
 
-  pub added_as : (w : World) (s i a : ℕ) (size : ContextSize) (memory : ℕ → ℕ) (rest : List Change) (o : Option World) →
-      placed_on w s i (context_pointer size memory a i) (context_cycle size memory a i) Running (ring_having h (context_pointer size memory a i)) ≡ o →
-      changed_by_all h c w (placed_by_context size memory s a i ∷ rest) ≡ option_and_then (λ v. changed_by_all h c v rest) o
-  unfolding changed_by_all changed_by
-  added_as w s i a size memory rest o is = ap (λ p. option_and_then (λ v. changed_by_all h c v rest) p) is
-
   pub none_left : (w : World) → changed_by_all h c w [] ≡ Some w
   unfolding changed_by_all
   none_left w = refl

@@ -1,5 +1,5 @@
 -- What the doorbell of the host controller does
-use Rattle.controller_model.proofs.Words.{◌≡◌, ◌≢◌, ◌<◌, ◌==◌, ◌&&◌, ◌∙◌, ◌∷◌, ℕ, ap, sym, subst, true, false, Bool, List, [], Some, None, find, is_some, length, inl, inr, arith, eq-eqb, ne_eqb, cases_Bool, cond-true, cond-false, slice_get_within, Ring, Header, command_id, command_ring, id_or_none, World, activated, bell_row, endpoint_bell, RingState, RingHeld, FollowsRing, FollowsRings}
+use Rattle.controller_model.proofs.Words.{◌≡◌, ◌<◌, ◌==◌, ◌∙◌, ◌∷◌, ℕ, ap, sym, subst, true, Bool, List, [], Some, None, find, is_some, length, inl, inr, arith, eq-eqb, cases_Bool, cond-true, cond-false, slice_get_within, Ring, Header, command_id, command_ring, id_or_none, RingState, RingHeld, FollowsRing, FollowsRings}
 
 -- the world has the same of each ring
 pub follows_same : (h : Header) (before after : ℕ → RingHeld) (rings : List RingState) → length rings ≡ 256 → ((q : ℕ) → q < 256 → after q ≡ before q) →
@@ -36,16 +36,3 @@ command_id-some h x e = ap id_or_none (sym e)
 pub command_id-none : (h : Header) → None ≡ command_ring h → command_id h ≡ 256
 unfolding command_id
 command_id-none h e = ap id_or_none (sym e)
-
-module _ (h : Header) (w : World) (s t : ℕ) where
-  pub bell_endpoint : s ≢ 0 → bell_row h w s t ≡ endpoint_bell h w s t (w.ring_of s t)
-  unfolding bell_row
-  bell_endpoint some = cond-false (s == 0) _ _ (ne_eqb s 0 some)
-
-  pub bell_nothing : s ≡ 0 → (t == 0 && w.started) ≡ false → bell_row h w s t ≡ w
-  unfolding bell_row
-  bell_nothing none idle = cond-true (s == 0) _ _ (eq-eqb s 0 none) ∙ cond-false (t == 0 && w.started) (activated h w (command_id h)) w idle
-
-  pub bell_commands : s ≡ 0 → (t == 0 && w.started) ≡ true → bell_row h w s t ≡ activated h w (command_id h)
-  unfolding bell_row
-  bell_commands none starts = cond-true (s == 0) _ _ (eq-eqb s 0 none) ∙ cond-true (t == 0 && w.started) (activated h w (command_id h)) w starts

@@ -38,15 +38,3 @@ module _ (w : World) (s i a : ℕ) (c : Bool) (state : EndpointState) where
   unfolding placed_on
   may_get_is None = search (rules, is_some, cond-true, cond-false)
   may_get_is (Some r) = search (rules, is_some, cond-true, cond-false)
-
-  pub placed_free : (r : ℕ) → is_had_by_another w s i r ≡ false → placed_on w s i a c state (Some r) ≡ Some (placed w s i r a c state)
-  unfolding placed_on
-  placed_free r free = cond-false (is_had_by_another w s i r) None (Some (placed w s i r a c state)) free
-
-  pub placed_had : (r : ℕ) → is_had_by_another w s i r ≡ true → placed_on w s i a c state (Some r) ≡ None
-  unfolding placed_on
-  placed_had r has = cond-true (is_had_by_another w s i r) None (Some (placed w s i r a c state)) has
-
-  pub placed_nowhere : placed_on w s i a c state None ≡ None
-  unfolding placed_on
-  placed_nowhere = refl

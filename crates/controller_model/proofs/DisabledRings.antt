@@ -1,6 +1,6 @@
 -- What is kept of rings while endpoints are disabled
 use Rattle.std.proofs.Common.{rules}
-use Rattle.controller_model.proofs.Words.{◌≡◌, ◌<◌, ◌==◌, ◌&&◌, ◌∙◌, if◌then◌else◌, ℕ, not, Bool, true, false, List, Option, Some, None, refl, sym, ap, subst, arith, put_pair, Header, is_ring, World, Holder, RingState, disabled, has_one_of, Kept, Row, Off, Follows, FollowsHolder, FollowsRings, IsEndpoint, ring_held, turned_off}
+use Rattle.controller_model.proofs.Words.{◌≡◌, ◌<◌, ◌==◌, ◌&&◌, ◌∙◌, if◌then◌else◌, ℕ, not, Bool, true, false, List, Option, Some, None, refl, sym, ap, subst, arith, put_pair, Header, is_ring, World, Holder, RingState, disabled, has_one_of, Kept, Row, Off, Follows, FollowsEndpoints, FollowsHolder, FollowsRings, IsEndpoint, ring_held, turned_off}
 use Rattle.controller_model.proofs.HolderLemmas.{here, elsewhere, place_of, put_pair_here, put_pair_there, put_pair_map}
 use Rattle.controller_model.proofs.WatchLemmas.{any_alike}
 
@@ -22,41 +22,26 @@ rings_off h w s i rings nothing f = record {
 pub disabled_below : (h : Header) (rows : List Row) (words : ℕ → ℕ) (before k : Kept) (w : World) (s : ℕ) (p q : ℕ → Bool) → ((i : ℕ) → i < 32 → p i ≡ q i) →
     Follows h rows words before w → Follows h rows words k (disabled w s p) → Follows h rows words k (disabled w s q)
 unfolding disabled has_one_of
-disabled_below h rows words before k w s p q same first f = record {
-  progress = f.progress;
-  registers = f.registers;
-  held = f.held;
-  beyond = f.beyond;
-  rings = record {
-    each = λ r x at.
-        let old = f.rings.each r x at in
-        record {
-          declared = old.declared;
-          history = old.history;
-          pointer = old.pointer;
-          cycle = old.cycle;
-          active = ap (λ b. w.is_active r && not b) (any_alike _ _ 1 31 (λ i low high. ap (λ b. b && is_ring r (w.ring_of s i)) (sym (same i (omega arith))))) ∙ old.active;
-          harms = old.harms;
-          holder = record {
+disabled_below h rows words before k w s p q same first f =
+    let rings : FollowsRings h (ring_held (disabled w s q)) k.rings.items = record {
+      each = λ r x at.
+          let old = f.rings.each r x at in
+          let holder : FollowsHolder (λ t j. is_ring r (if t == s && q j then None else w.ring_of t j)) x.holder = record {
             each = λ t j one. ap (λ b. is_ring r (if t == s && b then None else w.ring_of t j)) (sym (same j one.index_below)) ∙ old.holder.each t j one;
             is_one = old.holder.is_one;
-          };
-        };
-  };
-  slots = f.slots;
-  endpoints = record {
-    each = λ t j x below at.
-        let old = f.endpoints.each t j x below at in (
-          ap (λ b. if t == s && b then Off else w.endpoint_state t j) (sym (same j below)) ∙ old.0,
-          ap (λ b. if t == s && b then None else w.ring_of t j) (sym (same j below)) ∙ old.1,
-        );
-    no_more = λ t j many. still (t == s && q j) (w.ring_of t j) (first.endpoints.no_more t j many);
-    low = λ t j r has. first.endpoints.low t j r (had (t == s && q j) (w.ring_of t j) r has);
-  };
-  events = f.events;
-  under_way = f.under_way;
-  looked = f.looked;
-}
+          } in
+          assumption (holder, ap (λ b. w.is_active r && not b) (any_alike _ _ 1 31 (λ i low high. ap (λ b. b && is_ring r (w.ring_of s i)) (sym (same i (omega arith))))) ∙ old.active);
+    } in
+    let endpoints : FollowsEndpoints k.endpoints.items (disabled w s q).endpoint_state (disabled w s q).ring_of = record {
+      each = λ t j x below at.
+          let old = f.endpoints.each t j x below at in (
+            ap (λ b. if t == s && b then Off else w.endpoint_state t j) (sym (same j below)) ∙ old.0,
+            ap (λ b. if t == s && b then None else w.ring_of t j) (sym (same j below)) ∙ old.1,
+          );
+      no_more = λ t j many. still (t == s && q j) (w.ring_of t j) (first.endpoints.no_more t j many);
+      low = λ t j r has. first.endpoints.low t j r (had (t == s && q j) (w.ring_of t j) r has);
+    } in
+    assumption (rings, endpoints)
   where
     still : (b : Bool) (o : Option ℕ) → o ≡ None → (if b then None else o) ≡ None
     still true o none = refl

@@ -1,5 +1,5 @@
 -- One endpoint is changed, and what a doorbell does
-use Rattle.controller_model.proofs.Words.{◌≡◌, ◌≢◌, ◌+◌, ◌*◌, ◌<◌, ◌==◌, ◌&&◌, ◌||◌, ◌∙◌, ℕ, ap, sym, subst, refl, true, false, Bool, List, Option, Some, None, length, slice_get, get_or, set, inl, inr, arith, eq-eqb, ne_eqb, cases_eq, cond-true, cond-false, put_pair, EndpointState, Running, is_running, is_stopped, Header, World, activated, endpoint_bell, Endpoint, FollowsEndpoints}
+use Rattle.controller_model.proofs.Words.{◌≡◌, ◌≢◌, ◌+◌, ◌*◌, ◌<◌, ◌==◌, ◌&&◌, ◌∙◌, ℕ, ap, sym, subst, refl, true, false, Bool, List, Option, Some, length, slice_get, get_or, set, inl, inr, arith, eq-eqb, ne_eqb, cases_eq, cond-true, cond-false, put_pair, EndpointState, Endpoint, FollowsEndpoints}
 use Rattle.controller_model.proofs.RingLemmas.{read_at, slice_get-set_same, slice_get-set_other}
 
 pub put_pair_same : {A : Type 0} (f : ℕ → ℕ → A) (s i : ℕ) (x : A) → put_pair f s i x s i ≡ x
@@ -73,18 +73,3 @@ endpoints_set endpoints state ring_of n s i new index below ring f = record {
     ]
   ];
 }
-
-module _ (h : Header) (w : World) (s t : ℕ) where
-  pub bell_none : w.ring_of s t ≡ None → endpoint_bell h w s t (w.ring_of s t) ≡ w
-  unfolding endpoint_bell
-  bell_none e = ap (λ o. endpoint_bell h w s t o) e
-
-  pub bell_idle : (r : ℕ) → w.ring_of s t ≡ Some r → (is_running (w.endpoint_state s t) || is_stopped (w.endpoint_state s t)) ≡ false →
-      endpoint_bell h w s t (w.ring_of s t) ≡ w
-  unfolding endpoint_bell
-  bell_idle r e idle = ap (λ o. endpoint_bell h w s t o) e ∙ cond-false (is_running (w.endpoint_state s t) || is_stopped (w.endpoint_state s t)) _ w idle
-
-  pub bell_rings : (r : ℕ) → w.ring_of s t ≡ Some r → (is_running (w.endpoint_state s t) || is_stopped (w.endpoint_state s t)) ≡ true →
-      endpoint_bell h w s t (w.ring_of s t) ≡ record (activated h w r) { endpoint_state = put_pair w.endpoint_state s t Running }
-  unfolding endpoint_bell
-  bell_rings r e runs = ap (λ o. endpoint_bell h w s t o) e ∙ cond-true (is_running (w.endpoint_state s t) || is_stopped (w.endpoint_state s t)) _ w runs

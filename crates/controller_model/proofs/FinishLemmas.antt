@@ -1,6 +1,6 @@
 -- A finish is a completion that is posted
 use Rattle.std.proofs.Common.{rules}
-use Rattle.controller_model.proofs.Words.{◌≡◌, ◌==◌, ◌&&◌, ◌∙◌, not, Bool, true, false, Option, Some, None, Ok, Err, option_map, ap, refl, cond-true, cond-false, Block, code, kind, pointer, slot, is_command_completion, command_of, may_answer_slot, Header, World, UnderWay, Seen, StepFault, can_post, ended, ended_with, finished, finished_as, IsPart, completed, completed_with, IsStep}
+use Rattle.controller_model.proofs.Words.{◌≡◌, ◌==◌, ◌&&◌, Option, Some, None, Ok, Err, option_map, refl, Block, code, pointer, slot, command_of, may_answer_slot, Header, World, UnderWay, Seen, StepFault, ended, ended_with, finished_as, IsPart, completed, completed_with, IsStep}
 use Rattle.controller_model.proofs.ChangeLemmas.{Made}
 use Rattle.controller_model.proofs.ReportPosts.{map_choice}
 
@@ -20,32 +20,8 @@ module _ (h : Header) (w : World) (b : Block) where
       map_choice (λ v. ended h v b) (code b == 1) _ _ _ _ refl
       (map_choice (λ v. ended h v b) u.has_stopped None (Some w) None (Some (ended h w b)) refl refl)
 
-  finished_as_is : (o : Option UnderWay) → finished_as h w b o ≡ option_map (λ v. ended h v b) (completed h w b o)
+  pub finished_as_is : (o : Option UnderWay) → finished_as h w b o ≡ option_map (λ v. ended h v b) (completed h w b o)
   unfolding finished_as
   finished_as_is None = refl
   finished_as_is (Some u) =
       map_choice (λ v. ended h v b) (pointer b == u.address && may_answer_slot (command_of u.block) (slot b)) _ None _ None (finished_with_is u) refl
-
-  three : (x y z : Bool) → (x && y && z) ≡ (x && (y && z))
-  three true y z = refl
-  three false y z = refl
-
-  pub finish_not_now : can_post h w b ≡ false → finished h w b ≡ None
-  unfolding finished
-  finish_not_now e =
-      cond-false (can_post h w b && is_command_completion (kind b) && not (code b == 0)) _ None
-      (ap (λ t. t && is_command_completion (kind b) && not (code b == 0)) e)
-
-  pub finish_not_so : can_post h w b ≡ true → (is_command_completion (kind b) && not (code b == 0)) ≡ false → finished h w b ≡ None
-  unfolding finished
-  finish_not_so e differs =
-      cond-false (can_post h w b && is_command_completion (kind b) && not (code b == 0)) _ None
-      (three (can_post h w b) (is_command_completion (kind b)) (not (code b == 0)) ∙ (λ k. e k && differs k))
-
-  pub finish_completed : can_post h w b ≡ true → (is_command_completion (kind b) && not (code b == 0)) ≡ true →
-      finished h w b ≡ option_map (λ v. ended h v b) (completed h w b w.under_way)
-  unfolding finished
-  finish_completed e so =
-      cond-true (can_post h w b && is_command_completion (kind b) && not (code b == 0)) _ None
-      (three (can_post h w b) (is_command_completion (kind b)) (not (code b == 0)) ∙ (λ k. e k && so k))
-      ∙ finished_as_is w.under_way

@@ -18,7 +18,6 @@ pub mod SlotLemmas
 pub mod PostLemmas
 pub mod EndpointLemmas
 pub mod BellLemmas
-pub mod ReadLemmas
 pub mod RegisterLemmas
 pub mod EventPlaces
 pub mod NextRowLemmas
@@ -28,7 +27,6 @@ pub mod OpeningLemmas
 pub mod SafetyLemmas
 pub mod RingHarmLemmas
 pub mod ChangeLemmas
-pub mod ReportLemmas
 pub mod ReportPosts
 pub mod HolderLemmas
 pub mod HadByAnother
@@ -45,4 +43,5 @@ pub mod FinishLemmas
 pub mod StepLemmas
 pub mod PlainRows
 pub mod PlainScenes
+pub mod ReadLemmas
 pub mod Words

@@ -1,5 +1,5 @@
 -- The rows that are left, and how one of them is made
-use Rattle.controller_model.proofs.Words.{TraceRow, header_after, row_made, Scene, row_next, step_made, ◌≡◌, ◌≢◌, ◌∙◌, ◌∷◌, List, [], slice_get, Option, Some, None, Ok, Err, Result, option_map, ap, refl, Header, Step, NextRow, Look, Report, Finish, Other, Scribble, World, counted, made, stepped, Seen, StepFault, NotPossible, Spent, Memory, IsStep}
+use Rattle.controller_model.proofs.Words.{TraceRow, header_after, row_made, Scene, row_next, step_made, ◌≡◌, ◌≢◌, ◌∙◌, ◌∷◌, List, [], slice_get, Option, Some, None, Ok, Err, Result, option_map, ap, refl, Header, Step, NextRow, World, counted, made, stepped, Seen, StepFault, NotPossible, Spent, Memory, IsStep}
 
 pub nothing_left : {X : Type 0} (xs : List X) → slice_get xs 0 ≡ None → xs ≡ []
 nothing_left [] e = refl
@@ -47,8 +47,4 @@ twice x (Some w) = refl
 pub step_made_is : (x : Scene) (s : Step) → s ≢ NextRow → step_made x s ≡ option_map (scene_with x) (stepped x.header x.world s)
 unfolding stepped
 step_made_is x NextRow other = absurd (other refl)
-step_made_is x (Look r) other = twice x (made x.header x.world (Look r))
-step_made_is x (Report b) other = twice x (made x.header x.world (Report b))
-step_made_is x (Finish b) other = twice x (made x.header x.world (Finish b))
-step_made_is x (Other b) other = twice x (made x.header x.world (Other b))
-step_made_is x (Scribble a n) other = twice x (made x.header x.world (Scribble a n))
+step_made_is x s other = twice x (made x.header x.world s)

@@ -1,6 +1,6 @@
 -- Beside rows of which none is a ring's, runs and replays are those beside a trace of the driver's rows alone
 use Rattle.std.proofs.Common.{rules}
-use Rattle.controller_model.proofs.Words.{◌≡◌, ◌≢◌, ◌+◌, ◌==◌, ◌&&◌, ◌||◌, ◌++◌, ◌∙◌, ◌∷◌, if◌then◌else◌, ℕ, not, nat_le, nat_lt, Bool, true, false, List, [], Option, Some, None, is_some, length, map, option_and_then, option_map, position, ap, sym, refl, same_Some, list_any, range_with_len, Block, kind, pointer, slot, code, endpoint, word, is_set, same_words, Command, NoOp, EnableSlot, DisableSlot, AddressDevice, ConfigureEndpoint, EvaluateContext, ResetEndpoint, StopEndpoint, SetTrDequeue, ResetDevice, command_of, named_context, may_answer_slot, Change, changes, can_succeed, is_running, is_stopped, EndpointState, Halted, Error, Stopped, Header, Row, Reg, Bell, Read, Step, NextRow, Look, Report, Finish, Other, Scribble, Register, Usbcmd, Config, Erdp, register_or_zero, command_id, event_shape, is_event_place, ring_having, World, UnderWay, opening, stored, stored_block, event_at, harm_of, harms, waits, has_changed_context, is_changed_since, is_context_changed, counted, made, stepped, while_running, is_scribbled, scribbled, looked, looked_at, seen_by_look, crossed, taken, taken_on, declared_next, command_begun, look_shows, shows, can_post, posted, unreported, is_last, is_stop_under_way, with_reported, report_success, report_error, report_stop, report_code, reported, reported_on, stopped_with, other_posted, passes_end, succeeded, ended, ended_with, finished, finished_as, changed_by, changed_by_all, effect, is_had_by_another, placed_on, placed, disabled, inactive, in_state, row_done, next_row, declared, register_row, bell_row, event_read, endpoint_bell, activated, valued, run_or_stop, started_with, with_dequeue, may_scribble, has_one_of, is_success, is_halting, is_trb_error, is_stopping, is_transfer_event, is_other_event, is_command_completion}
+use Rattle.controller_model.proofs.Words.{◌≡◌, ◌≢◌, ◌+◌, ◌==◌, ◌&&◌, ◌||◌, ◌++◌, ◌∙◌, ◌∷◌, if◌then◌else◌, ℕ, not, nat_le, nat_lt, Bool, true, false, List, [], Option, Some, None, is_some, length, map, option_and_then, option_map, position, ap, sym, refl, same_Some, list_any, range_with_len, Block, kind, pointer, slot, code, endpoint, word, is_set, same_words, Command, NoOp, command_of, named_context, may_answer_slot, Change, changes, can_succeed, is_running, is_stopped, EndpointState, Halted, Error, Stopped, Header, Row, Reg, Bell, Read, Step, NextRow, Look, Report, Finish, Other, Scribble, Register, Usbcmd, Config, Erdp, register_or_zero, command_id, event_shape, is_event_place, ring_having, World, UnderWay, opening, stored, stored_block, event_at, harm_of, harms, waits, has_changed_context, is_changed_since, is_context_changed, counted, made, stepped, while_running, is_scribbled, scribbled, looked, looked_at, seen_by_look, crossed, taken, taken_on, declared_next, command_begun, look_shows, shows, can_post, posted, unreported, is_last, is_stop_under_way, with_reported, report_success, report_error, report_stop, report_code, reported, reported_on, stopped_with, other_posted, passes_end, succeeded, ended, ended_with, finished, finished_as, changed_by, changed_by_all, effect, is_had_by_another, placed_on, placed, disabled, inactive, in_state, row_done, next_row, declared, register_row, bell_row, event_read, endpoint_bell, activated, valued, run_or_stop, started_with, with_dequeue, may_scribble, has_one_of, is_success, is_halting, is_trb_error, is_stopping, is_transfer_event, is_other_event, is_command_completion}
 use Rattle.std.specs.Prelude.{option_to_list}
 use Rattle.commands.specs.Changes.{Places, Stops}
 use Rattle.event_ring.specs.EventRing.{erdp_address}
@@ -46,17 +46,8 @@ module _ (rows : List Row) where
 
     scribbles_so : (w : World) (o : Option Command) (t : ℕ) → may_scribble h o (beside rows w) t ≡ may_scribble h o w t
     unfolding may_scribble
-    scribbles_so w None t = refl
     scribbles_so w (Some NoOp) t = refl
-    scribbles_so w (Some EnableSlot) t = refl
-    scribbles_so w (Some (DisableSlot s)) t = refl
-    scribbles_so w (Some (AddressDevice s bsr c)) t = refl
-    scribbles_so w (Some (ConfigureEndpoint s dc c)) t = refl
-    scribbles_so w (Some (EvaluateContext s c)) t = refl
-    scribbles_so w (Some (ResetEndpoint s i)) t = refl
-    scribbles_so w (Some (StopEndpoint s i)) t = refl
-    scribbles_so w (Some (SetTrDequeue s i p turn)) t = refl
-    scribbles_so w (Some (ResetDevice s)) t = refl
+    scribbles_so w _ t = refl
 
     begun_so : (w : World) (a : ℕ) (b : Block) → beside rows (command_begun h w a b) ≡ command_begun h (beside rows w) a b
     unfolding command_begun
@@ -82,10 +73,6 @@ module _ (rows : List Row) where
 
     -- ---- reports
 
-    posted_so : (w : World) (b : Block) → beside rows (posted h w b) ≡ posted h (beside rows w) b
-    unfolding posted stored_block stored
-    posted_so w b = refl
-
     success_so : (w : World) (r a : ℕ) → option_map (beside rows) (report_success h w r a) ≡ report_success h (beside rows w) r a
     unfolding report_success with_reported unreported
     success_so w r a = mapped (λ n. with_reported h w r (w.reported r + n + 1)) (λ n. with_reported h (beside rows w) r (w.reported r + n + 1)) (position (λ b. b == a) (unreported w r)) (λ n. refl)
@@ -108,18 +95,17 @@ module _ (rows : List Row) where
         (chosen (is_trb_error c) _ _ _ _ (error_so w s i r a Error) (chosen (is_stopping c) _ None _ None (stop_so w s i r a) refl)))
 
     reported_on_so : (w : World) (b : Block) (o : Option ℕ) → option_map (beside rows) (reported_on h w b o) ≡ reported_on h (beside rows w) b o
-    unfolding reported_on
+    unfolding reported_on posted stored_block stored
     reported_on_so w b None = refl
-    reported_on_so w b (Some r) =
-        code_so (posted h w b) (code b) (slot b) (endpoint b) r (pointer b) ∙ ap (λ v. report_code h v (code b) (slot b) (endpoint b) r (pointer b)) (posted_so w b)
+    reported_on_so w b (Some r) = code_so (posted h w b) (code b) (slot b) (endpoint b) r (pointer b)
 
     reported_so : (w : World) (b : Block) → option_map (beside rows) (reported h w b) ≡ reported h (beside rows w) b
     unfolding reported can_post
     reported_so w b = chosen (can_post h w b && is_transfer_event (kind b) && not (is_set (word b 3) 2)) _ None _ None (reported_on_so w b (w.ring_of (slot b) (endpoint b))) refl
 
     other_so : (w : World) (b : Block) → option_map (beside rows) (other_posted h w b) ≡ other_posted h (beside rows w) b
-    unfolding other_posted can_post
-    other_so w b = chosen (can_post h w b && is_other_event (kind b)) _ None _ None (ap (λ v. Some v) (posted_so w b)) refl
+    unfolding other_posted can_post posted stored_block stored
+    other_so w b = chosen (can_post h w b && is_other_event (kind b)) _ None _ None refl refl
 
     -- ---- commands that finish
 
@@ -241,12 +227,8 @@ plain_step h w NextRow = by w.rows
     by : (rows : List Row) → step_made (record { header = h; rows = map (λ row. Plain row) rows; world = beside [] w }) NextRow ≡ option_map (plain_scene h) (option_map (counted h) (next_row h w rows))
     by [] = refl
     by (row ∷ rest) = onward h rest (row_done h (beside rest w) row) (row_done h (beside [] w) row) (row_so rest h (beside rest w) row) (row_so [] h (beside rest w) row)
-plain_step h w (Look r) = onward h w.rows (made h w (Look r)) (made h (beside [] w) (Look r)) (made_so w.rows h w (Look r) (λ e. absurd (cc))) (made_so [] h w (Look r) (λ e. absurd (cc)))
-plain_step h w (Report b) = onward h w.rows (made h w (Report b)) (made h (beside [] w) (Report b)) (made_so w.rows h w (Report b) (λ e. absurd (cc))) (made_so [] h w (Report b) (λ e. absurd (cc)))
-plain_step h w (Finish b) = onward h w.rows (made h w (Finish b)) (made h (beside [] w) (Finish b)) (made_so w.rows h w (Finish b) (λ e. absurd (cc))) (made_so [] h w (Finish b) (λ e. absurd (cc)))
-plain_step h w (Other b) = onward h w.rows (made h w (Other b)) (made h (beside [] w) (Other b)) (made_so w.rows h w (Other b) (λ e. absurd (cc))) (made_so [] h w (Other b) (λ e. absurd (cc)))
-plain_step h w (Scribble a n) =
-    onward h w.rows (made h w (Scribble a n)) (made h (beside [] w) (Scribble a n)) (made_so w.rows h w (Scribble a n) (λ e. absurd (cc))) (made_so [] h w (Scribble a n) (λ e. absurd (cc)))
+plain_step h w s =
+    onward h w.rows (made h w s) (made h (beside [] w) s) (made_so w.rows h w s (λ e. absurd (cc))) (made_so [] h w s (λ e. absurd (cc)))
 
 -- the harms are those of the world
 context_so : (h : Header) (w : World) (step : ℕ) (o : Option ℕ) → is_context_changed h (beside [] w) step o ≡ is_context_changed h w step o

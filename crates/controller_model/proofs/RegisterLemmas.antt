@@ -1,6 +1,6 @@
 -- What a written register does
 use Rattle.std.proofs.Common.{rules}
-use Rattle.controller_model.proofs.Words.{◌&&◌, ◌||◌, ◌≡◌, ◌≢◌, ◌%◌, ◌==◌, ◌∙◌, if◌then◌else◌, Bool, true, false, not, ℕ, Option, ap, refl, eq-eqb, ne_eqb, cond-true, cond-false, Register, Usbcmd, Crcr, Dcbaap, Config, Erdp, with_register, base_address, ring_cycle_state, run_bit, reset_bit, Header, register_row, run_or_stop, started_with, valued, World, Registers, FollowsRegisters, ring_held, noted, pointed}
+use Rattle.controller_model.proofs.Words.{◌&&◌, ◌||◌, ◌≡◌, ◌≢◌, ◌%◌, ◌==◌, if◌then◌else◌, Bool, true, false, not, ℕ, Option, refl, eq-eqb, ne_eqb, cond-true, cond-false, Register, Usbcmd, Crcr, Dcbaap, Config, Erdp, with_register, base_address, ring_cycle_state, Header, register_row, valued, World, Registers, FollowsRegisters, ring_held, noted, pointed}
 use Rattle.controller_model.proofs.RingLemmas.{put_same, put_other}
 
 pub registers_noted : (k : Registers) (values : Register → Option ℕ) (r : Register) (v : ℕ) → FollowsRegisters k values → FollowsRegisters (noted k r v) (with_register values r v)
@@ -25,28 +25,11 @@ pointed_other w r crcr q apart = (λ i. record (ring_held w q) {
 pub lowest_bit : (n : ℕ) → n % 2 ≡ (if n % 2 == 1 then 1 else 0)
 lowest_bit n = search (rules, cond-true, eq-eqb, cond-false, ne_eqb)
 
-stops_unless_runs : (a b : Bool) → (not a || b) ≡ not (a && not b)
+pub stops_unless_runs : (a b : Bool) → (not a || b) ≡ not (a && not b)
 stops_unless_runs true true = refl
 stops_unless_runs true false = refl
 stops_unless_runs false true = refl
 stops_unless_runs false false = refl
-
-module _ (h : Header) (w : World) (v : ℕ) where
-  pub row_starts : w.started ≡ false → (run_bit v && not (reset_bit v)) ≡ true → register_row h w Usbcmd v ≡ started_with h (valued w Usbcmd v)
-  unfolding register_row run_or_stop valued
-  row_starts e runs = cond-true (not w.started) _ _ (ap not e) ∙ cond-true (run_bit v && not (reset_bit v)) _ _ runs
-
-  pub row_waits : w.started ≡ false → (run_bit v && not (reset_bit v)) ≡ false → register_row h w Usbcmd v ≡ valued w Usbcmd v
-  unfolding register_row run_or_stop valued
-  row_waits e idle = cond-true (not w.started) _ _ (ap not e) ∙ cond-false (run_bit v && not (reset_bit v)) _ _ idle
-
-  pub row_stops : w.started ≡ true → (run_bit v && not (reset_bit v)) ≡ false → register_row h w Usbcmd v ≡ record (valued w Usbcmd v) { stopped = true }
-  unfolding register_row run_or_stop valued
-  row_stops e idle = cond-false (not w.started) _ _ (ap not e) ∙ cond-true (not (run_bit v) || reset_bit v) _ _ (stops_unless_runs (run_bit v) (reset_bit v) ∙ ap not idle)
-
-  pub row_goes_on : w.started ≡ true → (run_bit v && not (reset_bit v)) ≡ true → register_row h w Usbcmd v ≡ valued w Usbcmd v
-  unfolding register_row run_or_stop valued
-  row_goes_on e runs = cond-false (not w.started) _ _ (ap not e) ∙ cond-false (not (run_bit v) || reset_bit v) _ _ (stops_unless_runs (run_bit v) (reset_bit v) ∙ ap not runs)
 
 -- the other registers are kept, and do no more
 pub other_register : (h : Header) (w : World) (r : Register) (v : ℕ) → r ≢ Usbcmd → r ≢ Erdp → register_row h w r v ≡ valued w r v

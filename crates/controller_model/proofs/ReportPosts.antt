@@ -1,6 +1,6 @@
 -- What a Transfer Event says doesn't rest on its own post
 use Rattle.std.proofs.Common.{rules}
-use Rattle.controller_model.proofs.Words.{◌≡◌, ◌+◌, ◌==◌, ◌&&◌, ◌∙◌, if◌then◌else◌, ℕ, not, Bool, true, false, Option, Some, None, position, option_map, ap, refl, cond-true, cond-false, Block, is_set, code, endpoint, kind, pointer, slot, word, is_transfer_event, EndpointState, is_running, Header, World, stored, stored_block, unreported, can_post, is_last, is_stop_under_way, posted, report_code, report_error, report_stop, report_success, reported, reported_on, stopped_with, with_reported, told}
+use Rattle.controller_model.proofs.Words.{◌≡◌, ◌+◌, ◌==◌, ◌&&◌, if◌then◌else◌, ℕ, not, Bool, true, false, Option, Some, None, position, option_map, refl, Block, code, endpoint, pointer, slot, EndpointState, is_running, Header, World, stored, stored_block, unreported, is_last, is_stop_under_way, posted, report_code, report_error, report_stop, report_success, reported_on, stopped_with, with_reported, told}
 
 map_twice : {A B C : Type 0} (f : B → C) (g : A → B) (o : Option A) → option_map (λ n. f (g n)) o ≡ option_map f (option_map g o)
 map_twice f g None = refl
@@ -35,33 +35,7 @@ module _ (h : Header) (w : World) (b : Block) (r a : ℕ) where
     code_posted c = search (rules, option_map, map_choice, success_posted, error_posted, stop_posted)
 
 module _ (h : Header) (w : World) (b : Block) where
-  told_posted : (o : Option ℕ) → reported_on h w b o ≡ option_map (λ v. posted h v b) (told h w b o)
+  pub told_posted : (o : Option ℕ) → reported_on h w b o ≡ option_map (λ v. posted h v b) (told h w b o)
   unfolding reported_on
   told_posted None = refl
   told_posted (Some r) = code_posted h w b r (pointer b) (slot b) (endpoint b) (code b)
-
-  is_report : Bool
-  is_report = is_transfer_event (kind b) && not (is_set (word b 3) 2)
-
-  three : (x y z : Bool) → (x && y && z) ≡ (x && (y && z))
-  three true y z = refl
-  three false y z = refl
-
-  tests : (can_post h w b && is_transfer_event (kind b) && not (is_set (word b 3) 2)) ≡ (can_post h w b && is_report)
-  unfolding is_report
-  tests = three (can_post h w b) (is_transfer_event (kind b)) (not (is_set (word b 3) 2))
-
-  pub report_not_now : can_post h w b ≡ false → reported h w b ≡ None
-  unfolding reported is_report
-  report_not_now e = cond-false (can_post h w b && is_transfer_event (kind b) && not (is_set (word b 3) 2)) _ None (tests ∙ ap (λ t. t && is_report) e)
-
-  pub report_not_so : can_post h w b ≡ true → (is_transfer_event (kind b) && not (is_set (word b 3) 2)) ≡ false → reported h w b ≡ None
-  unfolding reported is_report
-  report_not_so e differs = cond-false (can_post h w b && is_transfer_event (kind b) && not (is_set (word b 3) 2)) _ None (tests ∙ (λ k. e k && differs k))
-
-  pub report_told : can_post h w b ≡ true → (is_transfer_event (kind b) && not (is_set (word b 3) 2)) ≡ true → (o : Option World) → told h w b (w.ring_of (slot b) (endpoint b)) ≡ o →
-      reported h w b ≡ option_map (λ v. posted h v b) o
-  unfolding reported is_report
-  report_told e so o said =
-      cond-true (can_post h w b && is_transfer_event (kind b) && not (is_set (word b 3) 2)) _ None (tests ∙ (λ k. e k && so k))
-      ∙ told_posted (w.ring_of (slot b) (endpoint b)) ∙ ap (λ v. option_map (λ v. posted h v b) v) said

@@ -1,8 +1,9 @@
 -- What a step at one ring does to the rings' harms
 use Rattle.std.proofs.Common.{rules}
-use Rattle.controller_model.proofs.Words.{TraceRow, Plain, Scene, row_next, step_made, ◌≡◌, ◌≢◌, ◌==◌, ◌&&◌, ◌||◌, ◌∙◌, if◌then◌else◌, ◌∷◌, ◌%◌, ℕ, is_some, not, Bool, true, false, List, [], Option, Some, None, option_map, ap, sym, subst, refl, inl, inr, IsSome, find, eq-eqb, ne_eqb, arith, nat_lt, list_any, cases_Bool, cases_eq, cond-false, cond-true, Block, block_at, cycle, Header, Ring, Look, ring_with, shape_of, some_ring, World, has_other_words, is_inside_descriptor, is_out_of_order, waits, RingHarms, command_begun, crossed, looked, looked_at, seen_by_look, taken, taken_on, counted, made, stepped, while_running, put, bits, Row, Sub, Write, Read, stored, declared, event_read, row_done, same_Some, RingHeld, ring_held, ChangesOnly, HasRingHarms}
+use Rattle.controller_model.proofs.Words.{TraceRow, Plain, Scene, row_next, step_made, ◌≡◌, ◌≢◌, ◌==◌, ◌&&◌, ◌||◌, ◌∙◌, if◌then◌else◌, ◌∷◌, ◌%◌, ℕ, not, Bool, true, false, List, [], Option, Some, None, option_map, ap, sym, subst, refl, inl, inr, IsSome, find, eq-eqb, ne_eqb, arith, nat_lt, list_any, cases_Bool, cases_eq, cond-false, cond-true, Block, block_at, cycle, Header, command_id, Ring, Look, ring_with, shape_of, some_ring, World, has_other_words, is_inside_descriptor, is_out_of_order, waits, RingHarms, command_begun, crossed, looked, looked_at, seen_by_look, taken, taken_on, counted, made, stepped, while_running, put, bits, Row, Sub, Write, Read, stored, declared, event_read, row_done, same_Some, RingHeld, ring_held, ChangesOnly, HasRingHarms}
 use Rattle.controller_model.proofs.RingLemmas.{put_other}
-use Rattle.controller_model.proofs.LookBranches.{looked_active, looked_inactive, waits as look_waits, crosses, refuses, takes, taken_transfer, taken_command, or_false}
+use Rattle.std.proofs.lemmas.Bool.{cond_both}
+use Rattle.controller_model.proofs.LookBranches.{or_false}
 use Rattle.controller_model.proofs.RingSteps.{crossed_other, taken_other}
 
 or_again : (a b : Bool) → (a || (a || b)) ≡ (a || b)
@@ -121,17 +122,28 @@ module _ (h : Header) (w : World) (r : ℕ) (active : w.is_active r ≡ true) wh
   begun_at u a b f = (record { memory = f.0.memory; others = f.0.others }, f.1)
 
   taking_at : (b : Block) → IsAt r w (taken h (seen_by_look h w r) r b)
-  taking_at b = search (rules, taken_command, begun_at, taking_on_at, taken_transfer)
+  unfolding taken
+  taking_at b = cond_both (r == command_id h) _ _ (IsAt r w) (λ e. begun_at _ _ b (taking_on_at b)) (λ e. taking_on_at b)
+
+  at_some : (u v : World) → IsAt r w u → Some u ≡ Some v → IsAt r w v
+  at_some u v f e = subst (IsAt r w) (same_Some u v e) f
+
+  at_choice : (t : Bool) (x y : Option World) (v : World) → (x ≡ Some v → IsAt r w v) → (y ≡ Some v → IsAt r w v) → (if t then x else y) ≡ Some v → IsAt r w v
+  at_choice true x y v one other e = one e
+  at_choice false x y v one other e = other e
 
   looked_at_is : (b : Block) (v : World) → looked_at h w r b ≡ Some v → IsAt r w v
-  looked_at_is b v e = search (rules, look_waits, waiting_at, crosses, crossing_at, is_some, refuses, takes, taking_at)
+  unfolding looked_at
+  looked_at_is b v e =
+      at_choice _ _ _ v (at_some _ v waiting_at)
+      (at_choice _ _ _ v (at_some _ v (crossing_at b)) (at_choice _ _ _ v (λ none. let no : None ≡ Some v = none in absurd (cc)) (at_some _ v (taking_at b)))) e
 
 pub looked_is : (h : Header) (w v : World) (r : ℕ) → looked h w r ≡ Some v → IsAt r w v
-looked_is h w v r e =
-    elim (cases_Bool (w.is_active r)) [
-      | inl active ↦ looked_at_is h w r active (block_at w.memory (w.pointer_of r)) v (sym (looked_active h w r (block_at w.memory (w.pointer_of r)) active refl) ∙ e)
-      | inr idle ↦ let none = looked_inactive h w r idle in absurd (cc)
-    ]
+unfolding looked
+looked_is h w v r e = elim (cases_Bool (w.is_active r)) [
+  | inl active ↦ looked_at_is h w r active (block_at w.memory (w.pointer_of r)) v (rw active at e)
+  | inr idle ↦ let none = rw idle at e in absurd (cc)
+]
 
 -- a step that is possible was made, and counted
 counts : (h : Header) (P : World → Type 0) → ((u : World) → P u → P (counted h u)) → (stopped : Bool) (o : Option World) (v : World) → ((u : World) → o ≡ Some u → P u) →

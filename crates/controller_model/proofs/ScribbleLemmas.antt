@@ -1,5 +1,5 @@
 -- Whether a number of a range passes a test, and when the controller may write a word
-use Rattle.controller_model.proofs.Words.{◌≡◌, ◌+◌, ◌<◌, ◌≤◌, ◌||◌, ◌∙◌, ℕ, zero, suc, Bool, true, false, Some, None, ap, refl, arith, inl, inr, list_any, range_with_len, cases_lt, cond-true, cond-false, Header, World, stored, scribbled, is_scribbled}
+use Rattle.controller_model.proofs.Words.{◌≡◌, ◌+◌, ◌<◌, ◌≤◌, ◌||◌, ◌∙◌, ℕ, zero, suc, Bool, true, false, ap, refl, arith, inl, inr, list_any, range_with_len, cases_lt}
 
 pub or_true : (b : Bool) → (b || true) ≡ true
 or_true true = refl
@@ -20,12 +20,3 @@ none_in_range test from zero fails = refl
 none_in_range test from (suc n) fails =
     ap (λ b. b || list_any test (range_with_len (from + 1) n)) (fails from (omega arith) (omega arith))
     ∙ none_in_range test (from + 1) n (λ p l h. fails p (omega arith) (omega arith))
-
-module _ (h : Header) (w : World) (a x : ℕ) where
-  pub scribbled_not : list_any (is_scribbled h w a) (range_with_len 0 256) ≡ false → scribbled h w a x ≡ None
-  unfolding scribbled
-  scribbled_not e = cond-false (list_any (is_scribbled h w a) (range_with_len 0 256)) (Some (stored w a x)) None e
-
-  pub scribbled_so : list_any (is_scribbled h w a) (range_with_len 0 256) ≡ true → scribbled h w a x ≡ Some (stored w a x)
-  unfolding scribbled
-  scribbled_so e = cond-true (list_any (is_scribbled h w a) (range_with_len 0 256)) (Some (stored w a x)) None e

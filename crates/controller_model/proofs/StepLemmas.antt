@@ -1,12 +1,8 @@
 -- Which definition a step goes by
 use Rattle.std.proofs.Common.{rules}
-use Rattle.controller_model.proofs.Words.{◌≡◌, ◌≢◌, true, false, Option, Some, None, Ok, Err, option_map, refl, cond-true, cond-false, Header, Step, NextRow, World, Seen, StepFault, counted, made, stepped, while_running, IsStep}
+use Rattle.controller_model.proofs.Words.{◌≡◌, ◌≢◌, true, Option, Some, None, Ok, Err, option_map, refl, cond-true, Header, Step, NextRow, World, Seen, StepFault, counted, made, stepped, while_running, IsStep}
 
 module _ (h : Header) (w : World) where
-  pub running : (o : Option World) → w.stopped ≡ false → while_running h w o ≡ o
-  unfolding while_running
-  running o e = cond-false w.stopped None o e
-
   not_running : (o : Option World) → w.stopped ≡ true → while_running h w o ≡ None
   unfolding while_running
   not_running o e = cond-true w.stopped None o e

@@ -1,12 +1,11 @@
 -- Replays beside rows of rings, by evaluation
 use Rattle.std.specs.Prelude.{◌≡◌, ◌++◌, ◌∷◌, [], List, Some, option_map, replicate}
 use Rattle.std.proofs.Common.{refl}
-use Rattle.trb.specs.declared.ring_kind.RingKind.TheVariants.{Cmd, Xfer}
+use Rattle.trb.specs.declared.ring_kind.RingKind.TheVariants.{Cmd}
 use Rattle.contexts.specs.declared.size.ContextSize.TheVariants.{Bytes32}
 use Rattle.traces.specs.declared.header.Header.{Header}
 use Rattle.traces.specs.declared.register.Register.TheVariants.{Crcr, Usbcmd}
 use Rattle.traces.specs.declared.row.Row.TheVariants.{Bell, Reg, Sub}
-use Rattle.traces.specs.declared.step.Step.{Step}
 use Rattle.traces.specs.declared.step.Step.TheVariants.{Look, NextRow}
 use Rattle.traces.specs.declared.trace_row.TraceRow.{TraceRow}
 use Rattle.traces.specs.declared.trace_row.TraceRow.TheVariants.{Plain, Goes, Withdraws}

@@ -1,51 +1,50 @@
-use Rattle.controller_model.proofs.Words.{◌≡◌, ◌∙◌, ap, sym, option_map, err_from_is_err_and, Evt, address_of, event_shape, shape_or, Posted, ended, finished, completed, Follows}
+use Rattle.controller_model.proofs.Words.{◌≡◌, ◌∙◌, ap, sym, option_map, err_from_is_err_and, Evt, address_of, event_shape, shape_or, Posted, ended, finished, finished_as, completed, Follows}
 use Rattle.controller_model.proofs.PostLemmas.{no_ring}
-use Rattle.controller_model.proofs.FinishLemmas.{finish_not_now, finish_not_so, finish_completed, made_of_part, step_fails}
+use Rattle.controller_model.proofs.FinishLemmas.{finished_as_is, made_of_part, step_fails}
 use Rattle.controller_model.proofs.finishes.finish.Goals as goal
 
 pub returns-in-None-clause-step : goal.returns-in-None-clause-step
-returns-in-None-clause-step g c = λ rows w f.
-    rw (finish_not_now c.args.header.now w c.args.block.now (no_ring c.args.header.now w c.args.block.now c.in-None.ensures)) tt
+unfolding finished
+returns-in-None-clause-step g c = λ rows w f. simp (no_ring c.args.header.now w c.args.block.now c.in-None.ensures) tt
 
 pub returns-then-not-can_post-clause-step : goal.returns-then-not-can_post-clause-step
-unfolding event_shape
+unfolding finished event_shape
 returns-then-not-can_post-clause-step g c = λ rows w f.
     let same = ap (λ o. shape_or Evt o) c.in-Some.ensures in
-    let now = sym (c.can_post.ensures c.args.header.now rows (g.M.WordMemory.words c.args.memory.now) w same f) ∙ c.if-not-can_post.true in
-    rw (finish_not_now c.args.header.now w c.args.block.now now) tt
+    simp (sym (c.can_post.ensures c.args.header.now rows (g.M.WordMemory.words c.args.memory.now) w same f) ∙ c.if-not-can_post.true) tt
 
 pub returns-then-not-is_completion-clause-step : goal.returns-then-not-is_completion-clause-step
-unfolding event_shape
+unfolding finished event_shape
 returns-then-not-is_completion-clause-step g c = λ rows w f.
     let same = ap (λ o. shape_or Evt o) c.in-Some.ensures in
-    let now = sym (c.can_post.ensures c.args.header.now rows (g.M.WordMemory.words c.args.memory.now) w same f) ∙ c.if-not-can_post.false in
-    rw (finish_not_so c.args.header.now w c.args.block.now now (sym c.is_completion.ensures ∙ c.if-not-is_completion.true)) tt
+    simp (
+      sym (c.can_post.ensures c.args.header.now rows (g.M.WordMemory.words c.args.memory.now) w same f) ∙ c.if-not-can_post.false,
+      sym c.is_completion.ensures ∙ c.if-not-is_completion.true,
+    ) tt
 
 pub returns-in_err-complete-clause-step : goal.returns-in_err-complete-clause-step
-unfolding event_shape
+unfolding finished event_shape
 returns-in_err-complete-clause-step g c = λ rows w f.
     let h = c.args.header.now in
     let b = c.args.block.now in
     let words = g.M.WordMemory.words c.args.memory.now in
     let same = ap (λ o. shape_or Evt o) c.in-Some.ensures in
-    let now = sym (c.can_post.ensures h rows words w same f) ∙ c.if-not-can_post.false in
-    let so = sym c.is_completion.ensures ∙ c.if-not-is_completion.false in
     let p = err_from_is_err_and c.from_residual.result c.from_residual.ensures.1 in
     rw (p.1, p.2)
-    (step_fails (Unit {0}) c.in_err-complete.field-0.0 (completed h w b w.under_way) (finished h w b) (λ v. ended h v b) (Posted (address_of (event_shape h) w.posted))
-    (Follows h rows words c.complete.new.kept) (Follows h rows words c.complete.new.kept) (finish_completed h w b now so) (c.in_err-complete.ensures.change rows w f))
+    (simp (sym (c.can_post.ensures h rows words w same f) ∙ c.if-not-can_post.false, sym c.is_completion.ensures ∙ c.if-not-is_completion.false)
+    (step_fails (Unit {0}) c.in_err-complete.field-0.0 (completed h w b w.under_way) (finished_as h w b w.under_way) (λ v. ended h v b) (Posted (address_of (event_shape h) w.posted))
+    (Follows h rows words c.complete.new.kept) (Follows h rows words c.complete.new.kept) (finished_as_is h w b w.under_way) (c.in_err-complete.ensures.change rows w f)))
 
 pub returns-clause-step : goal.returns-clause-step
-unfolding event_shape ended
+unfolding finished event_shape ended
 returns-clause-step g c = λ rows w f.
     let h = c.args.header.now in
     let b = c.args.block.now in
     let words = g.M.WordMemory.words c.args.memory.now in
     let same = ap (λ o. shape_or Evt o) c.in-Some.ensures in
-    let now = sym (c.can_post.ensures h rows words w same f) ∙ c.if-not-can_post.false in
-    let so = sym c.is_completion.ensures ∙ c.if-not-is_completion.false in
     let made = made_of_part (Unit {0}) tt (completed h w b w.under_way) (Follows h rows words c.complete.new.kept) (c.in_ok-complete.ensures.change rows w f) in
     let there : c.in_ok-at.at ≡ address_of (event_shape h) w.posted =
     c.in_ok-at.ensures.place ∙ (λ i. address_of (same i) ((ap (λ e. e.posted) c.complete.ensures.rest.events ∙ sym f.events.posted) i)) in
     let after = c.in_ok-at.ensures.posted h rows made.after same made.holds in
-    rw (finish_completed h w b now so ∙ ap (λ o. option_map (λ v. ended h v b) o) made.is) (ap Posted there, assumption after)
+    simp (sym (c.can_post.ensures h rows words w same f) ∙ c.if-not-can_post.false, sym c.is_completion.ensures ∙ c.if-not-is_completion.false)
+    (rw (finished_as_is h w b w.under_way ∙ ap (λ o. option_map (λ v. ended h v b) o) made.is) (ap Posted there, assumption after))

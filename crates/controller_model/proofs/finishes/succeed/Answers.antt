@@ -1,12 +1,11 @@
-use Rattle.controller_model.proofs.Words.{◌≡◌, ◌∙◌, None, Some, is_some, ap, sym, true, false, changes, command_of, changed_by_all, succeeded}
+use Rattle.controller_model.proofs.Words.{◌≡◌, ◌∙◌, Some, is_some, ap, sym, true, false, changes, changed_by_all, succeeded}
 use Rattle.controller_model.proofs.CommandLemmas.{command_well}
-use Rattle.controller_model.proofs.SuccessLemmas.{no_success_without, some_of, none_of_test, success_changes}
+use Rattle.controller_model.proofs.SuccessLemmas.{some_of, none_of_test, success_changes}
 use Rattle.controller_model.proofs.finishes.succeed.Goals as goal
 
 pub returns-in-None-clause-change : goal.returns-in-None-clause-change
-returns-in-None-clause-change g c = λ rows w f.
-    let none : command_of c.args.block.now ≡ None = sym c.command_of.ensures ∙ c.in-None.is in
-    rw (ap (λ o. succeeded c.args.header.now w c.args.slot o) none ∙ no_success_without c.args.header.now w c.args.slot) tt
+unfolding succeeded
+returns-in-None-clause-change g c = λ rows w f. simp (sym c.command_of.ensures ∙ c.in-None.is) tt
 
 pub succeeds-requires : goal.succeeds-requires
 succeeds-requires g c = command_well c.args.block.now c.in-Some.command (sym c.command_of.ensures ∙ c.in-Some.is)
@@ -16,19 +15,17 @@ apply-requires-clause-well g c = command_well c.args.block.now c.in-Some.command
 
 pub returns-then-not-succeeds-clause-change : goal.returns-then-not-succeeds-clause-change
 returns-then-not-succeeds-clause-change g c = λ rows w f.
-    let some : command_of c.args.block.now ≡ Some c.in-Some.command = sym c.command_of.ensures ∙ c.in-Some.is in
     let fails : is_some (succeeded c.args.header.now w c.args.slot (Some c.in-Some.command)) ≡ false = sym (c.succeeds.ensures.value rows w f) ∙ c.if-not-succeeds.true in
-    rw (ap (λ o. succeeded c.args.header.now w c.args.slot o) some ∙ none_of_test (succeeded c.args.header.now w c.args.slot (Some c.in-Some.command)) fails) tt
+    rw (sym c.command_of.ensures ∙ c.in-Some.is, none_of_test _ fails) tt
 
 pub returns-clause-change : goal.returns-clause-change
 returns-clause-change g c = λ rows w f.
     let words = g.M.WordMemory.words c.args.memory.now in
     let h = c.args.header.now in
     let d = c.in-Some.command in
-    let some : command_of c.args.block.now ≡ Some d = sym c.command_of.ensures ∙ c.in-Some.is in
     let works : is_some (succeeded h w c.args.slot (Some d)) ≡ true = sym (c.succeeds.ensures.value rows w f) ∙ c.if-not-succeeds.false in
     let made = some_of (succeeded h w c.args.slot (Some d)) works in
     let memory : w.memory ≡ words = ap (λ x. x.memory) f.held in
     let changed : changed_by_all h d w (changes h.context_size words c.args.slot d) ≡ Some made.after =
     ap (λ m. changed_by_all h d w (changes h.context_size m c.args.slot d)) (sym memory) ∙ success_changes h w c.args.slot d made.after made.is in
-    rw (ap (λ o. succeeded h w c.args.slot o) some ∙ made.is) (c.in_ok-apply.ensures.change rows words w made.after changed f)
+    rw (sym c.command_of.ensures ∙ c.in-Some.is, made.is) (c.in_ok-apply.ensures.change rows words w made.after changed f)

@@ -1,31 +1,33 @@
-use Rattle.controller_model.proofs.Words.{◌≡◌, ◌∙◌, ap, sym, Evt, address_of, event_shape, shape_or, Posted}
-use Rattle.controller_model.proofs.PostLemmas.{no_ring, other_not_now, other_not_so, other_made}
+use Rattle.controller_model.proofs.Words.{◌≡◌, ◌∙◌, ap, sym, Evt, address_of, event_shape, other_posted, shape_or, Posted}
+use Rattle.controller_model.proofs.PostLemmas.{no_ring}
 use Rattle.controller_model.proofs.posts.post_other.Goals as goal
 
 pub returns-in-None-clause-step : goal.returns-in-None-clause-step
-returns-in-None-clause-step g c = λ rows w f.
-    rw (other_not_now c.args.header.now w c.args.block.now (no_ring c.args.header.now w c.args.block.now c.in-None.ensures)) tt
+unfolding other_posted
+returns-in-None-clause-step g c = λ rows w f. simp (no_ring c.args.header.now w c.args.block.now c.in-None.ensures) tt
 
 pub returns-then-not-can_post-clause-step : goal.returns-then-not-can_post-clause-step
-unfolding event_shape
+unfolding other_posted event_shape
 returns-then-not-can_post-clause-step g c = λ rows w f.
     let same = ap (λ o. shape_or Evt o) c.in-Some.ensures in
-    let now = sym (c.can_post.ensures c.args.header.now rows (g.M.WordMemory.words c.args.memory.now) w same f) ∙ c.if-not-can_post.true in
-    rw (other_not_now c.args.header.now w c.args.block.now now) tt
+    simp (sym (c.can_post.ensures c.args.header.now rows (g.M.WordMemory.words c.args.memory.now) w same f) ∙ c.if-not-can_post.true) tt
 
 pub returns-then-not-is_other_event-clause-step : goal.returns-then-not-is_other_event-clause-step
-unfolding event_shape
+unfolding other_posted event_shape
 returns-then-not-is_other_event-clause-step g c = λ rows w f.
     let same = ap (λ o. shape_or Evt o) c.in-Some.ensures in
-    let now = sym (c.can_post.ensures c.args.header.now rows (g.M.WordMemory.words c.args.memory.now) w same f) ∙ c.if-not-can_post.false in
-    rw (other_not_so c.args.header.now w c.args.block.now now (sym c.is_other_event.ensures ∙ c.if-not-is_other_event.true)) tt
+    simp (
+      sym (c.can_post.ensures c.args.header.now rows (g.M.WordMemory.words c.args.memory.now) w same f) ∙ c.if-not-can_post.false,
+      sym c.is_other_event.ensures ∙ c.if-not-is_other_event.true,
+    ) tt
 
 pub returns-clause-step : goal.returns-clause-step
-unfolding event_shape
+unfolding other_posted event_shape
 returns-clause-step g c = λ rows w f.
     let same = ap (λ o. shape_or Evt o) c.in-Some.ensures in
-    let now = sym (c.can_post.ensures c.args.header.now rows (g.M.WordMemory.words c.args.memory.now) w same f) ∙ c.if-not-can_post.false in
     let there : c.in_ok-at.at ≡ address_of (event_shape c.args.header.now) w.posted =
     c.in_ok-at.ensures.place ∙ (λ i. address_of (same i) (sym f.events.posted i)) in
-    rw (other_made c.args.header.now w c.args.block.now now (sym c.is_other_event.ensures ∙ c.if-not-is_other_event.false))
-    (ap Posted there, c.in_ok-at.ensures.posted c.args.header.now rows w same f)
+    simp (
+      sym (c.can_post.ensures c.args.header.now rows (g.M.WordMemory.words c.args.memory.now) w same f) ∙ c.if-not-can_post.false,
+      sym c.is_other_event.ensures ∙ c.if-not-is_other_event.false,
+    ) (ap Posted there, c.in_ok-at.ensures.posted c.args.header.now rows w same f)

@@ -1,13 +1,13 @@
-use Rattle.controller_model.proofs.Words.{◌≡◌, ◌&&◌, ◌∙◌, if◌then◌else◌, None, is_some, slice_index, ap, sym, refl, nat_le, eq-eqb, has_flag, is_dropped, disabled, Sees}
-use Rattle.controller_model.proofs.EffectLemmas.{gone, can_deconfigure, configures_as}
+use Rattle.controller_model.proofs.Words.{◌≡◌, ◌&&◌, ◌∙◌, if◌then◌else◌, None, slice_index, ap, sym, refl, nat_le, eq-eqb, has_flag, is_dropped, added_endpoints, changed_by, changed_by_all, changes, disabled, Sees}
+use Rattle.controller_model.proofs.EffectLemmas.{gone}
 use Rattle.controller_model.proofs.trials.can_configure.Goals as goal
 
 pub returns-then-deconfigure : goal.returns-then-deconfigure
-returns-then-deconfigure g c = λ rows words d n w f.
-    sym (can_deconfigure c.args.header.now c.args.header.now.context_size (g.M.WordMemory.words c.args.memory.now) n d w c.args.slot c.args.context c.args.deconfigure c.if-deconfigure.true)
+unfolding changes changed_by changed_by_all
+returns-then-deconfigure g c = λ rows words d n w f. simp c.if-deconfigure.true
 
 pub returns : goal.returns
-unfolding disabled
+unfolding changes changed_by changed_by_all added_endpoints disabled
 returns g c = λ rows words d n w f.
     let memory = g.M.WordMemory.words c.args.memory.now in
     let s = c.args.slot in
@@ -19,5 +19,4 @@ returns g c = λ rows words d n w f.
           ∙ sym (c.left-rings.ensures c.args.header.now rows words w f j below);
       others = λ t j apart. ap (λ b. if b && (nat_le 2 j && has_flag (memory c.args.context) j) then None else w.ring_of t j) apart;
     } in
-    c.can_add_all.ensures rows words d w v f sees
-    ∙ sym (ap (λ o. is_some o) (configures_as c.args.header.now c.args.header.now.context_size memory n d w s c.args.context c.args.deconfigure c.if-deconfigure.false))
+    rw c.if-deconfigure.false (c.can_add_all.ensures rows words d w v f sees)
