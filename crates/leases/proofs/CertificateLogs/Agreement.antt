@@ -1,5 +1,5 @@
 -- How agreement goes on when a lease begins, and when some end
-use Rattle.leases.proofs.BaseWords.{◌≡◌, ◌==◌, ◌&&◌, ◌||◌, ◌∷◌, ◌∙◌, ℕ, Bool, true, false, List, [], length, map, slice_get, sym, ap, refl, cond, eq-eqb, and_parts, and_from, Lease, Leased, as_lease, without_end, Lent, begun_at, ended_where, is_unended, lease_of, with_begun, agree, agrees, begins_as, has_words_of, test_of}
+use Rattle.leases.proofs.BaseWords.{cond_both, ◌≡◌, ◌==◌, ◌&&◌, ◌||◌, ◌∷◌, ◌∙◌, ℕ, Bool, true, false, List, [], length, map, slice_get, sym, ap, refl, eq-eqb, and_parts, and_from, Lease, Leased, as_lease, without_end, Lent, begun_at, ended_where, is_unended, lease_of, with_begun, agree, agrees, begins_as, has_words_of, test_of}
 use Rattle.leases.proofs.LeaseBooks.Ending.{later_end}
 
 and_true : (b : Bool) → (b && true) ≡ b
@@ -31,11 +31,8 @@ agree_begun row l (t ∷ ts) (m ∷ ls) =
 module _ (over : Leased → Bool) (row : ℕ) where
   pub same_beginning : (t : Lent) (l : Lease) → begins_as l (lease_of (ended_where over row t)) ≡ begins_as l (lease_of t)
   unfolding ended_where begins_as has_words_of
-  same_beginning t l = by (is_unended t && over t.leased)
-    where
-      by : (b : Bool) → begins_as l (lease_of (cond b (record t { to = row }) t)) ≡ begins_as l (lease_of t)
-      by true = ap (begins_as l) (later_end t row)
-      by false = refl
+  same_beginning t l =
+      cond_both (is_unended t && over t.leased) _ _ (λ z. begins_as l (lease_of z) ≡ begins_as l (lease_of t)) (λ e. ap (begins_as l) (later_end t row)) (λ e. refl)
 
   -- and what agrees with an end agrees before it
   agrees_unended : (t : Lent) (l : Lease) → agrees (ended_where over row t) l ≡ true → agrees t l ≡ true

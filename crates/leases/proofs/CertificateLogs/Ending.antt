@@ -1,5 +1,5 @@
 -- What the end of a lease changes
-use Rattle.leases.proofs.BaseWords.{◌≡◌, ◌≢◌, ◌==◌, ◌∷◌, ℕ, zero, suc, Bool, true, false, List, [], filter, length, map, slice_get, refl, inl, inr, eqb-true, list_any, cases_Bool, and_parts, or_parts, or_from, false≢true, Lease, Leased, without_end, Lent, ended_where, is_unended, agree, agrees, test_of, IsOnlyAt, is_open_of, rules}
+use Rattle.leases.proofs.BaseWords.{false_unless, ◌≡◌, ◌≢◌, ◌==◌, ◌∷◌, ℕ, zero, suc, Bool, true, false, List, [], filter, length, map, slice_get, refl, eqb-true, list_any, and_parts, or_parts, or_from, false≢true, Lease, Leased, without_end, Lent, ended_where, is_unended, agree, agrees, test_of, IsOnlyAt, is_open_of, rules}
 use Rattle.leases.proofs.CertificateLogs.Agreement.{same_beginning}
 
 -- a row of the number of no row ends nothing
@@ -25,7 +25,7 @@ module _ (S : Leased → Bool) (row : ℕ) where
 
   module _ (early : row ≢ without_end) where
     late : (row == without_end) ≡ false
-    late = elim (cases_Bool (row == without_end)) [ inl same ↦ absurd (early (eqb-true row without_end same)) | inr other ↦ other ]
+    late = false_unless _ (λ same. early (eqb-true row without_end same))
 
     -- it is over now
     pub over_now : (t : Lent) → is_open_of S t ≡ true → is_unended (end_at_row t) ≡ false

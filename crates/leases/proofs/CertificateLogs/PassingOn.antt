@@ -1,5 +1,5 @@
 -- The walk along a ring passes a position at which no Link is crossed
-use Rattle.leases.proofs.BaseWords.{◌≡◌, ◌+◌, ◌≤◌, ◌||◌, ◌∙◌, ℕ, Bool, false, not, List, map, sym, ap, refl, inl, inr, subst, cases_Bool, false≢true, length-map, is_crossing, Header, shape_of, Lease, Leased, Block, Link, Range, same_leased, IndexTables, IsFound, Lent, ended_where, is_passed, FollowedList, agree, IsCrossed, FollowsList}
+use Rattle.leases.proofs.BaseWords.{false_unless, ◌≡◌, ◌+◌, ◌≤◌, ◌||◌, ◌∙◌, ℕ, Bool, false, not, List, map, sym, ap, refl, inl, inr, subst, cases_Bool, false≢true, length-map, is_crossing, Header, shape_of, Lease, Leased, Block, Link, Range, same_leased, IndexTables, IsFound, Lent, ended_where, is_passed, FollowedList, agree, IsCrossed, FollowsList}
 use Rattle.leases.proofs.LeaseBooks.Passing.{ended_alike, passed_block}
 use Rattle.leases.proofs.CertificateLogs.Agreement.{agree_unended}
 use Rattle.leases.proofs.CertificateLogs.Tables.{number_of}
@@ -19,10 +19,7 @@ module _ (leases : List Lease) (h : Header) (ts : List Lent) (list : FollowedLis
   by_other = map (ended_where q row) ts
 
   differs : (over : Leased → Bool) → agree ts leases ≡ false → agree (map (ended_where over row) ts) leases ≡ false
-  differs over e = elim (cases_Bool (agree (map (ended_where over row) ts) leases)) [
-    | inl agreed ↦ absurd (false≢true (sym e ∙ agree_unended over row ts leases agreed))
-    | inr other ↦ other
-  ]
+  differs over e = false_unless _ (λ agreed. false≢true (sym e ∙ agree_unended over row ts leases agreed))
 
   -- tests that agree on what can be crossed end alike, while the list agrees; another list stays another one
   pub ended_so : (new : FollowedList) (new_blocks new_links : IndexTables) → FollowsList leases h by_one new new_blocks new_links → FollowsList leases h by_other new new_blocks new_links

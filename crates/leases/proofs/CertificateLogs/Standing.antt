@@ -1,5 +1,5 @@
 -- Where what is lent stands among what was and is lent
-use Rattle.leases.proofs.BaseWords.{◌≡◌, ◌+◌, ◌<◌, ◌%◌, ◌==◌, ◌&&◌, ◌∷◌, ◌∙◌, ℕ, zero, suc, Bool, true, false, List, [], arith, sym, ap, refl, inl, inr, subst, eq-eqb, list_any, cases_Bool, and_parts, false≢true, or_from, place_count, link_of, Header, shape_of, Leased, Block, Link, Range, Use, same_leased, leased_is, AllUnended, Lent, is_place_free, is_unended, share_a_place, StandsAt, is_lent, IsOnlyAt, BlockPlace, LinkPlace, RingPlace, has_place, is_open_of}
+use Rattle.leases.proofs.BaseWords.{and_false, false_unless, ◌≡◌, ◌+◌, ◌<◌, ◌%◌, ◌==◌, ◌&&◌, ◌∷◌, ◌∙◌, ℕ, zero, suc, Bool, true, false, List, [], arith, sym, ap, refl, inl, inr, subst, eq-eqb, list_any, cases_Bool, and_parts, false≢true, place_count, link_of, Header, shape_of, Leased, Block, Link, Range, Use, same_leased, leased_is, AllUnended, Lent, is_place_free, is_unended, share_a_place, StandsAt, is_lent, IsOnlyAt, BlockPlace, RingPlace, has_place, is_open_of}
 use Rattle.leases.proofs.LeaseBooks.EndingRange.{either_holds, not_later}
 use Rattle.leases.proofs.LeaseBooks.Places.{not_true}
 
@@ -8,10 +8,7 @@ module _ (l : Leased) where
   is_this = is_open_of (same_leased l)
 
   none_later : (i n : ℕ) (ts : List Lent) → i < n → AllUnended (λ j m. m ≡ l → j ≡ i) n ts → list_any is_this ts ≡ false
-  none_later i n ts early all = elim (cases_Bool (list_any is_this ts)) [
-    | inl some ↦ absurd (not_later l i n ts early all some)
-    | inr none ↦ none
-  ]
+  none_later i n ts early all = false_unless _ (λ some. not_later l i n ts early all some)
 
   only_there : (n i : ℕ) (ts : List Lent) → AllUnended (λ j m. m ≡ l → j ≡ n + i) n ts → list_any is_this ts ≡ true → IsOnlyAt is_this i ts
   only_there n i [] all some = absurd (false≢true some)
@@ -37,7 +34,7 @@ module _ (l : Leased) where
       let at : i ≡ 0 + i = omega arith in
       only_there 0 i ts (subst (λ (m : ℕ). StandsAt ts l m) at stands) lent
 
-itself : (a b : ℕ) → (a == a && b == b) ≡ true
+pub itself : (a b : ℕ) → (a == a && b == b) ≡ true
 itself a b = rw (eq-eqb a a refl, eq-eqb b b refl) refl
 
 module _ (h : Header) where
@@ -50,12 +47,8 @@ module _ (h : Header) where
 
   -- what shares a place with itself is the same as nothing that doesn't share it
   pub apart_less : (l : Leased) → share_a_place h l l ≡ true → (x : Leased) → share_a_place h l x ≡ false → same_leased l x ≡ false
-  apart_less l shares x apart = elim (cases_Bool (same_leased l x)) [
-    | inl same ↦
-        let here : share_a_place h l x ≡ share_a_place h l l = ap (share_a_place h l) (sym (leased_is l x same)) in
-        absurd (false≢true (sym apart ∙ here ∙ shares))
-    | inr other ↦ other
-  ]
+  apart_less l shares x apart =
+      false_unless _ (λ same. false≢true (sym apart ∙ ap (share_a_place h l) (sym (leased_is l x same)) ∙ shares))
 
   -- nothing is open at a place that is free, nor at the place of a range
   pub free_none : (ts : List Lent) (l : Leased) → is_place_free h ts l ≡ true → list_any (is_open_of (share_a_place h l)) ts ≡ false
@@ -64,13 +57,9 @@ module _ (h : Header) where
 
   pub range_none : (n a : ℕ) (e : Use) (ts : List Lent) → list_any (is_open_of (share_a_place h (Range n a e))) ts ≡ false
   range_none n a e [] = refl
-  range_none n a e (t ∷ ts) = or_from (is_unended t && false) (list_any (is_open_of (share_a_place h (Range n a e))) ts) (none (is_unended t)) (range_none n a e ts)
-    where
-      none : (b : Bool) → (b && false) ≡ false
-      none true = refl
-      none false = refl
+  range_none n a e (t ∷ ts) = rw (and_false (is_unended t)) (range_none n a e ts)
 
   -- a range has no place
   pub range_apart : (n a : ℕ) (e : Use) (m : RingPlace) → has_place h m (Range n a e) ≡ false
   range_apart n a e (BlockPlace r i) = refl
-  range_apart n a e (LinkPlace r i) = refl
+  range_apart n a e _ = refl

@@ -1,8 +1,8 @@
 -- A number is put for the place of a lease
-use Rattle.leases.proofs.BaseWords.{◌≡◌, ◌%◌, ◌==◌, ◌&&◌, ◌∙◌, ℕ, true, false, sym, ap, refl, eqb-true, eq-eqb, and_parts, false≢true, place_count, link_of, Header, shape_of, Leased, Block, Link, Range, Use, IndexTables, index_at, share_a_place, FindsPlaces, IsOnly, is_open_of, is_unended, Lent, List, BlockPlace, LinkPlace, RingPlace, has_place, number_at, rules}
+use Rattle.leases.proofs.BaseWords.{◌≡◌, ◌%◌, ◌==◌, ◌&&◌, ◌∙◌, ℕ, true, false, sym, ap, refl, eqb-true, and_parts, false≢true, place_count, link_of, Header, shape_of, Leased, Block, Link, Range, Use, IndexTables, index_at, share_a_place, FindsPlaces, IsOnly, is_open_of, is_unended, Lent, List, BlockPlace, LinkPlace, RingPlace, has_place, number_at, rules}
 use Rattle.leases.proofs.LeaseBooks.Places.{IsPut, elsewhere}
 use Rattle.leases.proofs.CertificateLogs.OpenPlaces.{only_same}
-use Rattle.leases.proofs.CertificateLogs.Standing.{range_none}
+use Rattle.leases.proofs.CertificateLogs.Standing.{itself, range_none}
 
 -- the number of its place, and of no other, is this one now
 pub record IsNumbered (h : Header) (blocks links new_blocks new_links : IndexTables) (l : Leased) (n : ℕ) : Type 0 where
@@ -15,11 +15,8 @@ same_test r s u v a b e f = rw (e, f) refl
 same_index : (t : IndexTables) (r s u v : ℕ) → r ≡ s → u ≡ v → index_at t r u ≡ index_at t s v
 same_index t r s u v e f = ap (λ i. index_at t i u) e ∙ ap (index_at t s) f
 
-own : (a b : ℕ) → (a == a && b == b) ≡ true
-own a b = rw (eq-eqb a a refl, eq-eqb b b refl) refl
-
 turned : (r s u v : ℕ) → (r == s && u == v) ≡ false → (s == r && v == u) ≡ false
-turned r s u v e = search (rules, and_parts, false≢true, same_test, eqb-true, own)
+turned r s u v e = search (rules, and_parts, false≢true, same_test, eqb-true, itself)
 
 module _ (h : Header) where
   abbrev place : ℕ → ℕ → ℕ
@@ -59,6 +56,6 @@ module _ (h : Header) where
 
   -- what is open at the place of a lease has its number
   pub places_of : (ts : List Lent) (blocks links : IndexTables) → FindsPlaces h ts blocks links → (l : Leased) → IsOnly (is_open_of (share_a_place h l)) (number_of blocks links l) ts
-  places_of ts blocks links found (Block r p) = of_place ts (BlockPlace r (place r p)) (Block r p) (own r (place r p)) (index_at blocks r (place r p)) (found (BlockPlace r (place r p)))
-  places_of ts blocks links found (Link r q) = of_place ts (LinkPlace r (segment r q)) (Link r q) (own r (segment r q)) (index_at links r (segment r q)) (found (LinkPlace r (segment r q)))
+  places_of ts blocks links found (Block r p) = of_place ts (BlockPlace r (place r p)) (Block r p) (itself r (place r p)) (index_at blocks r (place r p)) (found (BlockPlace r (place r p)))
+  places_of ts blocks links found (Link r q) = of_place ts (LinkPlace r (segment r q)) (Link r q) (itself r (segment r q)) (index_at links r (segment r q)) (found (LinkPlace r (segment r q)))
   places_of ts blocks links found (Range n a e) = range_none h n a e ts

@@ -1,5 +1,5 @@
 -- Before the first row the event segments are under lease, and nothing else
-use Rattle.leases.proofs.BaseWords.{◌≡◌, ◌*◌, ◌&&◌, ◌∷◌, ◌++◌, ◌∙◌, ℕ, Bool, true, false, List, [], filter, map, subst, sym, ap, refl, append-nil, is_crossing, due_crossings, due_positions, leased_crossings, leased_positions, is_handed_over, new_ring, Segment, Header, Ring, Erstba, command_id, driver_rings, event_shape, shape_of, nothing, Leased, Block, Link, Range, EventSegment, context_ranges, device_ranges, entry_ranges, open_leases, open_on, open_ranges, range_of_command, range_of_device, range_of_entry, segment_ranges, slots, table_range, as_lease, in_order, without_end, IsIn, IndexTables, begun_at, in_turn, lease_of, lents, with_begun, AllUnended, IsFound, segment_lease, rules}
+use Rattle.leases.proofs.BaseWords.{and_false, ◌≡◌, ◌*◌, ◌∷◌, ◌++◌, ◌∙◌, ℕ, Bool, false, List, [], filter, map, subst, sym, ap, refl, append-nil, is_crossing, due_crossings, due_positions, leased_crossings, leased_positions, is_handed_over, new_ring, Segment, Header, Ring, Erstba, command_id, driver_rings, event_shape, shape_of, nothing, Leased, Range, EventSegment, context_ranges, device_ranges, entry_ranges, open_leases, open_on, open_ranges, range_of_command, range_of_device, range_of_entry, segment_ranges, slots, table_range, as_lease, in_order, without_end, IsIn, IndexTables, begun_at, in_turn, lease_of, lents, with_begun, AllUnended, IsFound, segment_lease, rules}
 use Rattle.ring_knowledge.specs.Rings as rings
 use Rattle.leases.proofs.LeaseBooks.Growing.{map_map, sorted}
 use Rattle.leases.proofs.LeaseBooks.Rows.{all_new, from_turn}
@@ -7,10 +7,6 @@ use Rattle.leases.proofs.LeaseBooks.SameLeases.{flat_none}
 use Rattle.leases.proofs.LeaseBooks.Members.{from_map}
 use Rattle.leases.proofs.LeaseBooks.RangesAlone.{IsRange}
 use Rattle.leases.proofs.LeaseBooks.Unended.{all_anew}
-
-and_false : (b : Bool) → (b && false) ≡ false
-and_false true = refl
-and_false false = refl
 
 none_passes : {X : Type 0} (p : X → Bool) (xs : List X) → ((x : X) → p x ≡ false) → filter p xs ≡ []
 none_passes p [] none = refl
@@ -69,6 +65,5 @@ module _ (h : Header) where
       (all_new IsRange 0 0 (in_turn (open_leases h nothing)) first_are_ranges)
     where
       found : (i : ℕ) (l : Leased) → IsRange l → IsFound h blocks links i l
-      found i (Block r p) is = absurd is
-      found i (Link r q) is = absurd is
       found i (Range n a e) is = tt
+      found i _ is = absurd is

@@ -1,8 +1,7 @@
 -- No lease that is open shares its Link with a due crossing that isn't given
-use Rattle.leases.proofs.BaseWords.{◌≡◌, ◌+◌, ◌<◌, ◌≤◌, ◌==◌, ◌&&◌, ◌∙◌, ℕ, true, false, not, nat_lt, List, max, Some, arith, sym, ap, refl, inl, inr, subst, eqb-true, flat_map, cases_Bool, false≢true, and_parts, nat_tests, Shape, IsShape, is_crossing, place_count, link_of, RingView, floor_number, crossed_link, crossing_positive, Header, Ring, driver_rings, shape_of, Known, link_of-crossed, same_due_crossing, Leased, Block, Link, Range, is_among, open_leases, open_on, open_ranges, IsIn, among_is, is_place_free, share_a_place, Lent, AreOpen}
-use Rattle.leases.proofs.LeaseBooks.FreePlaces.{none_shares}
-use Rattle.leases.proofs.LeaseBooks.Members.{InOn, block, link, from_flat_map, in_either, in_on}
-use Rattle.leases.proofs.LeaseBooks.RangesAlone.{IsRange, open_are_ranges}
+use Rattle.leases.proofs.BaseWords.{false_unless, ◌≡◌, ◌+◌, ◌<◌, ◌≤◌, ◌==◌, ◌&&◌, ◌∙◌, ℕ, true, false, nat_lt, List, max, Some, arith, sym, ap, refl, inl, inr, subst, eqb-true, cases_Bool, false≢true, and_parts, nat_tests, Shape, IsShape, is_crossing, place_count, link_of, RingView, floor_number, crossed_link, crossing_positive, Header, Ring, driver_rings, shape_of, Known, link_of-crossed, same_due_crossing, Leased, Link, IsIn, is_place_free, share_a_place, Lent, AreOpen}
+use Rattle.leases.proofs.LeaseBooks.FreePlaces.{none_open_shares}
+use Rattle.leases.proofs.LeaseBooks.Members.{InOn, block, link}
 use Rattle.leases.proofs.LeaseBooks.Writing.{AreShaped}
 
 -- a lap ahead of the least crossing that may be due none is given
@@ -39,39 +38,20 @@ module _ (h : Header) (shaped : AreShaped h) (k : Known) (q : Ring) (among : IsI
 
   apart_on : (s : Ring) → IsIn s (driver_rings h) → (l : Leased) → InOn s (k.ring s.id) l → share_a_place h (Link q.id c) l ≡ false
   apart_on s at _ (block m least most given) = refl
-  apart_on s at _ (link m from most crossed) =
-      elim (cases_Bool (q.id == s.id && link_of (shape_of h q.id) c == link_of (shape_of h s.id) m)) [
-        | inl shares ↦
-            let both = and_parts (q.id == s.id) (link_of (shape_of h q.id) c == link_of (shape_of h s.id) m) shares in
-            let ids : s.id ≡ q.id = sym (eqb-true q.id s.id both.0) in
-            let shapes : s.shape ≡ q.shape = sym (shaped s at) ∙ ap (shape_of h) ids ∙ shaped q among in
-            let from' : floor_number (k.ring q.id) ≤ m = subst (λ (i : ℕ). floor_number (k.ring i) ≤ m) ids from in
-            let crossed' : (is_crossing q.shape m && (k.ring q.id).crossed m) ≡ true =
-            subst (λ (x : Shape). (is_crossing x m && (k.ring q.id).crossed m) ≡ true) shapes (subst (λ (i : ℕ). (is_crossing s.shape m && (k.ring i).crossed m) ≡ true) ids crossed) in
-            let links : link_of q.shape c ≡ link_of q.shape m =
-            ap (λ x. link_of x c) (sym (shaped q among)) ∙ eqb-true _ _ both.1 ∙ ap (λ x. link_of x m) (shaped s at ∙ shapes) in
-            absurd (other_link m from' crossed' links)
-        | inr differ ↦ differ
-      ]
-
-  apart_range : (l : Leased) → IsRange l → share_a_place h (Link q.id c) l ≡ false
-  apart_range (Block s m) is = absurd is
-  apart_range (Link s m) is = absurd is
-  apart_range (Range n a e) is = refl
-
-  apart : (l : Leased) → is_among (open_leases h k) l ≡ true → share_a_place h (Link q.id c) l ≡ false
-  unfolding open_leases
-  apart l e = elim (in_either l (flat_map (open_on h k) (driver_rings h)) (open_ranges h k) (among_is _ l e)) [
-    | inl on ↦ let found = from_flat_map (open_on h k) (driver_rings h) l on in apart_on found.0 found.1 l (in_on h k found.0 l found.2)
-    | inr range ↦ apart_range l (open_are_ranges h k l range)
-  ]
+  apart_on s at _ (link m from most crossed) = false_unless _ (λ shares.
+      let both = and_parts (q.id == s.id) (link_of (shape_of h q.id) c == link_of (shape_of h s.id) m) shares in
+      let ids : s.id ≡ q.id = sym (eqb-true q.id s.id both.0) in
+      let shapes : s.shape ≡ q.shape = sym (shaped s at) ∙ ap (shape_of h) ids ∙ shaped q among in
+      let from' : floor_number (k.ring q.id) ≤ m = subst (λ (i : ℕ). floor_number (k.ring i) ≤ m) ids from in
+      let crossed' : (is_crossing q.shape m && (k.ring q.id).crossed m) ≡ true = (λ i. is_crossing (sym shapes i) m && (k.ring (sym ids i)).crossed m) ∙ crossed in
+      let links : link_of q.shape c ≡ link_of q.shape m =
+      ap (λ x. link_of x c) (sym (shaped q among)) ∙ eqb-true _ _ both.1 ∙ ap (λ x. link_of x m) (shaped s at ∙ shapes) in
+      other_link m from' crossed' links)
 
 -- the Link of a due crossing that isn't given is free
 pub link_free : (h : Header) → AreShaped h → (k : Known) (ts : List Lent) → AreOpen h k ts → (q : Ring) → IsIn q (driver_rings h) → IsShape q.shape →
     NoneAhead q.shape (k.ring q.id) → (c : ℕ) → is_crossing q.shape c ≡ true → floor_number (k.ring q.id) ≤ c →
     c < max (floor_number (k.ring q.id)) 1 + place_count q.shape → (k.ring q.id).crossed c ≡ false →
     is_place_free h ts (Link q.id c) ≡ true
-unfolding is_place_free
 link_free h shaped k ts still q among allowed ahead c crossing low high absent =
-    ap not (none_shares (λ l. is_among (open_leases h k) l ≡ true) (share_a_place h (Link q.id c)) 0 ts
-    (λ l is_open. apart h shaped k q among allowed ahead c crossing low high absent l is_open) still)
+    none_open_shares h k ts still (Link q.id c) (apart_on h shaped k q among allowed ahead c crossing low high absent)

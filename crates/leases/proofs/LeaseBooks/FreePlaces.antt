@@ -1,7 +1,7 @@
 -- No lease that is open shares its place with a position that isn't handed over
-use Rattle.leases.proofs.BaseWords.{◌≡◌, ◌+◌, ◌%◌, ◌<◌, ◌≤◌, ◌==◌, ◌&&◌, ◌∷◌, ◌∙◌, ℕ, Bool, true, false, not, List, [], sym, ap, refl, inl, inr, subst, eqb-true, flat_map, list_any, cases_Bool, false≢true, and_parts, Shape, place_count, floor_number, is_handed_over, Header, Ring, driver_rings, shape_of, Known, same_due, Leased, Block, Link, Range, is_among, open_leases, open_on, open_ranges, IsIn, among_is, Lent, is_place_free, is_unended, share_a_place, AllUnended, AreOpen}
-use Rattle.leases.proofs.LeaseBooks.Members.{InOn, block, link, from_flat_map, in_either, in_on}
-use Rattle.leases.proofs.LeaseBooks.RangesAlone.{IsRange, open_are_ranges}
+use Rattle.leases.proofs.BaseWords.{false_unless, ◌≡◌, ◌+◌, ◌%◌, ◌<◌, ◌≤◌, ◌==◌, ◌&&◌, ◌∷◌, ◌∙◌, ℕ, Bool, true, false, not, List, [], sym, ap, refl, inl, inr, subst, eqb-true, list_any, cases_Bool, false≢true, and_parts, Shape, place_count, floor_number, is_handed_over, Header, Ring, driver_rings, shape_of, Known, same_due, Leased, Block, Range, is_among, open_leases, IsIn, Lent, is_place_free, is_unended, share_a_place, AllUnended, AreOpen}
+use Rattle.leases.proofs.LeaseBooks.Members.{InOn, block, link}
+use Rattle.leases.proofs.LeaseBooks.RangesAlone.{IsRange, each_open, open_are_ranges}
 use Rattle.leases.proofs.LeaseBooks.Writing.{AreShaped}
 
 pub none_shares : (P : Leased → Type 0) (S : Leased → Bool) (i : ℕ) (ts : List Lent) → ((l : Leased) → P l → S l ≡ false) → AllUnended (λ j l. P l) i ts →
@@ -11,6 +11,20 @@ none_shares P S i (t ∷ ts) apart all = elim (cases_Bool (is_unended t)) [
   | inl unended ↦ rw (unended, apart t.leased (all.0 unended)) (none_shares P S (i + 1) ts apart all.1)
   | inr over ↦ rw over (none_shares P S (i + 1) ts apart all.1)
 ]
+
+-- a range shares no place
+apart_range : (h : Header) (x l : Leased) → IsRange l → share_a_place h x l ≡ false
+apart_range h (Block r p) (Range n a e) is = refl
+apart_range h _ (Range n a e) is = refl
+apart_range h _ _ is = absurd is
+
+-- where nothing that is open on a ring shares its place, it is free
+pub none_open_shares : (h : Header) (k : Known) (ts : List Lent) → AreOpen h k ts → (x : Leased) →
+    ((s : Ring) → IsIn s (driver_rings h) → (l : Leased) → InOn s (k.ring s.id) l → share_a_place h x l ≡ false) → is_place_free h ts x ≡ true
+unfolding is_place_free
+none_open_shares h k ts still x apart =
+    ap not (none_shares (λ l. is_among (open_leases h k) l ≡ true) (share_a_place h x) 0 ts
+    (each_open h k (λ l. share_a_place h x l ≡ false) apart (λ l range. apart_range h x l (open_are_ranges h k l range))) still)
 
 module _ (h : Header) (shaped : AreShaped h) (k : Known) (q : Ring) (among : IsIn q (driver_rings h)) (p : ℕ)
     (some : 0 < place_count q.shape) (low : floor_number (k.ring q.id) ≤ p) (high : p < floor_number (k.ring q.id) + place_count q.shape) (absent : is_handed_over (k.ring q.id) p ≡ false) where
@@ -28,35 +42,16 @@ module _ (h : Header) (shaped : AreShaped h) (k : Known) (q : Ring) (among : IsI
       false≢true (sym absent ∙ ap (is_handed_over (k.ring q.id)) same ∙ there)
 
   apart_on : (s : Ring) → IsIn s (driver_rings h) → (l : Leased) → InOn s (k.ring s.id) l → share_a_place h (Block q.id p) l ≡ false
-  apart_on s at _ (block m least most lent) =
-      elim (cases_Bool (q.id == s.id && p % place_count (shape_of h q.id) == m % place_count (shape_of h s.id))) [
-        | inl shares ↦
-            let both = and_parts (q.id == s.id) (p % place_count (shape_of h q.id) == m % place_count (shape_of h s.id)) shares in
-            absurd (same_place s at m (eqb-true q.id s.id both.0) least most lent (eqb-true _ _ both.1))
-        | inr differ ↦ differ
-      ]
+  apart_on s at _ (block m least most lent) = false_unless _ (λ shares.
+      let both = and_parts (q.id == s.id) (p % place_count (shape_of h q.id) == m % place_count (shape_of h s.id)) shares in
+      same_place s at m (eqb-true q.id s.id both.0) least most lent (eqb-true _ _ both.1))
   apart_on s at _ (link c least most crossed) = refl
-
-  apart_range : (l : Leased) → IsRange l → share_a_place h (Block q.id p) l ≡ false
-  apart_range (Block s m) is = absurd is
-  apart_range (Link s m) is = absurd is
-  apart_range (Range n a e) is = refl
-
-  apart : (l : Leased) → is_among (open_leases h k) l ≡ true → share_a_place h (Block q.id p) l ≡ false
-  unfolding open_leases
-  apart l e = elim (in_either l (flat_map (open_on h k) (driver_rings h)) (open_ranges h k) (among_is _ l e)) [
-    | inl on ↦ let found = from_flat_map (open_on h k) (driver_rings h) l on in apart_on found.0 found.1 l (in_on h k found.0 l found.2)
-    | inr range ↦ apart_range l (open_are_ranges h k l range)
-  ]
 
 -- the place of a due position that isn't handed over is free
 pub unlent_free : (h : Header) → AreShaped h → (k : Known) (ts : List Lent) → AreOpen h k ts → (q : Ring) → IsIn q (driver_rings h) → (p : ℕ) → 0 < place_count q.shape →
     floor_number (k.ring q.id) ≤ p → p < floor_number (k.ring q.id) + place_count q.shape → is_handed_over (k.ring q.id) p ≡ false →
     is_place_free h ts (Block q.id p) ≡ true
-unfolding is_place_free
-unlent_free h shaped k ts still q among p some low high absent =
-    ap not (none_shares (λ l. is_among (open_leases h k) l ≡ true) (share_a_place h (Block q.id p)) 0 ts
-    (λ l is_open. apart h shaped k q among p some low high absent l is_open) still)
+unlent_free h shaped k ts still q among p some low high absent = none_open_shares h k ts still (Block q.id p) (apart_on h shaped k q among p some low high absent)
 
 -- and that of one that isn't given
 pub block_free : (h : Header) → AreShaped h → (k : Known) (ts : List Lent) → AreOpen h k ts → (q : Ring) → IsIn q (driver_rings h) → (p : ℕ) → 0 < place_count q.shape →

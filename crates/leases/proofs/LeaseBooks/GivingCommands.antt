@@ -3,8 +3,8 @@
 use Rattle.leases.proofs.BaseWords.{◌≡◌, ◌≢◌, ◌+◌, ◌<◌, ◌≤◌, ◌==◌, ◌&&◌, ◌||◌, if◌then◌else◌, ◌∷◌, ◌++◌, ◌∙◌, ℕ, Bool, true, false, not, List, [], filter, map, Option, Some, None, option_and_then, zero, suc, arith, sym, ap, refl, inl, inr, subst, eqb-true, eq-eqb, append-nil, flat_map, range_with_len, cases_Bool, false≢true, or_left, filter-append, place_count, RingView, due_positions, floor_number, gives, leased_crossings, leased_positions, positions_given, command_of, device_context_bytes, Header, Ring, Write, Erstba, command_id, driver_rings, shape_of, Known, learned, command_given, entry_of, taken_device, with_device, with_word, written, Leased, Block, Link, Range, Use, InputContext, SlotEntry, DeviceContext, context_ranges, device_ranges, entry_ranges, is_among, open_leases, open_on, open_ranges, range_of_command, range_of_device, range_of_entry, segment_ranges, slots, table_range, begun, IsIn, among_is, from_filter, in_among, in_filter, in_turn, with_begun, Lent, grown, FreeWasGiven, AreOpen, rules}
 use Rattle.ring_knowledge.specs.Rings as rings
 use Rattle.leases.proofs.LeaseBooks.FreeRanges.{of_open}
-use Rattle.leases.proofs.LeaseBooks.LettingGo.{HasUse, use_of_command}
-use Rattle.leases.proofs.LeaseBooks.Members.{from_flat_map, from_range, in_either, in_flat_map, in_left, in_right}
+use Rattle.leases.proofs.LeaseBooks.LettingGo.{HasUse, only, use_of_command}
+use Rattle.leases.proofs.LeaseBooks.Members.{either_into, five_into, from_flat_map, from_range, in_flat_map, in_left, in_right}
 use Rattle.leases.proofs.LeaseBooks.Rows.{none_new, only_begun}
 use Rattle.leases.proofs.LeaseBooks.SameLeases.{flat_alike}
 use Rattle.leases.proofs.LeaseBooks.Writing.{AreShaped, filter_flat_map, kept_on_rings, lease_given, new_on_rings}
@@ -17,7 +17,7 @@ new_ones : {X : Type 0} (f g : ℕ → List X) (old t : ℕ → Bool) (xs : List
 new_ones f g old t [] none same = refl
 new_ones f g old t (x ∷ xs) none same = search (rules, new_ones f g old t xs (λ p at. none p (inr at)) (λ p at. same p (inr at)))
 
-none_at : {X : Type 0} (f : ℕ → List X) (xs : List ℕ) → ((p : ℕ) → IsIn p xs → f p ≡ []) → flat_map f xs ≡ []
+pub none_at : {X : Type 0} (f : ℕ → List X) (xs : List ℕ) → ((p : ℕ) → IsIn p xs → f p ≡ []) → flat_map f xs ≡ []
 none_at f [] none = refl
 none_at f (x ∷ xs) none = rw (none x (inl refl)) (none_at f xs (λ p at. none p (inr at)))
 
@@ -164,20 +164,27 @@ module _ (h : Header) (shaped : AreShaped h) (k : Known) (freed : FreeWasGiven h
   context_was : (p : ℕ) → IsIn p due → commands.given p ≡ true → (l : Leased) → IsIn l (context_at p) → IsOpen l
   context_was p at given l there = in_contexts l (subst (IsIn l) (sym contexts_before) (in_flat_map context_at (filter commands.given due) p l (in_filter commands.given due p at given) there))
 
-  context_open : (p : ℕ) → commands.given p ≡ false → (l : Leased) → HasUse (InputContext p) l → IsOpen l → ⊥
+  -- what a range is for that isn't open
+  abbrev IsUnused : Use → Type 0
+  IsUnused (InputContext p) = commands.given p ≡ false
+  IsUnused (SlotEntry s) = k.device s ≡ None
+  IsUnused (DeviceContext s) = k.device s ≡ None
+  IsUnused _ = ⊥
+
+  unused_open : (u : Use) → IsUnused u → (l : Leased) → HasUse u l → IsOpen l → ⊥
   unfolding rings.unfinished_positions
-  context_open p absent l has there =
-      of_open h k (λ m. HasUse (InputContext p) m → ⊥) (record {
+  unused_open u unused l has there =
+      let slot_unused : (d : ℕ) (o : Option ℕ) → o ≡ Some d → o ≡ None → ⊥ = λ d o some none. let clash : None ≡ Some d = sym none ∙ some in cc in
+      of_open h k (λ m. HasUse u m → ⊥) (record {
         blocks = λ r q x. x;
         links = λ r q x. x;
-        segments = λ n x e. cc;
-        table = λ n x e. cc;
+        segments = λ n x e. subst IsUnused (sym e) unused;
+        table = λ n x e. subst IsUnused (sym e) unused;
         contexts = λ n x q at e.
-            let same : q ≡ p = cc in
-            let given = (from_filter commands.given (due_positions (shape_of h (command_id h)) commands) q at).1 in
-            false≢true (sym absent ∙ ap commands.given (sym same) ∙ given);
-        entries = λ n x t d some e. cc;
-        devices = λ n x t d some e. cc;
+            let absent : commands.given q ≡ false = subst IsUnused (sym e) unused in
+            false≢true (sym absent ∙ (from_filter commands.given (due_positions (shape_of h (command_id h)) commands) q at).1);
+        entries = λ n x t d some e. slot_unused d (k.device t) some (subst IsUnused (sym e) unused);
+        devices = λ n x t d some e. slot_unused d (k.device t) some (subst IsUnused (sym e) unused);
       }) l (in_among (open_leases h k) l there) has
 
   new_contexts : filter IsNew (context_ranges h after) ≡ contexts_given h k a w
@@ -187,7 +194,7 @@ module _ (h : Header) (shaped : AreShaped h) (k : Known) (freed : FreeWasGiven h
       ∙ filter_flat_map IsNew context_at (filter (λ p. commands.given p || is_given p) due)
       ∙ new_ones context_at (λ p. filter IsNew (context_at p)) commands.given is_given due
       (λ p at given. old_fail (context_at p) (context_was p at given))
-      (λ p at absent new. new_pass (context_at p) (λ l there. context_open p absent l (use_of_command h p (rings.command_at h k p) l there)))
+      (λ p at absent new. new_pass (context_at p) (λ l there. unused_open (InputContext p) absent l (use_of_command h p (rings.command_at h k p) l there)))
 
   contexts_stay : (l : Leased) → IsIn l (context_ranges h k) → IsIn l (context_ranges h after)
   contexts_stay l at =
@@ -211,36 +218,6 @@ module _ (h : Header) (shaped : AreShaped h) (k : Known) (freed : FreeWasGiven h
   device_was : (s : ℕ) → IsIn s slots → (l : Leased) → IsIn l (range_of_device h s (k.device s)) → IsOpen l
   unfolding device_ranges
   device_was s at l there = in_devices l (in_flat_map (λ t. range_of_device h t (k.device t)) slots s l at there)
-
-  none_known : (s t d : ℕ) → k.device s ≡ None → k.device t ≡ Some d → t ≡ s → ⊥
-  none_known s t d none some same = let clash : None ≡ Some d = sym none ∙ ap k.device (sym same) ∙ some in cc
-
-  entry_open : (s : ℕ) → k.device s ≡ None → (l : Leased) → HasUse (SlotEntry s) l → IsOpen l → ⊥
-  entry_open s none l has there =
-      of_open h k (λ m. HasUse (SlotEntry s) m → ⊥) (record {
-        blocks = λ r q x. x;
-        links = λ r q x. x;
-        segments = λ n x e. cc;
-        table = λ n x e. cc;
-        contexts = λ n x q at e. cc;
-        entries = λ n x t d some e. none_known s t d none some (cc);
-        devices = λ n x t d some e. cc;
-      }) l (in_among (open_leases h k) l there) has
-
-  device_open : (s : ℕ) → k.device s ≡ None → (l : Leased) → HasUse (DeviceContext s) l → IsOpen l → ⊥
-  device_open s none l has there =
-      of_open h k (λ m. HasUse (DeviceContext s) m → ⊥) (record {
-        blocks = λ r q x. x;
-        links = λ r q x. x;
-        segments = λ n x e. cc;
-        table = λ n x e. cc;
-        contexts = λ n x q at e. cc;
-        entries = λ n x t d some e. cc;
-        devices = λ n x t d some e. none_known s t d none some (cc);
-      }) l (in_among (open_leases h k) l there) has
-
-  only : (l m : Leased) (u : Use) → HasUse u m → IsIn l (m ∷ []) → HasUse u l
-  only l m u has at = elim at [ inl here ↦ subst (HasUse u) (sym here) has | inr nowhere ↦ absurd nowhere ]
 
   -- where each slot has ranges by its device, those that are new are those of the slot that takes one
   module _ (ranges : ℕ → Option ℕ → List Leased) (nothing : (s : ℕ) → ranges s None ≡ []) (was : (s : ℕ) → IsIn s slots → (l : Leased) → IsIn l (ranges s (k.device s)) → IsOpen l) where
@@ -303,7 +280,7 @@ module _ (h : Header) (shaped : AreShaped h) (k : Known) (freed : FreeWasGiven h
   unfolding range_of_entry
   new_entries =
       ap (filter IsNew) entries_after
-      ∙ new_slots (range_of_entry k) nothing_entry entry_was (λ s d none l at. entry_open s none l (only l (Range 8 (entry_of k s) (SlotEntry s)) (SlotEntry s) refl at))
+      ∙ new_slots (range_of_entry k) nothing_entry entry_was (λ s d none l at. unused_open (SlotEntry s) none l (only _ l (SlotEntry s) refl at))
       ∙ by taken
     where
       by : (o : Option (ℕ × ℕ)) → taken_by (range_of_entry k) nothing_entry entry_was o ≡ entry_taken k o
@@ -313,7 +290,7 @@ module _ (h : Header) (shaped : AreShaped h) (k : Known) (freed : FreeWasGiven h
   new_devices : filter IsNew (device_ranges h after) ≡ device_taken h taken
   unfolding range_of_device device_ranges
   new_devices =
-      new_slots (range_of_device h) nothing_device device_was (λ s d none l at. device_open s none l (only l (Range (device_context_bytes h.context_size) d (DeviceContext s)) (DeviceContext s) refl at))
+      new_slots (range_of_device h) nothing_device device_was (λ s d none l at. unused_open (DeviceContext s) none l (only _ l (DeviceContext s) refl at))
       ∙ by taken
     where
       by : (o : Option (ℕ × ℕ)) → taken_by (range_of_device h) nothing_device device_was o ≡ device_taken h o
@@ -329,27 +306,15 @@ module _ (h : Header) (shaped : AreShaped h) (k : Known) (freed : FreeWasGiven h
   unfolding open_leases open_ranges
   new_leases = search (rules, table_range, context_ranges, entry_ranges, device_ranges, table_after, old_fail, in_first, in_right, in_left, filter-append, open_on, driver_rings, new_rings, lease_given, new_contexts, new_entries, new_devices)
 
-  both_stay : (l : Leased) (xs ys us vs : List Leased) → (IsIn l xs → IsIn l us) → (IsIn l ys → IsIn l vs) → IsIn l (xs ++ ys) → IsIn l (us ++ vs)
-  both_stay l xs ys us vs x y at = elim (in_either l xs ys at) [ inl here ↦ in_left l us vs (x here) | inr there ↦ in_right l us vs (y there) ]
-
   pub all_kept : (l : Leased) → is_among (open_leases h k) l ≡ true → is_among (open_leases h after) l ≡ true
   unfolding open_leases open_ranges device_ranges
   all_kept l e =
-      let t' : List Leased = table_range h (after.register Erstba) in
-      let c' : List Leased = context_ranges h after in
-      let e' : List Leased = entry_ranges after in
-      let d' : List Leased = device_ranges h after in
       in_among (open_leases h after) l
-      (both_stay l (flat_map (open_on h k) (driver_rings h)) (open_ranges h k) (flat_map (open_on h after) (driver_rings h)) (open_ranges h after)
+      (either_into (IsIn l) (in_left l) (in_right l) l (flat_map (open_on h k) (driver_rings h)) (open_ranges h k) (flat_map (open_on h after) (driver_rings h)) (open_ranges h after)
       (λ here. subst (IsIn l) (sym rings_after) (kept_on_rings h shaped k freed a w l here))
-      (both_stay l (part_s ++ part_t ++ part_c ++ part_e) part_d (part_s ++ t' ++ c' ++ e') d'
-      (both_stay l (part_s ++ part_t ++ part_c) part_e (part_s ++ t' ++ c') e'
-      (both_stay l (part_s ++ part_t) part_c (part_s ++ t') c'
-      (both_stay l part_s part_t part_s t' (λ here. here) (λ here. subst (IsIn l) (sym table_after) here))
-      (contexts_stay l))
-      (λ here. subst (IsIn l) (sym entries_after) (entries_in l here)))
-      (λ here. slots_stay (range_of_device h) nothing_device device_was l here))
-      (among_is (open_leases h k) l e))
+      (five_into (IsIn l) (in_left l) (in_right l) l part_s part_t part_c part_e part_d part_s (table_range h (after.register Erstba)) (context_ranges h after) (entry_ranges after) (device_ranges h after)
+      (λ here. here) (λ here. subst (IsIn l) (sym table_after) here) (contexts_stay l) (λ here. subst (IsIn l) (sym entries_after) (entries_in l here))
+      (λ here. slots_stay (range_of_device h) nothing_device device_was l here)) (among_is (open_leases h k) l e))
 
 -- ---- the law
 

@@ -1,7 +1,7 @@
 -- A command comes to its end: the range of its input context is let go, and with a slot that is disabled those of its entry and device context
-use Rattle.leases.proofs.BaseWords.{◌≡◌, ◌≢◌, ◌+◌, ◌<◌, ◌≤◌, ◌==◌, ◌&&◌, ◌∷◌, ◌++◌, ◌*◌, ◌∙◌, ◌⊎◌, ℕ, Bool, true, false, not, nat_lt, List, [], filter, Option, Some, None, arith, sym, ap, refl, inl, inr, subst, eqb-true, eq-eqb, ltb-true, range_with_len, cases_Bool, false≢true, and_parts, and_from, nat_tests, Segment, place_count, RingView, due_positions, floor_number, Command, named_context, device_context_bytes, Header, Erstba, command_id, event_shape, shape_of, Known, entry_of, Leased, Block, Link, Range, Use, EventSegment, SegmentTable, InputContext, SlotEntry, DeviceContext, context_ranges, device_ranges, entry_ranges, is_among, open_ranges, range_of_command, range_of_context, range_of_device, range_of_entry, segment_ranges, slots, table_range, IsIn, among_is, both_ways, from_filter, in_among, in_filter, devices_without, let_go, slot_ranges, rules}
+use Rattle.leases.proofs.BaseWords.{false_unless, ◌≡◌, ◌≢◌, ◌+◌, ◌<◌, ◌≤◌, ◌==◌, ◌&&◌, ◌∷◌, ◌*◌, ◌∙◌, ◌⊎◌, ℕ, true, false, not, nat_lt, List, [], filter, Option, Some, None, arith, sym, ap, refl, inl, inr, subst, eqb-true, eq-eqb, ltb-true, range_with_len, cases_Bool, false≢true, and_parts, and_from, nat_tests, Segment, place_count, RingView, due_positions, floor_number, Command, named_context, device_context_bytes, Header, Erstba, command_id, event_shape, shape_of, Known, entry_of, Leased, Block, Link, Range, Use, EventSegment, SegmentTable, InputContext, SlotEntry, DeviceContext, context_ranges, device_ranges, entry_ranges, is_among, open_ranges, range_of_command, range_of_context, range_of_device, range_of_entry, segment_ranges, slots, table_range, IsIn, among_is, both_ways, from_filter, in_among, in_filter, devices_without, let_go, slot_ranges, rules}
 use Rattle.ring_knowledge.specs.Rings as rings
-use Rattle.leases.proofs.LeaseBooks.Members.{from_flat_map, from_map, from_range, in_either, in_flat_map, in_left, in_range, in_right}
+use Rattle.leases.proofs.LeaseBooks.Members.{five_into, from_flat_map, from_map, from_range, in_either, in_flat_map, in_left, in_range, in_right}
 use Rattle.leases.proofs.LeaseBooks.PassedLeases.{IsWithinLap, not_false}
 use Rattle.leases.proofs.LeaseBooks.RangesAlone.{IsRange}
 use Rattle.leases.proofs.LeaseBooks.SameLeases.{command_same}
@@ -17,12 +17,8 @@ one_use : (l : Leased) (u v : Use) → HasUse u l → HasUse v l → u ≡ v
 one_use (Range n a e) u v x y = sym x ∙ y
 one_use _ u v x y = absurd x
 
-only : (m l : Leased) (u : Use) → HasUse u m → IsIn l (m ∷ []) → HasUse u l
+pub only : (m l : Leased) (u : Use) → HasUse u m → IsIn l (m ∷ []) → HasUse u l
 only m l u has at = elim at [ inl here ↦ subst (HasUse u) (sym here) has | inr nowhere ↦ absurd nowhere ]
-
-not_true : (b : Bool) → (b ≡ true → ⊥) → b ≡ false
-not_true true e = absurd (e refl)
-not_true false e = refl
 
 module _ (h : Header) where
   use_of_segment : (l : Leased) → IsIn l (segment_ranges h) → HasUse EventSegment l
@@ -83,7 +79,7 @@ module _ (h : Header) where
   ]
 
   pub slot_apart : (k : Known) (left : Option ℕ) (p : ℕ) (c : Option Command) (l : Leased) → IsIn l (slot_ranges h k left) → is_among (range_of_command h p c) l ≡ false
-  slot_apart k left p c l at = not_true (is_among (range_of_command h p c) l) (λ among. clash (use_of_command p c l (among_is (range_of_command h p c) l among)) (use_of_slot k left l at))
+  slot_apart k left p c l at = false_unless (is_among (range_of_command h p c) l) (λ among. clash (use_of_command p c l (among_is (range_of_command h p c) l among)) (use_of_slot k left l at))
     where
       clash : HasUse (InputContext p) l → (s : ℕ) × (left ≡ Some s) × (HasUse (SlotEntry s) l ⊎ HasUse (DeviceContext s) l) → ⊥
       clash context slot = elim slot.2 [
@@ -142,7 +138,7 @@ module _ (h : Header) (k k' : Known) (left : Option ℕ) where
     ]
 
     not_gone : (l : Leased) (u : Use) → HasUse u l → (u ≢ InputContext next) → ((s : ℕ) → left ≡ Some s → (u ≢ SlotEntry s) × (u ≢ DeviceContext s)) → is_among (let_go h k left) l ≡ false
-    not_gone l u has context slot = not_true (is_among (let_go h k left) l) (λ among. elim (gone_use l (among_is (let_go h k left) l among)) [
+    not_gone l u has context slot = false_unless (is_among (let_go h k left) l) (λ among. elim (gone_use l (among_is (let_go h k left) l among)) [
       | inl of_context ↦ context (one_use l u (InputContext next) has of_context)
       | inr of_slot ↦ elim of_slot.2 [
         | inl entry ↦ (slot of_slot.0 of_slot.1).0 (one_use l u (SlotEntry of_slot.0) has entry)
@@ -253,38 +249,22 @@ module _ (h : Header) (k k' : Known) (left : Option ℕ) where
 
     -- ---- all of them
 
-    both_kept : (l : Leased) (xs ys us vs : List Leased) → (IsIn l xs → Kept us l) → (IsIn l ys → Kept vs l) → IsIn l (xs ++ ys) → Kept (us ++ vs) l
-    both_kept l xs ys us vs x y at = elim (in_either l xs ys at) [
-      | inl here ↦ let was = x here in (in_left l us vs was.0, was.1)
-      | inr there ↦ let was = y there in (in_right l us vs was.0, was.1)
-    ]
-
-    both_stay : (l : Leased) (xs ys us vs : List Leased) → (IsIn l xs → IsIn l us) → (IsIn l ys → IsIn l vs) → IsIn l (xs ++ ys) → IsIn l (us ++ vs)
-    both_stay l xs ys us vs x y at = elim (in_either l xs ys at) [ inl here ↦ in_left l us vs (x here) | inr there ↦ in_right l us vs (y there) ]
-
     range_was : (l : Leased) → IsIn l (open_ranges h k') → Kept (open_ranges h k) l
     unfolding open_ranges
     range_was l at =
-        both_kept l (segment_ranges h ++ table_range h (k'.register Erstba) ++ context_ranges h k' ++ entry_ranges k') (device_ranges h k')
-        (segment_ranges h ++ table_range h (k.register Erstba) ++ context_ranges h k ++ entry_ranges k) (device_ranges h k)
-        (both_kept l (segment_ranges h ++ table_range h (k'.register Erstba) ++ context_ranges h k') (entry_ranges k')
-        (segment_ranges h ++ table_range h (k.register Erstba) ++ context_ranges h k) (entry_ranges k)
-        (both_kept l (segment_ranges h ++ table_range h (k'.register Erstba)) (context_ranges h k') (segment_ranges h ++ table_range h (k.register Erstba)) (context_ranges h k)
-        (both_kept l (segment_ranges h) (table_range h (k'.register Erstba)) (segment_ranges h) (table_range h (k.register Erstba))
+        five_into (λ ls. Kept ls l) (λ us vs was. (in_left l us vs was.0, was.1)) (λ us vs was. (in_right l us vs was.0, was.1)) l
+        (segment_ranges h) (table_range h (k'.register Erstba)) (context_ranges h k') (entry_ranges k') (device_ranges h k')
+        (segment_ranges h) (table_range h (k.register Erstba)) (context_ranges h k) (entry_ranges k) (device_ranges h k)
         (λ here. (here, not_gone l EventSegment (use_of_segment h l here) (λ e. cc) (λ s is. (λ e. cc, λ e. cc))))
-        (λ here. (subst (IsIn l) table_same here, not_gone l SegmentTable (use_of_table h (k'.register Erstba) l here) (λ e. cc) (λ s is. (λ e. cc, λ e. cc)))))
-        (context_was l)) (entry_was l)) (device_was l) at
+        (λ here. (subst (IsIn l) table_same here, not_gone l SegmentTable (use_of_table h (k'.register Erstba) l here) (λ e. cc) (λ s is. (λ e. cc, λ e. cc))))
+        (context_was l) (entry_was l) (device_was l) at
 
     range_stays : (l : Leased) → is_among (let_go h k left) l ≡ false → IsIn l (open_ranges h k) → IsIn l (open_ranges h k')
     unfolding open_ranges
     range_stays l stays at =
-        both_stay l (segment_ranges h ++ table_range h (k.register Erstba) ++ context_ranges h k ++ entry_ranges k) (device_ranges h k)
-        (segment_ranges h ++ table_range h (k'.register Erstba) ++ context_ranges h k' ++ entry_ranges k') (device_ranges h k')
-        (both_stay l (segment_ranges h ++ table_range h (k.register Erstba) ++ context_ranges h k) (entry_ranges k)
-        (segment_ranges h ++ table_range h (k'.register Erstba) ++ context_ranges h k') (entry_ranges k')
-        (both_stay l (segment_ranges h ++ table_range h (k.register Erstba)) (context_ranges h k) (segment_ranges h ++ table_range h (k'.register Erstba)) (context_ranges h k')
-        (both_stay l (segment_ranges h) (table_range h (k.register Erstba)) (segment_ranges h) (table_range h (k'.register Erstba)) (λ here. here) (λ here. subst (IsIn l) (sym table_same) here))
-        (λ here. context_stays l here stays)) (λ here. entry_stays l here stays)) (λ here. device_stays_in l here stays) at
+        five_into (IsIn l) (in_left l) (in_right l) l (segment_ranges h) (table_range h (k.register Erstba)) (context_ranges h k) (entry_ranges k) (device_ranges h k)
+        (segment_ranges h) (table_range h (k'.register Erstba)) (context_ranges h k') (entry_ranges k') (device_ranges h k')
+        (λ here. here) (λ here. subst (IsIn l) (sym table_same) here) (λ here. context_stays l here stays) (λ here. entry_stays l here stays) (λ here. device_stays_in l here stays) at
 
     pub ranges_narrow : (l : Leased) → is_among (open_ranges h k') l ≡ (is_among (open_ranges h k) l && not (is_among (let_go h k left) l))
     ranges_narrow l = search (rules, both_ways, range_was, among_is, open_ranges, and_from, in_among, and_parts, range_stays, not_false)

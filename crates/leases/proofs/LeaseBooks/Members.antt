@@ -16,6 +16,18 @@ in_either x (z ∷ xs) ys at = elim at [
   | inr later ↦ elim (in_either x xs ys later) [ inl left ↦ inl (inr left) | inr right ↦ inr right ]
 ]
 
+-- what holds of a list holds of one that is made of it and others
+pub either_into : {X : Type 0} (P : List X → Type 0) → ((xs ys : List X) → P xs → P (xs ++ ys)) → ((xs ys : List X) → P ys → P (xs ++ ys)) →
+    (x : X) (xs ys us vs : List X) → (IsIn x xs → P us) → (IsIn x ys → P vs) → IsIn x (xs ++ ys) → P (us ++ vs)
+either_into P left right x xs ys us vs f g at = elim (in_either x xs ys at) [ inl here ↦ left us vs (f here) | inr there ↦ right us vs (g there) ]
+
+pub five_into : {X : Type 0} (P : List X → Type 0) → ((xs ys : List X) → P xs → P (xs ++ ys)) → ((xs ys : List X) → P ys → P (xs ++ ys)) →
+    (x : X) (a b c d e a' b' c' d' e' : List X) → (IsIn x a → P a') → (IsIn x b → P b') → (IsIn x c → P c') → (IsIn x d → P d') → (IsIn x e → P e') →
+    IsIn x (a ++ b ++ c ++ d ++ e) → P (a' ++ b' ++ c' ++ d' ++ e')
+five_into P left right x a b c d e a' b' c' d' e' f g h i j =
+    either_into P left right x (a ++ b ++ c ++ d) e (a' ++ b' ++ c' ++ d') e'
+    (either_into P left right x (a ++ b ++ c) d (a' ++ b' ++ c') d' (either_into P left right x (a ++ b) c (a' ++ b') c' (either_into P left right x a b a' b' f g) h) i) j
+
 pub in_map : {X Y : Type 0} (f : X → Y) (xs : List X) (x : X) → IsIn x xs → IsIn (f x) (map f xs)
 in_map f [] x at = absurd at
 in_map f (y ∷ ys) x at = elim at [ inl here ↦ inl (ap f here) | inr later ↦ inr (in_map f ys x later) ]

@@ -1,20 +1,16 @@
 -- One number after another is passed
-use Rattle.leases.proofs.BaseWords.{◌≡◌, ◌+◌, ◌≤◌, ◌==◌, ◌&&◌, ◌||◌, ◌∷◌, ◌∙◌, ℕ, Bool, true, false, nat_le, nat_lt, List, [], map, arith, sym, ap, refl, inl, inr, cond, eqb-true, cases_Bool, false≢true, and_parts, nat_tests, is_crossing, Header, shape_of, Leased, Block, Link, Range, same_leased, IndexTables, Lent, is_unended, ended_where, is_passed, AllUnended, IsFound}
+use Rattle.leases.proofs.BaseWords.{and_false, or_false, false_unless, cond_both, ◌≡◌, ◌+◌, ◌≤◌, ◌==◌, ◌&&◌, ◌||◌, ◌∷◌, ◌∙◌, ℕ, Bool, true, false, nat_le, nat_lt, List, [], map, arith, sym, ap, refl, inl, inr, eqb-true, cases_Bool, false≢true, and_parts, nat_tests, is_crossing, Header, shape_of, Leased, Block, Link, Range, same_leased, IndexTables, Lent, is_unended, ended_where, is_passed, AllUnended, IsFound}
 
 -- to end by one test, and then by another, is to end by both
 ended_twice : (p q : Leased → Bool) (n : ℕ) (t : Lent) → ended_where p n (ended_where q n t) ≡ ended_where (λ l. q l || p l) n t
 unfolding ended_where is_unended
 ended_twice p q n t = elim (cases_Bool (is_unended t)) [
   | inl unended ↦ elim (cases_Bool (q t.leased)) [
-    | inl first ↦ rw (unended, first) (either (is_unended (record t { to = n }) && p t.leased) (record t { to = n }))
+    | inl first ↦ rw (unended, first) (cond_both (is_unended (record t { to = n }) && p t.leased) _ _ (λ s. s ≡ record t { to = n }) (λ e. refl) (λ e. refl))
     | inr later ↦ rw (unended, later) (rw unended refl)
   ]
   | inr over ↦ rw over (rw over refl)
 ]
-  where
-    either : (b : Bool) (s : Lent) → cond b s s ≡ s
-    either true s = refl
-    either false s = refl
 
 pub all_twice : (p q : Leased → Bool) (n : ℕ) (ts : List Lent) → map (ended_where p n) (map (ended_where q n) ts) ≡ map (ended_where (λ l. q l || p l) n) ts
 all_twice p q n [] = refl
@@ -32,18 +28,7 @@ ended_alike F p q n i (t ∷ ts) same all = elim (cases_Bool (is_unended t)) [
 
 -- a number more
 one_more : (r s from n p : ℕ) → from ≤ n → (r == s && nat_le from p && nat_lt p n || r == s && n == p) ≡ (r == s && nat_le from p && nat_lt p (n + 1))
-one_more r s from n p least = by (r == s)
-  where
-    numbers : (nat_le from p && nat_lt p n || n == p) ≡ (nat_le from p && nat_lt p (n + 1))
-    numbers = grind (arith, nat_tests, least)
-
-    by : (b : Bool) → (b && nat_le from p && nat_lt p n || b && n == p) ≡ (b && nat_le from p && nat_lt p (n + 1))
-    by true = numbers
-    by false = refl
-
-or_false : (b : Bool) → (b || false) ≡ b
-or_false true = refl
-or_false false = refl
+one_more r s from n p least = grind (arith, nat_tests, least)
 
 -- a step of the walk, at a crossing and elsewhere
 pub passed_crossing : (r from n : ℕ) (l : Leased) → from ≤ n → ((is_passed r from n l || same_leased (Block r n) l) || same_leased (Link r n) l) ≡ is_passed r from (n + 1) l
@@ -57,30 +42,22 @@ passed_block h blocks links r from n j (Block s p) least none found = one_more r
 passed_block h blocks links r from n j (Link s q) least none found = ap (λ b. (r == s && nat_le from q && nat_lt q n) || b) (sym other) ∙ one_more r s from n q least
   where
     other : (r == s && n == q) ≡ false
-    other = elim (cases_Bool (r == s && n == q)) [
-      | inl this ↦
-          let parts = and_parts (r == s) (n == q) this in
-          let there : is_crossing (shape_of h r) n ≡ true = rw (eqb-true r s parts.0, eqb-true n q parts.1) found.0 in
-          absurd (false≢true (sym none ∙ there))
-      | inr apart ↦ apart
-    ]
+    other = false_unless _ (λ this.
+        let parts = and_parts (r == s) (n == q) this in
+        let there : is_crossing (shape_of h r) n ≡ true = rw (eqb-true r s parts.0, eqb-true n q parts.1) found.0 in
+        false≢true (sym none ∙ there))
 passed_block h blocks links r from n j (Range m a e) least none found = refl
 
 -- before the first step nothing is passed
 pub none_passed : (r from to : ℕ) (l : Leased) → to ≤ from → is_passed r from to l ≡ false
-none_passed r from to (Block s p) least = grind (arith, nat_tests, least)
-none_passed r from to (Link s q) least = grind (arith, nat_tests, least)
 none_passed r from to (Range m a e) least = refl
+none_passed r from to _ least = grind (arith, nat_tests, least)
 
 -- where nothing is over, all stays
 pub none_over : (over : Leased → Bool) (n : ℕ) (ts : List Lent) → ((l : Leased) → over l ≡ false) → map (ended_where over n) ts ≡ ts
 unfolding ended_where
 none_over over n [] none = refl
-none_over over n (t ∷ ts) none = rw (none t.leased, none_over over n ts none) (ap (λ s. s ∷ ts) (still (is_unended t)))
-  where
-    still : (b : Bool) → cond (b && false) (record t { to = n }) t ≡ t
-    still true = refl
-    still false = refl
+none_over over n (t ∷ ts) none = rw (none t.leased, none_over over n ts none, and_false (is_unended t)) refl
 
 -- tests that agree end alike
 pub over_alike : (p q : Leased → Bool) (n : ℕ) (ts : List Lent) → ((l : Leased) → p l ≡ q l) → map (ended_where p n) ts ≡ map (ended_where q n) ts

@@ -1,5 +1,5 @@
 -- The tables find a lease that begins, and still all others
-use Rattle.leases.proofs.BaseWords.{◌≡◌, ◌≢◌, ◌+◌, ◌%◌, ◌==◌, ◌&&◌, ◌||◌, ◌∷◌, ◌++◌, ◌∙◌, ℕ, Bool, true, false, not, List, [], length, map, arith, ap, refl, subst, eqb-true, eq-eqb, list_any, false≢true, place_count, is_crossing, link_of, Header, shape_of, length-map, Lease, Leased, Block, Link, Range, Use, as_lease, without_end, IndexTables, index_at, Lent, is_unended, begun_at, lease_of, is_place_free, share_a_place, with_begun, AllUnended, IsFound, HoldsLents, LeaseBook, rules}
+use Rattle.leases.proofs.BaseWords.{and_false, ◌≡◌, ◌≢◌, ◌+◌, ◌%◌, ◌==◌, ◌&&◌, ◌∷◌, ◌++◌, ◌∙◌, ℕ, Bool, true, false, not, List, [], length, map, arith, ap, refl, subst, eqb-true, eq-eqb, list_any, false≢true, place_count, is_crossing, link_of, Header, shape_of, length-map, Lease, Leased, Block, Link, Range, Use, as_lease, without_end, IndexTables, index_at, Lent, is_unended, begun_at, lease_of, is_place_free, share_a_place, with_begun, AllUnended, IsFound, HoldsLents, LeaseBook, rules}
 use Rattle.leases.proofs.LeaseBooks.Growing.{map_append}
 use Rattle.leases.proofs.LeaseBooks.Unended.{all_begun}
 
@@ -67,8 +67,4 @@ range_found h blocks links ts row n a e all =
   where
     none : (us : List Lent) → list_any (λ t. is_unended t && false) us ≡ false
     none [] = refl
-    none (u ∷ us) = either (is_unended u) (none us)
-      where
-        either : (b : Bool) → list_any (λ t. is_unended t && false) us ≡ false → ((b && false) || list_any (λ t. is_unended t && false) us) ≡ false
-        either true f = f
-        either false f = f
+    none (u ∷ us) = rw (and_false (is_unended u)) (none us)

@@ -1,5 +1,5 @@
 -- The indexes find each range that is under lease, when one begins and when some end
-use Rattle.leases.proofs.BaseWords.{◌≡◌, ◌≢◌, ◌==◌, ◌&&◌, ◌||◌, ◌∷◌, ◌∙◌, ℕ, Bool, true, false, List, [], length, map, OnOk, Result, Ok, Err, arith, sym, refl, subst, eq-eqb, list_any, false≢true, Header, Leased, Block, Link, Range, Use, EventSegment, SegmentTable, InputContext, SlotEntry, DeviceContext, Indexes, RangeIndexes, index_in, Lent, is_unended, ended_where, with_begun, FindsRanges, IsRangeFound, IsUseFound, StandsAt, command_place, is_use_free, share_a_use, shares_use}
+use Rattle.leases.proofs.BaseWords.{and_false, ◌≡◌, ◌≢◌, ◌==◌, ◌&&◌, ◌∷◌, ◌∙◌, ℕ, Bool, true, false, List, [], length, map, OnOk, Result, Ok, Err, arith, sym, refl, subst, eq-eqb, list_any, false≢true, Header, Leased, Range, Use, InputContext, SlotEntry, DeviceContext, Indexes, RangeIndexes, index_in, Lent, is_unended, ended_where, with_begun, FindsRanges, IsRangeFound, IsUseFound, StandsAt, command_place, is_use_free, share_a_use, shares_use}
 use Rattle.leases.proofs.LeaseBooks.Places.{not_true}
 use Rattle.leases.proofs.LeaseBooks.Unended.{all_anew, all_begun, all_ended}
 
@@ -9,9 +9,8 @@ IsKept h e x y = (i : ℕ) (f : Use) → share_a_use h e f ≡ false → IsUseFo
 
 module _ (h : Header) (x y : RangeIndexes) (e : Use) (kept : IsKept h e x y) where
   step : (i : ℕ) (m : Leased) → shares_use h e m ≡ false → IsRangeFound h x i m → IsRangeFound h y i m
-  step i (Block r p) apart was = tt
-  step i (Link r q) apart was = tt
   step i (Range n a f) apart was = kept i f apart was
+  step i _ apart was = tt
 
   pub range_begins : (row n a : ℕ) (ts : List Lent) → IsUseFound h y (length ts) e → FindsRanges h ts x → is_use_free h ts e ≡ true → FindsRanges h (with_begun row ts (Range n a e ∷ [])) y
   unfolding is_use_free
@@ -23,25 +22,16 @@ other m n apart e = false≢true (sym apart ∙ eq-eqb m n (sym e))
 
 module _ (h : Header) (x : RangeIndexes) (t : Indexes) where
   pub context_put : (p place : ℕ) → place ≡ command_place h p → ((m : ℕ) → m ≢ place → index_in t m ≡ index_in x.contexts m) → IsKept h (InputContext p) x (record x { contexts = t })
-  context_put p place at others i EventSegment apart was = tt
-  context_put p place at others i SegmentTable apart was = tt
   context_put p place at others i (InputContext q) apart was = others (command_place h q) (λ e. other (command_place h p) (command_place h q) apart (e ∙ at)) ∙ was
-  context_put p place at others i (SlotEntry s) apart was = was
-  context_put p place at others i (DeviceContext s) apart was = was
+  context_put p place at others i _ apart was = was
 
   pub entry_put : (slot number : ℕ) → number ≡ slot → ((m : ℕ) → m ≢ number → index_in t m ≡ index_in x.entries m) → IsKept h (SlotEntry slot) x (record x { entries = t })
-  entry_put slot number at others i EventSegment apart was = tt
-  entry_put slot number at others i SegmentTable apart was = tt
-  entry_put slot number at others i (InputContext q) apart was = was
   entry_put slot number at others i (SlotEntry s) apart was = others s (λ e. other slot s apart (e ∙ at)) ∙ was
-  entry_put slot number at others i (DeviceContext s) apart was = was
+  entry_put slot number at others i _ apart was = was
 
   pub device_put : (slot number : ℕ) → number ≡ slot → ((m : ℕ) → m ≢ number → index_in t m ≡ index_in x.devices m) → IsKept h (DeviceContext slot) x (record x { devices = t })
-  device_put slot number at others i EventSegment apart was = tt
-  device_put slot number at others i SegmentTable apart was = tt
-  device_put slot number at others i (InputContext q) apart was = was
-  device_put slot number at others i (SlotEntry s) apart was = was
   device_put slot number at others i (DeviceContext s) apart was = others s (λ e. other slot s apart (e ∙ at)) ∙ was
+  device_put slot number at others i _ apart was = was
 
 -- where the range for a use is found it stands
 pub stands : (h : Header) (x : RangeIndexes) (ts : List Lent) (n a index : ℕ) (e : Use) → ((i : ℕ) → IsUseFound h x i e → i ≡ index) → FindsRanges h ts x → StandsAt ts (Range n a e) index
@@ -53,11 +43,7 @@ IsNoUse l = (h : Header) (x : RangeIndexes) (i : ℕ) → IsRangeFound h x i l
 
 none_shared : (us : List Lent) → list_any (λ t. is_unended t && false) us ≡ false
 none_shared [] = refl
-none_shared (u ∷ us) = either (is_unended u) (none_shared us)
-  where
-    either : (b : Bool) → list_any (λ t. is_unended t && false) us ≡ false → ((b && false) || list_any (λ t. is_unended t && false) us) ≡ false
-    either true f = f
-    either false f = f
+none_shared (u ∷ us) = rw (and_false (is_unended u)) (none_shared us)
 
 pub others_begin : (h : Header) (x : RangeIndexes) (row : ℕ) (l : Leased) (ts : List Lent) → IsNoUse l → FindsRanges h ts x → FindsRanges h (with_begun row ts (l ∷ [])) x
 others_begin h x row l ts none all = all_begun (IsRangeFound h x) (IsRangeFound h x) (λ m. false) row l 0 ts (λ i m apart was. was) (none h x _) (none_shared ts) all

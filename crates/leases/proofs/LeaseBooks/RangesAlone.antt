@@ -1,7 +1,7 @@
--- The leases that lie on no command or transfer ring are ranges
-use Rattle.leases.proofs.BaseWords.{◌∷◌, ◌++◌, ℕ, List, [], map, Option, Some, None, sym, subst, refl, inl, inr, flat_map, Command, named_context, Header, Erstba, event_shape, Known, Leased, Block, Link, Range, open_ranges, segment_ranges, table_range, context_ranges, range_of_command, range_of_context, entry_ranges, range_of_entry, device_ranges, range_of_device, slots, IsIn}
+-- The leases that are open, kind by kind: those that lie on no command or transfer ring are ranges
+use Rattle.leases.proofs.BaseWords.{◌≡◌, ◌*◌, ◌∷◌, ℕ, true, List, [], Option, Some, None, sym, subst, refl, inl, inr, flat_map, Command, named_context, Segment, Header, Ring, Erstba, driver_rings, event_shape, Known, Leased, Block, Link, Range, EventSegment, SegmentTable, InputContext, SlotEntry, DeviceContext, is_among, open_leases, open_on, open_ranges, segment_ranges, table_range, context_ranges, range_of_command, range_of_context, entry_ranges, range_of_entry, device_ranges, range_of_device, slots, IsIn, among_is}
 use Rattle.ring_knowledge.specs.Rings as rings
-use Rattle.ownership_rules.specs.OpenLeases
+use Rattle.leases.proofs.LeaseBooks.Members.{InOn, five_into, from_flat_map, from_map, in_either, in_on}
 
 abbrev pub IsRange : Leased → Type 0
 IsRange (Block r p) = ⊥
@@ -11,69 +11,63 @@ IsRange (Range n a e) = Unit {0}
 abbrev pub AreRanges : List Leased → Type 0
 AreRanges ls = (l : Leased) → IsIn l ls → IsRange l
 
-none : AreRanges []
-none l at = absurd at
+module _ (h : Header) (k : Known) (P : Leased → Type 0) where
+  -- what holds of each kind of range that is open
+  pub record HoldsOfRanges : Type 0 where
+    pub segments : (n a : ℕ) → P (Range n a EventSegment)
+    pub table : (n a v : ℕ) → k.register Erstba ≡ Some v → P (Range n a SegmentTable)
+    pub contexts : (n a p : ℕ) → IsIn p (rings.unfinished_positions h k) → P (Range n a (InputContext p))
+    pub entries : (n a s d : ℕ) → k.device s ≡ Some d → P (Range n a (SlotEntry s))
+    pub devices : (n a s d : ℕ) → k.device s ≡ Some d → P (Range n a (DeviceContext s))
 
-one : (n a : ℕ) (e : OpenLeases.Use) → AreRanges (Range n a e ∷ [])
-one n a e l at = elim at [ inl here ↦ subst IsRange (sym here) tt | inr nowhere ↦ absurd nowhere ]
+  module _ (each : HoldsOfRanges) where
+    alone : (m l : Leased) → P m → IsIn l (m ∷ []) → P l
+    alone m l holds at = elim at [ inl here ↦ subst P (sym here) holds | inr nowhere ↦ absurd nowhere ]
 
-both : (xs ys : List Leased) → AreRanges xs → AreRanges ys → AreRanges (xs ++ ys)
-both [] ys f g l at = g l at
-both (x ∷ xs) ys f g l at =
-    elim at [
-      | inl here ↦ f l (inl here)
-      | inr later ↦ both xs ys (λ m there. f m (inr there)) g l later
-    ]
+    of_table : (v : Option ℕ) (l : Leased) → k.register Erstba ≡ v → IsIn l (table_range h v) → P l
+    unfolding table_range
+    of_table None l e at = absurd at
+    of_table (Some v) l e at = alone _ l (each.table _ _ v e) at
 
-each : {X : Type 0} (f : X → List Leased) (xs : List X) → ((x : X) → AreRanges (f x)) → AreRanges (flat_map f xs)
-each f [] proper = none
-each f (x ∷ xs) proper = both (f x) (flat_map f xs) (proper x) (each f xs proper)
+    of_context : (p : ℕ) → IsIn p (rings.unfinished_positions h k) → (c : Option ℕ) (l : Leased) → IsIn l (range_of_context h p c) → P l
+    unfolding range_of_context
+    of_context p there None l at = absurd at
+    of_context p there (Some c) l at = alone _ l (each.contexts _ _ p there) at
 
-mapped : {X : Type 0} (f : X → Leased) (xs : List X) → ((x : X) → IsIn x xs → IsRange (f x)) → AreRanges (map f xs)
-mapped f [] proper l at = absurd at
-mapped f (x ∷ xs) proper l at =
-    elim at [
-      | inl here ↦ subst IsRange (sym here) (proper x (inl refl))
-      | inr later ↦ mapped f xs (λ y there. proper y (inr there)) l later
-    ]
+    of_command : (p : ℕ) → IsIn p (rings.unfinished_positions h k) → (c : Option Command) (l : Leased) → IsIn l (range_of_command h p c) → P l
+    unfolding range_of_command
+    of_command p there None l at = absurd at
+    of_command p there (Some c) l at = of_context p there (named_context c) l at
 
-module _ (h : Header) (k : Known) where
-  segments : AreRanges (segment_ranges h)
-  unfolding segment_ranges
-  segments = mapped _ (event_shape h).segments (λ s at. tt)
+    of_entry : (s : ℕ) (d : Option ℕ) (l : Leased) → k.device s ≡ d → IsIn l (range_of_entry k s d) → P l
+    unfolding range_of_entry
+    of_entry s None l e at = absurd at
+    of_entry s (Some d) l e at = alone _ l (each.entries _ _ s d e) at
 
-  table : (v : Option ℕ) → AreRanges (table_range h v)
-  unfolding table_range
-  table None = none
-  table (Some v) = one _ _ _
+    of_device : (s : ℕ) (d : Option ℕ) (l : Leased) → k.device s ≡ d → IsIn l (range_of_device h s d) → P l
+    unfolding range_of_device
+    of_device s None l e at = absurd at
+    of_device s (Some d) l e at = alone _ l (each.devices _ _ s d e) at
 
-  context : (p : ℕ) (c : Option ℕ) → AreRanges (range_of_context h p c)
-  unfolding range_of_context
-  context p None = none
-  context p (Some c) = one _ _ _
+    pub of_range : (l : Leased) → IsIn l (open_ranges h k) → P l
+    unfolding open_ranges segment_ranges context_ranges entry_ranges device_ranges
+    of_range l at =
+        five_into (λ xs. P l) (λ xs ys p. p) (λ xs ys p. p) l (segment_ranges h) (table_range h (k.register Erstba)) (context_ranges h k) (entry_ranges k) (device_ranges h k) [] [] [] [] []
+        (λ one. let found = from_map (λ (s : Segment). Range (16 * s.count) s.base EventSegment) (event_shape h).segments l one in subst P (sym found.2) (each.segments _ _))
+        (of_table (k.register Erstba) l refl)
+        (λ one. let found = from_flat_map (λ p. range_of_command h p (rings.command_at h k p)) (rings.unfinished_positions h k) l one in of_command found.0 found.1 (rings.command_at h k found.0) l found.2)
+        (λ one. let found = from_flat_map (λ s. range_of_entry k s (k.device s)) slots l one in of_entry found.0 (k.device found.0) l refl found.2)
+        (λ one. let found = from_flat_map (λ s. range_of_device h s (k.device s)) slots l one in of_device found.0 (k.device found.0) l refl found.2) at
 
-  command : (p : ℕ) (c : Option Command) → AreRanges (range_of_command h p c)
-  unfolding range_of_command
-  command p None = none
-  command p (Some c) = context p (named_context c)
+  -- what is open is open on a ring, or a range
+  pub each_open : ((q : Ring) → IsIn q (driver_rings h) → (l : Leased) → InOn q (k.ring q.id) l → P l) → ((l : Leased) → IsIn l (open_ranges h k) → P l) →
+      (l : Leased) → is_among (open_leases h k) l ≡ true → P l
+  unfolding open_leases
+  each_open on ranges l e = elim (in_either l (flat_map (open_on h k) (driver_rings h)) (open_ranges h k) (among_is _ l e)) [
+    | inl ring ↦ let found = from_flat_map (open_on h k) (driver_rings h) l ring in on found.0 found.1 l (in_on h k found.0 l found.2)
+    | inr range ↦ ranges l range
+  ]
 
-  entry : (s : ℕ) (d : Option ℕ) → AreRanges (range_of_entry k s d)
-  unfolding range_of_entry
-  entry s None = none
-  entry s (Some d) = one _ _ _
-
-  device : (s : ℕ) (d : Option ℕ) → AreRanges (range_of_device h s d)
-  unfolding range_of_device
-  device s None = none
-  device s (Some d) = one _ _ _
-
-  pub open_are_ranges : AreRanges (open_ranges h k)
-  unfolding open_ranges context_ranges entry_ranges device_ranges
-  open_are_ranges =
-      both (segment_ranges h ++ table_range h (k.register Erstba) ++ context_ranges h k ++ entry_ranges k) _
-      (both (segment_ranges h ++ table_range h (k.register Erstba) ++ context_ranges h k) _
-      (both (segment_ranges h ++ table_range h (k.register Erstba)) _
-      (both (segment_ranges h) _ segments (table (k.register Erstba)))
-      (each _ (rings.unfinished_positions h k) (λ p. command p (rings.command_at h k p))))
-      (each _ slots (λ s. entry s (k.device s))))
-      (each _ slots (λ s. device s (k.device s)))
+pub open_are_ranges : (h : Header) (k : Known) → AreRanges (open_ranges h k)
+open_are_ranges h k l at =
+    of_range h k IsRange (record { segments = λ n a. tt; table = λ n a v e. tt; contexts = λ n a p on. tt; entries = λ n a s d e. tt; devices = λ n a s d e. tt }) l at

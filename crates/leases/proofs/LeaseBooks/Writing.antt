@@ -4,7 +4,7 @@ use Rattle.ring_knowledge.specs.Rings as rings
 use Rattle.leases.proofs.LeaseBooks.Growing.{map_append, map_map}
 use Rattle.leases.proofs.LeaseBooks.Rows.{none_new}
 use Rattle.leases.proofs.LeaseBooks.SameLeases.{flat_alike}
-use Rattle.leases.proofs.LeaseBooks.Members.{InOn, block, link, from_flat_map, in_either, in_flat_map, in_left, in_on, in_right, on_in}
+use Rattle.leases.proofs.LeaseBooks.Members.{InOn, block, either_into, link, from_flat_map, in_either, in_flat_map, in_left, in_on, in_right, on_in}
 use Rattle.leases.proofs.LeaseBooks.RangesAlone.{open_are_ranges}
 
 -- the lease of what is given
@@ -152,8 +152,5 @@ module _ (h : Header) (shaped : AreShaped h) (k : Known) (freed : FreeWasGiven h
     pub all_kept : (l : Leased) → is_among (open_leases h k) l ≡ true → is_among (open_leases h after) l ≡ true
     unfolding open_leases
     all_kept l e =
-        in_among _ l
-        (elim (in_either l (flat_map (open_on h k) (driver_rings h)) (open_ranges h k) (among_is _ l e)) [
-          | inl on ↦ in_left l (flat_map (open_on h after) (driver_rings h)) (open_ranges h after) (kept_on_rings l on)
-          | inr range ↦ in_right l (flat_map (open_on h after) (driver_rings h)) (open_ranges h after) (subst (IsIn l) (sym ranges) range)
-        ])
+        in_among _ l (either_into (IsIn l) (in_left l) (in_right l) l (flat_map (open_on h k) (driver_rings h)) (open_ranges h k) (flat_map (open_on h after) (driver_rings h)) (open_ranges h after)
+        (kept_on_rings l) (subst (IsIn l) (sym ranges)) (among_is _ l e))

@@ -1,7 +1,7 @@
 -- A log of leases goes on with the rings that are there behind a ring that goes, and behind one that comes: what isn't over is of other rings
-use Rattle.leases.proofs.BaseWords.{◌≡◌, ◌≢◌, ◌%◌, ◌==◌, ◌∙◌, ℕ, false, not, List, refl, sym, ap, subst, inl, inr, and_parts, eqb-false, not-true, Header, IsHeader, Ring, Known, DriverKeeps, IsIn, driver_rings, flat_map, from_filter, open_leases, open_on, open_ranges, place_count, command_id, shape_of, is_driver_kind, among_is, Leased, Block, Link, Range, is_among, index_in, AreOpen, AreShapedAlike, IsShapedAlike, FindsRanges, IsRangeFound, IsUseFound, RangeIndexes, DeviceContext, EventSegment, InputContext, SegmentTable, SlotEntry, Use, Shape, Lent, IsComing, forgotten, is_bad_free, is_bad_ring, with_ring, without_ring, none_found, bad_same, f_keeps, fresh, no_ring, is_of_ring, rules}
-use Rattle.leases.proofs.LeaseBooks.Members.{InOn, block, link, from_flat_map, in_either, in_on}
-use Rattle.leases.proofs.LeaseBooks.RangesAlone.{IsRange, open_are_ranges}
+use Rattle.leases.proofs.BaseWords.{◌≡◌, ◌≢◌, ◌%◌, ◌==◌, ◌∙◌, ℕ, false, not, List, refl, sym, ap, subst, and_parts, eqb-false, not-true, Header, IsHeader, Ring, Known, DriverKeeps, IsIn, driver_rings, from_filter, open_leases, place_count, command_id, shape_of, is_driver_kind, Leased, Block, Link, Range, is_among, index_in, AreOpen, AreShapedAlike, IsShapedAlike, FindsRanges, IsRangeFound, IsUseFound, RangeIndexes, InputContext, Use, Shape, Lent, IsComing, forgotten, is_bad_free, is_bad_ring, with_ring, without_ring, none_found, bad_same, f_keeps, fresh, no_ring, is_of_ring, rules}
+use Rattle.leases.proofs.LeaseBooks.Members.{InOn, block, link}
+use Rattle.leases.proofs.LeaseBooks.RangesAlone.{IsRange, each_open, open_are_ranges}
 use Rattle.leases.proofs.LeaseBooks.Rows.{IsOpen}
 use Rattle.leases.proofs.LeaseBooks.Unended.{all_anew}
 use Rattle.safety.proofs.RingChanges.GoneRings as gone
@@ -41,23 +41,17 @@ IsThere h (Link r c) = (q : Ring) × IsIn q h.rings × (q.id ≡ r)
 IsThere h (Range n a e) = Unit {0}
 
 range_there : (h : Header) (l : Leased) → IsRange l → IsThere h l
-range_there h (Block r p) is = absurd is
-range_there h (Link r c) is = absurd is
 range_there h (Range n a e) is = tt
+range_there h _ is = absurd is
 
 on_there : (h : Header) (k : Known) (q : Ring) (l : Leased) → IsIn q h.rings → InOn q (k.ring q.id) l → IsThere h l
 on_there h k q _ at (block p low high lent) = (q, at, refl)
 on_there h k q _ at (link c low high crossed) = (q, at, refl)
 
 open_there : (h : Header) (k : Known) (l : Leased) → IsOpen (open_leases h k) l → IsThere h l
-unfolding open_leases driver_rings
-open_there h k l is_open =
-    elim (in_either l (flat_map (open_on h k) (driver_rings h)) (open_ranges h k) (among_is _ l is_open)) [
-      | inl on ↦
-          let found = from_flat_map (open_on h k) (driver_rings h) l on in
-          on_there h k found.0 l (from_filter (λ r. is_driver_kind r.shape.kind) h.rings found.0 found.1).0 (in_on h k found.0 l found.2)
-      | inr range ↦ range_there h l (open_are_ranges h k l range)
-    ]
+unfolding driver_rings
+open_there h k =
+    each_open h k (IsThere h) (λ q at l on. on_there h k q l (from_filter (λ r. is_driver_kind r.shape.kind) h.rings q at).0 on) (λ l at. range_there h l (open_are_ranges h k l at))
 
 module _ (h : Header) (is : IsHeader h) (k : Known) (d : DriverKeeps h k) (r : Ring) (coming : IsComing r) (good : is_bad_ring h k r ≡ false) where
   -- other rings keep their shapes
@@ -90,16 +84,12 @@ module _ (h : Header) (is : IsHeader h) (k : Known) (d : DriverKeeps h k) (r : R
 
 module _ (h g : Header) (x : RangeIndexes) (commands : shape_of g (command_id g) ≡ shape_of h (command_id h)) where
   use_alike : (i : ℕ) (e : Use) → IsUseFound h x i e → IsUseFound g x i e
-  use_alike i EventSegment found = found
-  use_alike i SegmentTable found = found
   use_alike i (InputContext p) found = subst (λ (s : Shape). index_in x.contexts (p % place_count s) ≡ i) (sym commands) found
-  use_alike i (SlotEntry s) found = found
-  use_alike i (DeviceContext s) found = found
+  use_alike i _ found = found
 
   range_alike : (i : ℕ) (l : Leased) → IsRangeFound h x i l → IsRangeFound g x i l
-  range_alike i (Block r p) found = found
-  range_alike i (Link r q) found = found
   range_alike i (Range n a e) found = use_alike i e found
+  range_alike i _ found = found
 
   -- with a command ring of the same shape they find the same
   pub ranges_found : (ts : List Lent) → FindsRanges h ts x → FindsRanges g ts x

@@ -1,14 +1,14 @@
 -- What is lent where a descriptor is withdrawn, and where a ring is restored
-use Rattle.leases.proofs.BaseWords.{if◌then◌else◌, ◌≡◌, ◌≢◌, ◌+◌, ◌%◌, ◌<◌, ◌≤◌, ◌==◌, ◌&&◌, ◌||◌, ◌++◌, ◌∷◌, ◌∙◌, ℕ, zero, suc, Bool, true, false, not, nat_le, nat_lt, List, [], Some, filter, length, map, take, get_or, arith, refl, sym, ap, subst, inl, inr, append-nil, eqb-true, list_any, range_with_len, and_parts, false≢true, not-true, nat_tests, take_more, list_any-append, RingKind, Evt, cases_Bool, IsIn, Header, IsHeader, Ring, Known, is_driver_kind, is_transfer_kind, ring_with, shape_of, command_id, driver_rings, on_ring, open_leases, place_count, floor_number, due_positions, from_filter, in_filter, transfer_not_command, length_from, unrestored, Restores, Withdraws, same_due, in_among, as_lease, comes_before, Leased, Block, Link, Range, is_among, same_leased, AreOpen, Lent, begun_at, ended_where, in_turn, is_place_free, is_unended, passed_on, precedes, share_a_place, with_begun, with_leased, find_some, shape_there, IsAmong, is_freed, rules}
+use Rattle.leases.proofs.BaseWords.{and_false, false_unless, if◌then◌else◌, ◌≡◌, ◌≢◌, ◌+◌, ◌%◌, ◌<◌, ◌≤◌, ◌==◌, ◌&&◌, ◌||◌, ◌++◌, ◌∷◌, ◌∙◌, ℕ, zero, suc, Bool, true, false, not, nat_le, nat_lt, List, [], Some, filter, length, map, take, get_or, arith, refl, sym, ap, subst, inl, inr, append-nil, eqb-true, list_any, range_with_len, and_parts, false≢true, not-true, nat_tests, take_more, list_any-append, RingKind, Evt, cases_Bool, IsIn, Header, IsHeader, Ring, Known, is_driver_kind, is_transfer_kind, ring_with, shape_of, command_id, driver_rings, on_ring, open_leases, place_count, floor_number, due_positions, from_filter, in_filter, transfer_not_command, length_from, unrestored, Restores, Withdraws, same_due, in_among, as_lease, comes_before, Leased, Block, Link, Range, is_among, same_leased, AreOpen, Lent, begun_at, ended_where, in_turn, is_place_free, is_unended, passed_on, precedes, share_a_place, with_begun, with_leased, find_some, shape_there, IsAmong, is_freed, rules}
 use Rattle.leases.proofs.LeaseBooks.FreePlaces.{unlent_free}
 use Rattle.leases.proofs.LeaseBooks.Growing.{map_append}
-use Rattle.leases.proofs.LeaseBooks.Members.{from_range}
+use Rattle.leases.proofs.LeaseBooks.Members.{from_map, from_range}
 use Rattle.leases.proofs.LeaseBooks.Passing.{all_twice, none_over, over_alike}
 use Rattle.leases.proofs.LeaseBooks.Rows.{only_passed}
 use Rattle.leases.proofs.RingLeases.Filtered.{filter_alike}
 use Rattle.leases.proofs.RingLeases.OpenBehind.{among_filtered}
 use Rattle.leases.proofs.RingLeases.OpenFree.{freed_are, restored_open, withdrawn_open}
-use Rattle.leases.proofs.RingLeases.TwoSteps.{begun_both, only_begins, with_first}
+use Rattle.leases.proofs.RingLeases.TwoSteps.{begun_both, either_way, only_begins, with_first}
 use Rattle.leases.proofs.RingLeases.WithinALap.{are_shaped}
 
 -- ---- a transfer ring of the header
@@ -98,11 +98,7 @@ rising r f a (suc n) =
     above p low = grind (arith, nat_tests, low)
 
     later : (ps : List ℕ) → ((p : ℕ) → IsIn p ps → (a + 1 ≤ p) × (p < a + 1 + n)) → (m : Leased) → IsIn m (map (Block r) ps) → precedes (Block r a) m ≡ true
-    later [] bounds m at = absurd at
-    later (p ∷ ps) bounds m at = elim at [
-      | inl here ↦ ap (precedes (Block r a)) here ∙ above p (bounds p (inl refl)).0
-      | inr there ↦ later ps (λ x there. bounds x (inr there)) m there
-    ]
+    later ps bounds m at = let found = from_map (Block r) ps m at in ap (precedes (Block r a)) found.2 ∙ above found.0 (bounds found.0 found.1).0
 
 -- those before an index are less
 in_get : (xs : List ℕ) (i : ℕ) → i < length xs → IsIn (get_or xs i 0) xs
@@ -134,11 +130,7 @@ free_still h row ts l us free apart =
   where
     none : (us : List Leased) → ((u : Leased) → IsIn u us → share_a_place h l u ≡ false) → list_any (λ t. is_unended t && share_a_place h l t.leased) (map (begun_at row) us) ≡ false
     none [] apart = refl
-    none (u ∷ us) apart = (λ j. last (is_unended (begun_at row u)) (share_a_place h l u) (apart u (inl refl)) j || none us (λ x at. apart x (inr at)) j)
-      where
-        last : (a b : Bool) → b ≡ false → (a && b) ≡ false
-        last true b e = e
-        last false b e = refl
+    none (u ∷ us) apart = rw (apart u (inl refl), and_false) (none us (λ x at. apart x (inr at)))
 
 -- what a log is told with, that notes what is restored
 pub record Restoring (h : Header) (k : Known) (ts : List Lent) (q : Ring) (ps : List ℕ) : Type 0 where
@@ -164,16 +156,9 @@ module _ (h : Header) (k : Known) (ts : List Lent) (q : Ring) (ps : List ℕ) (x
       λ l. ap (λ ms. is_among ms l) (restored_open h k id (not_command h q x.found x.transfer x.headed)) ∙ among_filtered (λ m. not (freed m)) after l in
       only_begins before after row ts x.opened (λ l at. (and_parts (is_among after l) (not (freed l)) (sym (kept l) ∙ at)).0)
       ∙ ap (λ ls. with_begun row ts (in_turn ls))
-      (filter_alike (λ l. not (is_among before l)) freed after (λ l at. new (is_among before l) (is_among after l) (freed l) (kept l) (in_among after l at))
+      (filter_alike (λ l. not (is_among before l)) freed after (λ l at. either_way (is_among before l) (is_among after l) (freed l) (kept l) (in_among after l at))
       ∙ freed_are h x.headed k q (among h q x.found x.transfer) (driver h q x.found x.transfer) x.freed_given)
       ∙ ap (with_begun row ts) (rising id (k.ring id).free (floor_number (k.ring id)) (place_count q.shape) ∙ ap (map (Block id)) (sym x.positions))
-    where
-      new : (a b c : Bool) → a ≡ (b && not c) → b ≡ true → not a ≡ c
-      new true true true e f = absurd (false≢true (sym e))
-      new true true false e f = refl
-      new false true true e f = refl
-      new false true false e f = absurd (false≢true e)
-      new a false c e f = absurd (false≢true f)
 
   -- one after the other: its place is free
   module _ (i : ℕ) (low : i < length ps) where
@@ -199,24 +184,17 @@ module _ (h : Header) (k : Known) (ts : List Lent) (q : Ring) (ps : List ℕ) (x
     less u at = search (rules, unrestored, less_before)
 
     no_share : (u : ℕ) → IsIn u (take i ps) → share_a_place h (Block id p) (Block id u) ≡ false
-    no_share u at = elim (cases_Bool (id == id && p % place_count (shape_of h id) == u % place_count (shape_of h id))) [
-      | inl shares ↦
-          let shaped = shape_there h x.headed q (among h q x.found x.transfer) in
-          let here = within p (in_get ps i low) in
-          let there = within u (from_take ps i u at) in
-          let rests : p % place_count q.shape ≡ u % place_count q.shape = search (rules, eqb-true, and_parts, shape_of) in
-          let same : p ≡ u = same_due (floor_number (k.ring id)) (place_count q.shape) p u (omega (arith, here.0, here.1)) here.0 here.1 there.0 there.1 rests in
-          let less_than : u < p = less u at in
-          absurd (omega (arith, same, less_than))
-      | inr differ ↦ differ
-    ]
+    no_share u at = false_unless (id == id && p % place_count (shape_of h id) == u % place_count (shape_of h id)) (λ shares.
+        let shaped = shape_there h x.headed q (among h q x.found x.transfer) in
+        let here = within p (in_get ps i low) in
+        let there = within u (from_take ps i u at) in
+        let rests : p % place_count q.shape ≡ u % place_count q.shape = search (rules, eqb-true, and_parts, shape_of) in
+        let same : p ≡ u = same_due (floor_number (k.ring id)) (place_count q.shape) p u (omega (arith, here.0, here.1)) here.0 here.1 there.0 there.1 rests in
+        let less_than : u < p = less u at in
+        omega (arith, same, less_than))
 
     none_shares : (us : List ℕ) → ((u : ℕ) → IsIn u us → share_a_place h (Block id p) (Block id u) ≡ false) → (m : Leased) → IsIn m (map (Block id) us) → share_a_place h (Block id p) m ≡ false
-    none_shares [] all m at = absurd at
-    none_shares (u ∷ us) all m at = elim at [
-      | inl here ↦ ap (share_a_place h (Block id p)) here ∙ all u (inl refl)
-      | inr later ↦ none_shares us (λ y there. all y (inr there)) m later
-    ]
+    none_shares us all m at = let found = from_map (Block id) us m at in ap (share_a_place h (Block id p)) found.2 ∙ all found.0 found.1
 
     pub next_free : is_place_free h (with_begun row ts (map (Block id) (take i ps))) (Block id p) ≡ true
     next_free = search (rules, within, in_get, free_still, unlent_free, are_shaped, in_drivers, none_shares, no_share, false≢true)

@@ -1,8 +1,8 @@
 -- A write that gives a Set TR Dequeue restores the ring that it moves, and begins the lease of its own block. The log is told of both in the order
 -- of their rings' IDs, as of what begins at one row
-use Rattle.leases.proofs.BaseWords.{◌≡◌, ◌≢◌, ◌+◌, ◌<◌, ◌≤◌, ◌==◌, ◌&&◌, ◌++◌, ◌∷◌, ◌∙◌, ℕ, Bool, true, false, not, List, [], Option, Some, None, filter, map, option_and_then, slice_get, arith, refl, sym, ap, subst, inl, inr, append-nil, eqb-true, and_parts, false≢true, not-true, or_left, nat_tests, range_with_len, cases_eq, none-some, IsIn, flat_map, Header, IsHeader, Ring, Known, RingView, changed, on_ring, learned, Write, driver_rings, is_driver_kind, open_leases, shape_of, command_id, positions_given, crossings_given, due_positions, place_count, floor_number, is_inside, address_of, link_address, gives_is, gives_crossing_is, address_inside, link_address_inside, position_given_is, gives, gives_crossing, is_crossing, Command, SetTrDequeue, command_given, command_at, command_of, with_device, with_word, written, taken_device, given_of, given_by, range_of_command, range_of_context, from_filter, DriverKeeps, IsDriverRing, due_has_ring, contains_first, and_then_parts, ring_elsewhere, ring_shape, not_in_both, unrestored, Restores, due_crossings, Shape, IsShape, Gives, GivesCrossing, gives_one, data_not_link, Given, Position, Crossing, as_lease, comes_before, without_end, Leased, Block, Link, AreOpen, Lent, in_turn, is_place_free, newly_open, passed_on, precedes, with_begun, with_leased, FreeWasGiven, all_from_one, find_some, ring_found, shape_allowed, shape_there, together, Apart, IsAmong, restored, restored_on, ring_moved, ring_restored, is_freed, MovesRing, rules}
+use Rattle.leases.proofs.BaseWords.{◌≡◌, ◌≢◌, ◌+◌, ◌<◌, ◌≤◌, ◌==◌, ◌&&◌, ◌++◌, ◌∷◌, ◌∙◌, ℕ, Bool, true, false, not, List, [], Option, Some, None, filter, map, option_and_then, slice_get, arith, refl, sym, ap, subst, inl, inr, append-nil, eqb-true, and_parts, false≢true, not-true, or_left, nat_tests, range_with_len, cases_eq, none-some, IsIn, Header, IsHeader, Ring, Known, RingView, changed, on_ring, learned, Write, driver_rings, is_driver_kind, open_leases, shape_of, command_id, positions_given, crossings_given, due_positions, place_count, floor_number, is_inside, address_of, link_address, gives_is, gives_crossing_is, address_inside, link_address_inside, position_given_is, gives, gives_crossing, is_crossing, Command, SetTrDequeue, command_given, command_at, command_of, with_device, with_word, written, taken_device, given_of, given_by, range_of_command, range_of_context, from_filter, DriverKeeps, IsDriverRing, due_has_ring, contains_first, and_then_parts, ring_elsewhere, ring_shape, not_in_both, unrestored, Restores, due_crossings, Shape, IsShape, Gives, GivesCrossing, gives_one, data_not_link, Given, Position, Crossing, as_lease, comes_before, without_end, Leased, Block, Link, AreOpen, Lent, in_turn, is_place_free, newly_open, passed_on, precedes, with_begun, with_leased, FreeWasGiven, all_from_one, find_some, ring_found, shape_allowed, shape_there, together, Apart, IsAmong, restored, restored_on, ring_moved, ring_restored, is_freed, MovesRing, rules}
 use Rattle.safety.proofs.DriverRows.{ring_here}
-use Rattle.leases.proofs.LeaseBooks.GivingCommands.{all_kept, contexts_given, new_leases}
+use Rattle.leases.proofs.LeaseBooks.GivingCommands.{all_kept, contexts_given, new_leases, none_at}
 use Rattle.leases.proofs.LeaseBooks.Members.{from_flat_map, from_map, from_range, in_either}
 use Rattle.leases.proofs.LeaseBooks.Rows.{IsOpen, passed_open}
 use Rattle.leases.proofs.LeaseBooks.Writing.{lease_given}
@@ -146,21 +146,14 @@ module _ (h : Header) (headed : IsHeader h) (k : Known) (freed : FreeWasGiven h 
   -- its command names no input context
   contexts_none : contexts_given h k a w ≡ []
   unfolding positions_given range_of_command range_of_context
-  contexts_none = nothing (filter (gives_new c) (due_positions (shape_of h c) (k.ring c))) (λ p at. no_context p (from_filter (gives_new c) (due_positions (shape_of h c) (k.ring c)) p at).1)
+  contexts_none = none_at (λ p. range_of_command h p (command_at h k p)) (filter (gives_new c) (due_positions (shape_of h c) (k.ring c))) (λ p at. no_context p (from_filter (gives_new c) (due_positions (shape_of h c) (k.ring c)) p at).1)
     where
-      of_move : (p : ℕ) → range_of_command h p (Some (SetTrDequeue m.slot m.index m.pointer m.cycle)) ≡ []
-      of_move p = refl
-
       no_context : (p : ℕ) → gives_new c p ≡ true → range_of_command h p (command_at h k p) ≡ []
       no_context p new =
           let here = gives_here in
           let same : p ≡ here.position =
           gives_one (shape_of h c) (shape_is c here.ring) (k.ring c).floor a w p here.position (and_parts (not ((k.ring c).given p)) (gives (shape_of h c) (k.ring c).floor p a w) new).1 here.gives in
-          ap (λ x. range_of_command h x (command_at h k x)) same ∙ ap (range_of_command h here.position) here.command ∙ of_move here.position
-
-      nothing : (ps : List ℕ) → ((p : ℕ) → IsIn p ps → range_of_command h p (command_at h k p) ≡ []) → flat_map (λ p. range_of_command h p (command_at h k p)) ps ≡ []
-      nothing [] none = refl
-      nothing (p ∷ ps) none = rw (none p (inl refl)) (nothing ps (λ x at. none x (inr at)))
+          ap (λ x. range_of_command h x (command_at h k x)) same ∙ ap (range_of_command h here.position) here.command
 
   own_are : newly_open (open_leases h k) (open_leases h step) ≡ map lease_given (given_by h k a w)
   unfolding with_device

@@ -49,9 +49,27 @@ only_begins before after n ts opened stays =
     passed_by before after n ts opened (λ l. false) (in_turn (newly_open before after)) stays refl
     ∙ ap (λ us. with_begun n us (in_turn (newly_open before after))) (none_over (λ l. false) n ts (λ l. refl))
 
-either_way : (a b c : Bool) → a ≡ (b && not c) → b ≡ true → not a ≡ c
+pub either_way : (a b c : Bool) → a ≡ (b && not c) → b ≡ true → not a ≡ c
 either_way true true false e f = refl
 either_way _ _ _ e f = search (rules, false≢true)
+
+kept_by : (a b : Bool) → b ≡ true → (a && b) ≡ a
+kept_by a b e = search rules
+
+gone_by : (a b : Bool) → b ≡ true → (a && not b) ≡ false
+gone_by a b e = search rules
+
+other_way : (a b c : Bool) → a ≡ (b && not c) → (not a && c) ≡ c
+other_way a b c e = search rules
+
+swap : (a b : Bool) → (a && b) ≡ (b && a)
+swap a b = search rules
+
+mid : (a b : Bool) → b ≡ false → (not (a && not b) && not b) ≡ not a
+mid a b e = search rules
+
+twice : (b : Bool) → not b ≡ false → b ≡ true
+twice b e = search rules
 
 -- R tells what is restored
 module _ (R : Leased → Bool) (K L S U : List Leased)
@@ -69,11 +87,7 @@ module _ (R : Leased → Bool) (K L S U : List Leased)
   -- what is restored is there either way
   restored_there : (l : Leased) → R l ≡ true → is_among L l ≡ is_among U l
   restored_there l holds =
-      sym (drop (is_among L l) (R l) holds) ∙ sym (among_filtered R L l) ∙ ap (λ xs. is_among xs l) same ∙ among_filtered R U l ∙ drop (is_among U l) (R l) holds
-    where
-      drop : (a b : Bool) → b ≡ true → (a && b) ≡ a
-      drop true b e = e
-      drop false b e = refl
+      sym (kept_by (is_among L l) (R l) holds) ∙ sym (among_filtered R L l) ∙ ap (λ xs. is_among xs l) same ∙ among_filtered R U l ∙ kept_by (is_among U l) (R l) holds
 
   K_in_L : (l : Leased) → IsOpen K l → IsOpen L l
   K_in_L l at = (and_parts (is_among L l) (not (R l)) (sym (in_K l) ∙ at)).0
@@ -100,13 +114,7 @@ module _ (R : Leased → Bool) (K L S U : List Leased)
   restored_part =
       filter_twice R (λ l. not (is_among K l)) U
       ∙ filter_alike (λ l. not (is_among K l) && R l) (λ l. not (is_among S l)) U (λ l at.
-      by (is_among K l) (is_among L l) (R l) (in_K l) ∙ sym (either_way (is_among S l) (is_among U l) (R l) (in_S l) (in_among U l at)))
-    where
-      by : (a b c : Bool) → a ≡ (b && not c) → (not a && c) ≡ c
-      by true true true e = absurd (false≢true (sym e))
-      by true false c e = absurd (false≢true (sym e))
-      by true b false e = refl
-      by false b c e = refl
+      other_way (is_among K l) (is_among L l) (R l) (in_K l) ∙ sym (either_way (is_among S l) (is_among U l) (R l) (in_S l) (in_among U l at)))
 
   own_part : filter other N ≡ newly_open K S
   own_part =
@@ -114,32 +122,16 @@ module _ (R : Leased → Bool) (K L S U : List Leased)
       ∙ filter_alike (λ l. not (is_among K l) && other l) (λ l. other l && not (is_among K l)) U (λ l at. swap (not (is_among K l)) (other l))
       ∙ sym (filter_twice (λ l. not (is_among K l)) other U)
       ∙ ap (filter (λ l. not (is_among K l))) (sym with_step)
-    where
-      swap : (a b : Bool) → (a && b) ≡ (b && a)
-      swap true true = refl
-      swap true false = refl
-      swap false true = refl
-      swap false false = refl
 
   -- what the row's own step begins is the same behind the restoring
   pub newly_own : newly_open L U ≡ newly_open K S
   newly_own =
       filter_alike (λ l. not (is_among L l)) (λ l. not (is_among K l) && other l) U (λ l at. elim (cases_Bool (R l)) [
-        | inl holds ↦ ap not (restored_there l holds ∙ in_among U l at) ∙ sym (last (not (is_among K l)) (R l) holds)
+        | inl holds ↦ ap not (restored_there l holds ∙ in_among U l at) ∙ sym (gone_by (not (is_among K l)) (R l) holds)
         | inr fails ↦ sym (ap (λ b. not b && other l) (in_K l) ∙ mid (is_among L l) (R l) fails)
       ])
       ∙ sym (filter_twice other (λ l. not (is_among K l)) U)
       ∙ own_part
-    where
-      last : (a b : Bool) → b ≡ true → (a && not b) ≡ false
-      last true true e = refl
-      last false b e = refl
-      last true false e = absurd (false≢true e)
-
-      mid : (a b : Bool) → b ≡ false → (not (a && not b) && not b) ≡ not a
-      mid true false e = refl
-      mid false false e = refl
-      mid a true e = absurd (false≢true (sym e))
 
   module _ (n : ℕ) (early : n < without_end) (ts : List Lent) (opened : AllUnended (λ i l. IsOpen K l) 0 ts) where
     K_in_U : (l : Leased) → IsOpen K l → IsOpen U l
@@ -169,12 +161,4 @@ module _ (R : Leased → Bool) (K L S U : List Leased)
         turned : in_turn N ≡ in_turn (newly_open K S) ++ in_turn (newly_open S U)
         turned =
             turn_parted other N (λ m l at fails bt holds. after l m (twice (R l) holds) (subst (IsIn m) own_part (in_filter other N m at fails)))
-            ∙ (λ j. in_turn (own_part j) ++ in_turn ((filter_alike (λ l. not (other l)) R N (λ l at. still (R l)) ∙ restored_part) j))
-          where
-            twice : (b : Bool) → not b ≡ false → b ≡ true
-            twice true e = refl
-            twice false e = absurd (false≢true (sym e))
-
-            still : (b : Bool) → not (not b) ≡ b
-            still true = refl
-            still false = refl
+            ∙ (λ j. in_turn (own_part j) ++ in_turn ((filter_alike (λ l. not (other l)) R N (λ l at. either_way (not (R l)) true (R l) refl refl) ∙ restored_part) j))

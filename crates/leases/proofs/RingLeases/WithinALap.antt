@@ -1,8 +1,8 @@
 -- The open leases of a ring lie within a lap, and a number more, from its floor on: to pass all of these ends them, and no others. A Link may
 -- be given long before blocks are declared up to it, so what is declared is no bound
-use Rattle.leases.proofs.BaseWords.{◌≡◌, ◌≢◌, ◌+◌, ◌<◌, ◌≤◌, ◌==◌, ◌&&◌, ◌∷◌, ◌∙◌, ℕ, List, [], true, nat_le, nat_lt, arith, refl, sym, ap, inl, inr, nat_tests, cases_eq, Header, IsHeader, Ring, from_filter, is_driver_kind, Known, IsIn, driver_rings, flat_map, open_leases, open_on, open_ranges, shape_of, place_count, floor_number, among_is, Leased, Block, Link, Range, is_among, is_passed, IsAmong, shape_there, is_of_ring}
-use Rattle.leases.proofs.LeaseBooks.Members.{InOn, block, link, from_flat_map, in_either, in_on}
-use Rattle.leases.proofs.LeaseBooks.RangesAlone.{IsRange, open_are_ranges}
+use Rattle.leases.proofs.BaseWords.{◌≡◌, ◌≢◌, ◌+◌, ◌<◌, ◌≤◌, ◌==◌, ◌&&◌, ◌∷◌, ◌∙◌, ℕ, List, [], true, nat_le, nat_lt, arith, refl, sym, ap, inl, inr, nat_tests, cases_eq, Header, IsHeader, Ring, from_filter, is_driver_kind, Known, IsIn, driver_rings, open_leases, shape_of, place_count, floor_number, Leased, Range, is_among, is_passed, IsAmong, shape_there, is_of_ring}
+use Rattle.leases.proofs.LeaseBooks.Members.{InOn, block, link}
+use Rattle.leases.proofs.LeaseBooks.RangesAlone.{IsRange, each_open, open_are_ranges}
 use Rattle.leases.proofs.LeaseBooks.Writing.{AreShaped}
 
 inside : (a id from p to : ℕ) → a ≡ id → from ≤ p → p < to → (id == a && nat_le from p && nat_lt p to) ≡ (a == id)
@@ -33,19 +33,11 @@ module _ (h : Header) (k : Known) (id : ℕ) where
   ]
 
   of_range : (l : Leased) → IsRange l → is_passed id floor end l ≡ is_of_ring id l
-  of_range (Block r p) is = absurd is
-  of_range (Link r q) is = absurd is
   of_range (Range n a e) is = refl
+  of_range _ is = absurd is
 
   pub all_passed : AreShaped h → (l : Leased) → is_among (open_leases h k) l ≡ true → is_passed id floor end l ≡ is_of_ring id l
-  unfolding open_leases
-  all_passed shaped l is_open =
-      elim (in_either l (flat_map (open_on h k) (driver_rings h)) (open_ranges h k) (among_is _ l is_open)) [
-        | inl on ↦
-            let found = from_flat_map (open_on h k) (driver_rings h) l on in
-            on_ring found.0 l (shaped found.0 found.1) (in_on h k found.0 l found.2)
-        | inr range ↦ of_range l (open_are_ranges h k l range)
-      ]
+  all_passed shaped = each_open h k (λ l. is_passed id floor end l ≡ is_of_ring id l) (λ q at l on. on_ring q l (shaped q at) on) (λ l at. of_range l (open_are_ranges h k l at))
 
 -- each ring has the shape of its ID
 pub among : (q : Ring) (rs : List Ring) → IsIn q rs → IsAmong q rs
