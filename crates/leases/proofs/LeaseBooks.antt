@@ -9,10 +9,8 @@ pub mod SameLeases
 pub mod Members
 pub mod RangesAlone
 pub mod PassedLeases
-pub mod Completing
 pub mod Writing
 pub mod Ordering
-pub mod NoIndexes
 pub mod FirstBook
 pub mod TableAlone
 pub mod FreePlaces

@@ -16,5 +16,5 @@ pub use Rattle.leases.proofs.LeaseBooks.Unended.{all_ended}
 pub use Rattle.leases.proofs.LeaseRows.EndedRanges.{device_lent, disables_none, endpoint_driven, endpoint_named, ends_all, failed_behind, leaves_empty, leaves_none, leaves_two, lent_of, moved_is, moved_none, moves_none, moves_when, none_ended, none_past, one_ended, slot_still, some_past, succeeded_behind, two_ended}
 pub use Rattle.leases.proofs.LeaseRows.OtherRows.{among_drivers, held_still, lent_register, on_both, on_more, other_held, other_row, table_begins}
 pub use Rattle.leases.proofs.LeaseRows.RowWrites.{at_ring, command_context_free, command_fits, command_slot_free, given_kind, given_there_is, lent_command, lent_link, lent_none, lent_nowhere, lent_without, link_is_free, place_free, record_there}
-pub use Rattle.leases.proofs.LeaseRows.TakenRanges.{all_more, begun_twice, entry_aligned, named_at, no_context, none_more, none_taken, one_context, same_more, slot_is, still_free, still_free_slot, takes_no_more, takes_none, takes_one}
-pub use Rattle.leases.proofs.RingLeases.LentFree.{Restoring, among, ends_none, ends_one, is_between, next_begun, next_free, none_begun, restored_lent, withdrawn_lent}
+pub use Rattle.leases.proofs.LeaseRows.TakenRanges.{all_more, begun_none, begun_twice, entry_aligned, named_at, no_context, none_more, none_taken, one_context, same_more, slot_is, still_free, still_free_slot, takes_no_more, takes_none, takes_one}
+pub use Rattle.leases.proofs.RingLeases.LentFree.{Restoring, among, ends_none, ends_one, is_between, next_begun, next_free, restored_lent, withdrawn_lent}

@@ -1,10 +1,7 @@
 -- How agreement goes on when a lease begins, and when some end
 use Rattle.leases.proofs.BaseWords.{cond_both, ◌≡◌, ◌==◌, ◌&&◌, ◌||◌, ◌∷◌, ◌∙◌, ℕ, Bool, true, false, List, [], length, map, slice_get, sym, ap, refl, eq-eqb, and_parts, and_from, Lease, Leased, as_lease, without_end, Lent, begun_at, ended_where, is_unended, lease_of, with_begun, agree, agrees, begins_as, has_words_of, test_of}
 use Rattle.leases.proofs.LeaseBooks.Ending.{later_end}
-
-and_true : (b : Bool) → (b && true) ≡ b
-and_true true = refl
-and_true false = refl
+use Rattle.leases.proofs.LeaseBooks.Passing.{and_true}
 
 regroup : (a b c : Bool) → (a && (b && c)) ≡ ((a && b) && c)
 regroup true b c = refl

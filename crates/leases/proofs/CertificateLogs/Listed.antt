@@ -1,5 +1,5 @@
 -- What a followed list tells: whether it is the leases of what was and is lent
-use Rattle.leases.proofs.BaseWords.{◌≡◌, ◌==◌, ◌&&◌, ◌∙◌, Bool, true, false, not, List, filter, length, map, sym, ap, refl, eqb-true, eq-eqb, and_parts, length-map, Header, Lease, IndexTables, Lent, is_unended, lease_of, FollowedList, agree, is_endless, FollowsList}
+use Rattle.leases.proofs.BaseWords.{rules, ◌≡◌, ◌==◌, ◌&&◌, ◌∙◌, Bool, true, false, not, List, filter, length, map, sym, ap, refl, eqb-true, eq-eqb, and_parts, length-map, Header, Lease, IndexTables, Lent, is_unended, lease_of, FollowedList, agree, is_endless, FollowsList}
 use Rattle.leases.proofs.CertificateLogs.Whole.{own_agree, own_count, whole}
 
 -- the list is that of what was lent where it agrees, has as many leases, and as many without an end
@@ -15,8 +15,7 @@ whole_tells ls h ts list blocks links follows e =
     whole ts ls agreed many count
   where
     twice : (b : Bool) → not (not b) ≡ true → b ≡ true
-    twice true f = refl
-    twice false f = f
+    twice b f = search rules
 
 pub tells_whole : (ls : List Lease) (h : Header) (ts : List Lent) (list : FollowedList) (blocks links : IndexTables) → FollowsList ls h ts list blocks links → ls ≡ map lease_of ts →
     (not list.differs && list.begun == length list.leases.now && length (filter is_endless list.leases.now) == list.unended) ≡ true

@@ -1,5 +1,5 @@
 -- Which lease stands at a place, when one begins and when one ends
-use Rattle.leases.proofs.BaseWords.{◌≡◌, ◌+◌, ◌∷◌, ◌++◌, ◌∙◌, ℕ, zero, suc, Bool, true, false, List, [], length, map, slice_get, sym, refl, inl, inr, list_any, cases_Bool, and_parts, or_parts, or_from, false≢true, Lease, Leased, Lent, is_unended, AllUnended, agree, agrees, test_of, IsOnly, IsOnlyAt, is_open_of}
+use Rattle.leases.proofs.BaseWords.{subst, ◌≡◌, ◌+◌, ◌∷◌, ◌++◌, ◌∙◌, ℕ, zero, suc, Bool, true, false, List, [], length, map, slice_get, sym, refl, inl, inr, list_any, cases_Bool, and_parts, or_parts, or_from, false≢true, Lease, Leased, Lent, is_unended, AllUnended, agree, agrees, test_of, IsOnly, IsOnlyAt, is_open_of}
 
 module _ (p q : Lent → Bool) (f : Lent → Lent) (same : (t : Lent) → q (f t) ≡ p t) where
   none_alike : (ts : List Lent) → list_any p ts ≡ false → list_any q (map f ts) ≡ false
@@ -19,21 +19,8 @@ module _ (p q : Lent → Bool) (f : Lent → Lent) (same : (t : Lent) → q (f t
   only_alike (suc i) ts at = at_alike i ts at
 
 -- tests that agree are passed by the same
-module _ (p q : Lent → Bool) (same : (t : Lent) → q t ≡ p t) where
-  none_same : (ts : List Lent) → list_any p ts ≡ false → list_any q ts ≡ false
-  none_same [] none = refl
-  none_same (t ∷ ts) none =
-      let parts = or_parts (p t) (list_any p ts) none in
-      or_from (q t) (list_any q ts) (same t ∙ parts.0) (none_same ts parts.1)
-
-  at_same : (i : ℕ) (ts : List Lent) → IsOnlyAt p i ts → IsOnlyAt q i ts
-  at_same i [] at = at
-  at_same zero (t ∷ ts) at = (same t ∙ at.0, none_same ts at.1)
-  at_same (suc i) (t ∷ ts) at = (same t ∙ at.0, at_same i ts at.1)
-
-  pub only_same : (n : ℕ) (ts : List Lent) → IsOnly p n ts → IsOnly q n ts
-  only_same zero ts none = none_same ts none
-  only_same (suc i) ts at = at_same i ts at
+pub only_same : (p q : Lent → Bool) → ((t : Lent) → q t ≡ p t) → (n : ℕ) (ts : List Lent) → IsOnly p n ts → IsOnly q n ts
+only_same p q same n ts only = subst (λ (r : Lent → Bool). IsOnly r n ts) (λ i t. sym (same t) i) only
 
 module _ (p : Lent → Bool) (t : Lent) where
   none_more : (ts : List Lent) → p t ≡ false → list_any p ts ≡ false → list_any p (ts ++ t ∷ []) ≡ false

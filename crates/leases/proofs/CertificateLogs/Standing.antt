@@ -1,7 +1,6 @@
 -- Where what is lent stands among what was and is lent
-use Rattle.leases.proofs.BaseWords.{and_false, false_unless, ◌≡◌, ◌+◌, ◌<◌, ◌%◌, ◌==◌, ◌&&◌, ◌∷◌, ◌∙◌, ℕ, zero, suc, Bool, true, false, List, [], arith, sym, ap, refl, inl, inr, subst, eq-eqb, list_any, cases_Bool, and_parts, false≢true, place_count, link_of, Header, shape_of, Leased, Block, Link, Range, Use, same_leased, leased_is, AllUnended, Lent, is_place_free, is_unended, share_a_place, StandsAt, is_lent, IsOnlyAt, BlockPlace, RingPlace, has_place, is_open_of}
+use Rattle.leases.proofs.BaseWords.{not-true, and_false, false_unless, ◌≡◌, ◌+◌, ◌<◌, ◌%◌, ◌==◌, ◌&&◌, ◌∷◌, ◌∙◌, ℕ, zero, suc, Bool, true, false, List, [], arith, sym, ap, refl, inl, inr, subst, eq-eqb, list_any, cases_Bool, and_parts, false≢true, place_count, link_of, Header, shape_of, Leased, Block, Link, Range, Use, same_leased, leased_is, AllUnended, Lent, is_place_free, is_unended, share_a_place, StandsAt, is_lent, IsOnlyAt, BlockPlace, RingPlace, has_place, is_open_of}
 use Rattle.leases.proofs.LeaseBooks.EndingRange.{either_holds, not_later}
-use Rattle.leases.proofs.LeaseBooks.Places.{not_true}
 
 module _ (l : Leased) where
   abbrev is_this : Lent → Bool
@@ -53,7 +52,7 @@ module _ (h : Header) where
   -- nothing is open at a place that is free, nor at the place of a range
   pub free_none : (ts : List Lent) (l : Leased) → is_place_free h ts l ≡ true → list_any (is_open_of (share_a_place h l)) ts ≡ false
   unfolding is_place_free
-  free_none ts l free = not_true (list_any (is_open_of (share_a_place h l)) ts) free
+  free_none ts l free = not-true (list_any (is_open_of (share_a_place h l)) ts) free
 
   pub range_none : (n a : ℕ) (e : Use) (ts : List Lent) → list_any (is_open_of (share_a_place h (Range n a e))) ts ≡ false
   range_none n a e [] = refl

@@ -1,20 +1,19 @@
 -- To end one lease of the list is to end what it leases
-use Rattle.leases.proofs.BaseWords.{◌≡◌, ◌+◌, ◌-◌, ◌<◌, ◌==◌, ◌&&◌, ◌∷◌, ◌∙◌, ℕ, Bool, true, false, List, [], map, slice_get, slice_set, Some, None, zero, suc, arith, sym, ap, refl, inl, inr, cond, subst, cases_Bool, and_parts, nat_tests, Lease, Leased, Block, Link, Range, same_leased, as_lease, without_end, leased_is, Lent, lease_of, is_unended, ended_where, AllUnended, is_open_as, ended_at}
+use Rattle.leases.proofs.BaseWords.{rules, ◌≡◌, ◌+◌, ◌-◌, ◌<◌, ◌==◌, ◌&&◌, ◌∷◌, ◌∙◌, ℕ, Bool, true, false, List, [], map, slice_get, slice_set, Some, None, zero, suc, arith, sym, ap, refl, inl, inr, cond, subst, cases_Bool, and_parts, nat_tests, Lease, Leased, Block, Link, Range, same_leased, as_lease, without_end, leased_is, Lent, lease_of, is_unended, ended_where, AllUnended, is_open_as, ended_at}
+
+pushed : {A B : Type 0} (f : A → B) (b : Bool) (x y : A) → f (cond b x y) ≡ cond b (f x) (f y)
+pushed f true x y = refl
+pushed f false x y = refl
+
+drops : (a b c : Bool) → (a && false && b && c) ≡ (a && false)
+drops a b c = search rules
 
 -- where the list has such an element at the index, or none
 pub at_some : (l : Lease) (n i : ℕ) (xs : List Lease) (m : Lease) → slice_get xs i ≡ Some m → ended_at l n i xs ≡ cond (is_open_as l m) (slice_set xs i (record m { to = n })) xs
 unfolding ended_at
 at_some l n i [] m e = cc
-at_some l n zero (x ∷ xs) m e = let same : x ≡ m = cc in rw same (by (is_open_as l m))
-  where
-    by : (b : Bool) → cond b (record m { to = n }) m ∷ xs ≡ cond b (record m { to = n } ∷ xs) (m ∷ xs)
-    by true = refl
-    by false = refl
-at_some l n (suc i) (x ∷ xs) m e = ap (λ ys. x ∷ ys) (at_some l n i xs m e) ∙ by (is_open_as l m)
-  where
-    by : (b : Bool) → x ∷ cond b (slice_set xs i (record m { to = n })) xs ≡ cond b (x ∷ slice_set xs i (record m { to = n })) (x ∷ xs)
-    by true = refl
-    by false = refl
+at_some l n zero (x ∷ xs) m e = let same : x ≡ m = cc in rw same (pushed (λ y. y ∷ xs) (is_open_as l m) _ m)
+at_some l n (suc i) (x ∷ xs) m e = ap (λ ys. x ∷ ys) (at_some l n i xs m e) ∙ pushed (λ ys. x ∷ ys) (is_open_as l m) _ xs
 
 pub at_none : (l : Lease) (n i : ℕ) (xs : List Lease) → slice_get xs i ≡ None → ended_at l n i xs ≡ xs
 unfolding ended_at
@@ -54,11 +53,8 @@ module _ (F : ℕ → Leased → Type 0) (l : Leased) (row : ℕ) where
     one_ends n i [] only all = refl
     one_ends n zero (t ∷ ts) only all =
         let rest : map (ended_where (same_leased l) row) ts ≡ ts = none_ends (n + 1) ts (λ j f. let e : j ≡ n + 0 = only j f in omega arith) all.1 in
-        rw (alike t (λ u. told n t.leased (all.0 u)), rest) (ap (λ y. y ∷ map lease_of ts) (by (is_unended t && same_leased l t.leased)))
-      where
-        by : (b : Bool) → cond b (record (lease_of t) { to = row }) (lease_of t) ≡ lease_of (cond b (record t { to = row }) t)
-        by true = sym (later_end t row)
-        by false = refl
+        rw (alike t (λ u. told n t.leased (all.0 u)), rest) (ap (λ y. y ∷ map lease_of ts)
+        (ap (λ y. cond (is_unended t && same_leased l t.leased) y (lease_of t)) (sym (later_end t row)) ∙ sym (pushed lease_of (is_unended t && same_leased l t.leased) _ t)))
     one_ends n (suc i) (t ∷ ts) only all =
         let rest = one_ends (n + 1) i ts (λ j f. let e : j ≡ n + suc i = only j f in omega arith) all.1 in
         elim (cases_Bool (is_unended t && same_leased l t.leased)) [
@@ -76,17 +72,12 @@ unfolding is_open_as lease_of as_lease is_unended
 block_alike r p n e t = by t.leased
   where
     same : (a b c : Bool) → (a && true && b && c) ≡ (a && (b && c))
-    same true b c = refl
-    same false b c = refl
-
-    other : (a b c : Bool) → (a && false && b && c) ≡ (a && false)
-    other true b c = refl
-    other false b c = refl
+    same a b c = search rules
 
     by : (l : Leased) → ((as_lease t.from t.to l).to == without_end && 0 == (as_lease t.from t.to l).kind && r == (as_lease t.from t.to l).ring && p == (as_lease t.from t.to l).pos) ≡ (t.to == without_end && same_leased (Block r p) l)
     by (Block s q) = same (t.to == without_end) (r == s) (p == q)
-    by (Link s q) = other (t.to == without_end) (r == s) (p == q - 1)
-    by (Range m a u) = other (t.to == without_end) (r == m) (p == a)
+    by (Link s q) = drops (t.to == without_end) (r == s) (p == q - 1)
+    by (Range m a u) = drops (t.to == without_end) (r == m) (p == a)
 
 abbrev pub IsPositive : Leased → Type 0
 IsPositive (Block r p) = Unit {0}
@@ -98,19 +89,14 @@ pub link_alike : (r p n e : ℕ) (t : Lent) → 0 < p → (is_unended t ≡ true
 unfolding is_open_as lease_of as_lease is_unended
 link_alike r p n e t above positive = by t.leased positive
   where
-    other : (a b c : Bool) → (a && false && b && c) ≡ (a && false)
-    other true b c = refl
-    other false b c = refl
-
     same : (a b c d : Bool) → (a ≡ true → c ≡ d) → (a && true && b && c) ≡ (a && (b && d))
-    same true b c d f = ap (λ z. b && z) (f refl)
-    same false b c d f = refl
+    same a b c d f = search rules
 
     crossing : (q : ℕ) → 0 < q → (p - 1 == q - 1) ≡ (p == q)
     crossing q over = grind (arith, nat_tests, above, over)
 
     by : (l : Leased) → (t.to == without_end ≡ true → IsPositive l) →
         ((as_lease t.from t.to l).to == without_end && 1 == (as_lease t.from t.to l).kind && r == (as_lease t.from t.to l).ring && p - 1 == (as_lease t.from t.to l).pos) ≡ (t.to == without_end && same_leased (Link r p) l)
-    by (Block s q) over = other (t.to == without_end) (r == s) (p - 1 == q)
+    by (Block s q) over = drops (t.to == without_end) (r == s) (p - 1 == q)
     by (Link s q) over = same (t.to == without_end) (r == s) (p - 1 == q - 1) (p == q) (λ u. crossing q (over u))
-    by (Range m a u) over = other (t.to == without_end) (r == m) (p - 1 == a)
+    by (Range m a u) over = drops (t.to == without_end) (r == m) (p - 1 == a)

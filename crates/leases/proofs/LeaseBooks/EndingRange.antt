@@ -1,10 +1,9 @@
 -- The lease of a range ends at the index where it stands
-use Rattle.leases.proofs.BaseWords.{◌≡◌, ◌+◌, ◌<◌, ◌==◌, ◌&&◌, ◌||◌, ◌∷◌, ◌∙◌, ℕ, Bool, true, false, List, [], map, zero, suc, arith, sym, ap, refl, inl, inr, subst, eq-eqb, list_any, cases_Bool, and_parts, false≢true, Lease, Leased, Range, Use, same_leased, as_lease, without_end, leased_is, Lent, lease_of, is_unended, ended_where, AllUnended, is_open_as, ended_at, StandsAt, is_lent}
+use Rattle.leases.proofs.BaseWords.{rules, ◌≡◌, ◌+◌, ◌<◌, ◌==◌, ◌&&◌, ◌||◌, ◌∷◌, ◌∙◌, ℕ, Bool, true, false, List, [], map, zero, suc, arith, sym, ap, refl, inl, inr, subst, eq-eqb, list_any, cases_Bool, and_parts, false≢true, Lease, Leased, Range, Use, same_leased, as_lease, without_end, leased_is, Lent, lease_of, is_unended, ended_where, AllUnended, is_open_as, ended_at, StandsAt, is_lent}
 use Rattle.leases.proofs.LeaseBooks.Ending.{later_end, none_ends}
 
 pub either_holds : (x y : Bool) → (x || y) ≡ true → x ≡ false → y ≡ true
-either_holds true y e f = absurd (false≢true (sym f))
-either_holds false y e f = e
+either_holds x y e f = search rules
 
 module _ (l : Leased) (i : ℕ) where
   -- it is lent where it can stand
@@ -50,10 +49,7 @@ unfolding is_open_as lease_of as_lease is_unended
 range_alike row n a e t unended same = rw same (by (t.to == without_end) (n == n) (a == a) unended (eq-eqb n n refl) (eq-eqb a a refl))
   where
     by : (b c d : Bool) → b ≡ true → c ≡ true → d ≡ true → (b && true && c && d) ≡ true
-    by true true true f g h = refl
-    by false c d f g h = f
-    by true false d f g h = g
-    by true true false f g h = h
+    by b c d f g h = search rules
 
 pub range_ends : (ts : List Lent) (row n a i : ℕ) (e : Use) (x : Lease) (xs ys : List Lease) → xs ≡ map lease_of ts → x ≡ as_lease row without_end (Range n a e) → ys ≡ ended_at x row i xs →
     StandsAt ts (Range n a e) i → is_lent ts (Range n a e) ≡ true → ys ≡ map lease_of (map (ended_where (same_leased (Range n a e)) row) ts)

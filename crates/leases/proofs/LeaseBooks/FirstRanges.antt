@@ -22,10 +22,5 @@ first_ranges h first x =
     (all_new IsSegment 0 0 (in_turn (open_leases h nothing)) (λ l at. segments_are h l (subst (IsIn l) (open_at_first h) (from_turn (open_leases h nothing) l at))))
   where
     found : (i : ℕ) (l : Leased) → IsSegment l → IsRangeFound h x i l
-    found i (Block r p) is = absurd is
-    found i (Link r q) is = absurd is
     found i (Range n a EventSegment) is = tt
-    found i (Range n a SegmentTable) is = tt
-    found i (Range n a (InputContext p)) is = absurd is
-    found i (Range n a (SlotEntry s)) is = absurd is
-    found i (Range n a (DeviceContext s)) is = absurd is
+    found i _ is = absurd is

@@ -88,10 +88,6 @@ module _ (h : Header) (shaped : AreShaped h) (k : Known) (freed : FreeWasGiven h
   abbrev IsOpen : Leased → Type 0
   IsOpen l = IsIn l (open_leases h k)
 
-  on_rings : (l : Leased) → IsIn l (flat_map (open_on h k) (driver_rings h)) → IsOpen l
-  unfolding open_leases
-  on_rings l at = in_left l (flat_map (open_on h k) (driver_rings h)) (open_ranges h k) at
-
   in_ranges : (l : Leased) → IsIn l (open_ranges h k) → IsOpen l
   unfolding open_leases
   in_ranges l at = in_right l (flat_map (open_on h k) (driver_rings h)) (open_ranges h k) at

@@ -1,5 +1,5 @@
 -- The leases of a trace are what was and is lent after its rows
-use Rattle.leases.proofs.BaseWords.{◌≡◌, ◌+◌, ◌<◌, ◌≤◌, ◌==◌, ◌∷◌, ◌++◌, ◌∙◌, ℕ, true, not, List, [], length, map, reverse, arith, sym, ap, refl, cond, eqb-true, append-nil, reverse_aux, nat_tests, Header, Row, Lease, Known, nothing, learned, known, Leased, Block, Link, is_among, open_leases, as_lease, begun, comes_before, end_from, in_order, leases, leases_from, with_ends, with_lease, without_end, Lent, lease_of, is_unended, begun_at, precedes, with_leased, in_turn, ended_where, with_begun, grown, lents, passed_on, rules}
+use Rattle.leases.proofs.BaseWords.{append_assoc, ◌≡◌, ◌+◌, ◌<◌, ◌≤◌, ◌==◌, ◌∷◌, ◌++◌, ◌∙◌, ℕ, true, not, List, [], length, map, reverse, arith, sym, ap, refl, cond, eqb-true, append-nil, reverse_aux, nat_tests, Header, Row, Lease, Known, nothing, learned, known, Leased, Block, Link, is_among, open_leases, as_lease, begun, comes_before, end_from, in_order, leases, leases_from, with_ends, with_lease, without_end, Lent, lease_of, is_unended, begun_at, precedes, with_leased, in_turn, ended_where, with_begun, grown, lents, passed_on, rules}
 
 -- when a lease begins and ends doesn't matter for its place
 placed_alike : (a b : Leased) (f e g d : ℕ) → comes_before (as_lease f e a) (as_lease g d b) ≡ precedes a b
@@ -31,12 +31,10 @@ map_append f [] ys = refl
 map_append f (x ∷ xs) ys = ap (λ zs. f x ∷ zs) (map_append f xs ys)
 
 pub map_same : {X Y : Type 0} (f g : X → Y) (xs : List X) → ((x : X) → f x ≡ g x) → map f xs ≡ map g xs
-map_same f g [] same = refl
-map_same f g (x ∷ xs) same = rw (same x, map_same f g xs same) refl
+map_same {X = X} {Y = Y} f g xs same = ap (λ (k : X → Y). map k xs) (λ i x. same x i)
 
 regroup : {X : Type 0} (xs ys zs : List X) → xs ++ (ys ++ zs) ≡ (xs ++ ys) ++ zs
-regroup [] ys zs = refl
-regroup (x ∷ xs) ys zs = ap (λ ws. x ∷ ws) (regroup xs ys zs)
+regroup xs ys zs = sym (append_assoc xs ys zs)
 
 module _ (h : Header) where
   -- a lease with the end that later rows give it

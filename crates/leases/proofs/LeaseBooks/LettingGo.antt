@@ -1,8 +1,8 @@
 -- A command comes to its end: the range of its input context is let go, and with a slot that is disabled those of its entry and device context
-use Rattle.leases.proofs.BaseWords.{false_unless, ◌≡◌, ◌≢◌, ◌+◌, ◌<◌, ◌≤◌, ◌==◌, ◌&&◌, ◌∷◌, ◌*◌, ◌∙◌, ◌⊎◌, ℕ, true, false, not, nat_lt, List, [], filter, Option, Some, None, arith, sym, ap, refl, inl, inr, subst, eqb-true, eq-eqb, ltb-true, range_with_len, cases_Bool, false≢true, and_parts, and_from, nat_tests, Segment, place_count, RingView, due_positions, floor_number, Command, named_context, device_context_bytes, Header, Erstba, command_id, event_shape, shape_of, Known, entry_of, Leased, Block, Link, Range, Use, EventSegment, SegmentTable, InputContext, SlotEntry, DeviceContext, context_ranges, device_ranges, entry_ranges, is_among, open_ranges, range_of_command, range_of_context, range_of_device, range_of_entry, segment_ranges, slots, table_range, IsIn, among_is, both_ways, from_filter, in_among, in_filter, devices_without, let_go, slot_ranges, rules}
+use Rattle.leases.proofs.BaseWords.{not-true, false_unless, ◌≡◌, ◌≢◌, ◌+◌, ◌<◌, ◌≤◌, ◌==◌, ◌&&◌, ◌∷◌, ◌*◌, ◌∙◌, ◌⊎◌, ℕ, true, false, not, nat_lt, List, [], filter, Option, Some, None, arith, sym, ap, refl, inl, inr, subst, eqb-true, eq-eqb, ltb-true, range_with_len, cases_Bool, false≢true, and_parts, and_from, nat_tests, Segment, place_count, RingView, due_positions, floor_number, Command, named_context, device_context_bytes, Header, Erstba, command_id, event_shape, shape_of, Known, entry_of, Leased, Block, Link, Range, Use, EventSegment, SegmentTable, InputContext, SlotEntry, DeviceContext, context_ranges, device_ranges, entry_ranges, is_among, open_ranges, range_of_command, range_of_context, range_of_device, range_of_entry, segment_ranges, slots, table_range, IsIn, among_is, both_ways, from_filter, in_among, in_filter, devices_without, let_go, slot_ranges, rules}
 use Rattle.ring_knowledge.specs.Rings as rings
 use Rattle.leases.proofs.LeaseBooks.Members.{five_into, from_flat_map, from_map, from_range, in_either, in_flat_map, in_left, in_range, in_right}
-use Rattle.leases.proofs.LeaseBooks.PassedLeases.{IsWithinLap, not_false}
+use Rattle.leases.proofs.LeaseBooks.PassedLeases.{IsWithinLap}
 use Rattle.leases.proofs.LeaseBooks.RangesAlone.{IsRange}
 use Rattle.leases.proofs.LeaseBooks.SameLeases.{command_same}
 
@@ -39,10 +39,6 @@ module _ (h : Header) where
   unfolding range_of_command
   use_of_command p None l at = absurd at
   use_of_command p (Some c) l at = use_of_context p (named_context c) l at
-
-  no_command : (p : ℕ) (l : Leased) → IsIn l (range_of_command h p None) → ⊥
-  unfolding range_of_command
-  no_command p l at = at
 
   abbrev entry_range : Known → ℕ → Leased
   entry_range k s = Range 8 (entry_of k s) (SlotEntry s)
@@ -267,4 +263,4 @@ module _ (h : Header) (k k' : Known) (left : Option ℕ) where
         (λ here. here) (λ here. subst (IsIn l) (sym table_same) here) (λ here. context_stays l here stays) (λ here. entry_stays l here stays) (λ here. device_stays_in l here stays) at
 
     pub ranges_narrow : (l : Leased) → is_among (open_ranges h k') l ≡ (is_among (open_ranges h k) l && not (is_among (let_go h k left) l))
-    ranges_narrow l = search (rules, both_ways, range_was, among_is, open_ranges, and_from, in_among, and_parts, range_stays, not_false)
+    ranges_narrow l = search (rules, both_ways, range_was, among_is, open_ranges, and_from, in_among, and_parts, range_stays, not-true)

@@ -1,7 +1,7 @@
 -- Floors of rings move on, and some ranges are let go: the leases of the blocks and Links that are passed end, and of these ranges
-use Rattle.leases.proofs.BaseWords.{◌≡◌, ◌≤◌, ◌==◌, ◌&&◌, ◌||◌, ◌++◌, ℕ, Bool, true, false, not, nat_le, nat_lt, List, [], arith, ap, refl, inl, inr, eqb-true, flat_map, and_parts, and_from, nat_tests, is_crossing, floor_number, Header, Ring, driver_rings, Known, Leased, Block, Link, Range, is_among, open_leases, open_on, open_ranges, IsIn, among_is, both_ways, in_among, is_passed, rules}
+use Rattle.leases.proofs.BaseWords.{not-true, ◌≡◌, ◌≤◌, ◌==◌, ◌&&◌, ◌||◌, ◌++◌, ℕ, Bool, true, false, not, nat_le, nat_lt, List, [], arith, ap, refl, inl, inr, eqb-true, flat_map, and_parts, and_from, nat_tests, is_crossing, floor_number, Header, Ring, driver_rings, Known, Leased, Block, Link, Range, is_among, open_leases, open_on, open_ranges, IsIn, among_is, both_ways, in_among, is_passed, rules}
 use Rattle.leases.proofs.LeaseBooks.Members.{InOn, block, link, from_flat_map, in_either, in_flat_map, in_left, in_on, in_right, on_in}
-use Rattle.leases.proofs.LeaseBooks.PassedLeases.{Moves, block_was, link_was, not_false}
+use Rattle.leases.proofs.LeaseBooks.PassedLeases.{Moves, block_was, link_was}
 use Rattle.leases.proofs.LeaseBooks.SameLeases.{lent_same}
 use Rattle.leases.proofs.LeaseBooks.RangesAlone.{IsRange, open_are_ranges}
 
@@ -67,7 +67,7 @@ module _ (h : Header) (k k' : Known) (gone : List Leased) where
             (elim (in_either l (flat_map (open_on h k) (driver_rings h)) (open_ranges h k) (among_is _ l parts.0)) [
               | inl on_ring ↦
                   let found = from_flat_map (open_on h k) (driver_rings h) l on_ring in
-                  search (rules, in_left, open_on, driver_rings, open_ranges, in_flat_map, on_in, stays_on, in_on, not_false)
+                  search (rules, in_left, open_on, driver_rings, open_ranges, in_flat_map, on_in, stays_on, in_on, not-true)
               | inr range ↦ search (rules, in_right, open_on, driver_rings, open_ranges, among_is, and_from, in_among, gone_is, open_are_ranges)
             ])
 

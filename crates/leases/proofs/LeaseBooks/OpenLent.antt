@@ -1,5 +1,5 @@
 -- What is open is lent and not over
-use Rattle.leases.proofs.BaseWords.{◌≡◌, ◌+◌, ◌<◌, ◌≤◌, ◌==◌, ◌&&◌, ◌||◌, ◌∷◌, ◌++◌, ◌∙◌, ℕ, Bool, true, false, not, List, [], length, map, arith, sym, ap, refl, inl, inr, eq-eqb, list_any, cases_Bool, and_parts, and_from, false≢true, Header, Row, Known, nothing, learned, known, Leased, is_among, open_leases, same_leased, without_end, IsIn, among_is, in_filter, leased_is, leased_itself, Lent, begun_at, ended_where, grown, in_turn, is_unended, lents, newly_open, passed_on, with_begun, with_leased, is_lent, IsInStep, rules}
+use Rattle.leases.proofs.BaseWords.{or_left, ◌≡◌, ◌+◌, ◌<◌, ◌≤◌, ◌==◌, ◌&&◌, ◌||◌, ◌∷◌, ◌++◌, ◌∙◌, ℕ, Bool, true, false, not, List, [], length, map, arith, sym, ap, refl, inl, inr, eq-eqb, list_any, cases_Bool, and_parts, and_from, false≢true, Header, Row, Known, nothing, learned, known, Leased, is_among, open_leases, same_leased, without_end, IsIn, among_is, in_filter, leased_is, leased_itself, Lent, begun_at, ended_where, grown, in_turn, is_unended, lents, newly_open, passed_on, with_begun, with_leased, is_lent, IsInStep, rules}
 use Rattle.leases.proofs.LeaseBooks.Rows.{first_open, passed_open}
 
 to_with : (l : Leased) (ls : List Leased) (m : Leased) → IsIn m (l ∷ ls) → IsIn m (with_leased l ls)
@@ -12,13 +12,8 @@ unfolding in_turn
 to_turn [] m at = at
 to_turn (l ∷ rest) m at = to_with l (in_turn rest) m (elim at [ inl here ↦ inl here | inr later ↦ inr (to_turn rest m later) ])
 
-or_first : (x y : Bool) → x ≡ true → (x || y) ≡ true
-or_first true y e = refl
-or_first false y e = absurd (false≢true e)
-
 or_second : (x y : Bool) → y ≡ true → (x || y) ≡ true
-or_second true y e = refl
-or_second false y e = e
+or_second x y e = search rules
 
 lent_left : (ts us : List Lent) (l : Leased) → is_lent ts l ≡ true → is_lent (ts ++ us) l ≡ true
 unfolding is_lent
@@ -34,7 +29,7 @@ lent_begun : (n : ℕ) (ls : List Leased) (l : Leased) → IsIn l ls → is_lent
 unfolding is_lent begun_at is_unended
 lent_begun n [] l at = absurd at
 lent_begun n (m ∷ ls) l at = elim at [
-  | inl here ↦ or_first _ _ (and_from (without_end == without_end) (same_leased l m) (eq-eqb without_end without_end refl) (ap (same_leased l) (sym here) ∙ leased_itself l))
+  | inl here ↦ or_left _ _ (and_from (without_end == without_end) (same_leased l m) (eq-eqb without_end without_end refl) (ap (same_leased l) (sym here) ∙ leased_itself l))
   | inr later ↦ or_second ((without_end == without_end) && same_leased l m) _ (lent_begun n ls l later)
 ]
 
@@ -43,7 +38,7 @@ pub still_lent : (over : Leased → Bool) (n : ℕ) (ts : List Lent) (l : Leased
 unfolding is_lent ended_where
 still_lent over n [] l stays e = absurd (false≢true e)
 still_lent over n (t ∷ ts) l stays e = elim (cases_Bool (is_unended t && same_leased l t.leased)) [
-  | inl this ↦ search (rules, and_parts, leased_is, or_first)
+  | inl this ↦ search (rules, and_parts, leased_is, or_left)
   | inr other ↦
       let rest : list_any (λ t. is_unended t && same_leased l t.leased) ts ≡ true = sym (ap (λ b. b || list_any (λ t. is_unended t && same_leased l t.leased) ts) other) ∙ e in
       or_second _ _ (still_lent over n ts l stays rest)

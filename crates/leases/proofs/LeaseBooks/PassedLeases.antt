@@ -7,10 +7,6 @@ pub record IsWithinLap (shape : Shape) (v : RingView) : Type 0 where
   pub given : (p : ℕ) → floor_number v + place_count shape ≤ p → v.given p ≡ false
   pub crossed : (c : ℕ) → floor_number v + (place_count shape + 1) ≤ c → (is_crossing shape c && v.crossed c) ≡ false
 
-pub not_false : (b : Bool) → not b ≡ true → b ≡ false
-not_false true e = absurd (false≢true e)
-not_false false e = refl
-
 -- it goes on, on this very ring
 pub record Moves (shape : Shape) (v w : RingView) (to : ℕ) : Type 0 where
   pub given : w.given ≡ v.given

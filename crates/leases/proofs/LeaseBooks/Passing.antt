@@ -1,5 +1,5 @@
 -- One number after another is passed
-use Rattle.leases.proofs.BaseWords.{and_false, or_false, false_unless, cond_both, ◌≡◌, ◌+◌, ◌≤◌, ◌==◌, ◌&&◌, ◌||◌, ◌∷◌, ◌∙◌, ℕ, Bool, true, false, nat_le, nat_lt, List, [], map, arith, sym, ap, refl, inl, inr, eqb-true, cases_Bool, false≢true, and_parts, nat_tests, is_crossing, Header, shape_of, Leased, Block, Link, Range, same_leased, IndexTables, Lent, is_unended, ended_where, is_passed, AllUnended, IsFound}
+use Rattle.leases.proofs.BaseWords.{rules, and_false, or_false, false_unless, cond_both, ◌≡◌, ◌+◌, ◌≤◌, ◌==◌, ◌&&◌, ◌||◌, ◌∷◌, ◌∙◌, ℕ, Bool, true, false, nat_le, nat_lt, List, [], map, arith, sym, ap, refl, inl, inr, eqb-true, cases_Bool, false≢true, and_parts, nat_tests, is_crossing, Header, shape_of, Leased, Block, Link, Range, same_leased, IndexTables, Lent, is_unended, ended_where, is_passed, AllUnended, IsFound}
 
 -- to end by one test, and then by another, is to end by both
 ended_twice : (p q : Leased → Bool) (n : ℕ) (t : Lent) → ended_where p n (ended_where q n t) ≡ ended_where (λ l. q l || p l) n t
@@ -25,6 +25,9 @@ ended_alike F p q n i (t ∷ ts) same all = elim (cases_Bool (is_unended t)) [
   | inl unended ↦ rw (unended, same i t.leased (all.0 unended), ended_alike F p q n (i + 1) ts same all.1) refl
   | inr over ↦ rw (over, ended_alike F p q n (i + 1) ts same all.1) refl
 ]
+
+pub and_true : (b : Bool) → (b && true) ≡ b
+and_true b = search rules
 
 -- a number more
 one_more : (r s from n p : ℕ) → from ≤ n → (r == s && nat_le from p && nat_lt p n || r == s && n == p) ≡ (r == s && nat_le from p && nat_lt p (n + 1))
@@ -61,6 +64,4 @@ none_over over n (t ∷ ts) none = rw (none t.leased, none_over over n ts none, 
 
 -- tests that agree end alike
 pub over_alike : (p q : Leased → Bool) (n : ℕ) (ts : List Lent) → ((l : Leased) → p l ≡ q l) → map (ended_where p n) ts ≡ map (ended_where q n) ts
-unfolding ended_where
-over_alike p q n [] same = refl
-over_alike p q n (t ∷ ts) same = rw (same t.leased, over_alike p q n ts same) refl
+over_alike p q n ts same = ap (λ (over : Leased → Bool). map (ended_where over n) ts) (λ i l. same l i)

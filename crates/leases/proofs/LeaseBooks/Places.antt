@@ -1,5 +1,5 @@
 -- The tables find a lease that begins, and still all others
-use Rattle.leases.proofs.BaseWords.{and_false, ◌≡◌, ◌≢◌, ◌+◌, ◌%◌, ◌==◌, ◌&&◌, ◌∷◌, ◌++◌, ◌∙◌, ℕ, Bool, true, false, not, List, [], length, map, arith, ap, refl, subst, eqb-true, eq-eqb, list_any, false≢true, place_count, is_crossing, link_of, Header, shape_of, length-map, Lease, Leased, Block, Link, Range, Use, as_lease, without_end, IndexTables, index_at, Lent, is_unended, begun_at, lease_of, is_place_free, share_a_place, with_begun, AllUnended, IsFound, HoldsLents, LeaseBook, rules}
+use Rattle.leases.proofs.BaseWords.{not-true, and_false, ◌≡◌, ◌≢◌, ◌+◌, ◌%◌, ◌==◌, ◌&&◌, ◌∷◌, ◌++◌, ◌∙◌, ℕ, Bool, true, false, not, List, [], length, map, arith, ap, refl, subst, eqb-true, eq-eqb, list_any, false≢true, place_count, is_crossing, link_of, Header, shape_of, length-map, Lease, Leased, Block, Link, Range, Use, as_lease, without_end, IndexTables, index_at, Lent, is_unended, begun_at, lease_of, is_place_free, share_a_place, with_begun, AllUnended, IsFound, HoldsLents, LeaseBook, rules}
 use Rattle.leases.proofs.LeaseBooks.Growing.{map_append}
 use Rattle.leases.proofs.LeaseBooks.Unended.{all_begun}
 
@@ -8,10 +8,6 @@ pub record IsPut (old new : IndexTables) (r n i : ℕ) : Type 0 where
   pub same : index_at new r n ≡ i
   pub ring : (m : ℕ) → m ≢ n → index_at new r m ≡ index_at old r m
   pub others : (s m : ℕ) → s ≢ r → index_at new s m ≡ index_at old s m
-
-pub not_true : (b : Bool) → not b ≡ true → b ≡ false
-not_true true h = absurd (false≢true h)
-not_true false h = refl
 
 -- at another place of the ring, or on another ring
 pub elsewhere : (old new : IndexTables) (r n i s m : ℕ) → IsPut old new r n i → (r == s && n == m) ≡ false → index_at new s m ≡ index_at old s m
@@ -22,7 +18,7 @@ module _ (h : Header) (old new other : IndexTables) (r p n : ℕ) (ts : List Len
       is_place_free h ts (Block r p) ≡ true → AllUnended (IsFound h new other) 0 (with_begun n ts (Block r p ∷ []))
   unfolding is_place_free
   block_found all put free =
-      all_begun (IsFound h old other) (IsFound h new other) (share_a_place h (Block r p)) n (Block r p) 0 ts step here (not_true _ free) all
+      all_begun (IsFound h old other) (IsFound h new other) (share_a_place h (Block r p)) n (Block r p) 0 ts step here (not-true _ free) all
     where
       step : (i : ℕ) (m : Leased) → share_a_place h (Block r p) m ≡ false → IsFound h old other i m → IsFound h new other i m
       step i (Block s q) apart was = elsewhere old new r (p % place_count (shape_of h r)) (length ts) s (q % place_count (shape_of h s)) put apart ∙ was
@@ -36,7 +32,7 @@ module _ (h : Header) (old new other : IndexTables) (r p n : ℕ) (ts : List Len
       is_place_free h ts (Link r p) ≡ true → AllUnended (IsFound h other new) 0 (with_begun n ts (Link r p ∷ []))
   unfolding is_place_free
   link_found above all put free =
-      all_begun (IsFound h other old) (IsFound h other new) (share_a_place h (Link r p)) n (Link r p) 0 ts step here (not_true _ free) all
+      all_begun (IsFound h other old) (IsFound h other new) (share_a_place h (Link r p)) n (Link r p) 0 ts step here (not-true _ free) all
     where
       step : (i : ℕ) (m : Leased) → share_a_place h (Link r p) m ≡ false → IsFound h other old i m → IsFound h other new i m
       step i (Block s q) apart was = was

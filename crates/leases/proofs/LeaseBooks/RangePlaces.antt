@@ -1,6 +1,5 @@
 -- The indexes find each range that is under lease, when one begins and when some end
-use Rattle.leases.proofs.BaseWords.{and_false, ◌≡◌, ◌≢◌, ◌==◌, ◌&&◌, ◌∷◌, ◌∙◌, ℕ, Bool, true, false, List, [], length, map, OnOk, Result, Ok, Err, arith, sym, refl, subst, eq-eqb, list_any, false≢true, Header, Leased, Range, Use, InputContext, SlotEntry, DeviceContext, Indexes, RangeIndexes, index_in, Lent, is_unended, ended_where, with_begun, FindsRanges, IsRangeFound, IsUseFound, StandsAt, command_place, is_use_free, share_a_use, shares_use}
-use Rattle.leases.proofs.LeaseBooks.Places.{not_true}
+use Rattle.leases.proofs.BaseWords.{not-true, and_false, ◌≡◌, ◌≢◌, ◌==◌, ◌&&◌, ◌∷◌, ◌∙◌, ℕ, Bool, true, false, List, [], length, map, OnOk, Result, Ok, Err, arith, sym, refl, subst, eq-eqb, list_any, false≢true, Header, Leased, Range, Use, InputContext, SlotEntry, DeviceContext, Indexes, RangeIndexes, index_in, Lent, is_unended, ended_where, with_begun, FindsRanges, IsRangeFound, IsUseFound, StandsAt, command_place, is_use_free, share_a_use, shares_use}
 use Rattle.leases.proofs.LeaseBooks.Unended.{all_anew, all_begun, all_ended}
 
 -- the ranges for other uses are found as before
@@ -15,7 +14,7 @@ module _ (h : Header) (x y : RangeIndexes) (e : Use) (kept : IsKept h e x y) whe
   pub range_begins : (row n a : ℕ) (ts : List Lent) → IsUseFound h y (length ts) e → FindsRanges h ts x → is_use_free h ts e ≡ true → FindsRanges h (with_begun row ts (Range n a e ∷ [])) y
   unfolding is_use_free
   range_begins row n a ts here all free =
-      all_begun (IsRangeFound h x) (IsRangeFound h y) (shares_use h e) row (Range n a e) 0 ts step (subst (λ (i : ℕ). IsUseFound h y i e) (omega arith) here) (not_true _ free) all
+      all_begun (IsRangeFound h x) (IsRangeFound h y) (shares_use h e) row (Range n a e) 0 ts step (subst (λ (i : ℕ). IsUseFound h y i e) (omega arith) here) (not-true _ free) all
 
 other : (m n : ℕ) → (m == n) ≡ false → n ≢ m
 other m n apart e = false≢true (sym apart ∙ eq-eqb m n (sym e))

@@ -1,6 +1,6 @@
 -- What is lent after one more row, by which leases are open after it
 use Rattle.leases.proofs.BaseWords.{◌≡◌, ◌+◌, ◌<◌, ◌&&◌, ◌∷◌, ◌++◌, ◌∙◌, ℕ, Bool, true, false, not, List, [], map, filter, sym, ap, refl, inl, inr, cond, append-nil, false≢true, and_parts, nat_tests, Header, Row, Known, learned, Leased, is_among, open_leases, begun, without_end, IsIn, from_filter, in_among, Lent, is_unended, begun_at, with_leased, in_turn, ended_where, with_begun, grown, newly_open, passed_on, AllUnended, AreOpen, rules}
-use Rattle.leases.proofs.LeaseBooks.Passing.{ended_alike, none_over}
+use Rattle.leases.proofs.LeaseBooks.Passing.{and_true, ended_alike, none_over}
 
 -- what stands in order stood there before
 from_with : (l : Leased) (ls : List Leased) (m : Leased) → IsIn m (with_leased l ls) → IsIn m (l ∷ ls)
@@ -85,10 +85,6 @@ module _ (before after : List Leased) (n : ℕ) (ts : List Lent) where
     -- nothing begins or ends
     pub nothing_passed : ((l : Leased) → is_among after l ≡ is_among before l) → passed_on before after n ts ≡ ts
     nothing_passed same = only_passed (λ l. false) (λ l. same l ∙ sym (and_true (is_among before l))) ∙ none_over (λ l. false) n ts (λ l. refl)
-      where
-        and_true : (b : Bool) → (b && true) ≡ b
-        and_true true = refl
-        and_true false = refl
 
 module _ (h : Header) where
   -- what is open when this is known

@@ -1,9 +1,5 @@
 -- Where the leases that aren't over stand in the list, when one begins and when some end
-use Rattle.leases.proofs.BaseWords.{◌≡◌, ◌+◌, ◌&&◌, ◌||◌, ◌∷◌, ℕ, Bool, true, false, List, [], length, map, arith, sym, refl, cond, subst, list_any, false≢true, Leased, Lent, is_unended, begun_at, ended_where, with_begun, AllUnended}
-
-pub both_false : (x y : Bool) → (x || y) ≡ false → (x ≡ false) × (y ≡ false)
-both_false true y h = absurd (false≢true (sym h))
-both_false false y h = (refl, h)
+use Rattle.leases.proofs.BaseWords.{or_parts, and_parts, ◌≡◌, ◌+◌, ◌&&◌, ◌||◌, ◌∷◌, ℕ, Bool, true, false, List, [], length, map, arith, sym, refl, cond, subst, list_any, false≢true, Leased, Lent, is_unended, begun_at, ended_where, with_begun, AllUnended}
 
 -- what is told of each is told anew of each
 pub all_anew : (F G : ℕ → Leased → Type 0) (n : ℕ) (ts : List Lent) → ((i : ℕ) (l : Leased) → F i l → G i l) → AllUnended F n ts → AllUnended G n ts
@@ -19,7 +15,7 @@ all_begun F G S row l n [] f here free all =
     let at : n + 0 ≡ n = omega arith in
     (λ u. subst (λ (i : ℕ). G i l) at here, tt)
 all_begun F G S row l n (t ∷ ts) f here free all =
-    let parts = both_false (is_unended t && S t.leased) (list_any (λ t. is_unended t && S t.leased) ts) free in
+    let parts = or_parts (is_unended t && S t.leased) (list_any (λ t. is_unended t && S t.leased) ts) free in
     let at : n + length (t ∷ ts) ≡ n + 1 + length ts = omega arith in (
       λ u. f n t.leased (rw u at parts.0) (all.0 u),
       all_begun F G S row l (n + 1) ts f (subst (λ (i : ℕ). G i l) at here) parts.1 all.1,
@@ -32,9 +28,5 @@ all_ended F over row n [] all = tt
 all_ended F over row n (t ∷ ts) all = (one (is_unended t && over t.leased) refl, all_ended F over row (n + 1) ts all.1)
   where
     one : (b : Bool) → (is_unended t && over t.leased) ≡ b → is_unended (cond b (record t { to = row }) t) ≡ true → F n (cond b (record t { to = row }) t).leased
-    one true e u = all.0 (first (is_unended t) (over t.leased) e)
-      where
-        first : (x y : Bool) → (x && y) ≡ true → x ≡ true
-        first true y h = refl
-        first false y h = h
+    one true e u = all.0 (and_parts (is_unended t) (over t.leased) e).0
     one false e u = all.0 u

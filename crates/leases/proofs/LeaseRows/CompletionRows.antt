@@ -121,20 +121,16 @@ module _ (h : Header) (headed : IsHeader h) (k : Known) (ts : List Lent) (b : bl
     moved = moved_when h k success o
 
     arrives : (x : Option (ℕ × ℕ)) → IsMovedTo h k' x → Arrives (command_id h) (floors k') x
-    arrives None there = tt
-    arrives (Some e) there = there
+    arrives x there = search rules
 
     past_block : (x : Option (ℕ × ℕ)) (r p : ℕ) → is_moved_past k x (Block r p) ≡ moved_number (floors k) x r p
-    past_block None r p = refl
-    past_block (Some e) r p = refl
+    past_block x r p = search rules
 
     past_link : (x : Option (ℕ × ℕ)) (r p : ℕ) → is_moved_past k x (Link r p) ≡ moved_number (floors k) x r p
-    past_link None r p = refl
-    past_link (Some e) r p = refl
+    past_link x r p = search rules
 
     past_range : (x : Option (ℕ × ℕ)) (a c : ℕ) (u : Use) → is_moved_past k x (Range a c u) ≡ false
-    past_range None a c u = refl
-    past_range (Some e) a c u = refl
+    past_range x a c u = search rules
 
     gone_is : (l : Leased) → (is_among (range_of_command h n o) l || is_among (slot_ranges h k (slot_left success o)) l) ≡ is_among (let_go h k (slot_left success o)) l
     unfolding is_among

@@ -109,21 +109,13 @@ module _ (h : Header) where
     succeeds : (n : ℕ) (c : Command) → StillHolds h k c → MayChangeAll h c k (changes h.context_size k.memory n c) →
         Goes h k (changed_by_all h c k (changes h.context_size k.memory n c)) (moved_by h k c)
     unfolding changes
-    succeeds n NoOp still may = stays NoOp [] tt
-    succeeds n EnableSlot still may = stays EnableSlot (SlotGoesOn n ∷ []) (tt, tt)
-    succeeds n (DisableSlot s) still may = stays (DisableSlot s) (SlotGoesOn s ∷ DeviceLeft s ∷ Disables s (λ i. true) ∷ []) (tt, (tt, (tt, tt)))
-    succeeds n (AddressDevice s bsr a) still may = search (rules, stays, placed_by_context, address_list)
     succeeds n (ConfigureEndpoint s false a) still may =
         let c : Command = ConfigureEndpoint s false a in
         let added : List Change = map (placed_by_context h.context_size k.memory s a) (added_endpoints k.memory a) in
         stays c (SlotGoesOn s ∷ Disables s (is_dropped k.memory a) ∷ added)
         (tt, (tt, each_stays h is c k.memory s a (added_endpoints k.memory a) (dropped h is c k s a) (all_ready h is k (rings_of h k d) s a still) (no_repeats s a still)))
-    succeeds n (ConfigureEndpoint s true a) still may = stays (ConfigureEndpoint s true a) (SlotGoesOn s ∷ Disables s is_above_control ∷ []) (tt, (tt, tt))
-    succeeds n (EvaluateContext s a) still may = stays (EvaluateContext s a) [] tt
-    succeeds n (ResetEndpoint s i) still may = stays (ResetEndpoint s i) (Resets s i ∷ []) (tt, tt)
-    succeeds n (StopEndpoint s i) still may = stays (StopEndpoint s i) (Stops s i ∷ []) (tt, tt)
     succeeds n (SetTrDequeue s i p cycle) still may = dequeue_goes s i p cycle still
-    succeeds n (ResetDevice s) still may = stays (ResetDevice s) (SlotGoesOn s ∷ Disables s is_above_control ∷ []) (tt, (tt, tt))
+    succeeds n _ still may = search (rules, stays, placed_by_context, address_list)
 
     -- ---- a completion
 

@@ -23,11 +23,7 @@ module _ (h : Header) where
 
   abbrev pub ChangeStays : Known → Change → Type 0
   ChangeStays k (Places s i p cycle state) = StaysHere k s i p cycle
-  ChangeStays k (SlotGoesOn s) = Unit {0}
-  ChangeStays k (DeviceLeft s) = Unit {0}
-  ChangeStays k (Disables s which) = Unit {0}
-  ChangeStays k (Stops s i) = Unit {0}
-  ChangeStays k (Resets s i) = Unit {0}
+  ChangeStays k _ = Unit {0}
 
   abbrev pub ChangesStay : Command → Known → List Change → Type 0
   ChangesStay c k [] = Unit {0}

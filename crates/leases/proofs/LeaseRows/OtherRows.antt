@@ -99,8 +99,6 @@ module _ (h : Header) (headed : IsHeader h) (k : Known) (ts : List Lent) where
 
 -- a row that is neither a write nor an event
 pub other_row : (row : Row) → ((a w : ℕ) → row ≡ Write a w → ⊥) → ((b : Trb) → row ≡ Read b → ⊥) → IsOtherRow row
-other_row (Sub r blocks) no_write no_event = tt
 other_row (Write a w) no_write no_event = absurd (no_write a w refl)
-other_row (Reg r v) no_write no_event = tt
-other_row (Bell s t) no_write no_event = tt
 other_row (Read b) no_write no_event = absurd (no_event b refl)
+other_row _ no_write no_event = tt

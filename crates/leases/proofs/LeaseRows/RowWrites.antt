@@ -1,5 +1,5 @@
 -- What is lent after a clean write: what it gives comes under lease, at a free place, and the ranges that its command takes
-use Rattle.leases.proofs.BaseWords.{◌≡◌, ◌+◌, ◌<◌, ◌≤◌, ◌%◌, ◌^◌, ◌∷◌, ◌++◌, ◌∙◌, ◌&&◌, ℕ, List, [], Bool, true, false, None, Some, Option, refl, ap, sym, arith, inl, inr, subst, nat_lt, length, not, map, max, option_and_then, slice_get, eqb-true, ltb-true, leb-true, get_or, cases_Bool, flat_map, and_parts, or_cases, nat_tests, slice_get_read, put, ContextSize, Bytes32, Bytes64, device_context_bytes, input_context_bytes, Command, named_context, is_crossing, is_inside, place_count, touches, crossings_given, due_crossings, due_positions, floor_number, gives, gives_crossing, is_crossing_due, positions_given, link_of, Ring, Header, Write, IsHeader, command_id, is_command_kind, is_driver_kind, is_event_kind, shape_of, RingGiving, RingRecord, FollowsRing, crossings_of, positions_of, Known, command_given, entry_of, taken_device, noted_past, Leased, Block, Link, Range, InputContext, SlotEntry, DeviceContext, range_of_command, range_of_context, as_lease, comes_before, IsIn, from_filter, DriverKeeps, area_parts, written_devices, taking, rules_of, written_device, Lent, in_turn, is_place_free, precedes, with_begun, with_leased, is_use_free, command_found, ring_here, shape_allowed, shape_there, and_false, IsAmong, among_at, same_number, TraceRecord, RowPlace, FollowsTrace, IsGivenBy, IsPlacedSo, EntryFits, SlotIsFree, command_taken, slot_taken, IsNextRow, grown, slice_get_cases, slice_get_within, command_id_is, rules}
+use Rattle.leases.proofs.BaseWords.{not-true, ◌≡◌, ◌+◌, ◌<◌, ◌≤◌, ◌%◌, ◌^◌, ◌∷◌, ◌++◌, ◌∙◌, ◌&&◌, ℕ, List, [], Bool, true, false, None, Some, Option, refl, ap, sym, arith, inl, inr, subst, nat_lt, length, not, map, max, option_and_then, slice_get, eqb-true, ltb-true, leb-true, get_or, cases_Bool, flat_map, and_parts, or_cases, nat_tests, slice_get_read, put, ContextSize, Bytes32, Bytes64, device_context_bytes, input_context_bytes, Command, named_context, is_crossing, is_inside, place_count, touches, crossings_given, due_crossings, due_positions, floor_number, gives, gives_crossing, is_crossing_due, positions_given, link_of, Ring, Header, Write, IsHeader, command_id, is_command_kind, is_driver_kind, is_event_kind, shape_of, RingGiving, RingRecord, FollowsRing, crossings_of, positions_of, Known, command_given, entry_of, taken_device, noted_past, Leased, Block, Link, Range, InputContext, SlotEntry, DeviceContext, range_of_command, range_of_context, as_lease, comes_before, IsIn, from_filter, DriverKeeps, area_parts, written_devices, taking, rules_of, written_device, Lent, in_turn, is_place_free, precedes, with_begun, with_leased, is_use_free, command_found, ring_here, shape_allowed, shape_there, and_false, IsAmong, among_at, same_number, TraceRecord, RowPlace, FollowsTrace, IsGivenBy, IsPlacedSo, EntryFits, SlotIsFree, command_taken, slot_taken, IsNextRow, grown, slice_get_cases, slice_get_within, command_id_is, rules}
 use Rattle.ring_knowledge.specs.declared.ring_record.RingGiving.TheVariants.{Position, Crossing}
 use Rattle.leases.proofs.LeaseBooks.FreeLinks.{NoneAhead, link_free}
 use Rattle.leases.proofs.LeaseBooks.FreePlaces.{block_free}
@@ -12,10 +12,6 @@ use Rattle.leases.proofs.LeaseRows.OtherRows.{among_drivers, are_shaped}
 use Rattle.leases.proofs.LeaseRows.TransferRows.{driver_there}
 use Rattle.leases.proofs.LeaseRows.GivenHere.{commanded_elsewhere, commanded_here, commanded_nowhere, given_by_one, given_nowhere}
 use Rattle.leases.proofs.LeaseRows.TakenRanges.{begun_none, still_free}
-
-absent_if : (b : Bool) → not b ≡ true → b ≡ false
-absent_if true e = absurd (cc)
-absent_if false e = refl
 
 -- a lap ahead of the least crossing none is given
 pub none_ahead : (q : Ring) (k : Known) (r : RingRecord) → FollowsRing q.shape (k.ring q.id) r → NoneAhead q.shape (k.ring q.id)
@@ -187,7 +183,7 @@ module _ (h : Header) (headed : IsHeader h) (k : Known) (ts : List Lent) (a w nu
             let v = k.ring q.id in
             let at : IsIn p (positions_given q.shape v a w) = subst (λ ps. IsIn p ps) (sym (positions ∙ ap positions_of is)) (inl refl) in
             let found = from_filter (λ m. not (v.given m) && gives q.shape v.floor m a w) (due_positions q.shape v) p at in
-            search (rules, from_range, absent_if, and_parts)
+            search (rules, from_range, not-true, and_parts)
 
         pub place_free : is_place_free h ts (Block q.id p) ≡ true
         place_free = search (rules, block_free, are_shaped, among_drivers, due_now)
@@ -216,7 +212,7 @@ module _ (h : Header) (headed : IsHeader h) (k : Known) (ts : List Lent) (a w nu
         pub link_is_free : is_place_free h ts (Link q.id c) ≡ true
         link_is_free =
             link_free h (are_shaped h headed) k ts next.step.opened q (among_drivers h q among driver) (shape_allowed h headed q among) (none_ahead q k r f) c parts.0 parts.1 parts.2
-            (absent_if ((k.ring q.id).crossed c) given_there.0)
+            (not-true ((k.ring q.id).crossed c) given_there.0)
 
 -- there is a record of each ring
 record_at : (h : Header) (items : List RingRecord) (n : ℕ) (q : Ring) → length items ≡ length h.rings → slice_get h.rings n ≡ Some q → (r : RingRecord) × (slice_get items n ≡ Some r)

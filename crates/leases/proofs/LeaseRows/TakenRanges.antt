@@ -1,5 +1,5 @@
 -- The ranges that a command takes, one after another
-use Rattle.leases.proofs.BaseWords.{◌≡◌, ◌%◌, ◌∷◌, ◌++◌, ◌∙◌, ◌↔◌, ℕ, List, [], Bool, true, false, None, Some, Option, Ok, Err, Result, refl, ap, sym, subst, append_assoc, not, is_some, append-nil, result_ok, Fault, device_context_bytes, input_context_bytes, long_at, register_or_zero, Command, AddressDevice, named_context, Header, Known, device_named, entry_of, no_device, taken_device, Leased, Range, Use, InputContext, SlotEntry, DeviceContext, range_of_command, range_of_context, RangeIndexes, Lent, begun_at, with_begun, is_use_free, shares_use, and_false, any_append, or_false, HoldsAll, slot_taken, rules}
+use Rattle.leases.proofs.BaseWords.{not-true, ◌≡◌, ◌%◌, ◌∷◌, ◌++◌, ◌∙◌, ◌↔◌, ℕ, List, [], Bool, true, false, None, Some, Option, Ok, Err, Result, refl, ap, sym, subst, append_assoc, not, is_some, append-nil, result_ok, Fault, device_context_bytes, input_context_bytes, long_at, register_or_zero, Command, AddressDevice, named_context, Header, Known, device_named, entry_of, no_device, taken_device, Leased, Range, Use, InputContext, SlotEntry, DeviceContext, range_of_command, range_of_context, RangeIndexes, Lent, begun_at, with_begun, is_use_free, shares_use, and_false, any_append, or_false, HoldsAll, slot_taken, rules}
 use Rattle.leases.proofs.LeaseBooks.Growing.{map_append}
 
 -- what a block says that was read
@@ -20,14 +20,10 @@ pub begun_none : (n : ℕ) (ts : List Lent) → with_begun n ts [] ≡ ts
 unfolding with_begun
 begun_none n ts = append-nil ts
 
-none_of : (b : Bool) → not b ≡ true → b ≡ false
-none_of true e = absurd (cc)
-none_of false e = refl
-
 -- what begins shares no index with the range of another use
 pub still_free : (h : Header) (n : ℕ) (ts : List Lent) (e : Use) (l : Leased) → shares_use h e l ≡ false → is_use_free h ts e ≡ true → is_use_free h (with_begun n ts (l ∷ [])) e ≡ true
 unfolding is_use_free with_begun begun_at
-still_free h n ts e l apart free = search (rules, any_append, none_of, or_false, and_false)
+still_free h n ts e l apart free = search (rules, any_append, not-true, or_false, and_false)
 
 module _ {B : Type 0} {Holds : Header → List Lent → B → Type 0} (h : Header) (n : ℕ) (book : B) (x : RangeIndexes) where
   pub all_more : (ts : List Lent) (xs ys : List Leased) → HoldsAll Holds h (with_begun n (with_begun n ts xs) ys) book x → HoldsAll Holds h (with_begun n ts (xs ++ ys)) book x

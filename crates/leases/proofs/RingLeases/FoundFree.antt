@@ -1,14 +1,14 @@
 -- The indexes of ranges find the same where leases of blocks end and begin
 use Rattle.leases.proofs.BaseWords.{◌≡◌, ◌+◌, ◌<◌, ◌≤◌, ◌∷◌, ◌∙◌, ℕ, true, List, [], Some, map, nat_lt, arith, refl, sym, subst, inl, inr, cases_Bool, nat_tests, Header, IsHeader, Ring, Known, Write, command_id, is_transfer_kind, learned, on_ring, open_leases, ring_with, length_from, Restores, Withdraws, without_end, Block, AreOpen, Lent, passed_on, with_begun, FindsRanges, RangeIndexes, restored, MovesRing}
 use Rattle.leases.proofs.LeaseBooks.RangePlaces.{others_begin, some_end}
-use Rattle.leases.proofs.RingLeases.LentFree.{Restoring, is_between, none_begun, restored_lent, withdrawn_lent}
+use Rattle.leases.proofs.RingLeases.LentFree.{Restoring, is_between, restored_lent, withdrawn_lent}
 use Rattle.leases.proofs.RingLeases.MovingRings.{alone, at_end, first_restored, freed_given, freed_later, last_restored, opened_own, other, own_first, own_step, same_left}
-use Rattle.leases.proofs.RingLeases.TwoSteps.{begun_both}
+use Rattle.leases.proofs.LeaseRows.TakenRanges.{begun_none, begun_twice}
 
 pub blocks_begin : (h : Header) (x : RangeIndexes) (row r : ℕ) (ps : List ℕ) (ts : List Lent) → FindsRanges h ts x → FindsRanges h (with_begun row ts (map (Block r) ps)) x
-blocks_begin h x row r [] ts found = subst (λ (us : List Lent). FindsRanges h us x) (sym (none_begun row ts)) found
+blocks_begin h x row r [] ts found = subst (λ (us : List Lent). FindsRanges h us x) (sym (begun_none row ts)) found
 blocks_begin h x row r (p ∷ ps) ts found =
-    subst (λ (us : List Lent). FindsRanges h us x) (begun_both row ts (Block r p ∷ []) (map (Block r) ps))
+    subst (λ (us : List Lent). FindsRanges h us x) (begun_twice row ts (Block r p ∷ []) (map (Block r) ps))
     (blocks_begin h x row r ps (with_begun row ts (Block r p ∷ [])) (others_begin h x row (Block r p) ts (λ g y i. tt) found))
 
 -- behind a descriptor that is withdrawn

@@ -8,29 +8,22 @@ use Rattle.leases.proofs.LeaseBooks.Rows.{only_passed}
 use Rattle.leases.proofs.RingLeases.Filtered.{filter_alike}
 use Rattle.leases.proofs.RingLeases.OpenBehind.{among_filtered}
 use Rattle.leases.proofs.RingLeases.OpenFree.{freed_are, restored_open, withdrawn_open}
-use Rattle.leases.proofs.RingLeases.TwoSteps.{begun_both, either_way, only_begins, with_first}
-use Rattle.leases.proofs.RingLeases.WithinALap.{are_shaped}
+use Rattle.leases.proofs.RingLeases.TwoSteps.{either_way, only_begins, with_first}
+use Rattle.leases.proofs.LeaseRows.EndedRanges.{transfer_drives}
+use Rattle.leases.proofs.LeaseRows.OtherRows.{among_drivers, are_shaped}
+use Rattle.leases.proofs.LeaseRows.TakenRanges.{begun_twice}
 
 -- ---- a transfer ring of the header
 
-drives : (kind : RingKind) → is_transfer_kind kind ≡ true → is_driver_kind kind ≡ true
-drives Evt e = absurd (false≢true e)
-drives _ e = refl
-
-to_in : (q : Ring) (rs : List Ring) → IsAmong q rs → IsIn q rs
-to_in q [] at = absurd at
-to_in q (x ∷ rs) at = elim at [ inl here ↦ inl (sym here) | inr later ↦ inr (to_in q rs later) ]
-
 pub driver_in : (h : Header) (q : Ring) → ring_with h q.id ≡ Some q → is_driver_kind q.shape.kind ≡ true → IsIn q (driver_rings h)
-unfolding driver_rings
-driver_in h q found driver = in_filter (λ r. is_driver_kind r.shape.kind) h.rings q (to_in q h.rings (find_some (λ r. r.id == q.id) h.rings q found).0) driver
+driver_in h q found driver = among_drivers h q (find_some (λ r. r.id == q.id) h.rings q found).0 driver
 
 module _ (h : Header) (q : Ring) (found : ring_with h q.id ≡ Some q) (transfer : is_transfer_kind q.shape.kind ≡ true) where
   pub among : IsAmong q h.rings
   among = (find_some (λ r. r.id == q.id) h.rings q found).0
 
   pub driver : is_driver_kind q.shape.kind ≡ true
-  driver = drives q.shape.kind transfer
+  driver = transfer_drives q.shape.kind transfer
 
   pub in_drivers : IsIn q (driver_rings h)
   in_drivers = driver_in h q found driver
@@ -201,9 +194,5 @@ module _ (h : Header) (k : Known) (ts : List Lent) (q : Ring) (ps : List ℕ) (x
 
     pub next_begun : with_begun row (with_begun row ts (map (Block id) (take i ps))) (Block id p ∷ []) ≡ with_begun row ts (map (Block id) (take (i + 1) ps))
     next_begun =
-        begun_both row ts (map (Block id) (take i ps)) (Block id p ∷ [])
+        begun_twice row ts (map (Block id) (take i ps)) (Block id p ∷ [])
         ∙ ap (with_begun row ts) (sym (map_append (Block id) (take i ps) (p ∷ [])) ∙ ap (map (Block id)) (sym (take_more ps i 0 low)))
-
-pub none_begun : (row : ℕ) (ts : List Lent) → with_begun row ts [] ≡ ts
-unfolding with_begun
-none_begun row ts = append-nil ts

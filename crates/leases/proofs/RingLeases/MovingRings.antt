@@ -9,18 +9,15 @@ use Rattle.leases.proofs.LeaseBooks.Writing.{lease_given}
 use Rattle.leases.proofs.LeaseBooks.FreePlaces.{block_free}
 use Rattle.leases.proofs.RingLeases.OpenFree.{freed_are, restored_open}
 use Rattle.leases.proofs.RingLeases.TwoSteps.{IsBefore, L_in_U as there_both, newly_own, only_begins, restored_first, restored_last}
-use Rattle.leases.proofs.RingLeases.WithinALap.{among as from_in, are_shaped}
+use Rattle.leases.proofs.LeaseRows.OtherRows.{are_shaped}
+use Rattle.leases.proofs.LeaseRows.TransferRows.{driver_there}
 use Rattle.leases.proofs.RingLeases.LentFree.{among, driver, driver_in, in_drivers, not_command}
 
 -- ---- rings of the driver
 
-driven : (h : Header) → IsHeader h → (q : Ring) → IsIn q (driver_rings h) → IsDriverRing h q.id
-unfolding driver_rings
-driven h headed q at = search (rules, from_filter, is_driver_kind, ring_found, from_in)
-
 -- what is free of them was given
 pub was_given : (h : Header) → IsHeader h → (k : Known) → DriverKeeps h k → FreeWasGiven h k
-was_given h headed k d q at p free = (d.rings q.id (driven h headed q at)).free_given p free
+was_given h headed k d q at p free = (d.rings q.id (driver_there h headed q at)).free_given p free
 
 -- ---- the word is written, and the ring restored, in either order
 
@@ -168,7 +165,7 @@ module _ (h : Header) (headed : IsHeader h) (k : Known) (freed : FreeWasGiven h 
   own l at =
       let found = from_map lease_given (given_by h k a w) l (subst (IsIn l) own_are at) in
       let on = from_flat_map (λ q. given_of h k a w q.id) (driver_rings h) found.0 found.1 in
-      let given = given_at on.0.id (driven h headed on.0 on.1) found.0 (given_of_ring on.0.id found.0 on.2) in
+      let given = given_at on.0.id (driver_there h headed on.0 on.1) found.0 (given_of_ring on.0.id found.0 on.2) in
       (given.position, found.2 ∙ ap lease_given given.is ∙ ap (λ i. Block i given.position) given.there)
 
   own_stays : (l : Leased) → IsOpen (open_leases h k) l → IsOpen (open_leases h step) l

@@ -1,20 +1,18 @@
 -- What is open behind a ring that goes, and behind one that comes
-use Rattle.leases.proofs.BaseWords.{◌≡◌, ◌==◌, ◌&&◌, ◌||◌, ◌++◌, ◌∷◌, ◌∙◌, ℕ, Bool, true, false, List, [], filter, refl, sym, ap, inl, inr, eqb-false, filter-append, cases_Bool, flat_map, Header, IsHeader, Ring, Known, DriverKeeps, IsIn, driver_rings, is_driver_kind, open_leases, open_on, open_ranges, new_ring, leased_is, Leased, Block, Link, Range, is_among, same_leased, IsComing, forgotten, is_bad_free, is_bad_ring, with_ring, without_ring, none_found, bad_same, f_keeps, fresh, no_ring, cleared, cleared_apart, is_of_ring}
+use Rattle.leases.proofs.BaseWords.{not, and_false, ◌≡◌, ◌==◌, ◌&&◌, ◌||◌, ◌++◌, ◌∷◌, ◌∙◌, ℕ, Bool, true, false, List, [], filter, refl, sym, ap, inl, inr, eqb-false, filter-append, cases_Bool, flat_map, Header, IsHeader, Ring, Known, DriverKeeps, IsIn, driver_rings, is_driver_kind, open_leases, open_on, open_ranges, new_ring, leased_is, Leased, Block, Link, Range, is_among, same_leased, IsComing, forgotten, is_bad_free, is_bad_ring, with_ring, without_ring, none_found, bad_same, f_keeps, fresh, no_ring, cleared, cleared_apart, is_of_ring}
 use Rattle.leases.proofs.LeaseBooks.RangesAlone.{IsRange, open_are_ranges}
 use Rattle.safety.proofs.RingChanges.Forgotten as forgets
 use Rattle.safety.proofs.RingChanges.NewRings as new
 use Rattle.safety.proofs.RingChanges.GoneRings as gone
 use Rattle.leases.proofs.RingLeases.RangesStay.{ranges_stay}
-use Rattle.leases.proofs.RingLeases.RingsLeft.{keep, one_less, one_more, others}
+use Rattle.leases.proofs.RingLeases.RingsLeft.{filter_all, keep, one_less, one_more, others}
 
 of_no_ring : (id : ℕ) (l : Leased) → IsRange l → is_of_ring id l ≡ false
-of_no_ring id (Block r p) is = absurd is
-of_no_ring id (Link r q) is = absurd is
 of_no_ring id (Range n a e) is = refl
+of_no_ring id _ is = absurd is
 
 ranges_kept : (id : ℕ) (ms : List Leased) → ((l : Leased) → IsIn l ms → IsRange l) → filter (others id) ms ≡ ms
-ranges_kept id [] ranges = refl
-ranges_kept id (m ∷ ms) ranges = rw (of_no_ring id m (ranges m (inl refl))) (ap (λ ls. m ∷ ls) (ranges_kept id ms (λ l at. ranges l (inr at))))
+ranges_kept id ms ranges = filter_all (others id) ms (λ l at. ap not (of_no_ring id l (ranges l at)))
 
 module _ (h : Header) (is : IsHeader h) (k : Known) (d : DriverKeeps h k) where
   -- of a ring that goes no lease is open any more, and of others each that was
@@ -50,10 +48,7 @@ either true a b f = sym (f refl)
 either false a b f = refl
 
 neither : (s a b : Bool) → (s ≡ true → b ≡ false) → (a && b) ≡ ((s || a) && b)
-neither true a b f = rw (f refl) (and_none a) where
-  and_none : (c : Bool) → (c && false) ≡ false
-  and_none true = refl
-  and_none false = refl
+neither true a b f = rw (f refl) (and_false a)
 neither false a b f = refl
 
 pub among_filtered : (p : Leased → Bool) (xs : List Leased) (l : Leased) → is_among (filter p xs) l ≡ (is_among xs l && p l)

@@ -1,5 +1,5 @@
 -- The leases of blocks and Links with a ring more, and with one left out
-use Rattle.leases.proofs.BaseWords.{◌≡◌, ◌==◌, ◌&&◌, ◌++◌, ◌∷◌, ◌∙◌, ℕ, not, Bool, true, false, List, [], map, filter, refl, ap, inl, inr, filter-append, flat_map, IsIn, Header, Ring, Known, is_driver_kind, open_on, due_crossings, due_positions, leased_crossings, leased_positions, new_ring, is_crossing, Leased, Block, Link, is_of_ring, rules}
+use Rattle.leases.proofs.BaseWords.{and_false, ◌≡◌, ◌==◌, ◌&&◌, ◌++◌, ◌∷◌, ◌∙◌, ℕ, not, Bool, true, false, List, [], map, filter, refl, ap, inl, inr, filter-append, flat_map, IsIn, Header, Ring, Known, is_driver_kind, open_on, due_crossings, due_positions, leased_crossings, leased_positions, new_ring, is_crossing, Leased, Block, Link, is_of_ring, rules}
 
 pub filter_none : {X : Type 0} (p : X → Bool) (xs : List X) → ((x : X) → p x ≡ false) → filter p xs ≡ []
 filter_none p [] none = refl
@@ -13,13 +13,9 @@ abbrev driver : Ring → Bool
 driver q = is_driver_kind q.shape.kind
 
 -- of a new ring nothing is under lease
-and_none : (b : Bool) → (b && false) ≡ false
-and_none true = refl
-and_none false = refl
-
 pub none_on : (h : Header) (k : Known) (r : Ring) → k.ring r.id ≡ new_ring → open_on h k r ≡ []
 unfolding open_on leased_positions leased_crossings
-none_on h k r new = search (rules, filter_none, due_positions, new_ring, is_crossing, due_crossings, and_none)
+none_on h k r new = search (rules, filter_none, due_positions, new_ring, is_crossing, due_crossings, and_false)
 
 module _ (h g : Header) (k l : Known) where
   on_same : (q : Ring) → l.ring q.id ≡ k.ring q.id → open_on g l q ≡ open_on h k q
@@ -41,34 +37,26 @@ module _ (id : ℕ) where
   abbrev pub others : Leased → Bool
   others m = not (is_of_ring id m)
 
-  blocks_kept : (s : ℕ) (ps : List ℕ) → (s == id) ≡ false → filter others (map (Block s) ps) ≡ map (Block s) ps
-  blocks_kept s [] apart = refl
-  blocks_kept s (p ∷ ps) apart = rw apart (ap (λ ms. Block s p ∷ ms) (blocks_kept s ps apart))
+  kept : (f : ℕ → Leased) → ((p : ℕ) → others (f p) ≡ true) → (ps : List ℕ) → filter others (map f ps) ≡ map f ps
+  kept f stay [] = refl
+  kept f stay (p ∷ ps) = rw (stay p, kept f stay ps) refl
 
-  links_kept : (s : ℕ) (qs : List ℕ) → (s == id) ≡ false → filter others (map (Link s) qs) ≡ map (Link s) qs
-  links_kept s [] apart = refl
-  links_kept s (q ∷ qs) apart = rw apart (ap (λ ms. Link s q ∷ ms) (links_kept s qs apart))
-
-  blocks_gone : (s : ℕ) (ps : List ℕ) → (s == id) ≡ true → filter others (map (Block s) ps) ≡ []
-  blocks_gone s [] same = refl
-  blocks_gone s (p ∷ ps) same = rw same (blocks_gone s ps same)
-
-  links_gone : (s : ℕ) (qs : List ℕ) → (s == id) ≡ true → filter others (map (Link s) qs) ≡ []
-  links_gone s [] same = refl
-  links_gone s (q ∷ qs) same = rw same (links_gone s qs same)
+  gone : (f : ℕ → Leased) → ((p : ℕ) → others (f p) ≡ false) → (ps : List ℕ) → filter others (map f ps) ≡ []
+  gone f go [] = refl
+  gone f go (p ∷ ps) = rw (go p) (gone f go ps)
 
   module _ (h : Header) (k : Known) (q : Ring) where
     on_kept : (q.id == id) ≡ false → filter others (open_on h k q) ≡ open_on h k q
     unfolding open_on
     on_kept apart =
         filter-append others (map (Block q.id) (leased_positions q.shape (k.ring q.id))) (map (Link q.id) (leased_crossings q.shape (k.ring q.id)))
-        ∙ (λ j. blocks_kept q.id (leased_positions q.shape (k.ring q.id)) apart j ++ links_kept q.id (leased_crossings q.shape (k.ring q.id)) apart j)
+        ∙ (λ j. kept (Block q.id) (λ p. ap not apart) (leased_positions q.shape (k.ring q.id)) j ++ kept (Link q.id) (λ p. ap not apart) (leased_crossings q.shape (k.ring q.id)) j)
 
     on_gone : (q.id == id) ≡ true → filter others (open_on h k q) ≡ []
     unfolding open_on
     on_gone same =
         filter-append others (map (Block q.id) (leased_positions q.shape (k.ring q.id))) (map (Link q.id) (leased_crossings q.shape (k.ring q.id)))
-        ∙ (λ j. blocks_gone q.id (leased_positions q.shape (k.ring q.id)) same j ++ links_gone q.id (leased_crossings q.shape (k.ring q.id)) same j)
+        ∙ (λ j. gone (Block q.id) (λ p. ap not same) (leased_positions q.shape (k.ring q.id)) j ++ gone (Link q.id) (λ p. ap not same) (leased_crossings q.shape (k.ring q.id)) j)
 
   abbrev pub keep : Ring → Bool
   keep q = not (q.id == id)

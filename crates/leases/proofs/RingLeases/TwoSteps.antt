@@ -5,6 +5,7 @@ use Rattle.leases.proofs.LeaseBooks.Growing.{map_append}
 use Rattle.leases.proofs.LeaseBooks.Passing.{none_over}
 use Rattle.leases.proofs.LeaseBooks.Rows.{IsOpen, from_turn, passed_by, passed_open}
 use Rattle.leases.proofs.RingLeases.Filtered.{filter_alike, filter_twice}
+use Rattle.leases.proofs.LeaseRows.TakenRanges.{begun_twice}
 use Rattle.leases.proofs.RingLeases.OpenBehind.{among_filtered}
 
 -- ---- lists in turn
@@ -32,15 +33,6 @@ pub turn_parted : (P : Leased → Bool) (ls : List Leased) → ((l m : Leased) �
 unfolding in_turn
 turn_parted P [] before = refl
 turn_parted P (l ∷ ls) before = search (rules, in_turn, filter, not, with_leased, with_first, from_filter, from_turn, with_later, false≢true, turn_parted P ls (λ a b at p bt q. before a b (inr at) p (inr bt) q))
-
--- what begins at one row in two steps
-pub begun_both : (n : ℕ) (ts : List Lent) (xs ys : List Leased) → with_begun n (with_begun n ts xs) ys ≡ with_begun n ts (xs ++ ys)
-unfolding with_begun
-begun_both n ts xs ys = sym (joined ts (map (begun_at n) xs) (map (begun_at n) ys)) ∙ ap (λ us. ts ++ us) (sym (map_append (begun_at n) xs ys))
-  where
-    joined : (us vs ws : List Lent) → us ++ (vs ++ ws) ≡ (us ++ vs) ++ ws
-    joined [] vs ws = refl
-    joined (u ∷ us) vs ws = ap (λ xs. u ∷ xs) (joined us vs ws)
 
 -- where nothing ends
 pub only_begins : (before after : List Leased) (n : ℕ) (ts : List Lent) → AllUnended (λ i l. IsOpen before l) 0 ts → ((l : Leased) → IsOpen before l → IsOpen after l) →
@@ -142,7 +134,7 @@ module _ (R : Leased → Bool) (K L S U : List Leased)
     restored_first before =
         only_begins L U n (passed_on K L n ts) (passed_open K L n ts early) L_in_U
         ∙ ap (λ us. with_begun n us (in_turn (newly_open L U))) (only_begins K L n ts opened K_in_L)
-        ∙ begun_both n ts (in_turn (newly_open K L)) (in_turn (newly_open L U))
+        ∙ begun_twice n ts (in_turn (newly_open K L)) (in_turn (newly_open L U))
         ∙ ap (with_begun n ts) (sym turned)
         ∙ sym (only_begins K U n ts opened K_in_U)
       where
@@ -154,7 +146,7 @@ module _ (R : Leased → Bool) (K L S U : List Leased)
     restored_last after =
         only_begins S U n (passed_on K S n ts) (passed_open K S n ts early) S_in_U
         ∙ ap (λ us. with_begun n us (in_turn (newly_open S U))) (only_begins K S n ts opened stays)
-        ∙ begun_both n ts (in_turn (newly_open K S)) (in_turn (newly_open S U))
+        ∙ begun_twice n ts (in_turn (newly_open K S)) (in_turn (newly_open S U))
         ∙ ap (with_begun n ts) (sym turned)
         ∙ sym (only_begins K U n ts opened K_in_U)
       where

@@ -38,12 +38,3 @@ module _ (h : Header) (k : Known) (id : ℕ) where
 
   pub all_passed : AreShaped h → (l : Leased) → is_among (open_leases h k) l ≡ true → is_passed id floor end l ≡ is_of_ring id l
   all_passed shaped = each_open h k (λ l. is_passed id floor end l ≡ is_of_ring id l) (λ q at l on. on_ring q l (shaped q at) on) (λ l at. of_range l (open_are_ranges h k l at))
-
--- each ring has the shape of its ID
-pub among : (q : Ring) (rs : List Ring) → IsIn q rs → IsAmong q rs
-among q [] at = absurd at
-among q (x ∷ rest) at = elim at [ inl here ↦ inl (sym here) | inr later ↦ inr (among q rest later) ]
-
-pub are_shaped : (h : Header) → IsHeader h → AreShaped h
-unfolding driver_rings
-are_shaped h headed q at = shape_there h headed q (among q h.rings (from_filter (λ r. is_driver_kind r.shape.kind) h.rings q at).0)

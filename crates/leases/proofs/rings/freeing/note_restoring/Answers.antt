@@ -1,8 +1,8 @@
-use Rattle.leases.proofs.Words.{◌≤◌, ◌∙◌, List, length, map, take, take_all, arith, ap, subst, sym, Block, Lent, with_begun, shape_there, Restoring, among, next_begun, next_free, none_begun, restored_lent}
+use Rattle.leases.proofs.Words.{◌≤◌, ◌∙◌, List, length, map, take, take_all, arith, ap, subst, sym, Block, Lent, with_begun, shape_there, Restoring, among, next_begun, next_free, begun_none, restored_lent}
 use Rattle.leases.proofs.rings.freeing.note_restoring.Goals as goal
 
 pub loop-position-init : goal.loop-position-init
-loop-position-init g c = λ list h k ts x held. subst (λ (us : List Lent). g.B.LeaseLog.holds list h us c.args.book.now) (sym (none_begun c.args.row ts)) held
+loop-position-init g c = λ list h k ts x held. subst (λ (us : List Lent). g.B.LeaseLog.holds list h us c.args.book.now) (sym (begun_none c.args.row ts)) held
 
 pub loop-position-preserved : goal.loop-position-preserved
 loop-position-preserved g c = λ list h k ts x held.

@@ -1,5 +1,6 @@
 use Rattle.leases.proofs.Words.{◌≡◌, ◌+◌, ◌≤◌, ◌∙◌, true, ap, arith, subst, floor_number, open_leases, place_count, shape_of, is_among, is_passed, ended_alike, is_of_ring}
-use Rattle.leases.proofs.RingLeases.WithinALap.{all_passed, are_shaped}
+use Rattle.leases.proofs.LeaseRows.OtherRows.{are_shaped}
+use Rattle.leases.proofs.RingLeases.WithinALap.{all_passed}
 use Rattle.leases.proofs.rings.going.note_going.Goals as goal
 
 pub returns : goal.returns
