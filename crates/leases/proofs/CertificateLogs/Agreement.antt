@@ -1,5 +1,5 @@
 -- How agreement goes on when a lease begins, and when some end
-use Rattle.leases.proofs.BaseWords.{cond_both, ◌≡◌, ◌==◌, ◌&&◌, ◌||◌, ◌∷◌, ◌∙◌, ℕ, Bool, true, false, List, [], length, map, slice_get, sym, ap, refl, eq-eqb, and_parts, and_from, Lease, Leased, as_lease, without_end, Lent, begun_at, ended_where, is_unended, lease_of, with_begun, agree, agrees, begins_as, has_words_of, test_of}
+use Rattle.leases.proofs.BaseWords.{rules, cond_both, ◌≡◌, ◌==◌, ◌&&◌, ◌||◌, ◌∷◌, ◌∙◌, ℕ, Bool, true, false, List, [], length, map, slice_get, sym, ap, refl, eq-eqb, and_parts, and_from, Lease, Leased, as_lease, without_end, Lent, begun_at, ended_where, is_unended, lease_of, with_begun, agree, agrees, begins_as, has_words_of, test_of}
 use Rattle.leases.proofs.LeaseBooks.Ending.{later_end}
 use Rattle.leases.proofs.LeaseBooks.Passing.{and_true}
 
@@ -28,19 +28,12 @@ agree_begun row l (t ∷ ts) (m ∷ ls) =
 module _ (over : Leased → Bool) (row : ℕ) where
   pub same_beginning : (t : Lent) (l : Lease) → begins_as l (lease_of (ended_where over row t)) ≡ begins_as l (lease_of t)
   unfolding ended_where begins_as has_words_of
-  same_beginning t l =
-      cond_both (is_unended t && over t.leased) _ _ (λ z. begins_as l (lease_of z) ≡ begins_as l (lease_of t)) (λ e. ap (begins_as l) (later_end t row)) (λ e. refl)
+  same_beginning t l = search (rules, is_unended, begins_as, lease_of, later_end)
 
   -- and what agrees with an end agrees before it
   agrees_unended : (t : Lent) (l : Lease) → agrees (ended_where over row t) l ≡ true → agrees t l ≡ true
   unfolding agrees ended_where
-  agrees_unended t l e =
-      let parts = and_parts (begins_as l (lease_of (ended_where over row t))) (is_unended (ended_where over row t) || l.to == (ended_where over row t).to) e in
-      and_from (begins_as l (lease_of t)) (is_unended t || l.to == t.to) (sym (same_beginning t l) ∙ parts.0) (by (is_unended t) refl parts.1)
-    where
-      by : (b : Bool) → is_unended t ≡ b → (is_unended (ended_where over row t) || l.to == (ended_where over row t).to) ≡ true → (b || l.to == t.to) ≡ true
-      by true u e = refl
-      by false u e = rw (u, u) at e
+  agrees_unended t l e = search (rules, and_parts, begins_as, lease_of, ended_where, is_unended, and_from, same_beginning)
 
   pub agree_unended : (ts : List Lent) (ls : List Lease) → agree (map (ended_where over row) ts) ls ≡ true → agree ts ls ≡ true
   unfolding agree

@@ -1,5 +1,5 @@
 -- Which lease stands at a place, when one begins and when one ends
-use Rattle.leases.proofs.BaseWords.{subst, ◌≡◌, ◌+◌, ◌∷◌, ◌++◌, ◌∙◌, ℕ, zero, suc, Bool, true, false, List, [], length, map, slice_get, sym, refl, inl, inr, list_any, cases_Bool, and_parts, or_parts, or_from, false≢true, Lease, Leased, Lent, is_unended, AllUnended, agree, agrees, test_of, IsOnly, IsOnlyAt, is_open_of}
+use Rattle.leases.proofs.BaseWords.{rules, subst, ◌≡◌, ◌+◌, ◌∷◌, ◌++◌, ◌∙◌, ℕ, zero, suc, Bool, true, false, List, [], length, map, slice_get, sym, refl, inl, inr, list_any, cases_Bool, and_parts, or_parts, or_from, false≢true, Lease, Leased, Lent, is_unended, AllUnended, agree, agrees, test_of, IsOnly, IsOnlyAt, is_open_of}
 
 module _ (p q : Lent → Bool) (f : Lent → Lent) (same : (t : Lent) → q (f t) ≡ p t) where
   none_alike : (ts : List Lent) → list_any p ts ≡ false → list_any q (map f ts) ≡ false
@@ -48,10 +48,7 @@ module _ (p : Lent → Bool) (t : Lent) where
 
 module _ (S T : Leased → Bool) (less : (l : Leased) → S l ≡ false → T l ≡ false) where
   open_less : (t : Lent) → is_open_of S t ≡ false → is_open_of T t ≡ false
-  open_less t e = elim (cases_Bool (is_unended t)) [
-    | inl unended ↦ let other : S t.leased ≡ false = rw unended at e in rw (unended, less t.leased other) refl
-    | inr over ↦ rw over refl
-  ]
+  open_less t e = search (rules, is_unended)
 
   pub none_less : (ts : List Lent) → list_any (is_open_of S) ts ≡ false → list_any (is_open_of T) ts ≡ false
   none_less [] none = refl
@@ -66,12 +63,7 @@ module _ (S T : Leased → Bool) (less : (l : Leased) → S l ≡ false → T l 
   unfolding agree
   at_less C G told i n [] ls e all at = absurd at
   at_less C G told i n (t ∷ ts) [] e all at = absurd (false≢true e)
-  at_less C G told zero n (t ∷ ts) (m ∷ ls) e all at =
-      let parts = and_parts (agrees t m) (agree ts ls) e in
-      let unended : is_unended t ≡ true = (and_parts (is_unended t) (S t.leased) at.0).0 in
-      let known : G m ≡ is_open_of T t = told t m parts.0 at.0 (all.0 unended) in
-      let rest = none_less ts at.1 in
-      (λ this_one. (sym known ∙ this_one, rest), λ other. or_from (is_open_of T t) (list_any (is_open_of T) ts) (sym known ∙ other) rest)
+  at_less C G told zero n (t ∷ ts) (m ∷ ls) e all at = search (rules, and_parts, agrees, agree, is_unended, is_open_of, none_less, or_from, list_any)
   at_less C G told (suc i) n (t ∷ ts) (m ∷ ls) e all at =
       let parts = and_parts (agrees t m) (agree ts ls) e in
       let rest = at_less C G told i (n + 1) ts ls parts.1 all.1 at.1 in

@@ -1,5 +1,5 @@
 -- The walk along a ring passes a position at which no Link is crossed
-use Rattle.leases.proofs.BaseWords.{false_unless, ◌≡◌, ◌+◌, ◌≤◌, ◌||◌, ◌∙◌, ℕ, Bool, false, not, List, map, sym, ap, refl, inl, inr, subst, cases_Bool, false≢true, length-map, is_crossing, Header, shape_of, Lease, Leased, Block, Link, Range, same_leased, IndexTables, IsFound, Lent, ended_where, is_passed, FollowedList, agree, IsCrossed, FollowsList}
+use Rattle.leases.proofs.BaseWords.{rules, false_unless, ◌≡◌, ◌+◌, ◌≤◌, ◌||◌, ◌∙◌, ℕ, Bool, false, not, List, map, sym, ap, refl, inl, inr, subst, cases_Bool, false≢true, length-map, is_crossing, Header, shape_of, Lease, Leased, Block, Link, Range, same_leased, IndexTables, IsFound, Lent, ended_where, is_passed, FollowedList, agree, IsCrossed, FollowsList}
 use Rattle.leases.proofs.LeaseBooks.Passing.{ended_alike, passed_block}
 use Rattle.leases.proofs.CertificateLogs.Agreement.{agree_unended}
 use Rattle.leases.proofs.CertificateLogs.Tables.{number_of}
@@ -23,17 +23,7 @@ module _ (leases : List Lease) (h : Header) (ts : List Lent) (list : FollowedLis
 
   -- tests that agree on what can be crossed end alike, while the list agrees; another list stays another one
   pub ended_so : (new : FollowedList) (new_blocks new_links : IndexTables) → FollowsList leases h by_one new new_blocks new_links → FollowsList leases h by_other new new_blocks new_links
-  ended_so new new_blocks new_links ended = elim (cases_Bool (agree ts leases)) [
-    | inl agreed ↦
-        let same : by_one ≡ by_other = ended_alike (λ i l. IsCrossed h l) p q row 0 ts (λ i l crossed. alike l crossed) (follows.known agreed).crossed in
-        subst (λ (us : List Lent). FollowsList leases h us new new_blocks new_links) same ended
-    | inr other ↦ record {
-      same = ended.same;
-      begun = ended.begun ∙ length-map ts (ended_where p row) ∙ sym (length-map ts (ended_where q row));
-      differs = ended.differs ∙ ap not (differs p other) ∙ sym (ap not (differs q other));
-      known = λ agreed. absurd (false≢true (sym (differs q other) ∙ agreed));
-    }
-  ]
+  ended_so new new_blocks new_links ended = search (rules, agree, ended_alike, IsCrossed, Lent, FollowsList, length-map, ended_where, differs, not, false≢true)
 
 -- a block was passed
 pub passed_on : (leases : List Lease) (h : Header) (ts : List Lent) (list : FollowedList) (blocks links : IndexTables) → FollowsList leases h ts list blocks links → (r from n row : ℕ) → from ≤ n →

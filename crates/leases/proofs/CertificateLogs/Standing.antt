@@ -1,5 +1,5 @@
 -- Where what is lent stands among what was and is lent
-use Rattle.leases.proofs.BaseWords.{not-true, and_false, false_unless, ◌≡◌, ◌+◌, ◌<◌, ◌%◌, ◌==◌, ◌&&◌, ◌∷◌, ◌∙◌, ℕ, zero, suc, Bool, true, false, List, [], arith, sym, ap, refl, inl, inr, subst, eq-eqb, list_any, cases_Bool, and_parts, false≢true, place_count, link_of, Header, shape_of, Leased, Block, Link, Range, Use, same_leased, leased_is, AllUnended, Lent, is_place_free, is_unended, share_a_place, StandsAt, is_lent, IsOnlyAt, BlockPlace, RingPlace, has_place, is_open_of}
+use Rattle.leases.proofs.BaseWords.{rules, not-true, and_false, false_unless, ◌≡◌, ◌+◌, ◌<◌, ◌%◌, ◌==◌, ◌&&◌, ◌∷◌, ◌∙◌, ℕ, zero, suc, Bool, true, false, List, [], arith, sym, ap, refl, inl, inr, subst, eq-eqb, list_any, cases_Bool, and_parts, false≢true, place_count, link_of, Header, shape_of, Leased, Block, Link, Range, Use, same_leased, leased_is, AllUnended, Lent, is_place_free, is_unended, share_a_place, StandsAt, is_lent, IsOnlyAt, BlockPlace, RingPlace, has_place, is_open_of}
 use Rattle.leases.proofs.LeaseBooks.EndingRange.{either_holds, not_later}
 
 module _ (l : Leased) where
@@ -46,8 +46,7 @@ module _ (h : Header) where
 
   -- what shares a place with itself is the same as nothing that doesn't share it
   pub apart_less : (l : Leased) → share_a_place h l l ≡ true → (x : Leased) → share_a_place h l x ≡ false → same_leased l x ≡ false
-  apart_less l shares x apart =
-      false_unless _ (λ same. false≢true (sym apart ∙ ap (share_a_place h l) (sym (leased_is l x same)) ∙ shares))
+  apart_less l shares x apart = search (rules, false_unless, false≢true, share_a_place, leased_is)
 
   -- nothing is open at a place that is free, nor at the place of a range
   pub free_none : (ts : List Lent) (l : Leased) → is_place_free h ts l ≡ true → list_any (is_open_of (share_a_place h l)) ts ≡ false

@@ -23,12 +23,7 @@ at_none l n (suc i) (x ∷ xs) e = ap (λ ys. x ∷ ys) (at_none l n i xs e)
 
 pub later_end : (t : Lent) (n : ℕ) → lease_of (record t { to = n }) ≡ record (lease_of t) { to = n }
 unfolding lease_of as_lease
-later_end t n = by t.leased
-  where
-    by : (l : Leased) → as_lease t.from n l ≡ record (as_lease t.from t.to l) { to = n }
-    by (Block r p) = refl
-    by (Link r q) = refl
-    by (Range m a e) = refl
+later_end t n = search (rules, Leased, as_lease, Block, Link, Range)
 
 module _ (F : ℕ → Leased → Type 0) (l : Leased) (row : ℕ) where
   -- none of these is the one that ends
@@ -51,10 +46,7 @@ module _ (F : ℕ → Leased → Type 0) (l : Leased) (row : ℕ) where
         ended_at x row i (map lease_of ts) ≡ map lease_of (map (ended_where (same_leased l) row) ts)
     unfolding ended_at ended_where
     one_ends n i [] only all = refl
-    one_ends n zero (t ∷ ts) only all =
-        let rest : map (ended_where (same_leased l) row) ts ≡ ts = none_ends (n + 1) ts (λ j f. let e : j ≡ n + 0 = only j f in omega arith) all.1 in
-        rw (alike t (λ u. told n t.leased (all.0 u)), rest) (ap (λ y. y ∷ map lease_of ts)
-        (ap (λ y. cond (is_unended t && same_leased l t.leased) y (lease_of t)) (sym (later_end t row)) ∙ sym (pushed lease_of (is_unended t && same_leased l t.leased) _ t)))
+    one_ends n zero (t ∷ ts) only all = search (rules, map, ended_where, same_leased, none_ends, lease_of, cond, is_unended, later_end, pushed)
     one_ends n (suc i) (t ∷ ts) only all =
         let rest = one_ends (n + 1) i ts (λ j f. let e : j ≡ n + suc i = only j f in omega arith) all.1 in
         elim (cases_Bool (is_unended t && same_leased l t.leased)) [
@@ -69,15 +61,7 @@ module _ (F : ℕ → Leased → Type 0) (l : Leased) (row : ℕ) where
 -- a block's lease, told of the list and told of what is lent
 pub block_alike : (r p n e : ℕ) (t : Lent) → is_open_as (as_lease n e (Block r p)) (lease_of t) ≡ (is_unended t && same_leased (Block r p) t.leased)
 unfolding is_open_as lease_of as_lease is_unended
-block_alike r p n e t = by t.leased
-  where
-    same : (a b c : Bool) → (a && true && b && c) ≡ (a && (b && c))
-    same a b c = search rules
-
-    by : (l : Leased) → ((as_lease t.from t.to l).to == without_end && 0 == (as_lease t.from t.to l).kind && r == (as_lease t.from t.to l).ring && p == (as_lease t.from t.to l).pos) ≡ (t.to == without_end && same_leased (Block r p) l)
-    by (Block s q) = same (t.to == without_end) (r == s) (p == q)
-    by (Link s q) = drops (t.to == without_end) (r == s) (p == q - 1)
-    by (Range m a u) = drops (t.to == without_end) (r == m) (p == a)
+block_alike r p n e t = search (rules, Leased, as_lease, without_end, same_leased, Block, Link, drops, Range)
 
 abbrev pub IsPositive : Leased → Type 0
 IsPositive (Block r p) = Unit {0}
@@ -87,16 +71,4 @@ IsPositive (Range n a e) = Unit {0}
 -- and a Link's
 pub link_alike : (r p n e : ℕ) (t : Lent) → 0 < p → (is_unended t ≡ true → IsPositive t.leased) → is_open_as (as_lease n e (Link r p)) (lease_of t) ≡ (is_unended t && same_leased (Link r p) t.leased)
 unfolding is_open_as lease_of as_lease is_unended
-link_alike r p n e t above positive = by t.leased positive
-  where
-    same : (a b c d : Bool) → (a ≡ true → c ≡ d) → (a && true && b && c) ≡ (a && (b && d))
-    same a b c d f = search rules
-
-    crossing : (q : ℕ) → 0 < q → (p - 1 == q - 1) ≡ (p == q)
-    crossing q over = grind (arith, nat_tests, above, over)
-
-    by : (l : Leased) → (t.to == without_end ≡ true → IsPositive l) →
-        ((as_lease t.from t.to l).to == without_end && 1 == (as_lease t.from t.to l).kind && r == (as_lease t.from t.to l).ring && p - 1 == (as_lease t.from t.to l).pos) ≡ (t.to == without_end && same_leased (Link r p) l)
-    by (Block s q) over = drops (t.to == without_end) (r == s) (p - 1 == q)
-    by (Link s q) over = same (t.to == without_end) (r == s) (p - 1 == q - 1) (p == q) (λ u. crossing q (over u))
-    by (Range m a u) over = drops (t.to == without_end) (r == m) (p - 1 == a)
+link_alike r p n e t above positive = search (rules, nat_tests, Leased, without_end, as_lease, same_leased, Link, Block, drops, Range)

@@ -46,10 +46,7 @@ module _ (l : Leased) (row : ℕ) (x : Lease) (alike : (t : Lent) → is_unended
 -- a range's lease has the words of its own
 pub range_alike : (row n a : ℕ) (e : Use) (t : Lent) → is_unended t ≡ true → t.leased ≡ Range n a e → is_open_as (as_lease row without_end (Range n a e)) (lease_of t) ≡ true
 unfolding is_open_as lease_of as_lease is_unended
-range_alike row n a e t unended same = rw same (by (t.to == without_end) (n == n) (a == a) unended (eq-eqb n n refl) (eq-eqb a a refl))
-  where
-    by : (b c d : Bool) → b ≡ true → c ≡ true → d ≡ true → (b && true && c && d) ≡ true
-    by b c d f g h = search rules
+range_alike row n a e t unended same = search (rules, without_end, eq-eqb)
 
 pub range_ends : (ts : List Lent) (row n a i : ℕ) (e : Use) (x : Lease) (xs ys : List Lease) → xs ≡ map lease_of ts → x ≡ as_lease row without_end (Range n a e) → ys ≡ ended_at x row i xs →
     StandsAt ts (Range n a e) i → is_lent ts (Range n a e) ≡ true → ys ≡ map lease_of (map (ended_where (same_leased (Range n a e)) row) ts)

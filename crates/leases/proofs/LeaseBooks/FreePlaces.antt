@@ -1,5 +1,5 @@
 -- No lease that is open shares its place with a position that isn't handed over
-use Rattle.leases.proofs.BaseWords.{false_unless, ◌≡◌, ◌+◌, ◌%◌, ◌<◌, ◌≤◌, ◌==◌, ◌&&◌, ◌∷◌, ◌∙◌, ℕ, Bool, true, false, not, List, [], sym, ap, refl, inl, inr, subst, eqb-true, list_any, cases_Bool, false≢true, and_parts, Shape, place_count, floor_number, is_handed_over, Header, Ring, driver_rings, shape_of, Known, same_due, Leased, Block, Range, is_among, open_leases, IsIn, Lent, is_place_free, is_unended, share_a_place, AllUnended, AreOpen}
+use Rattle.leases.proofs.BaseWords.{rules, false_unless, ◌≡◌, ◌+◌, ◌%◌, ◌<◌, ◌≤◌, ◌==◌, ◌&&◌, ◌∷◌, ◌∙◌, ℕ, Bool, true, false, not, List, [], sym, ap, refl, inl, inr, subst, eqb-true, list_any, cases_Bool, false≢true, and_parts, Shape, place_count, floor_number, is_handed_over, Header, Ring, driver_rings, shape_of, Known, same_due, Leased, Block, Range, is_among, open_leases, IsIn, Lent, is_place_free, is_unended, share_a_place, AllUnended, AreOpen}
 use Rattle.leases.proofs.LeaseBooks.Members.{InOn, block, link}
 use Rattle.leases.proofs.LeaseBooks.RangesAlone.{IsRange, each_open, open_are_ranges}
 use Rattle.leases.proofs.LeaseBooks.Writing.{AreShaped}
@@ -30,21 +30,10 @@ module _ (h : Header) (shaped : AreShaped h) (k : Known) (q : Ring) (among : IsI
     (some : 0 < place_count q.shape) (low : floor_number (k.ring q.id) ≤ p) (high : p < floor_number (k.ring q.id) + place_count q.shape) (absent : is_handed_over (k.ring q.id) p ≡ false) where
   same_place : (s : Ring) → IsIn s (driver_rings h) → (m : ℕ) → q.id ≡ s.id → floor_number (k.ring s.id) ≤ m → m < floor_number (k.ring s.id) + place_count s.shape → is_handed_over (k.ring s.id) m ≡ true →
       p % place_count (shape_of h q.id) ≡ m % place_count (shape_of h s.id) → ⊥
-  same_place s at m ids least most lent e =
-      let shapes : s.shape ≡ q.shape = sym (shaped s at) ∙ ap (shape_of h) (sym ids) ∙ shaped q among in
-      let from : floor_number (k.ring q.id) ≤ m = subst (λ (i : ℕ). floor_number (k.ring i) ≤ m) (sym ids) least in
-      let most' : m < floor_number (k.ring s.id) + place_count q.shape = subst (λ (x : Shape). m < floor_number (k.ring s.id) + place_count x) shapes most in
-      let to : m < floor_number (k.ring q.id) + place_count q.shape = subst (λ (i : ℕ). m < floor_number (k.ring i) + place_count q.shape) (sym ids) most' in
-      let there : is_handed_over (k.ring q.id) m ≡ true = subst (λ (i : ℕ). is_handed_over (k.ring i) m ≡ true) (sym ids) lent in
-      let rests : p % place_count q.shape ≡ m % place_count q.shape =
-      ap (λ x. p % place_count x) (sym (shaped q among)) ∙ e ∙ ap (λ x. m % place_count x) (shaped s at ∙ shapes) in
-      let same : p ≡ m = same_due (floor_number (k.ring q.id)) (place_count q.shape) p m some low high from to rests in
-      false≢true (sym absent ∙ ap (is_handed_over (k.ring q.id)) same ∙ there)
+  same_place s at m ids least most lent e = search (rules, shape_of, floor_number, place_count, Shape, is_handed_over, same_due, false≢true)
 
   apart_on : (s : Ring) → IsIn s (driver_rings h) → (l : Leased) → InOn s (k.ring s.id) l → share_a_place h (Block q.id p) l ≡ false
-  apart_on s at _ (block m least most lent) = false_unless _ (λ shares.
-      let both = and_parts (q.id == s.id) (p % place_count (shape_of h q.id) == m % place_count (shape_of h s.id)) shares in
-      same_place s at m (eqb-true q.id s.id both.0) least most lent (eqb-true _ _ both.1))
+  apart_on s at _ (block m least most lent) = search (rules, false_unless, and_parts, place_count, shape_of, same_place, eqb-true)
   apart_on s at _ (link c least most crossed) = refl
 
 -- the place of a due position that isn't handed over is free

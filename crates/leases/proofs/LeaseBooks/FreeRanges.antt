@@ -71,10 +71,7 @@ module _ (h : Header) (k : Known) (ts : List Lent) (still : AreOpen h k ts) (p :
   module _ (some : 0 < count) (low : floor_number commands ≤ p) (high : p < floor_number commands + count) (absent : commands.given p ≡ false) where
     other_place : (q : ℕ) → IsIn q (rings.unfinished_positions h k) → (command_place h p == command_place h q) ≡ false
     unfolding rings.unfinished_positions due_positions
-    other_place q at =
-        let passed = from_filter commands.given (range_with_len (floor_number commands) count) q at in
-        let range = from_range (floor_number commands) count q passed.0 in
-        search (rules, same_due, eqb-true, false≢true)
+    other_place q at = search (rules, from_filter, range_with_len, floor_number, from_range, same_due, eqb-true, false≢true)
 
     pub context_free : is_use_free h ts (InputContext p) ≡ true
     unfolding is_use_free

@@ -87,34 +87,17 @@ module _ (h : Header) (k : Known) (ts : List Lent) (still : AreOpen h k ts) (b :
     goes = read_goes h k b at transfers found
 
     commands_stay : k'.ring (command_id h) ≡ k.ring (command_id h)
-    commands_stay = elim (cases_Bool (command_id h == at.ring)) [
-      | inl same ↦ absurd (apart (sym (eqb-true (command_id h) at.ring same)))
-      | inr differ ↦ goes.others (command_id h) differ
-    ]
+    commands_stay = search (rules, command_id, eqb-true, goes)
 
     here : (q : Ring) → IsIn q (driver_rings h) → q.id ≡ at.ring → Moves q.shape (k.ring q.id) (k'.ring q.id) (floors k' q.id)
-    here q among e =
-        subst (λ (s : ℕ). Moves q.shape (k.ring s) (k'.ring s) (floors k' s)) (sym e)
-        (record {
-          given = goes.given;
-          free = goes.free;
-          crossed = goes.crossed;
-          floor = refl;
-          rises = subst (λ (n : ℕ). floor_number (k.ring at.ring) ≤ n) (sym goes.floor) rises;
-          within = subst (λ (s : ℕ). IsWithinLap q.shape (k.ring s)) e (lap q among);
-        })
+    here q among e = search (rules, Moves, floors, goes, floor_number, IsWithinLap)
 
     there : (q : Ring) → IsIn q (driver_rings h) → (q.id == at.ring) ≡ false → Moves q.shape (k.ring q.id) (k'.ring q.id) (floors k' q.id)
-    there q among differ =
-        let same : k'.ring q.id ≡ k.ring q.id = goes.others q.id differ in
-        search rules
+    there q among differ = search (rules, goes)
 
     narrow : Narrows h k k' []
     unfolding is_among
-    narrow = record {
-      each = λ q among. search (rules, here, eqb-true, there);
-      ranges = λ l. ap (λ ls. is_among ls l) (ranges_rest h k k' commands_stay goes.register goes.device) ∙ sym (and_true (is_among (open_ranges h k) l));
-    }
+    narrow = search (rules, here, eqb-true, there, is_among, ranges_rest, commands_stay, goes, and_true, open_ranges)
 
     pub transfer_lent : grown h k (Read b) n ts ≡ map (ended_where (is_passed at.ring from to) n) ts
     transfer_lent =

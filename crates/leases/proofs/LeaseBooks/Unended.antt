@@ -1,5 +1,5 @@
 -- Where the leases that aren't over stand in the list, when one begins and when some end
-use Rattle.leases.proofs.BaseWords.{or_parts, and_parts, ◌≡◌, ◌+◌, ◌&&◌, ◌||◌, ◌∷◌, ℕ, Bool, true, false, List, [], length, map, arith, sym, refl, cond, subst, list_any, false≢true, Leased, Lent, is_unended, begun_at, ended_where, with_begun, AllUnended}
+use Rattle.leases.proofs.BaseWords.{rules, or_parts, and_parts, ◌≡◌, ◌+◌, ◌&&◌, ◌||◌, ◌∷◌, ℕ, Bool, true, false, List, [], length, map, arith, sym, refl, cond, subst, list_any, false≢true, Leased, Lent, is_unended, begun_at, ended_where, with_begun, AllUnended}
 
 -- what is told of each is told anew of each
 pub all_anew : (F G : ℕ → Leased → Type 0) (n : ℕ) (ts : List Lent) → ((i : ℕ) (l : Leased) → F i l → G i l) → AllUnended F n ts → AllUnended G n ts
@@ -11,9 +11,7 @@ pub all_begun : (F G : ℕ → Leased → Type 0) (S : Leased → Bool) (row : �
     ((i : ℕ) (m : Leased) → S m ≡ false → F i m → G i m) → G (n + length ts) l → list_any (λ t. is_unended t && S t.leased) ts ≡ false →
     AllUnended F n ts → AllUnended G n (with_begun row ts (l ∷ []))
 unfolding with_begun begun_at
-all_begun F G S row l n [] f here free all =
-    let at : n + 0 ≡ n = omega arith in
-    (λ u. subst (λ (i : ℕ). G i l) at here, tt)
+all_begun F G S row l n [] f here free all = search rules
 all_begun F G S row l n (t ∷ ts) f here free all =
     let parts = or_parts (is_unended t && S t.leased) (list_any (λ t. is_unended t && S t.leased) ts) free in
     let at : n + length (t ∷ ts) ≡ n + 1 + length ts = omega arith in (

@@ -6,8 +6,7 @@ use Rattle.leases.proofs.LeaseBooks.Passing.{all_twice, none_over, over_alike}
 use Rattle.leases.proofs.LeaseBooks.RangePlaces.{some_end}
 
 turned : (l m : Leased) → same_leased l m ≡ same_leased m l
-turned l m =
-    both_ways _ _ (λ e. ap (λ x. same_leased m x) (leased_is l m e) ∙ leased_itself m) (λ e. ap (λ x. same_leased l x) (leased_is m l e) ∙ leased_itself l)
+turned l m = search (rules, both_ways, same_leased, leased_is, leased_itself)
 
 one_of : (l m : Leased) → same_leased l m ≡ is_among (l ∷ []) m
 unfolding is_among

@@ -1,5 +1,5 @@
 -- The entry of each slot with a device context ends within the address space: it was tested when the context was taken
-use Rattle.leases.proofs.BaseWords.{◌≡◌, ◌+◌, ◌^◌, ◌≤◌, ◌∷◌, ◌∙◌, ℕ, true, false, List, [], Option, Some, refl, sym, ap, subst, inl, inr, ltb-false, cases_Bool, false≢true, none-some, cases_option, Header, Register, Dcbaap, Row, Sub, Write, Reg, Bell, Read, IsHeader, with_register, Known, nothing, known, learned, entry_of, IsLenient, is_bad_register, lenient, DriverKeeps, area_parts, register_facts, entry_same, driver_keeps, at_number, event_behind, registered, bell_leaves, declaration_leaves, register_leaves, write_leaves, clean_tests, rules_of, after_write, taken, written_device, written_device_none, EntriesFit}
+use Rattle.leases.proofs.BaseWords.{rules, ◌≡◌, ◌+◌, ◌^◌, ◌≤◌, ◌∷◌, ◌∙◌, ℕ, true, false, List, [], Option, Some, refl, sym, ap, subst, inl, inr, ltb-false, cases_Bool, false≢true, none-some, cases_option, Header, Register, Dcbaap, Row, Sub, Write, Reg, Bell, Read, IsHeader, with_register, Known, nothing, known, learned, entry_of, IsLenient, is_bad_register, lenient, DriverKeeps, area_parts, register_facts, entry_same, driver_keeps, at_number, event_behind, registered, bell_leaves, declaration_leaves, register_leaves, write_leaves, clean_tests, rules_of, after_write, taken, written_device, written_device_none, EntriesFit}
 
 -- no device context more, and the same array of entries
 pub still_fit : (k l : Known) → l.register Dcbaap ≡ k.register Dcbaap → ((s d : ℕ) → l.device s ≡ Some d → k.device s ≡ Some d) → EntriesFit k → EntriesFit l
@@ -26,19 +26,10 @@ module _ (h : Header) where
     taken_fits e at = ltb-false (2 ^ 64) (entry_of k e.0 + 8) (area_parts h k (entry_of k e.0) 8 (rules_of h is k keeps a w clean e at).entry_area).ends
 
     fits_behind : EntriesFit k → (s d : ℕ) → (after_write h k a w).device s ≡ Some d → entry_of k s + 8 ≤ 2 ^ 64
-    fits_behind fit s d at =
-        elim (cases_option (taken h k a w)) [
-          | inl none ↦ fit s d (ap (λ f. f s) (sym (written_device_none h k a w none)) ∙ at)
-          | inr some ↦
-              let e : ℕ × ℕ = some.0 in
-              at_number (λ (o : Option ℕ). o ≡ Some d → entry_of k s + 8 ≤ 2 ^ 64) k.device e.0 (Some e.1) s
-              (λ same here. subst (λ (n : ℕ). entry_of k n + 8 ≤ 2 ^ 64) (sym same) (taken_fits e some.1)) (λ other before. fit s d before)
-              (ap (λ g. g s) (sym (written_device h k a w e some.1)) ∙ at)
-        ]
+    fits_behind fit s d at = search (rules, cases_option, taken, written_device_none, at_number, entry_of, taken_fits, written_device)
 
     write_fits : EntriesFit k → EntriesFit (learned h k (Write a w))
-    write_fits fit s d at =
-        subst (λ (x : ℕ). x + 8 ≤ 2 ^ 64) (sym (entry_same k (after_write h k a w) s (ap (λ f. f Dcbaap) (write_leaves h k a w).registers.register))) (fits_behind fit s d at)
+    write_fits fit s d at = search (rules, entry_same, after_write, Dcbaap, write_leaves, fits_behind)
 
   pub row_fits : IsHeader h → (k : Known) (row : Row) → DriverKeeps h k → lenient h k row ≡ [] → EntriesFit k → EntriesFit (learned h k row)
   row_fits is k (Sub r blocks) keeps clean fit =

@@ -1,5 +1,5 @@
 -- What a write gives, by the ring that has the word
-use Rattle.leases.proofs.BaseWords.{◌≡◌, ◌%◌, ◌++◌, ◌∙◌, ℕ, [], true, false, Option, Some, None, refl, ap, sym, inl, inr, map, append-nil, false≢true, Xfer, is_inside, touches, positions_given, crossings_given, due_positions, Ring, Header, IsHeader, command_id, command_ring, driver_rings, is_command_kind, is_driver_kind, is_event_kind, shape_of, shape_or, Known, given_of, given_by, false_unless, IsAmong, Apart, same_or_apart, all_from_one, nothing_from, shape_allowed, shape_there, together, command_found, Position, Crossing, command_id_is, commands_among, driven}
+use Rattle.leases.proofs.BaseWords.{rules, ◌≡◌, ◌%◌, ◌++◌, ◌∙◌, ℕ, [], true, false, Option, Some, None, refl, ap, sym, inl, inr, map, append-nil, false≢true, Xfer, is_inside, touches, positions_given, crossings_given, due_positions, Ring, Header, IsHeader, command_id, command_ring, driver_rings, is_command_kind, is_driver_kind, is_event_kind, shape_of, shape_or, Known, given_of, given_by, false_unless, IsAmong, Apart, same_or_apart, all_from_one, nothing_from, shape_allowed, shape_there, together, command_found, Position, Crossing, command_id_is, commands_among, driven}
 use Rattle.trace_record.proofs.RingFinder.CommandRings.{no_ring}
 use Rattle.trace_record.proofs.WordsInside.{gives_no_position, gives_no_crossing}
 use Rattle.trace_record.proofs.OneRingHas.{inside_is, no_driver_event}
@@ -8,13 +8,10 @@ module _ (h : Header) (headed : IsHeader h) where
   module _ (k : Known) (a : ℕ) (aligned : a % 4 ≡ 0) (w : ℕ) where
     given_here : (q : Ring) → IsAmong q h.rings → given_of h k a w q.id ≡ map (Position q.id) (positions_given q.shape (k.ring q.id) a w) ++ map (Crossing q.id) (crossings_given q.shape (k.ring q.id) a w)
     unfolding given_of
-    given_here q among =
-        ap (λ s. map (Position q.id) (positions_given s (k.ring q.id) a w) ++ map (Crossing q.id) (crossings_given s (k.ring q.id) a w)) (shape_there h headed q among)
+    given_here q among = search (rules, map, Position, positions_given, Crossing, crossings_given, shape_there)
 
     none_given : (q : Ring) → IsAmong q h.rings → is_inside q.shape a ≡ false → given_of h k a w q.id ≡ []
-    none_given q among outside =
-        given_here q among
-        ∙ rw (gives_no_position q.shape (shape_allowed h headed q among) a aligned outside (k.ring q.id) w, gives_no_crossing q.shape (shape_allowed h headed q among) a aligned outside (k.ring q.id) w) refl
+    none_given q among outside = search (rules, given_here, gives_no_position, shape_allowed, gives_no_crossing)
 
     -- no position of the command ring where that hasn't the word
     no_commands : ((c : Ring) → command_ring h ≡ Some c → is_inside c.shape a ≡ false) → positions_given (shape_of h (command_id h)) (k.ring (command_id h)) a w ≡ []
@@ -60,9 +57,7 @@ module _ (h : Header) (headed : IsHeader h) where
           ∙ append-nil (given_of h k a w r.id) ∙ given_here r among
 
       pub commanded_here : is_command_kind r.shape.kind ≡ true → positions_given (shape_of h (command_id h)) (k.ring (command_id h)) a w ≡ positions_given r.shape (k.ring r.id) a w
-      commanded_here command =
-          ap (λ i. positions_given (shape_of h i) (k.ring i) a w) (command_id_is h r (command_found h headed r among command))
-          ∙ ap (λ s. positions_given s (k.ring r.id) a w) (shape_there h headed r among)
+      commanded_here command = search (rules, positions_given, shape_of, command_id_is, command_found, shape_there)
 
       pub commanded_elsewhere : is_command_kind r.shape.kind ≡ false → positions_given (shape_of h (command_id h)) (k.ring (command_id h)) a w ≡ []
       commanded_elsewhere other = no_commands (λ c there.

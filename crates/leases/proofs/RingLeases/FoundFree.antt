@@ -1,5 +1,5 @@
 -- The indexes of ranges find the same where leases of blocks end and begin
-use Rattle.leases.proofs.BaseWords.{◌≡◌, ◌+◌, ◌<◌, ◌≤◌, ◌∷◌, ◌∙◌, ℕ, true, List, [], Some, map, nat_lt, arith, refl, sym, subst, inl, inr, cases_Bool, nat_tests, Header, IsHeader, Ring, Known, Write, command_id, is_transfer_kind, learned, on_ring, open_leases, ring_with, length_from, Restores, Withdraws, without_end, Block, AreOpen, Lent, passed_on, with_begun, FindsRanges, RangeIndexes, restored, MovesRing}
+use Rattle.leases.proofs.BaseWords.{rules, ◌≡◌, ◌+◌, ◌<◌, ◌≤◌, ◌∷◌, ◌∙◌, ℕ, true, List, [], Some, map, nat_lt, arith, refl, sym, subst, inl, inr, cases_Bool, nat_tests, Header, IsHeader, Ring, Known, Write, command_id, is_transfer_kind, learned, on_ring, open_leases, ring_with, length_from, Restores, Withdraws, without_end, Block, AreOpen, Lent, passed_on, with_begun, FindsRanges, RangeIndexes, restored, MovesRing}
 use Rattle.leases.proofs.LeaseBooks.RangePlaces.{others_begin, some_end}
 use Rattle.leases.proofs.RingLeases.LentFree.{Restoring, is_between, restored_lent, withdrawn_lent}
 use Rattle.leases.proofs.RingLeases.MovingRings.{alone, at_end, first_restored, freed_given, freed_later, last_restored, opened_own, other, own_first, own_step, same_left}
@@ -14,9 +14,7 @@ blocks_begin h x row r (p ∷ ps) ts found =
 -- behind a descriptor that is withdrawn
 pub found_withdrawn : (h : Header) → IsHeader h → (k : Known) (q : Ring) → ring_with h q.id ≡ Some q → is_transfer_kind q.shape.kind ≡ true → (ts : List Lent) → AreOpen h k ts → (row p : ℕ) (x : RangeIndexes) →
     FindsRanges h ts x → FindsRanges h (passed_on (open_leases h k) (open_leases h (on_ring h k q.id (Withdraws p))) row ts) x
-found_withdrawn h headed k q found transfer ts opened row p x finds =
-    let n : ℕ = length_from (k.ring q.id).lengths 0 p in
-    subst (λ (us : List Lent). FindsRanges h us x) (sym (withdrawn_lent h headed k q found transfer ts opened row p n refl)) (some_end h x (is_between q.id p (p + n)) row ts finds)
+found_withdrawn h headed k q found transfer ts opened row p x finds = search (rules, length_from, Lent, FindsRanges, withdrawn_lent, some_end, is_between)
 
 -- behind a ring that is restored
 pub found_restored : (h : Header) (k : Known) (ts : List Lent) (q : Ring) (ps : List ℕ) → Restoring h k ts q ps → (row : ℕ) (x : RangeIndexes) →

@@ -19,9 +19,7 @@ module _ (h : Header) (is : IsHeader h) (k : Known) (d : DriverKeeps h k) (id : 
   alike (Range n a e) other = tt
 
   pub open_alike : (l : Leased) → IsOpen (open_leases (without_ring h id) (forgotten k id)) l → IsShapedAlike h (without_ring h id) l
-  open_alike l is_open =
-      let both = sym (ap (λ ms. is_among ms l) (goes_open h is k d id good) ∙ among_filtered (λ m. not (is_of_ring id m)) (open_leases h k) l) ∙ is_open in
-      alike l (not-true (is_of_ring id l) (and_parts (is_among (open_leases h k) l) (not (is_of_ring id l)) both).1)
+  open_alike l is_open = search (rules, is_among, goes_open, among_filtered, not, is_of_ring, open_leases, alike, not-true, and_parts)
 
   -- with the ring left out the log goes on, where what isn't over is open behind it
   pub goes_alike : (ts : List Lent) → AreOpen (without_ring h id) (forgotten k id) ts → AreShapedAlike h (without_ring h id) ts

@@ -1,5 +1,5 @@
 -- What is lent behind a ring that goes, and behind one that comes; behind plain rows it is as in a trace of these alone
-use Rattle.leases.proofs.BaseWords.{◌≡◌, ◌+◌, ◌≤◌, ◌∷◌, ◌∙◌, ℕ, false, not, List, [], length, map, arith, refl, ap, length-map, Header, IsHeader, Ring, DriverKeeps, learned, open_leases, Row, known, without_end, is_among, AllUnended, ended_where, grown, lents, passed_on, nothing_free, IsInStep, IsComing, is_bad_free, is_bad_ring, TraceRow, Plain, Comes, Goes, header_now, known_now, restored, is_of_ring, open_now, ring_lents}
+use Rattle.leases.proofs.BaseWords.{rules, ◌≡◌, ◌+◌, ◌≤◌, ◌∷◌, ◌∙◌, ℕ, false, not, List, [], length, map, arith, refl, ap, length-map, Header, IsHeader, Ring, DriverKeeps, learned, open_leases, Row, known, without_end, is_among, AllUnended, ended_where, grown, lents, passed_on, nothing_free, IsInStep, IsComing, is_bad_free, is_bad_ring, TraceRow, Plain, Comes, Goes, header_now, known_now, restored, is_of_ring, open_now, ring_lents}
 use Rattle.leases.proofs.LeaseBooks.Rows.{IsOpen, first_open, nothing_passed, only_passed, passed_open}
 use Rattle.leases.proofs.LeaseBooks.OpenLent.{in_step_behind, in_step_first}
 use Rattle.leases.proofs.RingLeases.NothingRestored.{restored_same}
@@ -25,17 +25,13 @@ module _ (h : Header) (first : ℕ) where
     pub goes_lent : (id : ℕ) → is_bad_free (header_now h past) (known_now h past) id ≡ false →
         ring_lents h first (Goes id ∷ past) ≡ map (ended_where (is_of_ring id) (first + length past)) (ring_lents h first past)
     unfolding ring_lents
-    goes_lent id good =
-        only_passed (open_now h past) (open_now h (Goes id ∷ past)) (first + length past) (ring_lents h first past) (lent_open past room) (is_of_ring id)
-        (λ l. ap (λ ms. is_among ms l) (goes_open (header_now h past) is (known_now h past) d id good) ∙ among_filtered (λ m. not (is_of_ring id m)) (open_now h past) l)
+    goes_lent id good = search (rules, only_passed, open_now, Goes, length, ring_lents, lent_open, is_of_ring, is_among, goes_open, header_now, known_now, among_filtered, not)
 
     -- nothing begins or ends
     pub comes_lent : (ring : Ring) → IsComing ring → is_bad_ring (header_now h past) (known_now h past) ring ≡ false →
         ring_lents h first (Comes ring ∷ past) ≡ ring_lents h first past
     unfolding ring_lents
-    comes_lent ring coming good =
-        nothing_passed (open_now h past) (open_now h (Comes ring ∷ past)) (first + length past) (ring_lents h first past) (lent_open past room)
-        (λ l. ap (λ ms. is_among ms l) (comes_open (header_now h past) is (known_now h past) d ring coming good))
+    comes_lent ring coming good = search (rules, nothing_passed, open_now, Comes, length, ring_lents, lent_open, is_among, comes_open, header_now, known_now)
 
   -- ---- plain rows
 

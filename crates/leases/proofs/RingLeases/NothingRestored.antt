@@ -1,5 +1,5 @@
 -- Where nothing is free a row restores nothing
-use Rattle.leases.proofs.BaseWords.{◌≡◌, ◌∙◌, ℕ, Option, None, Some, inl, inr, refl, sym, subst, cases_eq, Header, Known, RingView, changed, on_ring, shape_of, ring_elsewhere, IsRestored, Restores, Shape, Row, restored, restored_on, ring_restored}
+use Rattle.leases.proofs.BaseWords.{rules, ◌≡◌, ◌∙◌, ℕ, Option, None, Some, inl, inr, refl, sym, subst, cases_eq, Header, Known, RingView, changed, on_ring, shape_of, ring_elsewhere, IsRestored, Restores, Shape, Row, restored, restored_on, ring_restored}
 use Rattle.safety.proofs.DriverRows.{ring_here}
 
 view_same : (shape : Shape) (v : RingView) → IsRestored v → changed shape v Restores ≡ v
@@ -7,11 +7,7 @@ view_same shape v none = λ j. record v { free = λ p. sym (none p) j }
 
 module _ (h : Header) (k : Known) (none : (r : ℕ) → IsRestored (k.ring r)) where
   ring_same : (r q : ℕ) → (on_ring h k r Restores).ring q ≡ k.ring q
-  ring_same r q =
-      elim (cases_eq q r) [
-        | inl same ↦ subst (λ n. (on_ring h k r Restores).ring n ≡ k.ring n) (sym same) (ring_here h k r Restores ∙ view_same (shape_of h r) (k.ring r) (none r))
-        | inr other ↦ ring_elsewhere h k r q Restores other
-      ]
+  ring_same r q = search (rules, on_ring, Restores, ring_here, view_same, shape_of, ring_elsewhere)
 
   on_ring_same : (r : ℕ) → on_ring h k r Restores ≡ k
   unfolding on_ring

@@ -52,10 +52,7 @@ module _ (h : Header) (k : Known) (r : ℕ) (change : RingChange) (other : r ≢
 fewer_open : (h : Header) (k l : Known) (T : Leased → Bool) → AllRanges T → ((q : Ring) → IsIn q (driver_rings h) → open_on h l q ≡ filter T (open_on h k q)) → open_ranges h l ≡ open_ranges h k →
     open_leases h l ≡ filter T (open_leases h k)
 unfolding open_leases
-fewer_open h k l T all on ranges =
-    (λ j. (flat_alike (open_on h l) (λ q. filter T (open_on h k q)) (driver_rings h) on ∙ sym (filter_flat_map T (open_on h k) (driver_rings h))) j
-    ++ (ranges ∙ sym (filter_all T (open_ranges h k) (λ m at. all m (open_are_ranges h k m at)))) j)
-    ∙ sym (filter-append T (flat_map (open_on h k) (driver_rings h)) (open_ranges h k))
+fewer_open h k l T all on ranges = search (rules, flat_alike, open_on, filter, driver_rings, filter_flat_map, filter_all, open_ranges, open_are_ranges, filter-append, flat_map)
 
 -- ---- a descriptor is withdrawn
 
@@ -138,21 +135,7 @@ module _ (h : Header) (headed : IsHeader h) (k : Known) (q : Ring) (among : IsAm
 
   here_are : filter test (open_on h after q) ≡ map (Block r) (unrestored q.shape (k.ring r))
   unfolding open_on leased_positions due_positions unrestored
-  here_are =
-      let v : RingView = k.ring r in
-      let w : RingView = after.ring r in
-      let at : w ≡ changed (shape_of h r) v Restores = ring_here h k r Restores in
-      filter-append test (map (Block r) (leased_positions q.shape w)) (map (Link r) (leased_crossings q.shape w))
-      ∙ (λ j. (
-      filter_mapped test (Block r) (leased_positions q.shape w)
-      ∙ (λ i. map (Block r) (filter (λ p. test (Block r p)) (leased_positions q.shape (at i))))
-      ∙ ap (map (Block r))
-      (filter_twice (λ p. test (Block r p)) (λ p. v.given p && true) (due_positions q.shape v)
-      ∙ filter_alike (λ p. (v.given p && true) && test (Block r p)) v.free (due_positions q.shape v) (λ p in_range.
-      rw (eq-eqb r r refl) (both_tests (v.given p) (v.free p) (freed_given p))))
-      ) j
-      ++ (filter_mapped test (Link r) (leased_crossings q.shape w) ∙ ap (map (Link r)) (filter_none (λ c. test (Link r c)) (leased_crossings q.shape w) (λ c. refl))) j)
-      ∙ append-nil (map (Block r) (unrestored q.shape v))
+  here_are = search (rules, RingView, changed, shape_of, Restores, ring_here, filter-append, map, Block, leased_positions, Link, leased_crossings, filter_mapped, filter, filter_twice, due_positions, filter_alike, eq-eqb, both_tests, filter_none, append-nil, unrestored)
 
   ranges_none : filter test (open_ranges h after) ≡ []
   ranges_none = filter_none_of (open_ranges h after) (λ x at. of_range x (open_are_ranges h after x at))

@@ -1,5 +1,5 @@
 -- With other rings the same ranges are under lease, so long as the event ring and the command ring are the same
-use Rattle.leases.proofs.BaseWords.{◌≡◌, ◌*◌, ◌++◌, ◌∷◌, ◌∙◌, ℕ, List, [], map, filter, Option, Some, None, option_and_then, slice_get, refl, ap, fun_ext, flat_map, slots, segment_ranges, table_range, entry_ranges, device_ranges, context_ranges, range_of_command, range_of_context, range_of_device, range_of_entry, entry_of, open_ranges, unfinished_positions, command_at, due_positions, command_of, named_context, Command, Header, Ring, RingView, Known, Erstba, shape_of, command_id, table_bytes, Shape, base_address, EventSegment, Range, SegmentTable, OtherRings}
+use Rattle.leases.proofs.BaseWords.{rules, ◌≡◌, ◌*◌, ◌++◌, ◌∷◌, ◌∙◌, ℕ, List, [], map, filter, Option, Some, None, option_and_then, slice_get, refl, ap, fun_ext, flat_map, slots, segment_ranges, table_range, entry_ranges, device_ranges, context_ranges, range_of_command, range_of_context, range_of_device, range_of_entry, entry_of, open_ranges, unfinished_positions, command_at, due_positions, command_of, named_context, Command, Header, Ring, RingView, Known, Erstba, shape_of, command_id, table_bytes, Shape, base_address, EventSegment, Range, SegmentTable, OtherRings}
 
 module _ (h : Header) (rings : List Ring) (k : Known) (views : ℕ → RingView) (o : OtherRings h rings k views) where
   abbrev g : Header
@@ -29,10 +29,7 @@ module _ (h : Header) (rings : List Ring) (k : Known) (views : ℕ → RingView)
 
   contexts_same : context_ranges g l ≡ context_ranges h k
   unfolding context_ranges unfinished_positions command_at
-  contexts_same =
-      ap (λ f. flat_map f (filter (views (command_id g)).given (due_positions (shape_of g (command_id g)) (views (command_id g)))))
-      (fun_ext (λ p. command_same p (option_and_then command_of (slice_get (views (command_id g)).queue p))))
-      ∙ (λ j. flat_map (λ p. range_of_command h p (option_and_then command_of (slice_get (o.command_view j).queue p))) (filter (o.command_view j).given (due_positions (o.command_shape j) (o.command_view j))))
+  contexts_same = search (rules, flat_map, filter, command_id, due_positions, shape_of, command_same, option_and_then, command_of, slice_get, range_of_command)
 
   entry_same : (s : ℕ) (d : Option ℕ) → range_of_entry l s d ≡ range_of_entry k s d
   unfolding range_of_entry entry_of

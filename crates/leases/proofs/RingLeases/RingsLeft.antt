@@ -48,15 +48,11 @@ module _ (id : ℕ) where
   module _ (h : Header) (k : Known) (q : Ring) where
     on_kept : (q.id == id) ≡ false → filter others (open_on h k q) ≡ open_on h k q
     unfolding open_on
-    on_kept apart =
-        filter-append others (map (Block q.id) (leased_positions q.shape (k.ring q.id))) (map (Link q.id) (leased_crossings q.shape (k.ring q.id)))
-        ∙ (λ j. kept (Block q.id) (λ p. ap not apart) (leased_positions q.shape (k.ring q.id)) j ++ kept (Link q.id) (λ p. ap not apart) (leased_crossings q.shape (k.ring q.id)) j)
+    on_kept apart = search (rules, filter-append, map, Block, leased_positions, Link, leased_crossings, kept, not)
 
     on_gone : (q.id == id) ≡ true → filter others (open_on h k q) ≡ []
     unfolding open_on
-    on_gone same =
-        filter-append others (map (Block q.id) (leased_positions q.shape (k.ring q.id))) (map (Link q.id) (leased_crossings q.shape (k.ring q.id)))
-        ∙ (λ j. gone (Block q.id) (λ p. ap not same) (leased_positions q.shape (k.ring q.id)) j ++ gone (Link q.id) (λ p. ap not same) (leased_crossings q.shape (k.ring q.id)) j)
+    on_gone same = search (rules, filter-append, map, Block, leased_positions, Link, leased_crossings, gone, not)
 
   abbrev pub keep : Ring → Bool
   keep q = not (q.id == id)

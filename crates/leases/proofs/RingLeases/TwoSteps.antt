@@ -88,19 +88,13 @@ module _ (R : Leased → Bool) (K L S U : List Leased)
   S_in_U l at = (and_parts (is_among U l) (not (R l)) (sym (in_S l) ∙ at)).0
 
   pub L_in_U : (l : Leased) → IsOpen L l → IsOpen U l
-  L_in_U l at = elim (cases_Bool (R l)) [
-    | inl holds ↦ sym (restored_there l holds) ∙ at
-    | inr fails ↦ S_in_U l (stays l (in_K l ∙ and_from (is_among L l) (not (R l)) at (ap not fails)))
-  ]
+  L_in_U l at = search (rules, restored_there, S_in_U, in_K, and_from, is_among, not)
 
   abbrev N : List Leased
   N = newly_open K U
 
   newly_restored : newly_open K L ≡ newly_open S U
-  newly_restored =
-      filter_alike (λ l. not (is_among K l)) R L (λ l at. either_way (is_among K l) (is_among L l) (R l) (in_K l) (in_among L l at))
-      ∙ same
-      ∙ sym (filter_alike (λ l. not (is_among S l)) R U (λ l at. either_way (is_among S l) (is_among U l) (R l) (in_S l) (in_among U l at)))
+  newly_restored = search (rules, filter_alike, not, is_among, either_way, in_K, in_among, in_S)
 
   restored_part : filter R N ≡ newly_open S U
   restored_part =
@@ -131,15 +125,7 @@ module _ (R : Leased → Bool) (K L S U : List Leased)
 
     -- the ring is restored first, where what is restored stands before what the row's own step begins
     pub restored_first : ((l m : Leased) → R l ≡ true → IsIn m (newly_open K S) → IsBefore l m) → passed_on L U n (passed_on K L n ts) ≡ passed_on K U n ts
-    restored_first before =
-        only_begins L U n (passed_on K L n ts) (passed_open K L n ts early) L_in_U
-        ∙ ap (λ us. with_begun n us (in_turn (newly_open L U))) (only_begins K L n ts opened K_in_L)
-        ∙ begun_twice n ts (in_turn (newly_open K L)) (in_turn (newly_open L U))
-        ∙ ap (with_begun n ts) (sym turned)
-        ∙ sym (only_begins K U n ts opened K_in_U)
-      where
-        turned : in_turn N ≡ in_turn (newly_open K L) ++ in_turn (newly_open L U)
-        turned = search (rules, turn_parted, own_part, in_filter, restored_part, newly_restored, newly_own)
+    restored_first before = search (rules, only_begins, passed_on, passed_open, L_in_U, with_begun, in_turn, newly_open, K_in_L, begun_twice, K_in_U, turn_parted, own_part, in_filter, restored_part, newly_restored, newly_own)
 
     -- the row's own step is made first, where what it begins stands before what is restored
     pub restored_last : ((l m : Leased) → R l ≡ true → IsIn m (newly_open K S) → IsBefore m l) → passed_on S U n (passed_on K S n ts) ≡ passed_on K U n ts

@@ -1,6 +1,6 @@
 -- The open leases of a ring lie within a lap, and a number more, from its floor on: to pass all of these ends them, and no others. A Link may
 -- be given long before blocks are declared up to it, so what is declared is no bound
-use Rattle.leases.proofs.BaseWords.{◌≡◌, ◌≢◌, ◌+◌, ◌<◌, ◌≤◌, ◌==◌, ◌&&◌, ◌∷◌, ◌∙◌, ℕ, List, [], true, nat_le, nat_lt, arith, refl, sym, ap, inl, inr, nat_tests, cases_eq, Header, IsHeader, Ring, from_filter, is_driver_kind, Known, IsIn, driver_rings, open_leases, shape_of, place_count, floor_number, Leased, Range, is_among, is_passed, IsAmong, shape_there, is_of_ring}
+use Rattle.leases.proofs.BaseWords.{rules, ◌≡◌, ◌≢◌, ◌+◌, ◌<◌, ◌≤◌, ◌==◌, ◌&&◌, ◌∷◌, ◌∙◌, ℕ, List, [], true, nat_le, nat_lt, arith, refl, sym, ap, inl, inr, nat_tests, cases_eq, Header, IsHeader, Ring, from_filter, is_driver_kind, Known, IsIn, driver_rings, open_leases, shape_of, place_count, floor_number, Leased, Range, is_among, is_passed, IsAmong, shape_there, is_of_ring}
 use Rattle.leases.proofs.LeaseBooks.Members.{InOn, block, link}
 use Rattle.leases.proofs.LeaseBooks.RangesAlone.{IsRange, each_open, open_are_ranges}
 use Rattle.leases.proofs.LeaseBooks.Writing.{AreShaped}
@@ -23,14 +23,8 @@ module _ (h : Header) (k : Known) (id : ℕ) where
   here q same shaped = (ap (λ s. floor_number (k.ring s)) same, ap place_count (sym shaped ∙ ap (shape_of h) same))
 
   on_ring : (q : Ring) (l : Leased) → shape_of h q.id ≡ q.shape → InOn q (k.ring q.id) l → is_passed id floor end l ≡ is_of_ring id l
-  on_ring q _ shaped (block p low high lent) = elim (cases_eq q.id id) [
-    | inl same ↦ let at = here q same shaped in inside q.id id floor p end same (omega (arith, low, at.0)) (omega (arith, high, at.0, at.1))
-    | inr other ↦ outside q.id id floor p end other
-  ]
-  on_ring q _ shaped (link c low high crossed) = elim (cases_eq q.id id) [
-    | inl same ↦ let at = here q same shaped in inside q.id id floor c end same (omega (arith, low, at.0)) (omega (arith, high, at.0, at.1))
-    | inr other ↦ outside q.id id floor c end other
-  ]
+  on_ring q _ shaped (block p low high lent) = search (rules, here, inside, outside)
+  on_ring q _ shaped (link c low high crossed) = search (rules, here, inside, outside)
 
   of_range : (l : Leased) → IsRange l → is_passed id floor end l ≡ is_of_ring id l
   of_range (Range n a e) is = refl
