@@ -5,6 +5,7 @@ use Rattle.ring_knowledge.specs.Rings as rings
 use Rattle.leases.proofs.LeaseBooks.FreeRanges.{of_open}
 use Rattle.leases.proofs.LeaseBooks.LettingGo.{HasUse, only, use_of_command}
 use Rattle.leases.proofs.LeaseBooks.Members.{either_into, five_into, from_flat_map, from_range, in_flat_map, in_left, in_right}
+use Rattle.leases.proofs.LeaseBooks.RangesAlone.{context_open, device_open, entry_open, range_open}
 use Rattle.leases.proofs.LeaseBooks.Rows.{none_new, only_begun}
 use Rattle.leases.proofs.LeaseBooks.SameLeases.{flat_alike}
 use Rattle.leases.proofs.LeaseBooks.Writing.{AreShaped, filter_flat_map, kept_on_rings, lease_given, new_on_rings}
@@ -88,40 +89,9 @@ module _ (h : Header) (shaped : AreShaped h) (k : Known) (freed : FreeWasGiven h
   abbrev IsOpen : Leased → Type 0
   IsOpen l = IsIn l (open_leases h k)
 
-  in_ranges : (l : Leased) → IsIn l (open_ranges h k) → IsOpen l
-  unfolding open_leases
-  in_ranges l at = in_right l (flat_map (open_on h k) (driver_rings h)) (open_ranges h k) at
-
-  abbrev part_s : List Leased
-  part_s = segment_ranges h
-
-  abbrev part_t : List Leased
-  part_t = table_range h (k.register Erstba)
-
-  abbrev part_c : List Leased
-  part_c = context_ranges h k
-
-  abbrev part_e : List Leased
-  part_e = entry_ranges k
-
-  abbrev part_d : List Leased
-  part_d = device_ranges h k
-
-  in_first : (l : Leased) → IsIn l (part_s ++ part_t) → IsOpen l
+  in_first : (l : Leased) → IsIn l (segment_ranges h ++ table_range h (k.register Erstba)) → IsOpen l
   unfolding open_ranges
-  in_first l at = in_ranges l (in_left l (part_s ++ part_t ++ part_c ++ part_e) part_d (in_left l (part_s ++ part_t ++ part_c) part_e (in_left l (part_s ++ part_t) part_c at)))
-
-  in_contexts : (l : Leased) → IsIn l (context_ranges h k) → IsOpen l
-  unfolding open_ranges
-  in_contexts l at = in_ranges l (in_left l (part_s ++ part_t ++ part_c ++ part_e) part_d (in_left l (part_s ++ part_t ++ part_c) part_e (in_right l (part_s ++ part_t) part_c at)))
-
-  in_entries : (l : Leased) → IsIn l (entry_ranges k) → IsOpen l
-  unfolding open_ranges
-  in_entries l at = in_ranges l (in_left l (part_s ++ part_t ++ part_c ++ part_e) part_d (in_right l (part_s ++ part_t ++ part_c) part_e at))
-
-  in_devices : (l : Leased) → IsIn l (device_ranges h k) → IsOpen l
-  unfolding open_ranges
-  in_devices l at = in_ranges l (in_right l (part_s ++ part_t ++ part_c ++ part_e) part_d at)
+  in_first l at = range_open h k l (search (rules, in_left, in_right))
 
   old_fail : (ls : List Leased) → ((l : Leased) → IsIn l ls → IsOpen l) → filter IsNew ls ≡ []
   old_fail ls there = none_new (open_leases h k) ls (λ l at. in_among (open_leases h k) l (there l at))
@@ -158,7 +128,7 @@ module _ (h : Header) (shaped : AreShaped h) (k : Known) (freed : FreeWasGiven h
   contexts_before = refl
 
   context_was : (p : ℕ) → IsIn p due → commands.given p ≡ true → (l : Leased) → IsIn l (context_at p) → IsOpen l
-  context_was p at given l there = in_contexts l (subst (IsIn l) (sym contexts_before) (in_flat_map context_at (filter commands.given due) p l (in_filter commands.given due p at given) there))
+  context_was p at given l there = context_open h k l (subst (IsIn l) (sym contexts_before) (in_flat_map context_at (filter commands.given due) p l (in_filter commands.given due p at given) there))
 
   -- what a range is for that isn't open
   abbrev IsUnused : Use → Type 0
@@ -209,11 +179,11 @@ module _ (h : Header) (shaped : AreShaped h) (k : Known) (freed : FreeWasGiven h
 
   entry_was : (s : ℕ) → IsIn s slots → (l : Leased) → IsIn l (range_of_entry k s (k.device s)) → IsOpen l
   unfolding entry_ranges
-  entry_was s at l there = in_entries l (in_flat_map (λ t. range_of_entry k t (k.device t)) slots s l at there)
+  entry_was s at l there = entry_open h k l (in_flat_map (λ t. range_of_entry k t (k.device t)) slots s l at there)
 
   device_was : (s : ℕ) → IsIn s slots → (l : Leased) → IsIn l (range_of_device h s (k.device s)) → IsOpen l
   unfolding device_ranges
-  device_was s at l there = in_devices l (in_flat_map (λ t. range_of_device h t (k.device t)) slots s l at there)
+  device_was s at l there = device_open h k l (in_flat_map (λ t. range_of_device h t (k.device t)) slots s l at there)
 
   -- where each slot has ranges by its device, those that are new are those of the slot that takes one
   module _ (ranges : ℕ → Option ℕ → List Leased) (nothing : (s : ℕ) → ranges s None ≡ []) (was : (s : ℕ) → IsIn s slots → (l : Leased) → IsIn l (ranges s (k.device s)) → IsOpen l) where
@@ -308,7 +278,8 @@ module _ (h : Header) (shaped : AreShaped h) (k : Known) (freed : FreeWasGiven h
       in_among (open_leases h after) l
       (either_into (IsIn l) (in_left l) (in_right l) l (flat_map (open_on h k) (driver_rings h)) (open_ranges h k) (flat_map (open_on h after) (driver_rings h)) (open_ranges h after)
       (λ here. subst (IsIn l) (sym rings_after) (kept_on_rings h shaped k freed a w l here))
-      (five_into (IsIn l) (in_left l) (in_right l) l part_s part_t part_c part_e part_d part_s (table_range h (after.register Erstba)) (context_ranges h after) (entry_ranges after) (device_ranges h after)
+      (five_into (IsIn l) (in_left l) (in_right l) l (segment_ranges h) (table_range h (k.register Erstba)) (context_ranges h k) (entry_ranges k) (device_ranges h k)
+      (segment_ranges h) (table_range h (after.register Erstba)) (context_ranges h after) (entry_ranges after) (device_ranges h after)
       (λ here. here) (λ here. subst (IsIn l) (sym table_after) here) (contexts_stay l) (λ here. subst (IsIn l) (sym entries_after) (entries_in l here))
       (λ here. slots_stay (range_of_device h) nothing_device device_was l here)) (among_is (open_leases h k) l e))
 

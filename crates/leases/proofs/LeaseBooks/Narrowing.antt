@@ -1,9 +1,9 @@
 -- Floors of rings move on, and some ranges are let go: the leases of the blocks and Links that are passed end, and of these ranges
-use Rattle.leases.proofs.BaseWords.{not-true, ◌≡◌, ◌≤◌, ◌==◌, ◌&&◌, ◌||◌, ◌++◌, ℕ, Bool, true, false, not, nat_le, nat_lt, List, [], arith, ap, refl, inl, inr, eqb-true, flat_map, and_parts, and_from, nat_tests, is_crossing, floor_number, Header, Ring, driver_rings, Known, Leased, Block, Link, Range, is_among, open_leases, open_on, open_ranges, IsIn, among_is, both_ways, in_among, is_passed, rules}
+use Rattle.leases.proofs.BaseWords.{sym, ◌∙◌, not-true, ◌≡◌, ◌≤◌, ◌==◌, ◌&&◌, ◌||◌, ◌++◌, ℕ, Bool, true, false, not, nat_le, nat_lt, List, [], arith, ap, refl, inl, inr, eqb-true, flat_map, and_parts, and_from, nat_tests, is_crossing, floor_number, Header, Ring, driver_rings, Known, Leased, Block, Link, Range, is_among, open_leases, open_on, open_ranges, IsIn, among_is, both_ways, in_among, is_passed, rules}
 use Rattle.leases.proofs.LeaseBooks.Members.{InOn, block, link, from_flat_map, in_either, in_flat_map, in_left, in_on, in_right, on_in}
 use Rattle.leases.proofs.LeaseBooks.PassedLeases.{Moves, block_was, link_was}
 use Rattle.leases.proofs.LeaseBooks.SameLeases.{lent_same}
-use Rattle.leases.proofs.LeaseBooks.RangesAlone.{IsRange, open_are_ranges}
+use Rattle.leases.proofs.LeaseBooks.RangesAlone.{IsRange, each_open, open_are_ranges, range_open, ring_open}
 
 -- a block or Link that its ring passes on the way from one number to another, or a range that is let go
 abbrev pub is_left : (ℕ → ℕ) → (ℕ → ℕ) → List Leased → Leased → Bool
@@ -44,32 +44,17 @@ module _ (h : Header) (k k' : Known) (gone : List Leased) where
     gone_is _ is = absurd is
 
     pub narrows : (l : Leased) → is_among (open_leases h k') l ≡ (is_among (open_leases h k) l && not (over l))
-    unfolding open_leases
-    narrows l = both_ways _ _ there back
-      where
-        there : is_among (flat_map (open_on h k') (driver_rings h) ++ open_ranges h k') l ≡ true →
-            (is_among (flat_map (open_on h k) (driver_rings h) ++ open_ranges h k) l && not (is_left (floors k) (floors k') gone l)) ≡ true
-        there e = elim (in_either l (flat_map (open_on h k') (driver_rings h)) (open_ranges h k') (among_is _ l e)) [
-          | inl on_ring ↦
-              let found = from_flat_map (open_on h k') (driver_rings h) l on_ring in
-              let was = was_on found.0 found.1 l (in_on h k' found.0 l found.2) in
-              and_from _ _
-              (in_among _ l (in_left l (flat_map (open_on h k) (driver_rings h)) (open_ranges h k)
-              (in_flat_map (open_on h k) (driver_rings h) found.0 l found.1 (on_in h k found.0 l was.0)))) (ap not was.1)
-          | inr range ↦ search (rules, and_parts, in_among, open_ranges, and_from, in_right, open_on, driver_rings, among_is, gone_is, open_are_ranges)
-        ]
-
-        back : (is_among (flat_map (open_on h k) (driver_rings h) ++ open_ranges h k) l && not (is_left (floors k) (floors k') gone l)) ≡ true →
-            is_among (flat_map (open_on h k') (driver_rings h) ++ open_ranges h k') l ≡ true
-        back e =
-            let parts = and_parts _ _ e in
-            in_among _ l
-            (elim (in_either l (flat_map (open_on h k) (driver_rings h)) (open_ranges h k) (among_is _ l parts.0)) [
-              | inl on_ring ↦
-                  let found = from_flat_map (open_on h k) (driver_rings h) l on_ring in
-                  search (rules, in_left, open_on, driver_rings, open_ranges, in_flat_map, on_in, stays_on, in_on, not-true)
-              | inr range ↦ search (rules, in_right, open_on, driver_rings, open_ranges, among_is, and_from, in_among, gone_is, open_are_ranges)
-            ])
+    narrows l = both_ways _ _
+        (each_open h k' (λ m. (is_among (open_leases h k) m && not (over m)) ≡ true) (λ q among m on.
+        let was = was_on q among m on in and_from _ _ (in_among _ m (ring_open h k m q among was.0)) (ap not was.1))
+        (λ m range.
+        let parts = and_parts _ _ (sym (n.ranges m) ∙ in_among (open_ranges h k') m range) in
+        and_from _ _ (in_among _ m (range_open h k m (among_is _ m parts.0))) (ap not (gone_is m (open_are_ranges h k' m range)) ∙ parts.1)) l)
+        (λ e.
+        let parts = and_parts _ _ e in
+        each_open h k (λ m. over m ≡ false → is_among (open_leases h k') m ≡ true) (λ q among m on stays. in_among _ m (ring_open h k' m q among (stays_on q among m on stays)))
+        (λ m range stays. in_among _ m (range_open h k' m (among_is _ m
+        (n.ranges m ∙ and_from _ _ (in_among _ m range) (ap not (sym (gone_is m (open_are_ranges h k m range)) ∙ stays)))))) l parts.0 (not-true _ parts.1))
 
 -- where only one ring moves on, what is left is what is passed on it
 none_between : (a b p : ℕ) → a ≡ b → (nat_le b p && nat_lt p a) ≡ false

@@ -1,7 +1,7 @@
 -- The leases that are open, kind by kind: those that lie on no command or transfer ring are ranges
-use Rattle.leases.proofs.BaseWords.{◌≡◌, ◌*◌, ◌∷◌, ℕ, true, List, [], Option, Some, None, sym, subst, refl, inl, inr, flat_map, Command, named_context, Segment, Header, Ring, Erstba, driver_rings, event_shape, Known, Leased, Block, Link, Range, EventSegment, SegmentTable, InputContext, SlotEntry, DeviceContext, is_among, open_leases, open_on, open_ranges, segment_ranges, table_range, context_ranges, range_of_command, range_of_context, entry_ranges, range_of_entry, device_ranges, range_of_device, slots, IsIn, among_is}
+use Rattle.leases.proofs.BaseWords.{rules, ◌≡◌, ◌*◌, ◌∷◌, ℕ, true, List, [], Option, Some, None, sym, subst, refl, inl, inr, flat_map, Command, named_context, Segment, Header, Ring, Erstba, driver_rings, event_shape, Known, Leased, Block, Link, Range, EventSegment, SegmentTable, InputContext, SlotEntry, DeviceContext, is_among, open_leases, open_on, open_ranges, segment_ranges, table_range, context_ranges, range_of_command, range_of_context, entry_ranges, range_of_entry, device_ranges, range_of_device, slots, IsIn, among_is}
 use Rattle.ring_knowledge.specs.Rings as rings
-use Rattle.leases.proofs.LeaseBooks.Members.{InOn, five_into, from_flat_map, from_map, in_either, in_on}
+use Rattle.leases.proofs.LeaseBooks.Members.{InOn, five_into, from_flat_map, from_map, in_either, in_flat_map, in_left, in_on, in_right, on_in}
 
 abbrev pub IsRange : Leased → Type 0
 IsRange (Block r p) = ⊥
@@ -67,6 +67,27 @@ module _ (h : Header) (k : Known) (P : Leased → Type 0) where
     | inl ring ↦ let found = from_flat_map (open_on h k) (driver_rings h) l ring in on found.0 found.1 l (in_on h k found.0 l found.2)
     | inr range ↦ ranges l range
   ]
+
+module _ (h : Header) (k : Known) (l : Leased) where
+  pub range_open : IsIn l (open_ranges h k) → IsIn l (open_leases h k)
+  unfolding open_leases
+  range_open at = in_right l (flat_map (open_on h k) (driver_rings h)) (open_ranges h k) at
+
+  pub ring_open : (q : Ring) → IsIn q (driver_rings h) → InOn q (k.ring q.id) l → IsIn l (open_leases h k)
+  unfolding open_leases
+  ring_open q among on = in_left l (flat_map (open_on h k) (driver_rings h)) (open_ranges h k) (in_flat_map (open_on h k) (driver_rings h) q l among (on_in h k q l on))
+
+  pub context_open : IsIn l (context_ranges h k) → IsIn l (open_leases h k)
+  unfolding open_ranges
+  context_open at = range_open (search (rules, in_left, in_right))
+
+  pub entry_open : IsIn l (entry_ranges k) → IsIn l (open_leases h k)
+  unfolding open_ranges
+  entry_open at = range_open (search (rules, in_left, in_right))
+
+  pub device_open : IsIn l (device_ranges h k) → IsIn l (open_leases h k)
+  unfolding open_ranges
+  device_open at = range_open (search (rules, in_left, in_right))
 
 pub open_are_ranges : (h : Header) (k : Known) → AreRanges (open_ranges h k)
 open_are_ranges h k l at =

@@ -5,7 +5,7 @@ use Rattle.leases.proofs.LeaseBooks.Growing.{map_append, map_map}
 use Rattle.leases.proofs.LeaseBooks.Rows.{none_new}
 use Rattle.leases.proofs.LeaseBooks.SameLeases.{flat_alike}
 use Rattle.leases.proofs.LeaseBooks.Members.{InOn, block, either_into, link, from_flat_map, in_either, in_flat_map, in_left, in_on, in_right, on_in}
-use Rattle.leases.proofs.LeaseBooks.RangesAlone.{open_are_ranges}
+use Rattle.leases.proofs.LeaseBooks.RangesAlone.{IsRange, each_open, open_are_ranges, ring_open}
 
 -- the lease of what is given
 abbrev pub lease_given : Given → Leased
@@ -59,27 +59,22 @@ module _ (h : Header) (shaped : AreShaped h) (k : Known) (freed : FreeWasGiven h
 
     -- a due position is under lease where it was handed over
     block_was : (p : ℕ) → floor_number (k.ring q.id) ≤ p → p < floor_number (k.ring q.id) + place_count q.shape → is_among (open_leases h k) (Block q.id p) ≡ is_handed_over (k.ring q.id) p
-    unfolding open_leases
-    block_was p low high = both_ways _ _ there back
+    block_was p low high = both_ways _ _
+        (λ e. each_open h k (λ l. l ≡ Block q.id p → is_handed_over (k.ring q.id) p ≡ true) (λ s at. given_on s)
+        (λ l range same. absurd (subst IsRange same (open_are_ranges h k l range))) (Block q.id p) e refl)
+        (λ lent. in_among _ (Block q.id p) (ring_open h k (Block q.id p) q among (block p low high lent)))
       where
         given_on : (s : Ring) (l : Leased) → InOn s (k.ring s.id) l → l ≡ Block q.id p → is_handed_over (k.ring q.id) p ≡ true
         given_on s _ (block m least most given) e = let ids : s.id ≡ q.id = cc in let same : m ≡ p = cc in subst (λ (i : ℕ). is_handed_over (k.ring i) p ≡ true) ids (subst (λ (i : ℕ). is_handed_over (k.ring s.id) i ≡ true) same given)
         given_on s _ (link m least most crossed) e = cc
 
-        there : is_among (flat_map (open_on h k) (driver_rings h) ++ open_ranges h k) (Block q.id p) ≡ true → is_handed_over (k.ring q.id) p ≡ true
-        there e = elim (in_either (Block q.id p) (flat_map (open_on h k) (driver_rings h)) (open_ranges h k) (among_is _ (Block q.id p) e)) [
-          | inl on ↦ let found = from_flat_map (open_on h k) (driver_rings h) (Block q.id p) on in given_on found.0 (Block q.id p) (in_on h k found.0 (Block q.id p) found.2) refl
-          | inr range ↦ absurd (open_are_ranges h k (Block q.id p) range)
-        ]
-
-        back : is_handed_over (k.ring q.id) p ≡ true → is_among (flat_map (open_on h k) (driver_rings h) ++ open_ranges h k) (Block q.id p) ≡ true
-        back e = search (rules, in_among, in_left, open_on, driver_rings, open_ranges, in_flat_map, on_in, block)
-
     -- and a due crossing
     link_was : (c : ℕ) → floor_number (k.ring q.id) ≤ c → c < floor_number (k.ring q.id) + (place_count q.shape + 1) →
         is_among (open_leases h k) (Link q.id c) ≡ (is_crossing q.shape c && (k.ring q.id).crossed c)
-    unfolding open_leases
-    link_was c low high = both_ways _ _ there back
+    link_was c low high = both_ways _ _
+        (λ e. each_open h k (λ l. l ≡ Link q.id c → (is_crossing q.shape c && (k.ring q.id).crossed c) ≡ true) crossed_on
+        (λ l range same. absurd (subst IsRange same (open_are_ranges h k l range))) (Link q.id c) e refl)
+        (λ crossed. in_among _ (Link q.id c) (ring_open h k (Link q.id c) q among (link c low high crossed)))
       where
         crossed_on : (s : Ring) → IsIn s (driver_rings h) → (l : Leased) → InOn s (k.ring s.id) l → l ≡ Link q.id c → (is_crossing q.shape c && (k.ring q.id).crossed c) ≡ true
         crossed_on s at _ (block m least most given) e = cc
@@ -88,17 +83,6 @@ module _ (h : Header) (shaped : AreShaped h) (k : Known) (freed : FreeWasGiven h
             let same : m ≡ c = cc in
             let shapes : s.shape ≡ q.shape = sym (shaped s at) ∙ ap (shape_of h) ids ∙ shaped q among in
             search (rules, is_crossing)
-
-        there : is_among (flat_map (open_on h k) (driver_rings h) ++ open_ranges h k) (Link q.id c) ≡ true → (is_crossing q.shape c && (k.ring q.id).crossed c) ≡ true
-        there e = elim (in_either (Link q.id c) (flat_map (open_on h k) (driver_rings h)) (open_ranges h k) (among_is _ (Link q.id c) e)) [
-          | inl on ↦
-              let found = from_flat_map (open_on h k) (driver_rings h) (Link q.id c) on in
-              crossed_on found.0 found.1 (Link q.id c) (in_on h k found.0 (Link q.id c) found.2) refl
-          | inr range ↦ absurd (open_are_ranges h k (Link q.id c) range)
-        ]
-
-        back : (is_crossing q.shape c && (k.ring q.id).crossed c) ≡ true → is_among (flat_map (open_on h k) (driver_rings h) ++ open_ranges h k) (Link q.id c) ≡ true
-        back e = search (rules, in_among, in_left, open_on, driver_rings, open_ranges, in_flat_map, on_in, link)
 
     new_blocks : filter (λ p. IsNew (Block q.id p)) (leased_positions q.shape (changed q.shape (k.ring q.id) (Writes a w))) ≡ positions_given q.shape (k.ring q.id) a w
     unfolding leased_positions due_positions positions_given

@@ -3,7 +3,8 @@ use Rattle.leases.proofs.BaseWords.{◌≡◌, ◌≢◌, ◌+◌, ◌++◌, ◌
 use Rattle.leases.proofs.LeaseBooks.DevicesAfter.{completed_device}
 use Rattle.leases.proofs.LeaseBooks.Finishing.{finish_lent}
 use Rattle.leases.proofs.LeaseBooks.LettingGo.{Finishes, gone_are_ranges}
-use Rattle.leases.proofs.LeaseBooks.Members.{in_either, in_flat_map, in_left, in_range, in_right}
+use Rattle.leases.proofs.LeaseBooks.Members.{in_either, in_flat_map, in_range}
+use Rattle.leases.proofs.LeaseBooks.RangesAlone.{context_open, device_open, entry_open}
 use Rattle.leases.proofs.LeaseBooks.Narrowing.{floors, is_left}
 use Rattle.leases.proofs.LeaseBooks.PassedLeases.{IsWithinLap, Moves}
 use Rattle.leases.proofs.LeaseBooks.Passing.{all_twice, none_over, over_alike}
@@ -166,42 +167,36 @@ module _ (h : Header) (headed : IsHeader h) (k : Known) (ts : List Lent) (b : bl
 
   -- ---- what is let go is lent
 
-  in_ranges : (l : Leased) → IsIn l (open_ranges h k) → is_lent ts l ≡ true
-  unfolding open_leases
-  in_ranges l at = next.step.lent l (in_among (open_leases h k) l (in_right l (flat_map (open_on h k) (driver_rings h)) (open_ranges h k) at))
-
-  abbrev s_t : List Leased
-  s_t = segment_ranges h ++ table_range h (k.register Erstba)
+  open_lent : (l : Leased) → IsIn l (open_leases h k) → is_lent ts l ≡ true
+  open_lent l at = next.step.lent l (in_among (open_leases h k) l at)
 
   pub context_lent : AreLent ts (range_of_command h n o)
-  unfolding open_ranges context_ranges rings.unfinished_positions due_positions rings.next_command
+  unfolding context_ranges rings.unfinished_positions due_positions rings.next_command
   context_lent l at =
       let finish : CompletionFacts h k b = completion_facts h k b (ap is_command_completion completes) facts.possible in
       let floor = next_at_floor h headed k keeps facts.started finish.below in
       let v = k.ring (command_id h) in
       let count : ℕ = place_count (shape_of h (command_id h)) in
       let due = due_is (shape_of h (command_id h)) v.floor (floor_number v) floor.due in
-      let c = context_ranges h k in
-      in_ranges l (in_left l (s_t ++ c ++ entry_ranges k) (device_ranges h k) (in_left l (s_t ++ c) (entry_ranges k) (in_right l s_t c
-      (in_flat_map (λ p. range_of_command h p (rings.command_at h k p)) (filter v.given (range_with_len (floor_number v) count)) (floor_number v) l
-      (in_filter v.given (range_with_len (floor_number v) count) (floor_number v) (in_range (floor_number v) count (floor_number v) due.0 due.1) floor.given) at))))
+      open_lent l (context_open h k l (in_flat_map (λ p. range_of_command h p (rings.command_at h k p)) (filter v.given (range_with_len (floor_number v) count)) (floor_number v) l
+      (in_filter v.given (range_with_len (floor_number v) count) (floor_number v) (in_range (floor_number v) count (floor_number v) due.0 due.1) floor.given) at))
 
   slot_in : (s d : ℕ) → k.device s ≡ Some d → IsIn s slots
   unfolding slots
   slot_in s d at = let slot = (keeps.devices s d at).slot in in_range 1 255 s (omega (arith, slot.0)) (omega (arith, slot.1))
 
   entry_lent : (s : ℕ) (x : Option ℕ) (l : Leased) → k.device s ≡ x → IsIn l (range_of_entry k s x) → is_lent ts l ≡ true
-  unfolding open_ranges entry_ranges range_of_entry
+  unfolding entry_ranges range_of_entry
   entry_lent s None l is at = absurd at
   entry_lent s (Some d) l is at =
-      in_ranges l (in_left l (s_t ++ context_ranges h k ++ entry_ranges k) (device_ranges h k) (in_right l (s_t ++ context_ranges h k) (entry_ranges k)
-      (in_flat_map (λ z. range_of_entry k z (k.device z)) slots s l (slot_in s d is) (subst (λ y. IsIn l (range_of_entry k s y)) (sym is) at))))
+      open_lent l (entry_open h k l
+      (in_flat_map (λ z. range_of_entry k z (k.device z)) slots s l (slot_in s d is) (subst (λ y. IsIn l (range_of_entry k s y)) (sym is) at)))
 
   device_lent : (s : ℕ) (x : Option ℕ) (l : Leased) → k.device s ≡ x → IsIn l (range_of_device h s x) → is_lent ts l ≡ true
-  unfolding open_ranges device_ranges range_of_device
+  unfolding device_ranges range_of_device
   device_lent s None l is at = absurd at
   device_lent s (Some d) l is at =
-      in_ranges l (in_right l (s_t ++ context_ranges h k ++ entry_ranges k) (device_ranges h k)
+      open_lent l (device_open h k l
       (in_flat_map (λ z. range_of_device h z (k.device z)) slots s l (slot_in s d is) (subst (λ y. IsIn l (range_of_device h s y)) (sym is) at)))
 
   pub slot_lent : (left : Option ℕ) → AreLent ts (slot_ranges h k left)

@@ -73,11 +73,6 @@ module _ (h : Header) where
 
     -- ---- the other commands
 
-    slot_same : (c : Command) (s : ℕ) → ((changed_by h c k (SlotGoesOn s)).endpoint_state ≡ k.endpoint_state) × ((changed_by h c k (SlotGoesOn s)).ring_of ≡ k.ring_of)
-        × ((changed_by h c k (SlotGoesOn s)).ring ≡ k.ring)
-    unfolding changed_by
-    slot_same c s = (refl, refl, refl)
-
     stays_behind : (l : Known) (s i p : ℕ) (cycle : Bool) → l.endpoint_state ≡ k.endpoint_state → l.ring_of ≡ k.ring_of → l.ring ≡ k.ring →
         ((r : ℕ) (t : Spot) → is_off (k.endpoint_state s i) ≡ false → k.ring_of s i ≡ Some r → target (shape_of h r) (k.ring r) p cycle ≡ Some t → number t ≡ floor_number (k.ring r)) →
         ((r : ℕ) (t : Spot) → is_off (k.endpoint_state s i) ≡ true → ring_having h p ≡ Some r → target (shape_of h r) (k.ring r) p cycle ≡ Some t → number t ≡ floor_number (k.ring r)) →
@@ -93,12 +88,13 @@ module _ (h : Header) where
 
     address_list : (s a : ℕ) (bsr : Bool) → StillHolds h k (AddressDevice s bsr a) →
         ChangesStay h (AddressDevice s bsr a) k (SlotGoesOn s ∷ placed_by_context h.context_size k.memory s a 1 ∷ [])
+    unfolding changed_by
     address_list s a bsr still =
         let c : Command = AddressDevice s bsr a in
-        let same = slot_same c s in (
+        (
           tt,
           (
-            stays_behind (changed_by h c k (SlotGoesOn s)) s 1 (context_pointer h.context_size k.memory a 1) (context_cycle h.context_size k.memory a 1) same.0 same.1 same.2
+            stays_behind (changed_by h c k (SlotGoesOn s)) s 1 (context_pointer h.context_size k.memory a 1) (context_cycle h.context_size k.memory a 1) refl refl refl
                 (address_stays h is k d s a bsr still)
                 (λ r t off at named.
                 ready_stays h is k k.memory s 1 (context_pointer h.context_size k.memory a 1) (context_cycle h.context_size k.memory a 1) (address_ready h is k (rings_of h k d) s a bsr still off) r t at named),
