@@ -1,5 +1,6 @@
 -- Before the first row the event segments are under lease, and nothing else
 use Rattle.leases.proofs.BaseWords.{and_false, ◌≡◌, ◌*◌, ◌∷◌, ◌++◌, ◌∙◌, ℕ, Bool, false, List, [], filter, map, subst, sym, ap, refl, append-nil, is_crossing, due_crossings, due_positions, leased_crossings, leased_positions, is_handed_over, new_ring, Segment, Header, Ring, Erstba, command_id, driver_rings, event_shape, shape_of, nothing, Leased, Range, EventSegment, context_ranges, device_ranges, entry_ranges, open_leases, open_on, open_ranges, range_of_command, range_of_device, range_of_entry, segment_ranges, slots, table_range, as_lease, in_order, without_end, IsIn, IndexTables, begun_at, in_turn, lease_of, lents, with_begun, AllUnended, IsFound, segment_lease, rules}
+use Rattle.leases.proofs.RingLeases.RingsLeft.{filter_none}
 use Rattle.ring_knowledge.specs.Rings as rings
 use Rattle.leases.proofs.LeaseBooks.Growing.{map_map, sorted}
 use Rattle.leases.proofs.LeaseBooks.Rows.{all_new, from_turn}
@@ -8,18 +9,14 @@ use Rattle.leases.proofs.LeaseBooks.Members.{from_map}
 use Rattle.leases.proofs.LeaseBooks.RangesAlone.{IsRange}
 use Rattle.leases.proofs.LeaseBooks.Unended.{all_anew}
 
-none_passes : {X : Type 0} (p : X → Bool) (xs : List X) → ((x : X) → p x ≡ false) → filter p xs ≡ []
-none_passes p [] none = refl
-none_passes p (x ∷ xs) none = rw (none x) (none_passes p xs none)
-
 module _ (h : Header) where
   none_on : (r : Ring) → open_on h nothing r ≡ []
   unfolding open_on nothing leased_positions leased_crossings
-  none_on r = search (rules, none_passes, is_handed_over, new_ring, due_positions, is_crossing, due_crossings, and_false)
+  none_on r = search (rules, filter_none, is_handed_over, new_ring, due_positions, is_crossing, due_crossings, and_false)
 
   no_contexts : context_ranges h nothing ≡ []
   unfolding context_ranges rings.unfinished_positions nothing
-  no_contexts = search (rules, range_of_command, nothing, none_passes, due_positions, shape_of, command_id, new_ring)
+  no_contexts = search (rules, range_of_command, nothing, filter_none, due_positions, shape_of, command_id, new_ring)
 
   no_entries : entry_ranges nothing ≡ []
   unfolding entry_ranges nothing range_of_entry

@@ -1,6 +1,7 @@
 -- What is lent after any write: what it gives begins, with the input context of the command that it gives, and the entry and the device
 -- context of a slot that takes one; nothing ends
 use Rattle.leases.proofs.BaseWords.{◌≡◌, ◌≢◌, ◌+◌, ◌<◌, ◌≤◌, ◌==◌, ◌&&◌, ◌||◌, if◌then◌else◌, ◌∷◌, ◌++◌, ◌∙◌, ℕ, Bool, true, false, not, List, [], filter, map, Option, Some, None, option_and_then, zero, suc, arith, sym, ap, refl, inl, inr, subst, eqb-true, eq-eqb, append-nil, flat_map, range_with_len, cases_Bool, false≢true, or_left, filter-append, place_count, RingView, due_positions, floor_number, gives, leased_crossings, leased_positions, positions_given, command_of, device_context_bytes, Header, Ring, Write, Erstba, command_id, driver_rings, shape_of, Known, learned, command_given, entry_of, taken_device, with_device, with_word, written, Leased, Block, Link, Range, Use, InputContext, SlotEntry, DeviceContext, context_ranges, device_ranges, entry_ranges, is_among, open_leases, open_on, open_ranges, range_of_command, range_of_device, range_of_entry, segment_ranges, slots, table_range, begun, IsIn, among_is, from_filter, in_among, in_filter, in_turn, with_begun, Lent, grown, FreeWasGiven, AreOpen, rules}
+use Rattle.leases.proofs.RingLeases.RingsLeft.{filter_all}
 use Rattle.ring_knowledge.specs.Rings as rings
 use Rattle.leases.proofs.LeaseBooks.FreeRanges.{of_open}
 use Rattle.leases.proofs.LeaseBooks.LettingGo.{HasUse, only, use_of_command}
@@ -35,10 +36,6 @@ one_at f s from (suc n) low high none = elim (cases_Bool (from == s)) [
       ap (λ ys. ys ++ flat_map f (range_with_len (from + 1) n)) (none from (inl refl) other)
       ∙ one_at f s (from + 1) n (omega (arith, other, low)) (omega (arith, high)) (λ t at apart. none t (inr at) apart)
 ]
-
-all_pass : {X : Type 0} (p : X → Bool) (xs : List X) → ((x : X) → IsIn x xs → p x ≡ true) → filter p xs ≡ xs
-all_pass p [] each = refl
-all_pass p (x ∷ xs) each = rw (each x (inl refl)) (ap (λ ys. x ∷ ys) (all_pass p xs (λ y at. each y (inr at))))
 
 unequal : (t s : ℕ) → t ≢ s → (t == s) ≡ false
 unequal t s other = search (rules, eqb-true)
@@ -97,7 +94,7 @@ module _ (h : Header) (shaped : AreShaped h) (k : Known) (freed : FreeWasGiven h
   old_fail ls there = none_new (open_leases h k) ls (λ l at. in_among (open_leases h k) l (there l at))
 
   new_pass : (ls : List Leased) → ((l : Leased) → IsIn l ls → IsOpen l → ⊥) → filter IsNew ls ≡ ls
-  new_pass ls absent = search (rules, all_pass, open_leases, among_is)
+  new_pass ls absent = search (rules, filter_all, open_leases, among_is)
 
   -- ---- the rings
 

@@ -57,7 +57,7 @@ module _ (h : Header) (k k' : Known) (gone : List Leased) where
         (n.ranges m ∙ and_from _ _ (in_among _ m range) (ap not (sym (gone_is m (open_are_ranges h k m range)) ∙ stays)))))) l parts.0 (not-true _ parts.1))
 
 -- where only one ring moves on, what is left is what is passed on it
-none_between : (a b p : ℕ) → a ≡ b → (nat_le b p && nat_lt p a) ≡ false
+pub none_between : (a b p : ℕ) → a ≡ b → (nat_le b p && nat_lt p a) ≡ false
 none_between a b p e = grind (arith, nat_tests, e)
 
 turned : (a b : ℕ) → (a == b) ≡ (b == a)

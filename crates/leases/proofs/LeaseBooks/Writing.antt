@@ -1,5 +1,6 @@
 -- The leases that a write begins: those of what it gives
 use Rattle.leases.proofs.BaseWords.{◌≡◌, ◌+◌, ◌<◌, ◌≤◌, ◌&&◌, ◌||◌, ◌∷◌, ◌++◌, ◌∙◌, ℕ, Bool, true, not, List, [], filter, map, zero, suc, arith, sym, ap, refl, inl, inr, cond, subst, append-nil, flat_map, range_with_len, and_parts, and_from, or_left, false≢true, filter-append, Shape, is_crossing, place_count, RingView, Writes, changed, crossings_given, due_crossings, due_positions, floor_number, gives, gives_crossing, is_crossing_due, leased_crossings, leased_positions, is_handed_over, positions_given, Header, Ring, driver_rings, shape_of, Known, Given, Position, Crossing, with_word, Leased, Block, Link, is_among, open_leases, open_on, open_ranges, IsIn, among_is, both_ways, in_among, FreeWasGiven, rules}
+use Rattle.leases.proofs.RingLeases.Filtered.{filter_mapped}
 use Rattle.ring_knowledge.specs.Rings as rings
 use Rattle.leases.proofs.LeaseBooks.Growing.{map_append, map_map}
 use Rattle.leases.proofs.LeaseBooks.Rows.{none_new}
@@ -11,10 +12,6 @@ use Rattle.leases.proofs.LeaseBooks.RangesAlone.{IsRange, each_open, open_are_ra
 abbrev pub lease_given : Given → Leased
 lease_given (Position r p) = Block r p
 lease_given (Crossing r q) = Link r q
-
-filter_map_is : {X Y : Type 0} (p : Y → Bool) (f : X → Y) (xs : List X) → filter p (map f xs) ≡ map f (filter (λ x. p (f x)) xs)
-filter_map_is p f [] = refl
-filter_map_is {X} {Y} p f (x ∷ xs) = search (rules, filter_map_is p f xs)
 
 pub filter_flat_map : {X Y : Type 0} (p : Y → Bool) (f : X → List Y) (xs : List X) → filter p (flat_map f xs) ≡ flat_map (λ x. filter p (f x)) xs
 filter_flat_map p f [] = refl
@@ -98,8 +95,8 @@ module _ (h : Header) (shaped : AreShaped h) (k : Known) (freed : FreeWasGiven h
         ap (λ v. filter IsNew (map (Block q.id) (leased_positions q.shape v) ++ map (Link q.id) (leased_crossings q.shape v))) view_after
         ∙ filter-append IsNew (map (Block q.id) (leased_positions q.shape (changed q.shape (k.ring q.id) (Writes a w)))) (map (Link q.id) (leased_crossings q.shape (changed q.shape (k.ring q.id) (Writes a w))))
         ∙ rw (
-          filter_map_is IsNew (Block q.id) (leased_positions q.shape (changed q.shape (k.ring q.id) (Writes a w))),
-          filter_map_is IsNew (Link q.id) (leased_crossings q.shape (changed q.shape (k.ring q.id) (Writes a w))),
+          filter_mapped IsNew (Block q.id) (leased_positions q.shape (changed q.shape (k.ring q.id) (Writes a w))),
+          filter_mapped IsNew (Link q.id) (leased_crossings q.shape (changed q.shape (k.ring q.id) (Writes a w))),
           new_blocks,
           new_links,
         ) (sym (

@@ -5,7 +5,7 @@ use Rattle.leases.proofs.LeaseBooks.Finishing.{finish_lent}
 use Rattle.leases.proofs.LeaseBooks.LettingGo.{Finishes, gone_are_ranges}
 use Rattle.leases.proofs.LeaseBooks.Members.{in_either, in_flat_map, in_range}
 use Rattle.leases.proofs.LeaseBooks.RangesAlone.{context_open, device_open, entry_open}
-use Rattle.leases.proofs.LeaseBooks.Narrowing.{floors, is_left}
+use Rattle.leases.proofs.LeaseBooks.Narrowing.{floors, is_left, none_between}
 use Rattle.leases.proofs.LeaseBooks.PassedLeases.{IsWithinLap, Moves}
 use Rattle.leases.proofs.LeaseBooks.Passing.{all_twice, none_over, over_alike}
 use Rattle.trb.specs.declared.block.Block as blocks
@@ -18,9 +18,6 @@ use Rattle.leases.proofs.LeaseRows.TransferRows.{lap_now}
 abbrev moved_number : (ℕ → ℕ) → Option (ℕ × ℕ) → ℕ → ℕ → Bool
 moved_number from None q p = false
 moved_number from (Some e) q p = e.0 == q && nat_le (from e.0) p && nat_lt p e.1
-
-none_between : (a b p : ℕ) → a ≡ b → (nat_le b p && nat_lt p a) ≡ false
-none_between a b p e = grind (arith, nat_tests, e)
 
 abbrev Arrives : ℕ → (ℕ → ℕ) → Option (ℕ × ℕ) → Type 0
 Arrives c to None = Unit {0}
