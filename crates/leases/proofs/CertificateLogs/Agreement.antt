@@ -1,5 +1,5 @@
 -- How agreement goes on when a lease begins, and when some end
-use Rattle.leases.proofs.BaseWords.{rules, cond_both, ◌≡◌, ◌==◌, ◌&&◌, ◌||◌, ◌∷◌, ◌∙◌, ℕ, Bool, true, false, List, [], length, map, slice_get, sym, ap, refl, eq-eqb, and_parts, and_from, Lease, Leased, as_lease, without_end, Lent, begun_at, ended_where, is_unended, lease_of, with_begun, agree, agrees, begins_as, has_words_of, test_of}
+use Rattle.leases.proofs.BaseWords.{rules, ◌≡◌, ◌&&◌, ◌∷◌, ◌∙◌, ℕ, Bool, true, false, List, [], length, map, slice_get, ap, refl, eq-eqb, and_parts, and_from, Lease, Leased, as_lease, without_end, Lent, begun_at, ended_where, is_unended, lease_of, with_begun, agree, agrees, begins_as, has_words_of, test_of}
 use Rattle.leases.proofs.LeaseBooks.Ending.{later_end}
 use Rattle.leases.proofs.LeaseBooks.Passing.{and_true}
 

@@ -1,5 +1,5 @@
 -- What a followed list tells: whether it is the leases of what was and is lent
-use Rattle.leases.proofs.BaseWords.{rules, ◌≡◌, ◌==◌, ◌&&◌, ◌∙◌, Bool, true, false, not, List, filter, length, map, sym, ap, refl, eqb-true, eq-eqb, and_parts, length-map, Header, Lease, IndexTables, Lent, is_unended, lease_of, FollowedList, agree, is_endless, FollowsList}
+use Rattle.leases.proofs.BaseWords.{rules, ◌≡◌, ◌==◌, ◌&&◌, true, not, List, filter, length, map, eqb-true, eq-eqb, and_parts, length-map, Header, Lease, IndexTables, Lent, is_unended, lease_of, FollowedList, agree, is_endless, FollowsList}
 use Rattle.leases.proofs.CertificateLogs.Whole.{own_agree, own_count, whole}
 
 -- the list is that of what was lent where it agrees, has as many leases, and as many without an end

@@ -1,5 +1,5 @@
 -- Which lease stands at a place, when one begins and when one ends
-use Rattle.leases.proofs.BaseWords.{rules, subst, ◌≡◌, ◌+◌, ◌∷◌, ◌++◌, ◌∙◌, ℕ, zero, suc, Bool, true, false, List, [], length, map, slice_get, sym, refl, inl, inr, list_any, cases_Bool, and_parts, or_parts, or_from, false≢true, Lease, Leased, Lent, is_unended, AllUnended, agree, agrees, test_of, IsOnly, IsOnlyAt, is_open_of}
+use Rattle.leases.proofs.BaseWords.{rules, subst, ◌≡◌, ◌+◌, ◌∷◌, ◌++◌, ◌∙◌, ℕ, zero, suc, Bool, true, false, List, [], length, map, slice_get, sym, refl, list_any, and_parts, or_parts, or_from, false≢true, Lease, Leased, Lent, is_unended, AllUnended, agree, agrees, test_of, IsOnly, IsOnlyAt, is_open_of}
 
 module _ (p q : Lent → Bool) (f : Lent → Lent) (same : (t : Lent) → q (f t) ≡ p t) where
   none_alike : (ts : List Lent) → list_any p ts ≡ false → list_any q (map f ts) ≡ false

@@ -1,14 +1,12 @@
 -- The walk along a ring passes a position at which no Link is crossed
-use Rattle.leases.proofs.BaseWords.{rules, false_unless, ◌≡◌, ◌+◌, ◌≤◌, ◌||◌, ◌∙◌, ℕ, Bool, false, not, List, map, sym, ap, refl, inl, inr, subst, cases_Bool, false≢true, length-map, is_crossing, Header, shape_of, Lease, Leased, Block, Link, Range, same_leased, IndexTables, IsFound, Lent, ended_where, is_passed, FollowedList, agree, IsCrossed, FollowsList}
+use Rattle.leases.proofs.BaseWords.{rules, false_unless, ◌≡◌, ◌+◌, ◌≤◌, ◌||◌, ◌∙◌, ℕ, Bool, false, not, List, map, sym, false≢true, length-map, is_crossing, Header, shape_of, Lease, Leased, Block, same_leased, IndexTables, IsFound, Lent, ended_where, is_passed, FollowedList, agree, IsCrossed, FollowsList}
 use Rattle.leases.proofs.LeaseBooks.Passing.{ended_alike, passed_block}
 use Rattle.leases.proofs.CertificateLogs.Agreement.{agree_unended}
 use Rattle.leases.proofs.CertificateLogs.Tables.{number_of}
 
 -- where the tables have its number, they find what is crossed
 crossed_found : (h : Header) (blocks links : IndexTables) (l : Leased) → IsCrossed h l → IsFound h blocks links (number_of h blocks links l) l
-crossed_found h blocks links (Block r p) crossed = refl
-crossed_found h blocks links (Link r q) crossed = (crossed, refl)
-crossed_found h blocks links (Range n a e) crossed = tt
+crossed_found h blocks links z crossed = search rules
 
 module _ (leases : List Lease) (h : Header) (ts : List Lent) (list : FollowedList) (blocks links : IndexTables) (follows : FollowsList leases h ts list blocks links) (p q : Leased → Bool) (row : ℕ)
     (alike : (l : Leased) → IsCrossed h l → p l ≡ q l) where

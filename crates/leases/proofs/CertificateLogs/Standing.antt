@@ -1,5 +1,5 @@
 -- Where what is lent stands among what was and is lent
-use Rattle.leases.proofs.BaseWords.{rules, not-true, and_false, false_unless, ◌≡◌, ◌+◌, ◌<◌, ◌%◌, ◌==◌, ◌&&◌, ◌∷◌, ◌∙◌, ℕ, zero, suc, Bool, true, false, List, [], arith, sym, ap, refl, inl, inr, subst, eq-eqb, list_any, cases_Bool, and_parts, false≢true, place_count, link_of, Header, shape_of, Leased, Block, Link, Range, Use, same_leased, leased_is, AllUnended, Lent, is_place_free, is_unended, share_a_place, StandsAt, is_lent, IsOnlyAt, BlockPlace, RingPlace, has_place, is_open_of}
+use Rattle.leases.proofs.BaseWords.{rules, not-true, and_false, false_unless, ◌≡◌, ◌+◌, ◌<◌, ◌%◌, ◌==◌, ◌&&◌, ◌∷◌, ℕ, zero, suc, Bool, true, false, List, [], arith, sym, refl, inl, inr, subst, eq-eqb, list_any, cases_Bool, and_parts, false≢true, place_count, link_of, Header, shape_of, Leased, Block, Link, Range, Use, same_leased, leased_is, AllUnended, Lent, is_place_free, is_unended, share_a_place, StandsAt, is_lent, IsOnlyAt, BlockPlace, RingPlace, has_place, is_open_of}
 use Rattle.leases.proofs.LeaseBooks.EndingRange.{either_holds, not_later}
 
 module _ (l : Leased) where

@@ -1,5 +1,5 @@
 -- The completion of a command leaves the device context of a slot that it disables, and no other
-use Rattle.leases.proofs.BaseWords.{◌≡◌, ◌==◌, ◌∷◌, ◌∙◌, ℕ, Bool, false, List, [], map, Option, Some, None, ap, refl, added_endpoints, is_dropped, Trb, code, slot, target, Command, AddressDevice, ConfigureEndpoint, ResetEndpoint, StopEndpoint, SetTrDequeue, is_off, Change, SlotGoesOn, DeviceLeft, Disables, Places, Stops, Resets, changes, placed_by_context, Header, ring_having, shape_of, Known, command_at, next_command, on_ring, bound_to, changed_by, changed_by_all, completed, disabled, finished, held_at_ceiling, in_state, moved, moved_to, pointed, set_to, stop_ended, succeeded, devices_without, slot_disabled, slot_left, rules}
+use Rattle.leases.proofs.BaseWords.{◌≡◌, ◌==◌, ◌∷◌, ◌∙◌, ℕ, Bool, List, [], map, Option, Some, None, refl, added_endpoints, is_dropped, Trb, code, slot, target, Command, StopEndpoint, is_off, Change, SlotGoesOn, DeviceLeft, changes, placed_by_context, Header, ring_having, shape_of, Known, command_at, next_command, on_ring, bound_to, changed_by, changed_by_all, completed, disabled, finished, held_at_ceiling, in_state, moved, moved_to, pointed, set_to, stop_ended, succeeded, devices_without, slot_disabled, slot_left, rules}
 
 -- the change lets no device context go
 abbrev Holds : Change → Type 0
@@ -46,14 +46,7 @@ module _ (h : Header) where
 
   succeeded_device : (k : Known) (n : ℕ) (c : Command) (t : ℕ) → (succeeded h k n c).device t ≡ devices_without k.device (slot_disabled c) t
   unfolding succeeded changes changed_by_all changed_by disabled
-  succeeded_device k n (AddressDevice s bsr c) t = ap (λ f. f t) (changes_device (AddressDevice s bsr c) k (SlotGoesOn s ∷ placed_by_context h.context_size k.memory s c 1 ∷ []) (tt, (tt, tt)))
-  succeeded_device k n (ConfigureEndpoint s false c) t =
-      ap (λ f. f t) (changes_device (ConfigureEndpoint s false c) k (SlotGoesOn s ∷ Disables s (is_dropped k.memory c) ∷ map (placed_by_context h.context_size k.memory s c) (added_endpoints k.memory c))
-      (tt, (tt, placed_hold k s c (added_endpoints k.memory c))))
-  succeeded_device k n (ResetEndpoint s i) t = ap (λ f. f t) (changes_device (ResetEndpoint s i) k (Resets s i ∷ []) (tt, tt))
-  succeeded_device k n (StopEndpoint s i) t = ap (λ f. f t) (changes_device (StopEndpoint s i) k (Stops s i ∷ []) (tt, tt))
-  succeeded_device k n (SetTrDequeue s i p cycle) t = ap (λ f. f t) (changes_device (SetTrDequeue s i p cycle) k (Places s i p cycle _ ∷ []) (tt, tt))
-  succeeded_device k n _ t = refl
+  succeeded_device k n y t = search (rules, changes_device, placed_by_context, is_dropped, map, added_endpoints, placed_hold)
 
   stop_device : (k : Known) (c : Command) → (stop_ended h k c).device ≡ k.device
   unfolding stop_ended

@@ -1,5 +1,5 @@
 -- To end one lease of the list is to end what it leases
-use Rattle.leases.proofs.BaseWords.{rules, ◌≡◌, ◌+◌, ◌-◌, ◌<◌, ◌==◌, ◌&&◌, ◌∷◌, ◌∙◌, ℕ, Bool, true, false, List, [], map, slice_get, slice_set, Some, None, zero, suc, arith, sym, ap, refl, inl, inr, cond, subst, cases_Bool, and_parts, nat_tests, Lease, Leased, Block, Link, Range, same_leased, as_lease, without_end, leased_is, Lent, lease_of, is_unended, ended_where, AllUnended, is_open_as, ended_at}
+use Rattle.leases.proofs.BaseWords.{rules, ◌≡◌, ◌+◌, ◌<◌, ◌&&◌, ◌∷◌, ◌∙◌, ℕ, Bool, true, false, List, [], map, slice_get, slice_set, Some, None, zero, suc, arith, sym, ap, refl, inl, inr, cond, subst, cases_Bool, and_parts, nat_tests, Lease, Leased, Block, Link, Range, same_leased, as_lease, without_end, leased_is, Lent, lease_of, is_unended, ended_where, AllUnended, is_open_as, ended_at}
 
 pushed : {A B : Type 0} (f : A → B) (b : Bool) (x y : A) → f (cond b x y) ≡ cond b (f x) (f y)
 pushed f true x y = refl

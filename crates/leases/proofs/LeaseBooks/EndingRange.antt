@@ -1,5 +1,5 @@
 -- The lease of a range ends at the index where it stands
-use Rattle.leases.proofs.BaseWords.{rules, ◌≡◌, ◌+◌, ◌<◌, ◌==◌, ◌&&◌, ◌||◌, ◌∷◌, ◌∙◌, ℕ, Bool, true, false, List, [], map, zero, suc, arith, sym, ap, refl, inl, inr, subst, eq-eqb, list_any, cases_Bool, and_parts, false≢true, Lease, Leased, Range, Use, same_leased, as_lease, without_end, leased_is, Lent, lease_of, is_unended, ended_where, AllUnended, is_open_as, ended_at, StandsAt, is_lent}
+use Rattle.leases.proofs.BaseWords.{rules, ◌≡◌, ◌+◌, ◌<◌, ◌&&◌, ◌||◌, ◌∷◌, ◌∙◌, ℕ, Bool, true, false, List, [], map, zero, suc, arith, sym, ap, refl, inl, inr, subst, eq-eqb, list_any, cases_Bool, and_parts, false≢true, Lease, Leased, Range, Use, same_leased, as_lease, without_end, leased_is, Lent, lease_of, is_unended, ended_where, AllUnended, is_open_as, ended_at, StandsAt, is_lent}
 use Rattle.leases.proofs.LeaseBooks.Ending.{later_end, none_ends}
 
 pub either_holds : (x y : Bool) → (x || y) ≡ true → x ≡ false → y ≡ true

@@ -1,5 +1,5 @@
 -- Before the first row the event segments are under lease, and nothing else
-use Rattle.leases.proofs.BaseWords.{and_false, ◌≡◌, ◌*◌, ◌∷◌, ◌++◌, ◌∙◌, ℕ, Bool, false, List, [], filter, map, subst, sym, ap, refl, append-nil, is_crossing, due_crossings, due_positions, leased_crossings, leased_positions, is_handed_over, new_ring, Segment, Header, Ring, Erstba, command_id, driver_rings, event_shape, shape_of, nothing, Leased, Range, EventSegment, context_ranges, device_ranges, entry_ranges, open_leases, open_on, open_ranges, range_of_command, range_of_device, range_of_entry, segment_ranges, slots, table_range, as_lease, in_order, without_end, IsIn, IndexTables, begun_at, in_turn, lease_of, lents, with_begun, AllUnended, IsFound, segment_lease, rules}
+use Rattle.leases.proofs.BaseWords.{and_false, ◌≡◌, ◌*◌, ◌++◌, ◌∙◌, ℕ, [], map, subst, sym, ap, refl, append-nil, is_crossing, due_crossings, due_positions, leased_crossings, leased_positions, is_handed_over, new_ring, Segment, Header, Ring, Erstba, command_id, driver_rings, event_shape, shape_of, nothing, Leased, Range, EventSegment, context_ranges, device_ranges, entry_ranges, open_leases, open_on, open_ranges, range_of_command, range_of_device, range_of_entry, segment_ranges, slots, table_range, as_lease, in_order, without_end, IsIn, IndexTables, begun_at, in_turn, lease_of, lents, with_begun, AllUnended, IsFound, segment_lease, rules}
 use Rattle.leases.proofs.RingLeases.RingsLeft.{filter_none}
 use Rattle.ring_knowledge.specs.Rings as rings
 use Rattle.leases.proofs.LeaseBooks.Growing.{map_map, sorted}

@@ -1,5 +1,5 @@
 -- Before the first row no range that ends is under lease
-use Rattle.leases.proofs.BaseWords.{◌*◌, ℕ, [], map, sym, subst, Segment, Header, event_shape, nothing, Leased, Block, Link, Range, EventSegment, SegmentTable, InputContext, SlotEntry, DeviceContext, open_leases, segment_ranges, IsIn, RangeIndexes, begun_at, in_turn, lents, with_begun, FindsRanges, IsRangeFound}
+use Rattle.leases.proofs.BaseWords.{◌*◌, ℕ, [], map, sym, subst, Segment, Header, event_shape, nothing, Leased, Range, EventSegment, open_leases, segment_ranges, IsIn, RangeIndexes, begun_at, in_turn, lents, with_begun, FindsRanges, IsRangeFound}
 use Rattle.leases.proofs.LeaseBooks.FirstBook.{open_at_first}
 use Rattle.leases.proofs.LeaseBooks.Rows.{all_new, from_turn}
 use Rattle.leases.proofs.LeaseBooks.Members.{from_map}

@@ -1,5 +1,5 @@
 -- No lease that is open shares its Link with a due crossing that isn't given
-use Rattle.leases.proofs.BaseWords.{rules, false_unless, ◌≡◌, ◌+◌, ◌<◌, ◌≤◌, ◌==◌, ◌&&◌, ◌∙◌, ℕ, true, false, nat_lt, List, max, Some, arith, sym, ap, refl, inl, inr, subst, eqb-true, cases_Bool, false≢true, and_parts, nat_tests, Shape, IsShape, is_crossing, place_count, link_of, RingView, floor_number, crossed_link, crossing_positive, Header, Ring, driver_rings, shape_of, Known, link_of-crossed, same_due_crossing, Leased, Link, IsIn, is_place_free, share_a_place, Lent, AreOpen}
+use Rattle.leases.proofs.BaseWords.{rules, false_unless, ◌≡◌, ◌+◌, ◌<◌, ◌≤◌, ◌&&◌, ℕ, true, false, nat_lt, List, max, refl, eqb-true, false≢true, and_parts, nat_tests, Shape, IsShape, is_crossing, place_count, link_of, RingView, floor_number, crossed_link, crossing_positive, Header, Ring, driver_rings, shape_of, Known, link_of-crossed, same_due_crossing, Leased, Link, IsIn, is_place_free, share_a_place, Lent, AreOpen}
 use Rattle.leases.proofs.LeaseBooks.FreePlaces.{none_open_shares}
 use Rattle.leases.proofs.LeaseBooks.Members.{InOn, block, link}
 use Rattle.leases.proofs.LeaseBooks.Writing.{AreShaped}

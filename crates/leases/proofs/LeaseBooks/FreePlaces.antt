@@ -1,5 +1,5 @@
 -- No lease that is open shares its place with a position that isn't handed over
-use Rattle.leases.proofs.BaseWords.{rules, false_unless, ◌≡◌, ◌+◌, ◌%◌, ◌<◌, ◌≤◌, ◌==◌, ◌&&◌, ◌∷◌, ◌∙◌, ℕ, Bool, true, false, not, List, [], sym, ap, refl, inl, inr, subst, eqb-true, list_any, cases_Bool, false≢true, and_parts, Shape, place_count, floor_number, is_handed_over, Header, Ring, driver_rings, shape_of, Known, same_due, Leased, Block, Range, is_among, open_leases, IsIn, Lent, is_place_free, is_unended, share_a_place, AllUnended, AreOpen}
+use Rattle.leases.proofs.BaseWords.{rules, false_unless, ◌≡◌, ◌+◌, ◌%◌, ◌<◌, ◌≤◌, ◌&&◌, ◌∷◌, ℕ, Bool, true, false, not, List, [], ap, refl, inl, inr, eqb-true, list_any, cases_Bool, false≢true, and_parts, Shape, place_count, floor_number, is_handed_over, Header, Ring, driver_rings, shape_of, Known, same_due, Leased, Block, is_among, open_leases, IsIn, Lent, is_place_free, is_unended, share_a_place, AllUnended, AreOpen}
 use Rattle.leases.proofs.LeaseBooks.Members.{InOn, block, link}
 use Rattle.leases.proofs.LeaseBooks.RangesAlone.{IsRange, each_open, open_are_ranges}
 use Rattle.leases.proofs.LeaseBooks.Writing.{AreShaped}
@@ -14,9 +14,7 @@ none_shares P S i (t ∷ ts) apart all = elim (cases_Bool (is_unended t)) [
 
 -- a range shares no place
 apart_range : (h : Header) (x l : Leased) → IsRange l → share_a_place h x l ≡ false
-apart_range h (Block r p) (Range n a e) is = refl
-apart_range h _ (Range n a e) is = refl
-apart_range h _ _ is = absurd is
+apart_range h v y is = search rules
 
 -- where nothing that is open on a ring shares its place, it is free
 pub none_open_shares : (h : Header) (k : Known) (ts : List Lent) → AreOpen h k ts → (x : Leased) →

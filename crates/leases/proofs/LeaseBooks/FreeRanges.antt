@@ -1,6 +1,6 @@
 -- Where a slot has no device, no range is lent for its entry in the DCBAA, nor for its device context; where a due position isn't given, none
 -- for the input context of its command
-use Rattle.leases.proofs.BaseWords.{◌≡◌, ◌+◌, ◌<◌, ◌≤◌, ◌==◌, ℕ, true, false, not, List, Some, None, ap, refl, eqb-true, range_with_len, false≢true, place_count, RingView, due_positions, floor_number, Header, Ring, command_id, shape_of, Known, same_due, Leased, Block, Link, Range, EventSegment, SegmentTable, InputContext, SlotEntry, DeviceContext, is_among, open_leases, IsIn, from_filter, command_place, is_use_free, shares_use, Lent, AreOpen, rules}
+use Rattle.leases.proofs.BaseWords.{◌≡◌, ◌+◌, ◌<◌, ◌≤◌, ◌==◌, ℕ, true, false, not, List, Some, None, ap, eqb-true, range_with_len, false≢true, place_count, RingView, due_positions, floor_number, Header, Ring, command_id, shape_of, Known, same_due, Leased, Block, Link, Range, EventSegment, SegmentTable, InputContext, SlotEntry, DeviceContext, is_among, open_leases, IsIn, from_filter, command_place, is_use_free, shares_use, Lent, AreOpen, rules}
 use Rattle.ring_knowledge.specs.Rings as rings
 use Rattle.leases.proofs.LeaseBooks.FreePlaces.{none_shares}
 use Rattle.leases.proofs.LeaseBooks.Members.{InOn, block, link, from_range}
@@ -36,29 +36,13 @@ module _ (h : Header) (k : Known) (ts : List Lent) (still : AreOpen h k ts) (s :
   unfolding is_use_free
   entry_free =
       ap not (none_shares (λ l. is_among (open_leases h k) l ≡ true) (shares_use h (SlotEntry s)) 0 ts
-      (of_open h k (λ l. shares_use h (SlotEntry s) l ≡ false) (record {
-        blocks = λ r p. refl;
-        links = λ r q. refl;
-        segments = λ n a. refl;
-        table = λ n a. refl;
-        contexts = λ n a p at. refl;
-        entries = λ n a t d some. other_slot k s t d none some;
-        devices = λ n a t d some. refl;
-      })) still)
+      (of_open h k (λ l. shares_use h (SlotEntry s) l ≡ false) (search (rules, other_slot))) still)
 
   pub device_free : is_use_free h ts (DeviceContext s) ≡ true
   unfolding is_use_free
   device_free =
       ap not (none_shares (λ l. is_among (open_leases h k) l ≡ true) (shares_use h (DeviceContext s)) 0 ts
-      (of_open h k (λ l. shares_use h (DeviceContext s) l ≡ false) (record {
-        blocks = λ r p. refl;
-        links = λ r q. refl;
-        segments = λ n a. refl;
-        table = λ n a. refl;
-        contexts = λ n a p at. refl;
-        entries = λ n a t d some. refl;
-        devices = λ n a t d some. other_slot k s t d none some;
-      })) still)
+      (of_open h k (λ l. shares_use h (DeviceContext s) l ≡ false) (search (rules, other_slot))) still)
 
 -- of a due position that isn't given no input context is lent at its place
 module _ (h : Header) (k : Known) (ts : List Lent) (still : AreOpen h k ts) (p : ℕ) where
@@ -77,12 +61,4 @@ module _ (h : Header) (k : Known) (ts : List Lent) (still : AreOpen h k ts) (p :
     unfolding is_use_free
     context_free =
         ap not (none_shares (λ l. is_among (open_leases h k) l ≡ true) (shares_use h (InputContext p)) 0 ts
-        (of_open h k (λ l. shares_use h (InputContext p) l ≡ false) (record {
-          blocks = λ r q. refl;
-          links = λ r q. refl;
-          segments = λ n a. refl;
-          table = λ n a. refl;
-          contexts = λ n a q at. other_place q at;
-          entries = λ n a t d given. refl;
-          devices = λ n a t d given. refl;
-        })) still)
+        (of_open h k (λ l. shares_use h (InputContext p) l ≡ false) (search (rules, other_place))) still)

@@ -1,6 +1,6 @@
 -- Floors of rings move on, and some ranges are let go: the leases of the blocks and Links that are passed end, and of these ranges
-use Rattle.leases.proofs.BaseWords.{sym, ◌∙◌, not-true, ◌≡◌, ◌≤◌, ◌==◌, ◌&&◌, ◌||◌, ◌++◌, ℕ, Bool, true, false, not, nat_le, nat_lt, List, [], arith, ap, refl, inl, inr, eqb-true, flat_map, and_parts, and_from, nat_tests, is_crossing, floor_number, Header, Ring, driver_rings, Known, Leased, Block, Link, Range, is_among, open_leases, open_on, open_ranges, IsIn, among_is, both_ways, in_among, is_passed, rules}
-use Rattle.leases.proofs.LeaseBooks.Members.{InOn, block, link, from_flat_map, in_either, in_flat_map, in_left, in_on, in_right, on_in}
+use Rattle.leases.proofs.BaseWords.{sym, ◌∙◌, not-true, ◌≡◌, ◌≤◌, ◌==◌, ◌&&◌, ◌||◌, ℕ, Bool, true, false, not, nat_le, nat_lt, List, [], arith, ap, refl, eqb-true, and_parts, and_from, nat_tests, is_crossing, floor_number, Header, Ring, driver_rings, Known, Leased, Block, Link, Range, is_among, open_leases, open_ranges, IsIn, among_is, both_ways, in_among, is_passed, rules}
+use Rattle.leases.proofs.LeaseBooks.Members.{InOn, block, link}
 use Rattle.leases.proofs.LeaseBooks.PassedLeases.{Moves, block_was, link_was}
 use Rattle.leases.proofs.LeaseBooks.SameLeases.{lent_same}
 use Rattle.leases.proofs.LeaseBooks.RangesAlone.{IsRange, each_open, open_are_ranges, range_open, ring_open}

@@ -1,5 +1,5 @@
 -- The floor of a ring moves on: what is given from there on was given before
-use Rattle.leases.proofs.BaseWords.{◌≡◌, ◌+◌, ◌<◌, ◌≤◌, ◌&&◌, ℕ, Bool, true, false, not, refl, false≢true, and_parts, nat_tests, Shape, is_crossing, place_count, RingView, floor_number, is_handed_over, Ring, rules}
+use Rattle.leases.proofs.BaseWords.{◌≡◌, ◌+◌, ◌<◌, ◌≤◌, ◌&&◌, ℕ, true, false, false≢true, and_parts, nat_tests, Shape, is_crossing, place_count, RingView, floor_number, is_handed_over, Ring, rules}
 use Rattle.leases.proofs.LeaseBooks.SameLeases.{lent_same}
 
 -- a lap and more ahead nothing is given

@@ -35,9 +35,7 @@ one_more r s from n p least = grind (arith, nat_tests, least)
 
 -- a step of the walk, at a crossing and elsewhere
 pub passed_crossing : (r from n : ℕ) (l : Leased) → from ≤ n → ((is_passed r from n l || same_leased (Block r n) l) || same_leased (Link r n) l) ≡ is_passed r from (n + 1) l
-passed_crossing r from n (Block s p) least = or_false _ ∙ one_more r s from n p least
-passed_crossing r from n (Link s q) least = ap (λ b. b || (r == s && n == q)) (or_false _) ∙ one_more r s from n q least
-passed_crossing r from n (Range m a e) least = refl
+passed_crossing r from n z least = search (rules, or_false, one_more)
 
 pub passed_block : (h : Header) (blocks links : IndexTables) (r from n : ℕ) (j : ℕ) (l : Leased) → from ≤ n → is_crossing (shape_of h r) n ≡ false → IsFound h blocks links j l →
     (is_passed r from n l || same_leased (Block r n) l) ≡ is_passed r from (n + 1) l

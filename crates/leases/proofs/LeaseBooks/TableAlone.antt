@@ -1,5 +1,5 @@
 -- The write of ERSTBA begins the lease of the segment table, and no other
-use Rattle.leases.proofs.BaseWords.{false_unless, ◌≡◌, ◌∷◌, ◌++◌, ◌∙◌, ℕ, Bool, true, not, List, [], filter, Some, None, sym, ap, subst, refl, flat_map, filter-append, table_bytes, Header, Ring, Reg, Erstba, driver_rings, event_shape, base_address, Known, learned, register_written, valued, entry_of, Leased, Range, SegmentTable, context_ranges, device_ranges, entry_ranges, is_among, open_leases, open_on, open_ranges, range_of_entry, segment_ranges, table_range, begun, IsIn, among_is, in_among, in_turn, with_begun, with_leased, Lent, grown, AreOpen, rules}
+use Rattle.leases.proofs.BaseWords.{false_unless, ◌≡◌, ◌∷◌, ◌++◌, ◌∙◌, ℕ, Bool, true, not, List, [], filter, None, sym, ap, subst, refl, flat_map, filter-append, table_bytes, Header, Ring, Reg, Erstba, driver_rings, event_shape, base_address, Known, learned, register_written, valued, entry_of, Leased, Range, SegmentTable, context_ranges, device_ranges, entry_ranges, is_among, open_leases, open_on, open_ranges, range_of_entry, segment_ranges, table_range, begun, IsIn, among_is, in_among, in_turn, with_begun, with_leased, Lent, grown, AreOpen, rules}
 use Rattle.ring_knowledge.specs.Rings as rings
 use Rattle.leases.proofs.LeaseBooks.Members.{InOn, block, either_into, five_into, in_left, in_right, link}
 use Rattle.leases.proofs.LeaseBooks.RangesAlone.{each_open, of_range}
@@ -25,13 +25,7 @@ module _ (h : Header) (k : Known) where
 
     pub no_table : (l : Leased) → IsIn l (open_leases h k) → IsNoTable l
     no_table l at =
-        each_open h k IsNoTable (λ q among. on_ring q) (of_range h k IsNoTable (record {
-          segments = λ n a. tt;
-          table = λ n a v some. let clash : None ≡ Some v = sym unwritten ∙ some in cc;
-          contexts = λ n a p on. tt;
-          entries = λ n a s d e. tt;
-          devices = λ n a s d e. tt;
-        })) l (in_among (open_leases h k) l at)
+        each_open h k IsNoTable (λ q among. on_ring q) (of_range h k IsNoTable (search rules)) l (in_among (open_leases h k) l at)
 
   module _ (unwritten : k.register Erstba ≡ None) (v : ℕ) where
     abbrev k' : Known

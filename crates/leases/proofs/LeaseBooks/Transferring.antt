@@ -1,5 +1,5 @@
 -- What is lent after a Transfer Event: the leases end of what it tells to be passed on the ring of its endpoint
-use Rattle.leases.proofs.BaseWords.{◌≡◌, ◌≢◌, ◌+◌, ◌≤◌, ◌==◌, ◌&&◌, ◌∙◌, ℕ, Bool, true, false, not, List, [], map, Some, sym, ap, refl, inl, inr, subst, eqb-true, eq-eqb, cases_Bool, Trb, TransferEvent, code, endpoint, kind, slot, is_halting, is_stopping, is_success, is_trb_error, Spot, number, RingView, due_positions, floor_number, number-after, command_of, Header, Ring, Read, command_id, driver_rings, shape_of, EndpointState, Error, Halted, Known, event_read, learned, RingSpot, event_at, broken_off, passed, stopped_at, transfer_read, transferred, transferred_at, context_ranges, device_ranges, entry_ranges, open_leases, open_ranges, range_of_command, range_of_device, segment_ranges, slots, table_range, is_among, IsIn, come_to, ended_where, is_passed, Lent, grown, AreOpen, rules}
+use Rattle.leases.proofs.BaseWords.{◌≡◌, ◌≢◌, ◌+◌, ◌≤◌, ◌==◌, ◌&&◌, ◌∙◌, ℕ, Bool, true, false, not, List, [], map, Some, ap, refl, inl, inr, eqb-true, eq-eqb, cases_Bool, Trb, TransferEvent, code, endpoint, kind, slot, is_halting, is_stopping, is_success, is_trb_error, Spot, number, RingView, due_positions, floor_number, number-after, command_of, Header, Ring, Read, command_id, driver_rings, shape_of, EndpointState, Error, Halted, Known, event_read, learned, RingSpot, event_at, broken_off, passed, stopped_at, transfer_read, transferred, transferred_at, context_ranges, device_ranges, entry_ranges, open_leases, open_ranges, range_of_command, range_of_device, segment_ranges, slots, table_range, is_among, IsIn, come_to, ended_where, is_passed, Lent, grown, AreOpen, rules}
 use Rattle.ring_knowledge.specs.Rings as rings
 use Rattle.leases.proofs.LeaseBooks.Passing.{and_true}
 use Rattle.leases.proofs.LeaseBooks.Narrowing.{Narrows, floors, narrows, one_ring_left}

@@ -1,5 +1,5 @@
 -- Where the leases that aren't over stand in the list, when one begins and when some end
-use Rattle.leases.proofs.BaseWords.{rules, or_parts, and_parts, ◌≡◌, ◌+◌, ◌&&◌, ◌||◌, ◌∷◌, ℕ, Bool, true, false, List, [], length, map, arith, sym, refl, cond, subst, list_any, false≢true, Leased, Lent, is_unended, begun_at, ended_where, with_begun, AllUnended}
+use Rattle.leases.proofs.BaseWords.{rules, or_parts, and_parts, ◌≡◌, ◌+◌, ◌&&◌, ◌∷◌, ℕ, Bool, true, false, List, [], length, map, arith, refl, cond, subst, list_any, Leased, Lent, is_unended, begun_at, ended_where, with_begun, AllUnended}
 
 -- what is told of each is told anew of each
 pub all_anew : (F G : ℕ → Leased → Type 0) (n : ℕ) (ts : List Lent) → ((i : ℕ) (l : Leased) → F i l → G i l) → AllUnended F n ts → AllUnended G n ts

@@ -1,11 +1,11 @@
 -- The leases that a write begins: those of what it gives
-use Rattle.leases.proofs.BaseWords.{◌≡◌, ◌+◌, ◌<◌, ◌≤◌, ◌&&◌, ◌||◌, ◌∷◌, ◌++◌, ◌∙◌, ℕ, Bool, true, not, List, [], filter, map, zero, suc, arith, sym, ap, refl, inl, inr, cond, subst, append-nil, flat_map, range_with_len, and_parts, and_from, or_left, false≢true, filter-append, Shape, is_crossing, place_count, RingView, Writes, changed, crossings_given, due_crossings, due_positions, floor_number, gives, gives_crossing, is_crossing_due, leased_crossings, leased_positions, is_handed_over, positions_given, Header, Ring, driver_rings, shape_of, Known, Given, Position, Crossing, with_word, Leased, Block, Link, is_among, open_leases, open_on, open_ranges, IsIn, among_is, both_ways, in_among, FreeWasGiven, rules}
+use Rattle.leases.proofs.BaseWords.{◌≡◌, ◌+◌, ◌<◌, ◌≤◌, ◌&&◌, ◌||◌, ◌∷◌, ◌++◌, ◌∙◌, ℕ, Bool, true, not, List, [], filter, map, zero, suc, arith, sym, ap, refl, cond, subst, append-nil, flat_map, range_with_len, and_parts, and_from, or_left, false≢true, filter-append, Shape, is_crossing, place_count, RingView, Writes, changed, crossings_given, due_crossings, due_positions, floor_number, gives, gives_crossing, is_crossing_due, leased_crossings, leased_positions, is_handed_over, positions_given, Header, Ring, driver_rings, shape_of, Known, Given, Position, Crossing, with_word, Leased, Block, Link, is_among, open_leases, open_on, open_ranges, IsIn, among_is, both_ways, in_among, FreeWasGiven, rules}
 use Rattle.leases.proofs.RingLeases.Filtered.{filter_mapped}
 use Rattle.ring_knowledge.specs.Rings as rings
 use Rattle.leases.proofs.LeaseBooks.Growing.{map_append, map_map}
 use Rattle.leases.proofs.LeaseBooks.Rows.{none_new}
 use Rattle.leases.proofs.LeaseBooks.SameLeases.{flat_alike}
-use Rattle.leases.proofs.LeaseBooks.Members.{InOn, block, either_into, link, from_flat_map, in_either, in_flat_map, in_left, in_on, in_right, on_in}
+use Rattle.leases.proofs.LeaseBooks.Members.{InOn, block, either_into, link, from_flat_map, in_flat_map, in_left, in_on, in_right, on_in}
 use Rattle.leases.proofs.LeaseBooks.RangesAlone.{IsRange, each_open, open_are_ranges, ring_open}
 
 -- the lease of what is given

@@ -1,5 +1,5 @@
 -- What is lent after the completion of a command
-use Rattle.leases.proofs.BaseWords.{◌≡◌, ◌≢◌, ◌+◌, ◌++◌, ◌∙◌, ◌&&◌, ◌||◌, ◌==◌, ℕ, List, Bool, true, false, None, Some, Option, refl, ap, sym, arith, subst, filter, map, nat_le, nat_lt, eqb-true, eq-eqb, position, false≢true, nat_tests, CommandCompletion, code, kind, is_command_completion, Command, Shape, place_count, RingView, due_positions, floor_number, due_is, number-after, Ring, Header, Read, Erstba, IsHeader, command_id, driver_rings, is_command_kind, shape_of, Known, completed, event_read, learned, Leased, Block, Link, Range, Use, context_ranges, device_ranges, entry_ranges, is_among, open_leases, open_on, open_ranges, range_of_command, range_of_device, range_of_entry, segment_ranges, slots, table_range, flat_map, range_with_len, IsIn, in_among, in_filter, DriverKeeps, EventFacts, event_facts, floors_grow, CompletionFacts, completion_facts, next_at_floor, command_is_ring, SameDriver, event_same, Lent, ended_where, is_passed, let_go, slot_left, slot_ranges, is_lent, RangeIndexes, command_found, no_command_ring, shape_there, any_append, false_unless, or_false, IsAmong, same_number, TraceRecord, EndpointRings, HoldsAll, AreLent, FloorsMove, MovesOn, IsMovedTo, IsOtherRing, is_behind, is_moved_past, moved_when, IsNextRow, grown, is_some, command_ring, command_id_is, rules}
+use Rattle.leases.proofs.BaseWords.{◌≡◌, ◌≢◌, ◌+◌, ◌∙◌, ◌&&◌, ◌||◌, ◌==◌, ℕ, List, Bool, true, false, None, Some, Option, refl, ap, sym, arith, subst, filter, map, nat_le, nat_lt, eqb-true, eq-eqb, position, false≢true, CommandCompletion, code, kind, is_command_completion, Command, Shape, place_count, RingView, due_positions, floor_number, due_is, number-after, Ring, Header, Read, IsHeader, command_id, driver_rings, is_command_kind, shape_of, Known, completed, event_read, learned, Leased, Block, Link, Range, Use, context_ranges, device_ranges, entry_ranges, is_among, open_leases, range_of_command, range_of_device, range_of_entry, slots, range_with_len, IsIn, in_among, in_filter, DriverKeeps, EventFacts, event_facts, floors_grow, CompletionFacts, completion_facts, next_at_floor, command_is_ring, SameDriver, event_same, Lent, ended_where, is_passed, let_go, slot_left, slot_ranges, is_lent, RangeIndexes, command_found, no_command_ring, shape_there, any_append, false_unless, or_false, IsAmong, same_number, TraceRecord, EndpointRings, HoldsAll, AreLent, FloorsMove, MovesOn, IsMovedTo, IsOtherRing, is_behind, is_moved_past, moved_when, IsNextRow, grown, is_some, command_ring, command_id_is, rules}
 use Rattle.leases.proofs.LeaseBooks.DevicesAfter.{completed_device}
 use Rattle.leases.proofs.LeaseBooks.Finishing.{finish_lent}
 use Rattle.leases.proofs.LeaseBooks.LettingGo.{Finishes, gone_are_ranges}
@@ -96,24 +96,10 @@ module _ (h : Header) (headed : IsHeader h) (k : Known) (ts : List Lent) (b : bl
     next_here = next_is ∙ ap (λ (i : ℕ). floor_number (k.ring i)) id
 
     finishes : Finishes h k k' (slot_left success o)
-    finishes = record {
-      given = ap (λ (f : ℕ → RingView). (f (command_id h)).given) after_is.0 ∙ (same.rings (command_id h)).given;
-      queue = ap (λ (f : ℕ → RingView). (f (command_id h)).queue) after_is.0 ∙ (same.rings (command_id h)).queue;
-      floor = floor_after;
-      register = after_is.1 ∙ same.register;
-      device = λ s. ap (λ (f : ℕ → Option ℕ). f s) (after_is.2 ∙ ap (λ (x : Known). x.device) read_is) ∙ completed_device h k b s;
-      lap = subst (λ (s : Shape). IsWithinLap s (k.ring (command_id h))) (sym shape_is) (subst (λ (i : ℕ). IsWithinLap q.shape (k.ring i)) (sym id) (lap_now h headed k keeps q drives));
-    }
+    finishes = search (rules, RingView, command_id, after_is, same, floor_after, Known, read_is, completed_device, Shape, IsWithinLap, shape_is, id, lap_now, keeps)
 
     each : (r : Ring) → IsIn r (driver_rings h) → Moves r.shape (k.ring r.id) (k'.ring r.id) (floors k' r.id)
-    each r at = record {
-      given = ap (λ (f : ℕ → RingView). (f r.id).given) after_is.0 ∙ (same.rings r.id).given;
-      free = ap (λ (f : ℕ → RingView). (f r.id).free) after_is.0 ∙ (same.rings r.id).free;
-      crossed = ap (λ (f : ℕ → RingView). (f r.id).crossed) after_is.0 ∙ (same.rings r.id).crossed;
-      floor = refl;
-      rises = floors_grow h headed k keeps b next.clean r.id;
-      within = lap_now h headed k keeps r at;
-    }
+    each r at = search (rules, RingView, id, after_is, same, floors_grow, keeps, lap_now)
 
     abbrev moved : Option (ℕ × ℕ)
     moved = moved_when h k success o

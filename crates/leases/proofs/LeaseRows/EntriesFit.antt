@@ -1,5 +1,5 @@
 -- The entry of each slot with a device context ends within the address space: it was tested when the context was taken
-use Rattle.leases.proofs.BaseWords.{rules, ◌≡◌, ◌+◌, ◌^◌, ◌≤◌, ◌∷◌, ◌∙◌, ℕ, true, false, List, [], Option, Some, refl, sym, ap, subst, inl, inr, ltb-false, cases_Bool, false≢true, none-some, cases_option, Header, Register, Dcbaap, Row, Sub, Write, Reg, Bell, Read, IsHeader, with_register, Known, nothing, known, learned, entry_of, IsLenient, is_bad_register, lenient, DriverKeeps, area_parts, register_facts, entry_same, driver_keeps, at_number, event_behind, registered, bell_leaves, declaration_leaves, register_leaves, write_leaves, clean_tests, rules_of, after_write, taken, written_device, written_device_none, EntriesFit}
+use Rattle.leases.proofs.BaseWords.{rules, ◌≡◌, ◌+◌, ◌^◌, ◌≤◌, ◌∷◌, ◌∙◌, ℕ, true, false, List, [], Some, refl, sym, ap, subst, inl, inr, ltb-false, cases_Bool, false≢true, none-some, cases_option, Header, Register, Dcbaap, Row, Sub, Write, Reg, Bell, Read, IsHeader, with_register, Known, nothing, known, learned, entry_of, IsLenient, is_bad_register, lenient, DriverKeeps, area_parts, register_facts, entry_same, driver_keeps, at_number, event_behind, registered, bell_leaves, declaration_leaves, register_leaves, write_leaves, clean_tests, rules_of, after_write, taken, written_device, written_device_none, EntriesFit}
 
 -- no device context more, and the same array of entries
 pub still_fit : (k l : Known) → l.register Dcbaap ≡ k.register Dcbaap → ((s d : ℕ) → l.device s ≡ Some d → k.device s ≡ Some d) → EntriesFit k → EntriesFit l

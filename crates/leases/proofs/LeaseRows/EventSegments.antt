@@ -1,5 +1,5 @@
 -- The segments of the event ring, by its place among the rings
-use Rattle.leases.proofs.BaseWords.{rules, ◌≡◌, ◌<◌, ℕ, true, false, refl, ap, sym, length, get_or, slice_get_read, Ring, Header, IsHeader, is_event_kind, event_shape, event_ring, among_at, each_among, not_found, event_here}
+use Rattle.leases.proofs.BaseWords.{rules, ◌≡◌, ◌<◌, ℕ, true, false, refl, length, get_or, slice_get_read, Ring, Header, IsHeader, is_event_kind, event_shape, event_ring, among_at, each_among, not_found, event_here}
 
 pub event_count : (h : Header) → IsHeader h → (i : ℕ) (r : Ring) → r ≡ get_or h.rings i r → i < length h.rings → is_event_kind r.shape.kind ≡ true → length r.shape.segments ≡ length (event_shape h).segments
 event_count h headed i r item below event = search (rules, length, event_here, among_at, slice_get_read)

@@ -1,5 +1,5 @@
 -- What is lent after a clean declaration, doorbell or register write
-use Rattle.leases.proofs.BaseWords.{◌≡◌, ◌+◌, ◌<◌, ◌∷◌, ◌≢◌, ◌⊎◌, ℕ, List, [], true, false, None, Result, Ok, Err, refl, ap, sym, inl, inr, subst, length, OnOk, nat_le, nat_lt, le-leb, lt-ltb, and_from, Trb, table_bytes, place_count, due_positions, floor_number, Ring, Header, Row, Sub, Write, Reg, Bell, Read, Register, Dcbaap, Erstba, IsHeader, command_id, driver_rings, event_shape, is_driver_kind, shape_of, base_address, Known, learned, is_bad_register, is_written, Range, SegmentTable, is_among, open_leases, IsIn, from_filter, in_filter, DriverKeeps, register_facts, due_has_ring, Lent, with_begun, FindsRanges, RangeIndexes, shape_there, IsAmong, TraceRecord, HoldsAll, IsOtherRow, IsNextRow, AreOpen, grown, rules}
+use Rattle.leases.proofs.BaseWords.{◌≡◌, ◌+◌, ◌<◌, ◌∷◌, ◌≢◌, ◌⊎◌, ℕ, List, [], true, false, None, Result, Ok, Err, ap, sym, inl, inr, subst, length, OnOk, nat_le, nat_lt, le-leb, lt-ltb, and_from, Trb, table_bytes, place_count, due_positions, floor_number, Ring, Header, Row, Sub, Write, Reg, Bell, Read, Register, Dcbaap, Erstba, IsHeader, command_id, driver_rings, event_shape, is_driver_kind, shape_of, base_address, Known, learned, is_bad_register, is_written, Range, SegmentTable, is_among, open_leases, IsIn, from_filter, in_filter, DriverKeeps, register_facts, due_has_ring, Lent, with_begun, FindsRanges, RangeIndexes, shape_there, IsAmong, TraceRecord, HoldsAll, IsOtherRow, IsNextRow, AreOpen, grown, rules}
 use Rattle.leases.proofs.LeaseBooks.Members.{from_range}
 use Rattle.leases.proofs.LeaseBooks.RangePlaces.{others_begin}
 use Rattle.leases.proofs.LeaseBooks.Rows.{nothing_new}
@@ -99,6 +99,4 @@ module _ (h : Header) (headed : IsHeader h) (k : Known) (ts : List Lent) where
 
 -- a row that is neither a write nor an event
 pub other_row : (row : Row) → ((a w : ℕ) → row ≡ Write a w → ⊥) → ((b : Trb) → row ≡ Read b → ⊥) → IsOtherRow row
-other_row (Write a w) no_write no_event = absurd (no_write a w refl)
-other_row (Read b) no_write no_event = absurd (no_event b refl)
-other_row _ no_write no_event = tt
+other_row u no_write no_event = search rules

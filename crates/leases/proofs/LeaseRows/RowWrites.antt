@@ -1,5 +1,5 @@
 -- What is lent after a clean write: what it gives comes under lease, at a free place, and the ranges that its command takes
-use Rattle.leases.proofs.BaseWords.{not-true, ◌≡◌, ◌+◌, ◌<◌, ◌≤◌, ◌%◌, ◌^◌, ◌∷◌, ◌++◌, ◌∙◌, ◌&&◌, ℕ, List, [], Bool, true, false, None, Some, Option, refl, ap, sym, arith, inl, inr, subst, nat_lt, length, not, map, max, option_and_then, slice_get, eqb-true, ltb-true, leb-true, get_or, cases_Bool, flat_map, and_parts, or_cases, nat_tests, slice_get_read, put, ContextSize, Bytes32, Bytes64, device_context_bytes, input_context_bytes, Command, named_context, is_crossing, is_inside, place_count, touches, crossings_given, due_crossings, due_positions, floor_number, gives, gives_crossing, is_crossing_due, positions_given, link_of, Ring, Header, Write, IsHeader, command_id, is_command_kind, is_driver_kind, is_event_kind, shape_of, RingGiving, RingRecord, FollowsRing, crossings_of, positions_of, Known, command_given, entry_of, taken_device, noted_past, Leased, Block, Link, Range, InputContext, SlotEntry, DeviceContext, range_of_command, range_of_context, as_lease, comes_before, IsIn, from_filter, DriverKeeps, area_parts, written_devices, taking, rules_of, written_device, Lent, in_turn, is_place_free, precedes, with_begun, with_leased, is_use_free, command_found, ring_here, shape_allowed, shape_there, and_false, IsAmong, among_at, same_number, TraceRecord, RowPlace, FollowsTrace, IsGivenBy, IsPlacedSo, EntryFits, SlotIsFree, command_taken, slot_taken, IsNextRow, grown, slice_get_cases, slice_get_within, command_id_is, rules}
+use Rattle.leases.proofs.BaseWords.{not-true, ◌≡◌, ◌+◌, ◌<◌, ◌≤◌, ◌%◌, ◌^◌, ◌∷◌, ◌++◌, ◌∙◌, ◌&&◌, ℕ, List, [], true, false, None, Some, Option, refl, ap, sym, arith, inl, inr, subst, nat_lt, length, not, map, max, option_and_then, slice_get, eqb-true, ltb-true, leb-true, get_or, cases_Bool, flat_map, and_parts, or_cases, nat_tests, slice_get_read, put, ContextSize, Bytes32, Bytes64, device_context_bytes, input_context_bytes, Command, named_context, is_crossing, is_inside, place_count, touches, crossings_given, due_crossings, due_positions, floor_number, gives, gives_crossing, is_crossing_due, positions_given, link_of, Ring, Header, Write, IsHeader, command_id, is_command_kind, is_driver_kind, is_event_kind, shape_of, RingGiving, RingRecord, FollowsRing, crossings_of, positions_of, Known, command_given, entry_of, taken_device, noted_past, Leased, Block, Link, Range, InputContext, SlotEntry, DeviceContext, range_of_command, range_of_context, as_lease, comes_before, IsIn, from_filter, DriverKeeps, area_parts, written_devices, taking, rules_of, written_device, Lent, in_turn, is_place_free, precedes, with_begun, with_leased, is_use_free, command_found, ring_here, shape_allowed, shape_there, and_false, IsAmong, among_at, same_number, TraceRecord, RowPlace, FollowsTrace, IsGivenBy, IsPlacedSo, EntryFits, SlotIsFree, command_taken, slot_taken, IsNextRow, grown, slice_get_cases, slice_get_within, command_id_is, rules}
 use Rattle.ring_knowledge.specs.declared.ring_record.RingGiving.TheVariants.{Position, Crossing}
 use Rattle.leases.proofs.LeaseBooks.FreeLinks.{NoneAhead, link_free}
 use Rattle.leases.proofs.LeaseBooks.FreePlaces.{block_free}
@@ -80,10 +80,7 @@ module _ (h : Header) (headed : IsHeader h) (k : Known) (ts : List Lent) (a w nu
   lent_of : (gs : List rings.Given) (ps : List ℕ) → rings.given_by h k a w ≡ gs → positions_given (shape_of h (command_id h)) (k.ring (command_id h)) a w ≡ ps →
       grown h k (Write a w) number ts ≡ with_begun number ts (begun_of gs ps)
   unfolding command_given begun_of taken_at
-  lent_of gs ps given positions =
-      lent_commands h (are_shaped h headed) k ts next.step.opened (λ q at p free. (keeps.rings q.id (driver_there h headed q at)).free_given p free) a w number taken refl (may_take taken refl)
-      ∙ ap (λ xs. with_begun number ts (begun_of xs (positions_given (shape_of h (command_id h)) (k.ring (command_id h)) a w))) given
-      ∙ ap (λ xs. with_begun number ts (begun_of gs xs)) positions
+  lent_of gs ps given positions = search (rules, lent_commands, are_shaped, keeps, driver_there, may_take, with_begun, begun_of, positions_given, shape_of, command_id)
 
   nothing_begun : rings.given_by h k a w ≡ [] → positions_given (shape_of h (command_id h)) (k.ring (command_id h)) a w ≡ [] → grown h k (Write a w) number ts ≡ ts
   unfolding in_turn begun_of taken_at

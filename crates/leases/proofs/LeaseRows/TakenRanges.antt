@@ -1,5 +1,5 @@
 -- The ranges that a command takes, one after another
-use Rattle.leases.proofs.BaseWords.{not-true, ◌≡◌, ◌%◌, ◌∷◌, ◌++◌, ◌∙◌, ◌↔◌, ℕ, List, [], Bool, true, false, None, Some, Option, Ok, Err, Result, refl, ap, sym, subst, append_assoc, not, is_some, append-nil, result_ok, Fault, device_context_bytes, input_context_bytes, long_at, register_or_zero, Command, AddressDevice, named_context, Header, Known, device_named, entry_of, no_device, taken_device, Leased, Range, Use, InputContext, SlotEntry, DeviceContext, range_of_command, range_of_context, RangeIndexes, Lent, begun_at, with_begun, is_use_free, shares_use, and_false, any_append, or_false, HoldsAll, slot_taken, rules}
+use Rattle.leases.proofs.BaseWords.{not-true, ◌≡◌, ◌%◌, ◌∷◌, ◌++◌, ◌∙◌, ◌↔◌, ℕ, List, [], Bool, true, false, None, Some, Option, Ok, Err, Result, refl, ap, sym, subst, append_assoc, is_some, append-nil, result_ok, Fault, device_context_bytes, input_context_bytes, long_at, register_or_zero, Command, AddressDevice, named_context, Header, Known, device_named, entry_of, no_device, taken_device, Leased, Range, Use, InputContext, SlotEntry, DeviceContext, range_of_command, range_of_context, RangeIndexes, Lent, begun_at, with_begun, is_use_free, shares_use, and_false, any_append, or_false, HoldsAll, slot_taken, rules}
 use Rattle.leases.proofs.LeaseBooks.Growing.{map_append}
 
 -- what a block says that was read

@@ -1,5 +1,5 @@
 -- The indexes of ranges find the same where leases of blocks end and begin
-use Rattle.leases.proofs.BaseWords.{rules, ◌≡◌, ◌+◌, ◌<◌, ◌≤◌, ◌∷◌, ◌∙◌, ℕ, true, List, [], Some, map, nat_lt, arith, refl, sym, subst, inl, inr, cases_Bool, nat_tests, Header, IsHeader, Ring, Known, Write, command_id, is_transfer_kind, learned, on_ring, open_leases, ring_with, length_from, Restores, Withdraws, without_end, Block, AreOpen, Lent, passed_on, with_begun, FindsRanges, RangeIndexes, restored, MovesRing}
+use Rattle.leases.proofs.BaseWords.{rules, ◌≡◌, ◌<◌, ◌≤◌, ◌∷◌, ◌∙◌, ℕ, true, List, [], Some, map, nat_lt, arith, sym, subst, inl, inr, cases_Bool, nat_tests, Header, IsHeader, Ring, Known, Write, command_id, is_transfer_kind, learned, on_ring, open_leases, ring_with, length_from, Restores, Withdraws, without_end, Block, AreOpen, Lent, passed_on, with_begun, FindsRanges, RangeIndexes, restored, MovesRing}
 use Rattle.leases.proofs.LeaseBooks.RangePlaces.{others_begin, some_end}
 use Rattle.leases.proofs.RingLeases.LentFree.{Restoring, is_between, restored_lent, withdrawn_lent}
 use Rattle.leases.proofs.RingLeases.MovingRings.{alone, at_end, first_restored, freed_given, freed_later, last_restored, opened_own, other, own_first, own_step, same_left}
@@ -40,14 +40,8 @@ found_moved h k ts command p q ps a w m row early x finds =
       | inr high ↦
           let most : c ≤ q.id = grind (arith, nat_tests, high) in
           let less : c < q.id = omega (arith, most, differs) in
-          let restoring : Restoring h step_now vs q ps = record {
-            headed = m.headed;
-            found = m.found;
-            transfer = m.transfer;
-            freed_given = freed_later h k ts command p q ps a w m;
-            positions = m.positions ∙ sym (same_left h k ts command p q ps a w m);
-            opened = opened_own h k ts command p q ps a w m row early;
-          } in
+          let restoring : Restoring h step_now vs q ps =
+          assumption (freed_later h k ts command p q ps a w m, m.positions ∙ sym (same_left h k ts command p q ps a w m), opened_own h k ts command p q ps a w m row early) in
           subst (λ (ws : List Lent). FindsRanges h ws x) (last_restored h k ts command p q ps a w m row early less ∙ at_end h k ts command p q ps a w m row early)
           (found_restored h step_now vs q ps restoring row x
           (subst (λ (ws : List Lent). FindsRanges h ws x) (own_first h k ts command p q ps a w m row early) (others_begin h x row (Block c p) ts (λ g y i. tt) finds)))

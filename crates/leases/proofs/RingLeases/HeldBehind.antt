@@ -1,5 +1,5 @@
 -- A log of leases goes on with the rings that are there behind a ring that goes, and behind one that comes: what isn't over is of other rings
-use Rattle.leases.proofs.BaseWords.{◌≡◌, ◌≢◌, ◌%◌, ◌==◌, ◌∙◌, ℕ, false, not, List, refl, sym, ap, subst, and_parts, eqb-false, not-true, Header, IsHeader, Ring, Known, DriverKeeps, IsIn, driver_rings, from_filter, open_leases, place_count, command_id, shape_of, is_driver_kind, Leased, Block, Link, Range, is_among, index_in, AreOpen, AreShapedAlike, IsShapedAlike, FindsRanges, IsRangeFound, IsUseFound, RangeIndexes, InputContext, Use, Shape, Lent, IsComing, forgotten, is_bad_free, is_bad_ring, with_ring, without_ring, none_found, bad_same, f_keeps, fresh, no_ring, is_of_ring, rules}
+use Rattle.leases.proofs.BaseWords.{◌≡◌, ◌≢◌, ◌%◌, ◌==◌, ◌∙◌, ℕ, false, not, List, refl, sym, subst, and_parts, eqb-false, not-true, Header, IsHeader, Ring, Known, DriverKeeps, IsIn, driver_rings, from_filter, open_leases, place_count, command_id, shape_of, is_driver_kind, Leased, Block, Link, Range, is_among, index_in, AreOpen, AreShapedAlike, IsShapedAlike, FindsRanges, IsRangeFound, IsUseFound, RangeIndexes, InputContext, Use, Shape, Lent, IsComing, forgotten, is_bad_free, is_bad_ring, with_ring, without_ring, none_found, bad_same, f_keeps, fresh, no_ring, is_of_ring, rules}
 use Rattle.leases.proofs.LeaseBooks.Members.{InOn, block, link}
 use Rattle.leases.proofs.LeaseBooks.RangesAlone.{IsRange, each_open, open_are_ranges}
 use Rattle.leases.proofs.LeaseBooks.Rows.{IsOpen}
@@ -14,9 +14,7 @@ module _ (h : Header) (is : IsHeader h) (k : Known) (d : DriverKeeps h k) (id : 
   same_shape s apart = gone.shape_same h is k d id good s (eqb-false s id apart)
 
   alike : (l : Leased) → is_of_ring id l ≡ false → IsShapedAlike h (without_ring h id) l
-  alike (Block r p) other = same_shape r other
-  alike (Link r q) other = same_shape r other
-  alike (Range n a e) other = tt
+  alike u other = search (rules, same_shape)
 
   pub open_alike : (l : Leased) → IsOpen (open_leases (without_ring h id) (forgotten k id)) l → IsShapedAlike h (without_ring h id) l
   open_alike l is_open = search (rules, is_among, goes_open, among_filtered, not, is_of_ring, open_leases, alike, not-true, and_parts)

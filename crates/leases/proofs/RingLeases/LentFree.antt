@@ -1,5 +1,5 @@
 -- What is lent where a descriptor is withdrawn, and where a ring is restored
-use Rattle.leases.proofs.BaseWords.{and_false, false_unless, if◌then◌else◌, ◌≡◌, ◌≢◌, ◌+◌, ◌%◌, ◌<◌, ◌≤◌, ◌==◌, ◌&&◌, ◌||◌, ◌++◌, ◌∷◌, ◌∙◌, ℕ, zero, suc, Bool, true, false, not, nat_le, nat_lt, List, [], Some, filter, length, map, take, get_or, arith, refl, sym, ap, subst, inl, inr, append-nil, eqb-true, list_any, range_with_len, and_parts, false≢true, not-true, nat_tests, take_more, list_any-append, RingKind, Evt, cases_Bool, IsIn, Header, IsHeader, Ring, Known, is_driver_kind, is_transfer_kind, ring_with, shape_of, command_id, driver_rings, on_ring, open_leases, place_count, floor_number, due_positions, from_filter, in_filter, transfer_not_command, length_from, unrestored, Restores, Withdraws, same_due, in_among, as_lease, comes_before, Leased, Block, Link, Range, is_among, same_leased, AreOpen, Lent, begun_at, ended_where, in_turn, is_place_free, is_unended, passed_on, precedes, share_a_place, with_begun, with_leased, find_some, shape_there, IsAmong, is_freed, rules}
+use Rattle.leases.proofs.BaseWords.{and_false, false_unless, if◌then◌else◌, ◌≡◌, ◌≢◌, ◌+◌, ◌%◌, ◌<◌, ◌≤◌, ◌==◌, ◌&&◌, ◌||◌, ◌++◌, ◌∷◌, ◌∙◌, ℕ, zero, suc, Bool, true, false, not, nat_le, nat_lt, List, [], Some, filter, length, map, take, get_or, arith, refl, sym, ap, subst, inl, inr, eqb-true, list_any, range_with_len, and_parts, false≢true, not-true, nat_tests, take_more, list_any-append, cases_Bool, IsIn, Header, IsHeader, Ring, Known, is_driver_kind, is_transfer_kind, ring_with, shape_of, command_id, driver_rings, on_ring, open_leases, place_count, floor_number, due_positions, from_filter, transfer_not_command, length_from, unrestored, Restores, Withdraws, same_due, in_among, as_lease, comes_before, Leased, Block, Link, Range, is_among, same_leased, AreOpen, Lent, begun_at, ended_where, in_turn, is_place_free, is_unended, passed_on, precedes, share_a_place, with_begun, with_leased, find_some, shape_there, IsAmong, is_freed, rules}
 use Rattle.leases.proofs.LeaseBooks.FreePlaces.{unlent_free}
 use Rattle.leases.proofs.LeaseBooks.Growing.{map_append}
 use Rattle.leases.proofs.LeaseBooks.Members.{from_map, from_range}

@@ -1,5 +1,5 @@
 -- Where nothing is free a row restores nothing
-use Rattle.leases.proofs.BaseWords.{rules, ◌≡◌, ◌∙◌, ℕ, Option, None, Some, inl, inr, refl, sym, subst, cases_eq, Header, Known, RingView, changed, on_ring, shape_of, ring_elsewhere, IsRestored, Restores, Shape, Row, restored, restored_on, ring_restored}
+use Rattle.leases.proofs.BaseWords.{rules, ◌≡◌, ℕ, Option, None, Some, refl, sym, Header, Known, RingView, changed, on_ring, shape_of, ring_elsewhere, IsRestored, Restores, Shape, Row, restored, restored_on, ring_restored}
 use Rattle.safety.proofs.DriverRows.{ring_here}
 
 view_same : (shape : Shape) (v : RingView) → IsRestored v → changed shape v Restores ≡ v

@@ -1,5 +1,5 @@
 -- What is open behind a ring that goes, and behind one that comes
-use Rattle.leases.proofs.BaseWords.{not, and_false, ◌≡◌, ◌==◌, ◌&&◌, ◌||◌, ◌++◌, ◌∷◌, ◌∙◌, ℕ, Bool, true, false, List, [], filter, refl, sym, ap, inl, inr, eqb-false, filter-append, cases_Bool, flat_map, Header, IsHeader, Ring, Known, DriverKeeps, IsIn, driver_rings, is_driver_kind, open_leases, open_on, open_ranges, new_ring, leased_is, Leased, Block, Link, Range, is_among, same_leased, IsComing, forgotten, is_bad_free, is_bad_ring, with_ring, without_ring, none_found, bad_same, f_keeps, fresh, no_ring, cleared, cleared_apart, is_of_ring}
+use Rattle.leases.proofs.BaseWords.{not, and_false, ◌≡◌, ◌==◌, ◌&&◌, ◌||◌, ◌++◌, ◌∷◌, ◌∙◌, ℕ, Bool, true, false, List, [], filter, refl, sym, ap, inl, inr, eqb-false, filter-append, cases_Bool, flat_map, Header, IsHeader, Ring, Known, DriverKeeps, IsIn, driver_rings, is_driver_kind, open_leases, open_on, open_ranges, new_ring, leased_is, Leased, Range, is_among, same_leased, IsComing, forgotten, is_bad_free, is_bad_ring, with_ring, without_ring, none_found, bad_same, f_keeps, fresh, no_ring, cleared, cleared_apart, is_of_ring}
 use Rattle.leases.proofs.LeaseBooks.RangesAlone.{IsRange, open_are_ranges}
 use Rattle.safety.proofs.RingChanges.Forgotten as forgets
 use Rattle.safety.proofs.RingChanges.NewRings as new

@@ -1,5 +1,5 @@
 -- With other rings the same ranges are under lease, so long as the event ring and the command ring are the same
-use Rattle.leases.proofs.BaseWords.{rules, ◌≡◌, ◌*◌, ◌++◌, ◌∷◌, ◌∙◌, ℕ, List, [], map, filter, Option, Some, None, option_and_then, slice_get, refl, ap, fun_ext, flat_map, slots, segment_ranges, table_range, entry_ranges, device_ranges, context_ranges, range_of_command, range_of_context, range_of_device, range_of_entry, entry_of, open_ranges, unfinished_positions, command_at, due_positions, command_of, named_context, Command, Header, Ring, RingView, Known, Erstba, shape_of, command_id, table_bytes, Shape, base_address, EventSegment, Range, SegmentTable, OtherRings}
+use Rattle.leases.proofs.BaseWords.{rules, ◌≡◌, ◌*◌, ◌++◌, ◌∷◌, ℕ, List, [], map, filter, Option, Some, None, option_and_then, slice_get, refl, ap, fun_ext, flat_map, slots, segment_ranges, table_range, entry_ranges, device_ranges, context_ranges, range_of_command, range_of_context, range_of_device, range_of_entry, entry_of, open_ranges, unfinished_positions, command_at, due_positions, command_of, named_context, Command, Header, Ring, RingView, Known, Erstba, shape_of, command_id, table_bytes, Shape, base_address, EventSegment, Range, SegmentTable, OtherRings}
 
 module _ (h : Header) (rings : List Ring) (k : Known) (views : ℕ → RingView) (o : OtherRings h rings k views) where
   abbrev g : Header

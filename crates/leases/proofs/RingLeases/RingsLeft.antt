@@ -1,5 +1,5 @@
 -- The leases of blocks and Links with a ring more, and with one left out
-use Rattle.leases.proofs.BaseWords.{and_false, ◌≡◌, ◌==◌, ◌&&◌, ◌++◌, ◌∷◌, ◌∙◌, ℕ, not, Bool, true, false, List, [], map, filter, refl, ap, inl, inr, filter-append, flat_map, IsIn, Header, Ring, Known, is_driver_kind, open_on, due_crossings, due_positions, leased_crossings, leased_positions, new_ring, is_crossing, Leased, Block, Link, is_of_ring, rules}
+use Rattle.leases.proofs.BaseWords.{and_false, ◌≡◌, ◌==◌, ◌++◌, ◌∷◌, ℕ, not, Bool, true, false, List, [], map, filter, refl, ap, inl, inr, filter-append, flat_map, IsIn, Header, Ring, Known, is_driver_kind, open_on, due_crossings, due_positions, leased_crossings, leased_positions, new_ring, is_crossing, Leased, Block, Link, is_of_ring, rules}
 
 pub filter_none : {X : Type 0} (p : X → Bool) (xs : List X) → ((x : X) → p x ≡ false) → filter p xs ≡ []
 filter_none p [] none = refl

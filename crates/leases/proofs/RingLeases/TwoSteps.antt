@@ -1,7 +1,6 @@
 -- What begins at a row that restores a ring and begins leases of its own, told in two steps: what is open before it (K), behind it (L), where the
 -- ring alone is restored (R), and where the row's own step alone is made (S)
-use Rattle.leases.proofs.BaseWords.{◌≡◌, ◌<◌, ◌&&◌, ◌++◌, ◌∷◌, ◌∙◌, ℕ, Bool, true, false, not, List, [], filter, map, refl, sym, ap, subst, inl, inr, cases_Bool, and_parts, and_from, false≢true, IsIn, from_filter, in_among, in_filter, Leased, is_among, without_end, AllUnended, Lent, begun_at, in_turn, newly_open, passed_on, precedes, with_begun, with_leased, rules}
-use Rattle.leases.proofs.LeaseBooks.Growing.{map_append}
+use Rattle.leases.proofs.BaseWords.{◌≡◌, ◌<◌, ◌&&◌, ◌++◌, ◌∷◌, ◌∙◌, ℕ, Bool, true, false, not, List, [], filter, refl, sym, ap, subst, inl, inr, cases_Bool, and_parts, and_from, false≢true, IsIn, from_filter, in_among, in_filter, Leased, is_among, without_end, AllUnended, Lent, in_turn, newly_open, passed_on, precedes, with_begun, with_leased, rules}
 use Rattle.leases.proofs.LeaseBooks.Passing.{none_over}
 use Rattle.leases.proofs.LeaseBooks.Rows.{IsOpen, from_turn, passed_by, passed_open}
 use Rattle.leases.proofs.RingLeases.Filtered.{filter_alike, filter_twice}

@@ -1,6 +1,6 @@
 -- The open leases of a ring lie within a lap, and a number more, from its floor on: to pass all of these ends them, and no others. A Link may
 -- be given long before blocks are declared up to it, so what is declared is no bound
-use Rattle.leases.proofs.BaseWords.{rules, ◌≡◌, ◌≢◌, ◌+◌, ◌<◌, ◌≤◌, ◌==◌, ◌&&◌, ◌∷◌, ◌∙◌, ℕ, List, [], true, nat_le, nat_lt, arith, refl, sym, ap, inl, inr, nat_tests, cases_eq, Header, IsHeader, Ring, from_filter, is_driver_kind, Known, IsIn, driver_rings, open_leases, shape_of, place_count, floor_number, Leased, Range, is_among, is_passed, IsAmong, shape_there, is_of_ring}
+use Rattle.leases.proofs.BaseWords.{rules, ◌≡◌, ◌≢◌, ◌+◌, ◌<◌, ◌≤◌, ◌==◌, ◌&&◌, ◌∙◌, ℕ, true, nat_le, nat_lt, arith, refl, sym, ap, nat_tests, Header, Ring, Known, open_leases, shape_of, place_count, floor_number, Leased, Range, is_among, is_passed, is_of_ring}
 use Rattle.leases.proofs.LeaseBooks.Members.{InOn, block, link}
 use Rattle.leases.proofs.LeaseBooks.RangesAlone.{IsRange, each_open, open_are_ranges}
 use Rattle.leases.proofs.LeaseBooks.Writing.{AreShaped}

@@ -1,10 +1,6 @@
-use Rattle.leases.proofs.Words.{◌<◌, ◌≤◌, ◌∷◌, ◌∙◌, ℕ, List, [], Result, Ok, Err, OnOk, arith, ap, refl, subst, sym, command_id, open_leases, Lent, passed_on, with_begun, shape_there}
+use Rattle.leases.proofs.Words.{on_more, ◌<◌, ◌≤◌, ◌∷◌, ◌∙◌, ℕ, List, [], arith, ap, refl, subst, sym, command_id, open_leases, Lent, passed_on, with_begun, shape_there}
 use Rattle.leases.proofs.RingLeases.MovingRings.{alone, alone_command, at_end, command_block, command_free, first_restored, freed_given, freed_later, in_rings, last_restored, opened_alone, opened_own, other, own_first, own_step, same_left}
 use Rattle.leases.proofs.rings.freeing.note_moving.Goals as goal
-
-on_more : {T E P Q : Type 0} (r : Result T E) → (P → Q) → OnOk r P → OnOk r Q
-on_more (Ok x) f told = f told
-on_more (Err e) f told = tt
 
 pub returns-then-ring-commands : goal.returns-then-ring-commands
 returns-then-ring-commands g c = on_more c.begin_block.result (λ begins. λ list h k ts a w x early held.
