@@ -90,8 +90,7 @@ module _ (h : Header) where
         ChangesStay h (AddressDevice s bsr a) k (SlotGoesOn s ∷ placed_by_context h.context_size k.memory s a 1 ∷ [])
     unfolding changed_by
     address_list s a bsr still =
-        let c : Command = AddressDevice s bsr a in
-        (
+        let c : Command = AddressDevice s bsr a in (
           tt,
           (
             stays_behind (changed_by h c k (SlotGoesOn s)) s 1 (context_pointer h.context_size k.memory a 1) (context_cycle h.context_size k.memory a 1) refl refl refl

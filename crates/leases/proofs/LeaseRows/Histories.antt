@@ -6,7 +6,10 @@ use Rattle.leases.proofs.LeaseRows.EntriesFit.{entries_fit}
 module _ (h : Header) (headed : IsHeader h) (first : ℕ) (past : List Row) (row : Row) (number : ℕ) (t : TraceRecord) (m : ℕ → ℕ) (clean : IsCleanRow h first past row number t m) where
   pub next_row : IsNextRow h (known h past) (lents h first past) row t m
   next_row = assumption (
-    driver_keeps h headed past clean.history (clean_tests h (known h past) row clean.clean).0, entries_fit h headed past clean.history, in_step h first past (omega (arith, clean.room)))
+    driver_keeps h headed past clean.history (clean_tests h (known h past) row clean.clean).0,
+    entries_fit h headed past clean.history,
+    in_step h first past (omega (arith, clean.room)),
+  )
 
   -- what is held behind it is held of the history with the row more
   pub behind_history : {B : Type 0} {Holds : Header → List Lent → B → Type 0} (book : B) (x : RangeIndexes) →
