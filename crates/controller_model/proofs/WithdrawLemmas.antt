@@ -33,11 +33,10 @@ none_behind (y ∷ rest) (suc p) past = ap (λ zs. y ∷ zs) (none_behind rest p
 
 length-withdrawn : (xs : List Declared) → length (withdrawn xs) ≡ length xs
 length-withdrawn [] = refl
-length-withdrawn (d ∷ rest) =
-    elim (cases_Bool d.ends) [
-      | inl last ↦ ap (λ ys. suc (length ys)) (cond-true d.ends rest (withdrawn rest) last)
-      | inr more ↦ ap (λ ys. suc (length ys)) (cond-false d.ends rest (withdrawn rest) more) ∙ ap suc (length-withdrawn rest)
-    ]
+length-withdrawn (d ∷ rest) = elim (cases_Bool d.ends) [
+  | inl last ↦ rw last refl
+  | inr more ↦ rw more (ap suc (length-withdrawn rest))
+]
 
 length-withdrawn_from : (xs : List Declared) (p : ℕ) → length (withdrawn_from xs p) ≡ length xs
 length-withdrawn_from [] p = refl
@@ -51,17 +50,9 @@ record IsEnd (xs : List Declared) (p e : ℕ) : Type 0 where
   before : (q : ℕ) (d : Declared) → p ≤ q → q < e → slice_get xs q ≡ Some d → d.ends ≡ false
   here : (q : ℕ) (d : Declared) → q ≡ e → slice_get xs q ≡ Some d → d.ends ≡ true
 
-behind_first : (d : Declared) (rest : List Declared) (e : ℕ) → IsEnd (d ∷ rest) zero (suc e) → IsEnd rest zero e
-behind_first d rest e is = record {
-  from = omega arith;
-  inside = omega (arith, is.inside);
-  before = λ q x low high at. is.before (suc q) x (omega arith) (omega arith) at;
-  here = λ q x same at. is.here (suc q) x (omega arith) at;
-}
-
-behind_one : (d : Declared) (rest : List Declared) (p e : ℕ) → IsEnd (d ∷ rest) (suc p) (suc e) → IsEnd rest p e
-behind_one d rest p e is = record {
-  from = omega (arith, is.from);
+behind : (d : Declared) (rest : List Declared) (from p e : ℕ) → from ≤ suc p → p ≤ e → IsEnd (d ∷ rest) from (suc e) → IsEnd rest p e
+behind d rest from p e near within is = record {
+  from = within;
   inside = omega (arith, is.inside);
   before = λ q x low high at. is.before (suc q) x (omega arith) (omega arith) at;
   here = λ q x same at. is.here (suc q) x (omega arith) at;
@@ -72,21 +63,21 @@ run_here [] e q is within = absurd (omega (arith, is.inside))
 run_here (d ∷ rest) e zero is within = refl
 run_here (d ∷ rest) zero (suc q) is within = absurd (omega arith)
 run_here (d ∷ rest) (suc e) (suc q) is within =
-    ap (λ ys. slice_get ys q) (cond-false d.ends rest (withdrawn rest) (is.before 0 d (omega arith) (omega arith) refl)) ∙ run_here rest e q (behind_first d rest e is) (omega arith)
+    rw (is.before 0 d (omega arith) (omega arith) refl) (run_here rest e q (behind d rest zero zero e (omega arith) (omega arith) is) (omega arith))
 
 run_past : (xs : List Declared) (e q : ℕ) → IsEnd xs zero e → e < q → slice_get (withdrawn xs) q ≡ slice_get xs q
 run_past [] e q is past = absurd (omega (arith, is.inside))
 run_past (d ∷ rest) e zero is past = absurd (omega arith)
-run_past (d ∷ rest) zero (suc q) is past = ap (λ ys. slice_get ys q) (cond-true d.ends rest (withdrawn rest) (is.here 0 d refl refl))
+run_past (d ∷ rest) zero (suc q) is past = rw (is.here 0 d refl refl) refl
 run_past (d ∷ rest) (suc e) (suc q) is past =
-    ap (λ ys. slice_get ys q) (cond-false d.ends rest (withdrawn rest) (is.before 0 d (omega arith) (omega arith) refl)) ∙ run_past rest e q (behind_first d rest e is) (omega arith)
+    rw (is.before 0 d (omega arith) (omega arith) refl) (run_past rest e q (behind d rest zero zero e (omega arith) (omega arith) is) (omega arith))
 
 from_here : (xs : List Declared) (p e q : ℕ) → IsEnd xs p e → p ≤ q → q ≤ e → slice_get (withdrawn_from xs p) q ≡ Some lone_no_op
 from_here [] p e q is low high = absurd (omega (arith, is.inside))
 from_here (d ∷ rest) zero e q is low high = run_here (d ∷ rest) e q is high
 from_here (d ∷ rest) (suc p) zero q is low high = absurd (omega (arith, is.from))
 from_here (d ∷ rest) (suc p) (suc e) zero is low high = absurd (omega arith)
-from_here (d ∷ rest) (suc p) (suc e) (suc q) is low high = from_here rest p e q (behind_one d rest p e is) (omega arith) (omega arith)
+from_here (d ∷ rest) (suc p) (suc e) (suc q) is low high = from_here rest p e q (behind d rest (suc p) p e (omega arith) (omega (arith, is.from)) is) (omega arith) (omega arith)
 
 from_elsewhere : (xs : List Declared) (p e q : ℕ) → IsEnd xs p e → (q < p) ⊎ (e < q) → slice_get (withdrawn_from xs p) q ≡ slice_get xs q
 from_elsewhere [] p e q is out = refl
@@ -94,7 +85,7 @@ from_elsewhere (d ∷ rest) zero e q is out = elim out [ inl low ↦ absurd (ome
 from_elsewhere (d ∷ rest) (suc p) e zero is out = refl
 from_elsewhere (d ∷ rest) (suc p) zero (suc q) is out = absurd (omega (arith, is.from))
 from_elsewhere (d ∷ rest) (suc p) (suc e) (suc q) is out =
-    from_elsewhere rest p e q (behind_one d rest p e is) (elim out [ inl low ↦ inl (omega arith) | inr high ↦ inr (omega arith) ])
+    from_elsewhere rest p e q (behind d rest (suc p) p e (omega arith) (omega (arith, is.from)) is) (elim out [ inl low ↦ inl (omega arith) | inr high ↦ inr (omega arith) ])
 
 no_ops_here : (xs : List Block) (p n q : ℕ) → p + n ≤ length xs → p ≤ q → q < p + n → slice_get (no_ops xs p n) q ≡ Some no_op
 unfolding no_ops
@@ -132,15 +123,10 @@ border_below (n ∷ rest) s q low = (λ i. ne_eqb s q (λ e. omega arith) i || b
 pub begins_none : (lengths : List ℕ) (s p : ℕ) → is_border lengths s p ≡ false → (length_from lengths s p ≡ 0) × (split_at lengths s p ≡ lengths)
 unfolding is_border length_from split_at
 begins_none [] s p none = (refl, refl)
-begins_none (n ∷ rest) s p none =
-    elim (cases_Bool (s == p)) [
-      | inl here ↦ absurd (false≢true (sym none ∙ ap (λ b. b || is_border rest (s + n) p) here))
-      | inr e ↦
-          let later = begins_none rest (s + n) p (ap (λ b. b || is_border rest (s + n) p) (sym e) ∙ none) in (
-            cond-false (s == p) n (length_from rest (s + n) p) e ∙ later.0,
-            cond-false (s == p) (replicate n 1 ++ rest) (n ∷ split_at rest (s + n) p) e ∙ ap (λ l. n ∷ l) later.1,
-          )
-    ]
+begins_none (n ∷ rest) s p none = elim (cases_Bool (s == p)) [
+  | inl here ↦ absurd (false≢true (sym none ∙ rw here refl))
+  | inr e ↦ let later = begins_none rest (s + n) p (rw e at none) in rw (e, later.0, later.1) (refl, refl)
+]
 
 pub begins_past : (lengths : List ℕ) (s p : ℕ) → All (λ n. 0 < n) lengths → s + blocks_of lengths ≤ p → (length_from lengths s p ≡ 0) × (split_at lengths s p ≡ lengths)
 unfolding length_from split_at
@@ -149,7 +135,7 @@ begins_past (n ∷ rest) s p some past =
     let first : 0 < n = All-head (λ m. 0 < m) n rest some in
     let e = ne_eqb s p (λ same. omega arith) in
     let later = begins_past rest (s + n) p (All-tail (λ m. 0 < m) n rest some) (omega arith) in
-    (cond-false (s == p) n (length_from rest (s + n) p) e ∙ later.0, cond-false (s == p) (replicate n 1 ++ rest) (n ∷ split_at rest (s + n) p) e ∙ ap (λ l. n ∷ l) later.1)
+    rw (e, later.0, later.1) (refl, refl)
 
 -- the descriptor that begins at p
 record IsDescriptor (lengths : List ℕ) (s p : ℕ) : Type 0 where
@@ -201,36 +187,30 @@ ones_past (suc n) rest s q past =
 split_within : (lengths : List ℕ) (s p q : ℕ) → 0 < length_from lengths s p → p ≤ q → q ≤ p + length_from lengths s p → is_border (split_at lengths s p) s q ≡ true
 unfolding is_border length_from split_at
 split_within [] s p q some low high = absurd (omega arith)
-split_within (n ∷ rest) s p q some low high =
-    elim (cases_eq s p) [
-      | inl here ↦
-          let is : length_from (n ∷ rest) s p ≡ n = cond-true (s == p) n (length_from rest (s + n) p) (eq-eqb s p here) in
-          ap (λ l. is_border l s q) (cond-true (s == p) (replicate n 1 ++ rest) (n ∷ split_at rest (s + n) p) (eq-eqb s p here))
-          ∙ ones_within n rest s q (omega (arith, here)) (omega (arith, here, is))
-      | inr apart ↦
-          let is : length_from (n ∷ rest) s p ≡ length_from rest (s + n) p = cond-false (s == p) n (length_from rest (s + n) p) (ne_eqb s p apart) in
-          ap (λ l. is_border l s q) (cond-false (s == p) (replicate n 1 ++ rest) (n ∷ split_at rest (s + n) p) (ne_eqb s p apart))
-          ∙ or_right (s == q) (is_border (split_at rest (s + n) p) (s + n) q) (split_within rest (s + n) p q (omega (arith, is)) low (omega (arith, is)))
-    ]
+split_within (n ∷ rest) s p q some low high = elim (cases_eq s p) [
+  | inl here ↦
+      let is : length_from (n ∷ rest) s p ≡ n = rw (eq-eqb s p here) refl in
+      rw (eq-eqb s p here) (ones_within n rest s q (omega (arith, here)) (omega (arith, here, is)))
+  | inr apart ↦
+      let is : length_from (n ∷ rest) s p ≡ length_from rest (s + n) p = rw (ne_eqb s p apart) refl in
+      rw (ne_eqb s p apart) (or_right (s == q) (is_border (split_at rest (s + n) p) (s + n) q) (split_within rest (s + n) p q (omega (arith, is)) low (omega (arith, is))))
+]
 
 -- and elsewhere descriptors begin where they did
 split_elsewhere : (lengths : List ℕ) (s p q : ℕ) → (q < p) ⊎ (p + length_from lengths s p < q) → is_border (split_at lengths s p) s q ≡ is_border lengths s q
 unfolding is_border length_from split_at
 split_elsewhere [] s p q out = refl
-split_elsewhere (n ∷ rest) s p q out =
-    elim (cases_eq s p) [
-      | inl here ↦
-          let is : length_from (n ∷ rest) s p ≡ n = cond-true (s == p) n (length_from rest (s + n) p) (eq-eqb s p here) in
-          ap (λ l. is_border l s q) (cond-true (s == p) (replicate n 1 ++ rest) (n ∷ split_at rest (s + n) p) (eq-eqb s p here))
-          ∙ elim out [
-            | inl low ↦ below q here low
-            | inr high ↦ ones_past n rest s q (omega (arith, here, is)) ∙ ap (λ b. b || is_border rest (s + n) q) (sym (ne_eqb s q (λ e. omega (arith, here, is))))
-          ]
-      | inr apart ↦
-          let is : length_from (n ∷ rest) s p ≡ length_from rest (s + n) p = cond-false (s == p) n (length_from rest (s + n) p) (ne_eqb s p apart) in
-          ap (λ l. is_border l s q) (cond-false (s == p) (replicate n 1 ++ rest) (n ∷ split_at rest (s + n) p) (ne_eqb s p apart))
-          ∙ ap (λ b. s == q || b) (split_elsewhere rest (s + n) p q (elim out [ inl low ↦ inl low | inr high ↦ inr (omega (arith, is)) ]))
-    ]
+split_elsewhere (n ∷ rest) s p q out = elim (cases_eq s p) [
+  | inl here ↦
+      let is : length_from (n ∷ rest) s p ≡ n = rw (eq-eqb s p here) refl in
+      rw (eq-eqb s p here) (elim out [
+        | inl low ↦ below q here low
+        | inr high ↦ ones_past n rest s q (omega (arith, here, is)) ∙ ap (λ b. b || is_border rest (s + n) q) (sym (ne_eqb s q (λ e. omega (arith, here, is))))
+      ])
+  | inr apart ↦
+      let is : length_from (n ∷ rest) s p ≡ length_from rest (s + n) p = rw (ne_eqb s p apart) refl in
+      rw (ne_eqb s p apart) (ap (λ b. s == q || b) (split_elsewhere rest (s + n) p q (elim out [ inl low ↦ inl low | inr high ↦ inr (omega (arith, is)) ])))
+]
   where
     below : (q : ℕ) → s ≡ p → q < p → is_border (replicate n 1 ++ rest) s q ≡ is_border (n ∷ rest) s q
     below q here low = border_below (replicate n 1 ++ rest) s q (omega (arith, here)) ∙ sym (border_below (n ∷ rest) s q (omega (arith, here)))
@@ -238,11 +218,10 @@ split_elsewhere (n ∷ rest) s p q out =
 blocks_split : (lengths : List ℕ) (s p : ℕ) → blocks_of (split_at lengths s p) ≡ blocks_of lengths
 unfolding split_at
 blocks_split [] s p = refl
-blocks_split (n ∷ rest) s p =
-    elim (cases_Bool (s == p)) [
-      | inl here ↦ ap blocks_of (cond-true (s == p) (replicate n 1 ++ rest) (n ∷ split_at rest (s + n) p) here) ∙ ones n rest
-      | inr later ↦ ap blocks_of (cond-false (s == p) (replicate n 1 ++ rest) (n ∷ split_at rest (s + n) p) later) ∙ ap (λ m. n + m) (blocks_split rest (s + n) p)
-    ]
+blocks_split (n ∷ rest) s p = elim (cases_Bool (s == p)) [
+  | inl here ↦ rw here (ones n rest)
+  | inr later ↦ rw later (ap (λ m. n + m) (blocks_split rest (s + n) p))
+]
   where
     ones : (n : ℕ) (rest : List ℕ) → blocks_of (replicate n 1 ++ rest) ≡ n + blocks_of rest
     ones zero rest = omega arith
