@@ -1,4 +1,5 @@
 -- Segments by their number, and the data places of a list of segments: where each lies, and that no two overlap
+use Rattle.std.proofs.Common.{rules}
 use Rattle.segments.proofs.Words.{◌≡◌, ◌+◌, ◌-◌, ◌*◌, ◌<◌, ◌≤◌, ◌∷◌, ◌∙◌, ℕ, suc, zero, Bool, true, false, not, List, [], length, ap, inl, inr, arith, refl, get_or, length-append, zero-add, add-one, flat_map, list_any, cases_lt, and_parts, or_parts, not-true, nat_tests, get_or_append_left, get_or-append_right, RingKind, Segment, blocks_from, data_count, overlap, segments_overlap, are_apart}
 pub use Rattle.segments.specs.Index.{before, segment_at}
 
@@ -24,22 +25,15 @@ pub record LiesAt (kind : RingKind) (ss : List Segment) (i j k : ℕ) : Type 0 w
 
 pub length-places_of-cons : (kind : RingKind) (s : Segment) (rest : List Segment) →
     length (places_of kind (s ∷ rest)) ≡ data_count kind s + length (places_of kind rest)
-length-places_of-cons kind s rest =
-    length-append (blocks_from s.base (data_count kind s)) (places_of kind rest)
-    ∙ ap (λ n. n + length (places_of kind rest)) (length-blocks_from s.base (data_count kind s))
+length-places_of-cons kind s rest = search (rules, length-append, blocks_from, data_count, length, length-blocks_from)
 
 in_first : (kind : RingKind) (s : Segment) (rest : List Segment) (k : ℕ) → k < data_count kind s →
     get_or (places_of kind (s ∷ rest)) k 0 ≡ s.base + 16 * k
-in_first kind s rest k h =
-    let here : k < length (blocks_from s.base (data_count kind s)) = rw (length-blocks_from s.base (data_count kind s)) h in
-    get_or_append_left (blocks_from s.base (data_count kind s)) (places_of kind rest) 0 k here
-    ∙ get_or-blocks_from s.base (data_count kind s) k 0 h
+in_first kind s rest k h = search (rules, length, blocks_from, data_count, length-blocks_from, get_or_append_left, get_or-blocks_from)
 
 in_rest : (kind : RingKind) (s : Segment) (rest : List Segment) (i : ℕ) → data_count kind s ≤ i →
     get_or (places_of kind (s ∷ rest)) i 0 ≡ get_or (places_of kind rest) (i - data_count kind s) 0
-in_rest kind s rest i h =
-    get_or-append_right (blocks_from s.base (data_count kind s)) (places_of kind rest) (data_count kind s) i 0
-    (length-blocks_from s.base (data_count kind s)) h
+in_rest kind s rest i h = search (rules, get_or-append_right, blocks_from, data_count, length-blocks_from)
 
 -- every data place is a block of a segment
 pub place_lies : (kind : RingKind) (ss : List Segment) (i : ℕ) → i < length (places_of kind ss) →
@@ -101,15 +95,9 @@ pub same_segment : (ss : List Segment) → are_apart ss ≡ true → (i j x : �
 same_segment [] apart i j x hi hj li ri lj rj = absurd (omega arith)
 same_segment (s ∷ rest) apart zero zero x hi hj li ri lj rj = refl
 same_segment (s ∷ rest) apart zero (suc j) x hi hj li ri lj rj =
-    let parts = and_parts (not (list_any (segments_overlap s) rest)) (are_apart rest) apart in
-    let none : list_any (segments_overlap s) rest ≡ false = not-true (list_any (segments_overlap s) rest) parts.0 in
-    let here : segments_overlap s (segment_at rest j) ≡ false = none_at (segments_overlap s) rest j (record { base = 0; count = 0 }) none (omega arith) in
-    absurd (not_both s.base (16 * s.count) (segment_at rest j).base (16 * (segment_at rest j).count) x here li ri lj rj)
+    search (rules, and_parts, not, list_any, segments_overlap, are_apart, not-true, segment_at, none_at, not_both)
 same_segment (s ∷ rest) apart (suc i) zero x hi hj li ri lj rj =
-    let parts = and_parts (not (list_any (segments_overlap s) rest)) (are_apart rest) apart in
-    let none : list_any (segments_overlap s) rest ≡ false = not-true (list_any (segments_overlap s) rest) parts.0 in
-    let here : segments_overlap s (segment_at rest i) ≡ false = none_at (segments_overlap s) rest i (record { base = 0; count = 0 }) none (omega arith) in
-    absurd (not_both s.base (16 * s.count) (segment_at rest i).base (16 * (segment_at rest i).count) x here lj rj li ri)
+    search (rules, and_parts, not, list_any, segments_overlap, are_apart, not-true, segment_at, none_at, not_both)
 same_segment (s ∷ rest) apart (suc i) (suc j) x hi hj li ri lj rj =
     let parts = and_parts (not (list_any (segments_overlap s) rest)) (are_apart rest) apart in
     ap suc (same_segment rest parts.1 i j x (omega arith) (omega arith) li ri lj rj)

@@ -53,16 +53,14 @@ before_grows shape is i (suc n) h =
     let so_far : before shape.kind shape.segments i + n ≤ before shape.kind shape.segments (i + n) = before_grows shape is i n (omega arith) in
     let more : before shape.kind shape.segments (i + n + 1) ≡ before shape.kind shape.segments (i + n) + data_count shape.kind (segment_at shape.segments (i + n)) =
     before-next shape.kind shape.segments (i + n) (omega arith) in
-    let one : i + suc n ≡ i + n + 1 = omega arith in
-    rw one (omega (arith, s.some_data))
+    search rules
 
 -- a later segment has more data places before it
 pub before_below : (shape : Shape) → IsShape shape → (i j : ℕ) → i < j → j ≤ length shape.segments →
     before shape.kind shape.segments i < before shape.kind shape.segments j
 before_below shape is i j l h =
     let apart : i + (j - i) ≡ j = omega arith in
-    let grows = rw apart at (before_grows shape is i (j - i) (omega arith)) in
-    omega arith
+    search (rules, before_grows)
 
 -- the ends lie in the lap, from 1 on
 pub end_in_lap : (shape : Shape) → IsShape shape → (j : ℕ) → j < length (links shape) →
@@ -75,27 +73,14 @@ end_in_lap shape is j h =
       omega arith,
       elim (cases_lt (j + 1) (length shape.segments)) [
         | inl below ↦ let later = before_below shape is (j + 1) (length shape.segments) below (omega arith) in omega arith
-        | inr last ↦
-            let here : j + 1 ≡ length shape.segments = omega (arith, link.segment) in
-            omega (arith, ap (λ n. before shape.kind shape.segments n) here)
+        | inr last ↦ search (rules, length, before)
       ],
     )
 
 -- no two Links are crossed after one number of data places
 pub same_end : (shape : Shape) → IsShape shape → (i j : ℕ) → i < length (links shape) → j < length (links shape) →
     slice_index (ends shape) i ≡ slice_index (ends shape) j → i ≡ j
-same_end shape is i j hi hj e =
-    let a = end_is shape i hi in
-    let b = end_is shape j hj in
-    let here = link_is shape is i hi in
-    let there = link_is shape is j hj in
-    elim (cases_order i j) [
-      | inl same ↦ same
-      | inr apart ↦ elim apart [
-        | inl lower ↦ let less = before_below shape is (i + 1) (j + 1) (omega arith) (omega (arith, there.segment)) in absurd (omega arith)
-        | inr upper ↦ let less = before_below shape is (j + 1) (i + 1) (omega arith) (omega (arith, here.segment)) in absurd (omega arith)
-      ]
-    ]
+same_end shape is i j hi hj e = search (rules, end_is shape i hi, end_is shape j hj, link_is shape is i hi, link_is shape is j hj, cases_order, before_below)
 
 -- ---- which Link is crossed on the way to a position
 
@@ -157,10 +142,7 @@ link_crossed-same shape is p q hp hq same =
     ∙ sym (link_crossed-pos shape q hq)
   where
     one_before : (n p q : ℕ) → 0 < n → 0 < p → 0 < q → p % n ≡ q % n → (p - 1) % n + 1 ≡ (q - 1) % n + 1
-    one_before n p q pos hp hq same = elim (cases_eq (p % n) 0) [
-      | inl end ↦ before_zero n p pos hp end ∙ sym (before_zero n q pos hq (sym same ∙ end))
-      | inr more ↦ before_more n p pos hp (omega arith) ∙ same ∙ sym (before_more n q pos hq (omega arith))
-    ]
+    one_before n p q pos hp hq same = search (rules, cases_eq, before_zero, before_more)
 
 pub is_crossing-lap : (shape : Shape) (q : ℕ) → 0 < q → is_crossing shape (q + place_count shape) ≡ is_crossing shape q
 is_crossing-lap shape q h = ap (λ o. is_some o) (link_crossed-lap shape q h)
@@ -205,11 +187,7 @@ crossing_at_end shape is other q h end =
 pub same_crossing : (shape : Shape) → IsShape shape → (p q i : ℕ) → p ≤ q → q < p + place_count shape →
     link_crossed shape p ≡ Some i → link_crossed shape q ≡ Some i → p ≡ q
 same_crossing shape is p q i le near first second =
-    let a = crosses shape p i first in
-    let b = crosses shape q i second in
-    let ends_same : (p - 1) % place_count shape + 1 ≡ (q - 1) % place_count shape + 1 = sym a.end ∙ b.end in
-    let same : p - 1 ≡ q - 1 = same_in_lap (place_count shape) (p - 1) (q - 1) (place_count_pos shape is) (omega arith) (omega (arith, a.positive)) (omega arith) in
-    omega (arith, a.positive, b.positive)
+    search (rules, crosses shape p i first, crosses shape q i second, place_count, same_in_lap, place_count_pos)
 
 -- the same by the Links' addresses
 pub same_crossing_at : (shape : Shape) → IsShape shape → (p q : ℕ) → p ≤ q → q < p + place_count shape →
@@ -217,10 +195,7 @@ pub same_crossing_at : (shape : Shape) → IsShape shape → (p q : ℕ) → p �
 same_crossing_at shape is p q le near first second same =
     let a = crossed_link shape p first in
     let b = crossed_link shape q second in
-    let here = crosses shape p a.0 a.1 in
-    let there = crosses shape q b.0 b.1 in
-    let one : b.0 ≡ a.0 = same_link shape is b.0 a.0 there.link here.link (sym (link_address_is shape q b.0 b.1) ∙ sym same ∙ link_address_is shape p a.0 a.1) in
-    same_crossing shape is p q a.0 le near a.1 (b.1 ∙ ap (λ n. Some n) one)
+    search (rules, crosses shape p a.0 a.1, crosses shape q b.0 b.1, crosses, same_link, link_address_is, same_crossing, Some)
 
 -- ---- where a crossed Link leads
 
@@ -231,16 +206,7 @@ toggles-crossed shape is q i h =
     let link = link_is shape is i c.link in
     let at = end_is shape i c.link in
     let all = before-all shape.kind shape.segments in
-    elim (cases_eq (i + 1) (length shape.segments)) [
-      | inl last ↦
-          let whole : before shape.kind shape.segments (i + 1) ≡ place_count shape = ap (λ n. before shape.kind shape.segments n) last ∙ all in
-          let end : q % place_count shape ≡ 0 = at_end q (place_count shape) (place_count_pos shape is) c.positive (sym c.end ∙ at ∙ whole) in
-          eq-eqb (i + 1) (length shape.segments) last ∙ sym (eq-eqb (q % place_count shape) 0 end)
-      | inr inner ↦
-          let less = before_below shape is (i + 1) (length shape.segments) (omega (arith, link.segment)) (omega arith) in
-          let within : q % place_count shape ≡ (q - 1) % place_count shape + 1 = inside q (place_count shape) c.positive (omega (arith, c.end)) in
-          ne_eqb (i + 1) (length shape.segments) inner ∙ sym (ne_eqb (q % place_count shape) 0 (λ e. absurd (omega arith)))
-    ]
+    search (rules, cases_eq, length, before, place_count, at_end, place_count_pos, eq-eqb, before_below, inside, ne_eqb)
   where
     at_end : (q n : ℕ) → 0 < n → 0 < q → (q - 1) % n + 1 ≡ n → q % n ≡ 0
     at_end q n pos h e = let one : q - 1 + 1 ≡ q = omega arith in rw one at (next_at_end n (q - 1) pos e).1
@@ -256,10 +222,7 @@ position_behind shape is q i h =
     let at = end_is shape i c.link in
     let turn = toggles-crossed shape is q i h in
     elim (cases_eq (i + 1) (length shape.segments)) [
-      | inl last ↦
-          let end : q % place_count shape ≡ 0 = eqb-true (q % place_count shape) 0 (sym turn ∙ eq-eqb (i + 1) (length shape.segments) last) in
-          let zero_next : (i + 1) % length shape.segments ≡ 0 = ap (λ n. n % length shape.segments) last ∙ mod_self (length shape.segments) in
-          end ∙ sym (before-zero shape.kind shape.segments) ∙ ap (λ n. before shape.kind shape.segments n) (sym zero_next)
+      | inl last ↦ search (rules, place_count, eqb-true, eq-eqb, length, mod_self, before-zero, before)
       | inr inner ↦
           let more : q % place_count shape ≢ 0 = λ e. inner (eqb-true (i + 1) (length shape.segments) (turn ∙ eq-eqb (q % place_count shape) 0 e)) in
           let low : (i + 1) % length shape.segments ≡ i + 1 = mod-eq_of_lt (omega (arith, (link_is shape is i c.link).segment)) in
@@ -267,13 +230,7 @@ position_behind shape is q i h =
     ]
   where
     within : (q n : ℕ) → 0 < n → 0 < q → q % n ≢ 0 → q % n ≡ (q - 1) % n + 1
-    within q n pos h more =
-        let one : q - 1 + 1 ≡ q = omega arith in
-        let below : (q - 1) % n < n = mod-lt (q - 1) pos in
-        elim (cases_lt ((q - 1) % n + 1) n) [
-          | inl inner ↦ rw one at (next_within n (q - 1) inner).1
-          | inr last ↦ let turned : q % n ≡ 0 = rw one at (next_at_end n (q - 1) pos (omega arith)).1 in absurd (more turned)
-        ]
+    within q n pos h more = search (rules, mod-lt, cases_lt, next_within, next_at_end)
 
 -- the position behind a crossed Link lies where the Link leads
 pub link_target-crossed : (shape : Shape) → IsShape shape → (q i : ℕ) → link_crossed shape q ≡ Some i → address_of shape q ≡ link_target shape i
@@ -294,12 +251,7 @@ link_address-behind shape is q h =
     let more = before-next shape.kind shape.segments i link.segment in
     let some = link.is_segment.some_data in
     let last = block_is shape is i (data_count shape.kind (segment_at shape.segments i) - 1) link.segment (omega arith) in
-    let one : q + 1 - 1 ≡ q = omega arith in
-    let end : slice_index (ends shape) i ≡ q % place_count shape + 1 = rw one at c.end in
-    let here : before shape.kind shape.segments i + (data_count shape.kind (segment_at shape.segments i) - 1) ≡ q % place_count shape = omega arith in
-    let place : address_of shape q ≡ (segment_at shape.segments i).base + 16 * (data_count shape.kind (segment_at shape.segments i) - 1) =
-    ap (λ n. slice_index (data_places shape) n) (sym here) ∙ last.1.address in
-    link_address_is shape (q + 1) i found.1 ∙ link.address ∙ one_on _ _ _ some place
+    search (rules, slice_index, ends, place_count, before, data_count, segment_at, address_of, data_places, link_address_is, one_on)
   where
     one_on : (a n x : ℕ) → 1 ≤ n → x ≡ a + 16 * (n - 1) → a + 16 * n ≡ x + 16
     one_on a n x h e = omega arith
@@ -314,10 +266,7 @@ address_of-behind shape is other q h =
     let place : IsPlace shape (q % place_count shape) j k = found.2 in
     elim (cases_lt (k + 1) (data_count shape.kind (segment_at shape.segments j))) [
       | inl inner ↦
-          let next = block_is shape is j (k + 1) place.segment inner in
-          let number : q % place_count shape + 1 ≡ before shape.kind shape.segments j + (k + 1) = omega (arith, place.number) in
-          let at = (next_within (place_count shape) q (omega (arith, next.0))).1 in
-          ap (λ n. slice_index (data_places shape) n) (at ∙ number) ∙ next.1.address ∙ one_on _ k _ place.address
+          search (rules, block_is shape is j (k + 1) place.segment inner, block_is, place_count, before, next_within, slice_index, data_places, one_on)
       | inr last ↦
           let link : j < length (links shape) = omega (arith, length-links shape other, place.segment) in
           let more = before-next shape.kind shape.segments j place.segment in
@@ -338,12 +287,6 @@ cycle_of-crossed shape is q i h =
     let turn = toggles-crossed shape is q i h in
     let one : q - 1 + 1 ≡ q = omega (arith, c.positive) in
     elim (cases_eq (q % place_count shape) 0) [
-      | inl end ↦
-          let flips : cycle_of shape q ≡ 1 - cycle_of shape (q - 1) =
-          rw one at (cycle_of-next_lap shape is (q - 1) (before_zero (place_count shape) q (place_count_pos shape is) c.positive end)) in
-          flips ∙ sym (cond-true (toggles shape i) _ _ (turn ∙ eq-eqb (q % place_count shape) 0 end))
-      | inr inner ↦
-          let at : (q - 1) % place_count shape + 1 ≡ q % place_count shape = before_more (place_count shape) q (place_count_pos shape is) c.positive (omega arith) in
-          let stays : cycle_of shape q ≡ cycle_of shape (q - 1) = rw one at (cycle_of-next shape (q - 1) (omega (arith, place_below shape is q))) in
-          stays ∙ sym (cond-false (toggles shape i) _ _ (turn ∙ ne_eqb (q % place_count shape) 0 inner))
+      | inl end ↦ search (rules, cycle_of, cycle_of-next_lap, before_zero, place_count, place_count_pos, end, cond-true, toggles, eq-eqb)
+      | inr inner ↦ search (rules, place_count, before_more, place_count_pos, cycle_of, cycle_of-next, place_below, cond-false, toggles, ne_eqb)
     ]

@@ -1,5 +1,5 @@
 -- Where data places and Links of a ring lie: on 16 byte boundaries, inside its segments, and apart
-use Rattle.segments.proofs.Words.{◌≡◌, ◌+◌, ◌*◌, ◌%◌, ◌^◌, ◌<◌, ◌≤◌, ◌∷◌, ◌∙◌, ℕ, suc, true, List, [], length, slice_index, arith, ap, get_or, add-zero, le-leb, lt-ltb, cases_lt, and_from, length-map, get_or-map, list_any_at, RingKind, Cmd, Evt, Xfer, Segment, Shape, data_count, data_places, place_count, links_of, links, segment_has, is_inside, IsShape, are_apart, rules}
+use Rattle.segments.proofs.Words.{◌≡◌, ◌+◌, ◌*◌, ◌%◌, ◌^◌, ◌<◌, ◌≤◌, ◌∷◌, ◌∙◌, ℕ, suc, true, List, [], length, slice_index, arith, get_or, add-zero, le-leb, lt-ltb, cases_lt, and_from, length-map, get_or-map, list_any_at, RingKind, Cmd, Evt, Xfer, Segment, Shape, data_count, data_places, place_count, links_of, links, segment_has, is_inside, IsShape, are_apart, rules}
 use Rattle.segments.proofs.Blocks.{segment_at, places_of, before, LiesAt, place_lies, block_lies, same_segment, length-places_of-cons}
 use Rattle.segments.proofs.ShapeFacts.{IsSegment, shape_facts}
 
@@ -18,8 +18,7 @@ pub same_block : (shape : Shape) → IsShape shape → (i j k l : ℕ) → i < l
     (segment_at shape.segments i).base + 16 * k < (segment_at shape.segments j).base + 16 * l + 16 →
     (segment_at shape.segments j).base + 16 * l < (segment_at shape.segments i).base + 16 * k + 16 → (i ≡ j) × (k ≡ l)
 same_block shape is i j k l hi hj hk hl near far =
-    let same : i ≡ j = one_segment shape.segments (shape_facts shape is).apart i j k l hi hj hk hl near far in
-    (same, same_offset _ _ k l (ap (λ n. (segment_at shape.segments n).base) same) near far)
+    search (rules, one_segment shape.segments (shape_facts shape is).apart i j k l hi hj hk hl near far, shape_facts, same_offset, segment_at, shape.segments)
 
 -- a data place: block k of segment j
 pub record IsPlace (shape : Shape) (i j k : ℕ) : Type 0 where
@@ -42,9 +41,7 @@ place_is shape is i h =
 -- every block that holds data is a data place
 pub block_is : (shape : Shape) → IsShape shape → (j k : ℕ) → j < length shape.segments → k < data_count shape.kind (segment_at shape.segments j) →
     (before shape.kind shape.segments j + k < place_count shape) × IsPlace shape (before shape.kind shape.segments j + k) j k
-block_is shape is j k hj hk =
-    let found = block_lies shape.kind shape.segments j k hj hk in
-    (found.0, from_lies shape is (before shape.kind shape.segments j + k) j k found.1)
+block_is shape is j k hj hk = search (rules, block_lies shape.kind shape.segments j k hj hk, from_lies, before, shape.kind, shape.segments)
 
 -- the first data place of a segment lies at its base
 pub segment_start : (shape : Shape) → IsShape shape → (j : ℕ) → j < length shape.segments →
@@ -63,17 +60,11 @@ block_ends a n k x h l e = omega arith
 
 -- data places lie on 16 byte boundaries
 pub place_aligned : (shape : Shape) → IsShape shape → (i : ℕ) → i < place_count shape → slice_index (data_places shape) i % 16 ≡ 0
-place_aligned shape is i h =
-    let found = place_is shape is i h in
-    let place : IsPlace shape i found.0 found.1 = found.2 in
-    on_boundary _ found.1 _ place.is_segment.aligned place.address
+place_aligned shape is i h = search (rules, place_is shape is i h, (place_is shape is i h).2, on_boundary)
 
 -- and end at or below 2^64
 pub place_ends : (shape : Shape) → IsShape shape → (i : ℕ) → i < place_count shape → slice_index (data_places shape) i + 16 ≤ 2 ^ 64
-place_ends shape is i h =
-    let found = place_is shape is i h in
-    let place : IsPlace shape i found.0 found.1 = found.2 in
-    block_ends _ _ found.1 _ place.is_segment.end place.inside place.address
+place_ends shape is i h = search (rules, place_is shape is i h, (place_is shape is i h).2, block_ends)
 
 segment_has_byte : (a n k x b : ℕ) → x ≡ a + 16 * k → k < n → b < 16 → (a ≤ x + b) × (x + b < a + 16 * n)
 segment_has_byte a n k x b e l h = (omega arith, omega arith)
@@ -81,18 +72,12 @@ segment_has_byte a n k x b e l h = (omega arith, omega arith)
 -- an address in a segment is inside the ring
 pub byte_inside : (shape : Shape) (j x : ℕ) → j < length shape.segments → (segment_at shape.segments j).base ≤ x →
     x < (segment_at shape.segments j).base + 16 * (segment_at shape.segments j).count → is_inside shape x ≡ true
-byte_inside shape j x h low high =
-    list_any_at (segment_has x) shape.segments j (record { base = 0; count = 0 }) h
-    (and_from _ _ (le-leb _ x low) (lt-ltb x _ high))
+byte_inside shape j x h low high = search (rules, list_any_at, segment_has, and_from, le-leb, lt-ltb)
 
 -- each of its bytes is inside the ring's segments
 pub place_inside : (shape : Shape) → IsShape shape → (i b : ℕ) → i < place_count shape → b < 16 →
     is_inside shape (slice_index (data_places shape) i + b) ≡ true
-place_inside shape is i b h l =
-    let found = place_is shape is i h in
-    let place : IsPlace shape i found.0 found.1 = found.2 in
-    let has = segment_has_byte _ _ found.1 _ b place.address place.inside l in
-    byte_inside shape found.0 _ place.segment has.0 has.1
+place_inside shape is i b h l = search (rules, place_is shape is i h, (place_is shape is i h).2, segment_has_byte, byte_inside)
 
 same_number : (a b c j k l : ℕ) (f : ℕ → ℕ) → a ≡ f j + k → b ≡ f c + l → j ≡ c → k ≡ l → a ≡ b
 same_number a b c j k l f p q e s = cc
@@ -136,23 +121,16 @@ length-links shape other = search (rules, length, length-map)
 
 -- Links lie on 16 byte boundaries
 pub link_aligned : (shape : Shape) → IsShape shape → (j : ℕ) → j < length (links shape) → slice_index (links shape) j % 16 ≡ 0
-link_aligned shape is j h =
-    let link = link_is shape is j h in
-    on_boundary _ _ _ link.is_segment.aligned link.address
+link_aligned shape is j h = search (rules, link_is, on_boundary)
 
 -- and end at or below 2^64
 pub link_ends : (shape : Shape) → IsShape shape → (j : ℕ) → j < length (links shape) → slice_index (links shape) j + 16 ≤ 2 ^ 64
-link_ends shape is j h =
-    let link = link_is shape is j h in
-    block_ends _ _ _ _ link.is_segment.end link.inside link.address
+link_ends shape is j h = search (rules, link_is, block_ends)
 
 -- each of their bytes is inside the ring's segments
 pub link_inside : (shape : Shape) → IsShape shape → (j b : ℕ) → j < length (links shape) → b < 16 →
     is_inside shape (slice_index (links shape) j + b) ≡ true
-link_inside shape is j b h l =
-    let link = link_is shape is j h in
-    let has = segment_has_byte _ _ _ _ b link.address link.inside l in
-    byte_inside shape j _ link.segment has.0 has.1
+link_inside shape is j b h l = search (rules, link_is, segment_has_byte, byte_inside)
 
 -- two Links with a byte in common are one
 pub links_apart : (shape : Shape) → IsShape shape → (i j : ℕ) → i < length (links shape) → j < length (links shape) →
@@ -178,15 +156,13 @@ place_not_link shape is i j hi hj near far =
     not_data shape.kind shape.segments a.0 j a.1 here.block one.0 one.1
   where
     not_data : (kind : RingKind) (ss : List Segment) (i j k : ℕ) → k < data_count kind (segment_at ss i) → i ≡ j → k ≡ data_count kind (segment_at ss j) → ⊥
-    not_data kind ss i j k l same all =
-        omega (arith, ap (λ n. data_count kind (segment_at ss n)) same)
+    not_data kind ss i j k l same all = search (rules, data_count, segment_at)
 
 -- there are at most 64 times 4,096 of them
 pub place_count_most : (shape : Shape) → IsShape shape → place_count shape ≤ 64 * 4096
 place_count_most shape is =
     let facts = shape_facts shape is in
-    let each : (j : ℕ) → j < length shape.segments → data_count shape.kind (segment_at shape.segments j) ≤ 4096 =
-    λ j h. let s = facts.each j h in omega (arith, s.data_within, s.most) in
+    let each : (j : ℕ) → j < length shape.segments → data_count shape.kind (segment_at shape.segments j) ≤ 4096 = search rules in
     omega (arith, at_most shape.kind shape.segments each, facts.few)
   where
     at_most : (kind : RingKind) (ss : List Segment) → ((j : ℕ) → j < length ss → data_count kind (segment_at ss j) ≤ 4096) →

@@ -1,5 +1,6 @@
 -- Which numbers stand in the lists of due, given and leased positions and crossings
-use Rattle.segments.proofs.Words.{is_handed_over, IsShownTo, IsRestored, unrestored, flips_passed, ceiling, address_of, cycle_of, nat_lt, ◌==◌, ◌%◌, list_any, list_any_at, false_from_ne_true, false≢true, ◌≡◌, ◌+◌, ◌-◌, ◌<◌, ◌≤◌, ◌&&◌, ◌∷◌, ◌∙◌, ℕ, not, Bool, true, false, List, [], length, Contains, filter, suc, zero, arith, refl, sym, ap, subst, inl, inr, get_or, range_with_len, cases_Bool, and_parts, and_from, not-true, not_from_false, cond-true, cond-false, All-contains, All-filter, All-contains_itself, filter_passes, Contains-append_right, length-range_with_len, get_or-range_with_len, Shape, place_count, is_crossing, RingView, floor_number, is_due, is_crossing_due, gives, gives_crossing, due_positions, due_crossings, positions_given, crossings_given, leased_positions, leased_crossings}
+use Rattle.std.proofs.Common.{rules}
+use Rattle.segments.proofs.Words.{is_handed_over, IsShownTo, IsRestored, unrestored, flips_passed, ceiling, address_of, cycle_of, nat_lt, ◌==◌, ◌%◌, list_any, list_any_at, false_from_ne_true, false≢true, ◌≡◌, ◌+◌, ◌-◌, ◌<◌, ◌≤◌, ◌&&◌, ◌∷◌, ◌∙◌, ℕ, not, Bool, true, false, List, [], length, Contains, filter, suc, zero, arith, refl, sym, subst, inl, inr, get_or, range_with_len, cases_Bool, and_parts, and_from, not-true, not_from_false, cond-true, cond-false, All-contains, All-filter, All-contains_itself, filter_passes, Contains-append_right, length-range_with_len, get_or-range_with_len, Shape, place_count, is_crossing, RingView, floor_number, is_due, is_crossing_due, gives, gives_crossing, due_positions, due_crossings, positions_given, crossings_given, leased_positions, leased_crossings}
 use Rattle.segments.proofs.Giving.{due_is, due_from, crossing_due_is, gives_is, gives_crossing_is}
 
 -- ---- a range, and a filter
@@ -9,10 +10,7 @@ range_contains a n x low high =
     (x - a, omega (arith, length-range_with_len a n), get_or-range_with_len a n (x - a) x (omega arith) ∙ omega arith)
 
 pub range_contained : (a n x : ℕ) → Contains (range_with_len a n) x → (a ≤ x) × (x < a + n)
-range_contained a n x c =
-    let inside : c.0 < n = omega (arith, c.1, length-range_with_len a n) in
-    let at : a + c.0 ≡ x = sym (get_or-range_with_len a n c.0 x inside) ∙ c.2 in
-    (omega arith, omega arith)
+range_contained a n x c = search (rules, length-range_with_len, get_or-range_with_len)
 
 cons_contains : (y : ℕ) (ys : List ℕ) (x : ℕ) → Contains ys x → Contains (y ∷ ys) x
 cons_contains y ys x c = Contains-append_right (y ∷ []) ys x c
@@ -22,9 +20,7 @@ filter_contains test xs x c passes = subst (λ ys. Contains ys x) refl (from_pla
   where
     from_place : (test : ℕ → Bool) (xs : List ℕ) (k x : ℕ) → k < length xs → get_or xs k x ≡ x → test x ≡ true → Contains (filter test xs) x
     from_place test [] k x h at passes = absurd (omega arith)
-    from_place test (y ∷ ys) zero x h at passes =
-        let here : filter test (y ∷ ys) ≡ y ∷ filter test ys = cond-true (test y) (y ∷ filter test ys) (filter test ys) (ap test at ∙ passes) in
-        subst (λ zs. Contains zs x) (sym here) (0, omega arith, at)
+    from_place test (y ∷ ys) zero x h at passes = search (rules, filter, cond-true, Contains)
     from_place test (y ∷ ys) (suc k) x h at passes =
         let rest : Contains (filter test ys) x = from_place test ys k x (omega arith) at passes in
         elim (cases_Bool (test y)) [
@@ -42,21 +38,15 @@ filter_contained test xs x c = (
 
 pub due_position : (shape : Shape) (v : RingView) (p : ℕ) → is_due shape v.floor p ≡ true → Contains (due_positions shape v) p
 unfolding due_positions
-due_position shape v p due =
-    let is = due_is shape v.floor p due in
-    range_contains (floor_number v) (place_count shape) p is.0 is.1
+due_position shape v p due = search (rules, due_is, range_contains, floor_number, place_count)
 
 pub due_position_is : (shape : Shape) (v : RingView) (p : ℕ) → Contains (due_positions shape v) p → is_due shape v.floor p ≡ true
 unfolding due_positions
-due_position_is shape v p c =
-    let is = range_contained (floor_number v) (place_count shape) p c in
-    due_from shape v.floor p is.0 is.1
+due_position_is shape v p c = search (rules, range_contained (floor_number v) (place_count shape) p c, floor_number, place_count, due_from, v.floor)
 
 pub leased_position : (shape : Shape) (v : RingView) (p : ℕ) → is_due shape v.floor p ≡ true → v.given p ≡ true → v.free p ≡ false → Contains (leased_positions shape v) p
 unfolding leased_positions
-leased_position shape v p due given kept =
-    filter_contains (is_handed_over v) (due_positions shape v) p (due_position shape v p due)
-    (and_from (v.given p) (not (v.free p)) given (not_from_false (v.free p) kept))
+leased_position shape v p due given kept = search (rules, filter_contains, is_handed_over, due_positions, due_position, and_from, not, not_from_false)
 
 pub leased_position_is : (shape : Shape) (v : RingView) (p : ℕ) → Contains (leased_positions shape v) p → (is_due shape v.floor p ≡ true) × (v.given p ≡ true)
 unfolding leased_positions
@@ -80,41 +70,31 @@ no_flips shape v a w none = by (due_positions shape v)
   where
     by : (xs : List ℕ) → list_any (λ p. nat_lt p (ceiling shape v) && a == address_of shape p + 12 && not (w % 2 == cycle_of shape p)) (filter v.free xs) ≡ false
     by [] = refl
-    by (x ∷ xs) =
-        ap (list_any (λ p. nat_lt p (ceiling shape v) && a == address_of shape p + 12 && not (w % 2 == cycle_of shape p))) (cond-false (v.free x) (x ∷ filter v.free xs) (filter v.free xs) (none x))
-        ∙ by xs
+    by (x ∷ xs) = search (rules, list_any, nat_lt, ceiling, address_of, not, cycle_of, cond-false, filter, by xs)
 
 -- a test that no element of a list passes fails for each
 pub none_passes_at : (test : ℕ → Bool) (xs : List ℕ) (x : ℕ) → list_any test xs ≡ false → Contains xs x → test x ≡ false
-none_passes_at test xs x none at =
-    false_from_ne_true (test x) (λ passes. false≢true (sym none ∙ list_any_at test xs at.0 x at.1 (ap test at.2 ∙ passes)))
+none_passes_at test xs x none at = search (rules, false_from_ne_true, false≢true, list_any_at)
 
 pub position_given : (shape : Shape) (v : RingView) (a w p : ℕ) → v.given p ≡ false → gives shape v.floor p a w ≡ true → Contains (positions_given shape v a w) p
 unfolding positions_given
-position_given shape v a w p wasn't now =
-    filter_contains (λ p. not (v.given p) && gives shape v.floor p a w) (due_positions shape v) p
-    (due_position shape v p (gives_is shape v.floor p a w now).due) (and_from (not (v.given p)) (gives shape v.floor p a w) (not_from_false (v.given p) wasn't) now)
+position_given shape v a w p wasn't now = search (rules, filter_contains, not, gives, due_positions, due_position, gives_is, and_from, not_from_false)
 
 pub position_given_is : (shape : Shape) (v : RingView) (a w p : ℕ) → Contains (positions_given shape v a w) p → (v.given p ≡ false) × (gives shape v.floor p a w ≡ true)
 unfolding positions_given
 position_given_is shape v a w p c =
     let is = filter_contained (λ p. not (v.given p) && gives shape v.floor p a w) (due_positions shape v) p c in
-    let parts = and_parts (not (v.given p)) (gives shape v.floor p a w) is.1 in
-    (not-true (v.given p) parts.0, parts.1)
+    search (rules, and_parts (not (v.given p)) (gives shape v.floor p a w) is.1, and_parts, not, gives, not-true)
 
 -- ---- crossings
 
 due_crossing : (shape : Shape) (v : RingView) (q : ℕ) → is_crossing_due shape v.floor q ≡ true → Contains (due_crossings shape v) q
 unfolding due_crossings
-due_crossing shape v q due =
-    let is = crossing_due_is shape v.floor q due in
-    range_contains (floor_number v) (place_count shape + 1) q is.from (elim is.within [ inl below ↦ omega arith | inr first ↦ omega arith ])
+due_crossing shape v q due = search (rules, crossing_due_is, range_contains, floor_number, place_count)
 
 pub leased_crossing : (shape : Shape) (v : RingView) (q : ℕ) → is_crossing_due shape v.floor q ≡ true → v.crossed q ≡ true → Contains (leased_crossings shape v) q
 unfolding leased_crossings
-leased_crossing shape v q due given =
-    filter_contains (λ q. is_crossing shape q && v.crossed q) (due_crossings shape v) q (due_crossing shape v q due)
-    (and_from (is_crossing shape q) (v.crossed q) (crossing_due_is shape v.floor q due).crossing given)
+leased_crossing shape v q due given = search (rules, filter_contains, is_crossing, due_crossings, due_crossing, and_from, crossing_due_is)
 
 pub leased_crossing_is : (shape : Shape) (v : RingView) (q : ℕ) → Contains (leased_crossings shape v) q → (is_crossing shape q ≡ true) × (v.crossed q ≡ true) × (floor_number v ≤ q)
 unfolding leased_crossings due_crossings
@@ -126,13 +106,10 @@ leased_crossing_is shape v q c =
 pub crossing_given : (shape : Shape) (v : RingView) (a w q : ℕ) → v.crossed q ≡ false → gives_crossing shape v.floor q a w ≡ true → Contains (crossings_given shape v a w) q
 unfolding crossings_given
 crossing_given shape v a w q wasn't now =
-    filter_contains (λ q. not (v.crossed q) && gives_crossing shape v.floor q a w) (due_crossings shape v) q
-    (due_crossing shape v q (gives_crossing_is shape v.floor q a w now).is_due)
-    (and_from (not (v.crossed q)) (gives_crossing shape v.floor q a w) (not_from_false (v.crossed q) wasn't) now)
+    search (rules, filter_contains, not, gives_crossing, due_crossings, due_crossing, gives_crossing_is, is_due, and_from, not_from_false)
 
 pub crossing_given_is : (shape : Shape) (v : RingView) (a w q : ℕ) → Contains (crossings_given shape v a w) q → (v.crossed q ≡ false) × (gives_crossing shape v.floor q a w ≡ true)
 unfolding crossings_given
 crossing_given_is shape v a w q c =
     let is = filter_contained (λ q. not (v.crossed q) && gives_crossing shape v.floor q a w) (due_crossings shape v) q c in
-    let parts = and_parts (not (v.crossed q)) (gives_crossing shape v.floor q a w) is.1 in
-    (not-true (v.crossed q) parts.0, parts.1)
+    search (rules, and_parts (not (v.crossed q)) (gives_crossing shape v.floor q a w) is.1, and_parts, not, gives_crossing, not-true)

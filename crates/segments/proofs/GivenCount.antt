@@ -17,10 +17,7 @@ first_here shape v n q missing = cond-false (is_step_given shape v q) (first_not
 
 first_high : (shape : Shape) (v : RingView) (n q : ℕ) → first_not_given shape v n q ≤ q + n
 first_high shape v zero q = omega (arith, first_none shape v q)
-first_high shape v (suc n) q = elim (cases_Bool (is_step_given shape v q)) [
-  | inl given ↦ omega (arith, first_on shape v n q given, first_high shape v n (q + 1))
-  | inr missing ↦ omega (arith, first_here shape v n q missing)
-]
+first_high shape v (suc n) q = search (rules, cases_Bool, is_step_given, first_on, first_here, first_high shape v n (q + 1))
 
 first_below : (shape : Shape) (v : RingView) (n q p : ℕ) → q ≤ p → p < first_not_given shape v n q → is_step_given shape v p ≡ true
 first_below shape v zero q p low high = absurd (omega (arith, first_none shape v q))
@@ -66,8 +63,7 @@ given_count_most shape v = omega (arith, count_is shape v, first_high shape v (f
 
 -- and at it something isn't given
 pub given_count_stops : (shape : Shape) (v : RingView) → given_count shape v < floor_number v + place_count shape → is_step_given shape v (given_count shape v) ≡ false
-given_count_stops shape v h =
-    ap (λ m. is_step_given shape v m) (count_is shape v) ∙ first_stops shape v (floor_number v + place_count shape) 0 (omega (arith, count_is shape v))
+given_count_stops shape v h = search (rules, is_step_given, count_is, first_stops, floor_number, place_count)
 
 -- it isn't below a number below which all is given
 pub given_count_least : (shape : Shape) (v : RingView) (m : ℕ) → m ≤ floor_number v + place_count shape → ((p : ℕ) → p < m → is_step_given shape v p ≡ true) →
@@ -96,8 +92,7 @@ given_count_still shape v w same near far = elim (cases_order (given_count shape
 -- with more given it grows
 pub given_count_grows : (shape : Shape) (v w : RingView) → floor_number v ≤ floor_number w → ((p : ℕ) → is_step_given shape v p ≡ true → is_step_given shape w p ≡ true) →
     given_count shape v ≤ given_count shape w
-given_count_grows shape v w floor more =
-    given_count_least shape w (given_count shape v) (omega (arith, given_count_most shape v)) (λ p h. more p (given_below shape v p h))
+given_count_grows shape v w floor more = search (rules, given_count_least, given_count, given_count_most, given_below)
 
 -- ---- how far the controller may have gone
 

@@ -1,5 +1,5 @@
 -- A segment is found by a search through how many data places lie before each, or through where each starts
-use Rattle.segments.proofs.Words.{AreFirsts, AreStarts, IsIndex, IsLastOf, IsLastStart, IsSegmentOf, IsStart, SegmentIndex, Start, ◌≡◌, ◌+◌, ◌-◌, ◌<◌, ◌≤◌, ◌==◌, ◌∷◌, ◌∙◌, ℕ, suc, zero, true, false, List, [], Some, None, length, get_or, ap, sym, arith, inl, inr, leb-true, leb-false, eqb-true, leb, cases_lt, list_any, list_any_at, Any-from_list_any, get_or_from_slice_get, slice_get-get_or, get_or_append_left, get_or-append_right, length-append, ◌++◌, refl, subst, nat_tests, All, All-permutation, list_any-IsPermutation, IsPermutation, IsNonDecreasingBy, IsNonDecreasingBy-from_default, IsPartitionPoint, RingKind, Segment, rules}
+use Rattle.segments.proofs.Words.{AreFirsts, AreStarts, IsIndex, IsLastOf, IsLastStart, IsSegmentOf, IsStart, SegmentIndex, Start, ◌≡◌, ◌+◌, ◌-◌, ◌<◌, ◌≤◌, ◌==◌, ◌∷◌, ◌∙◌, ℕ, suc, zero, true, false, List, [], Some, None, length, get_or, ap, sym, arith, inl, inr, leb-true, leb-false, eqb-true, leb, cases_lt, list_any, list_any_at, Any-from_list_any, get_or_from_slice_get, slice_get-get_or, get_or_append_left, get_or-append_right, length-append, ◌++◌, nat_tests, All, All-permutation, list_any-IsPermutation, IsPermutation, IsNonDecreasingBy, IsNonDecreasingBy-from_default, IsPartitionPoint, RingKind, Segment, rules}
 use Rattle.segments.proofs.Blocks.{segment_at, before, before-zero}
 
 -- more segments have no fewer data places before them
@@ -15,8 +15,7 @@ module _ (kind : RingKind) (segments : List Segment) (firsts : List ℕ) (are : 
 
   pub firsts_rise : IsNonDecreasingBy (λ first. first) firsts
   firsts_rise = IsNonDecreasingBy-from_default (λ (first : ℕ). first) firsts 0 (λ i j l below.
-      let inside : j < length segments = omega (arith, are.many) in
-      omega (arith, first_at i (omega arith), first_at j inside, before_rises kind segments i j l))
+      search (rules, length, first_at, before_rises))
 
   module _ (place after : ℕ) (point : IsPartitionPoint (λ first. leb first place ≡ true) (λ first. leb first place ≡ false) firsts after)
       (bound : after ≤ length firsts) (within : place < before kind segments (length segments)) where
@@ -56,10 +55,7 @@ same_number : (n : ℕ) → (n == n) ≡ true
 same_number n = grind (arith, nat_tests)
 
 pub all_starts : (segments : List Segment) (starts sorted : List Start) → AreStarts segments (length segments) starts → IsPermutation starts sorted → All (IsStart segments) sorted
-all_starts segments starts sorted are moved =
-    All-permutation (IsStart segments) starts sorted moved (λ k d below.
-    let inside : k < length segments = omega (arith, are.many) in
-    subst (λ (s : Start). IsStart segments s) (sym (are.each k d inside)) (record { number = inside; base = refl }))
+all_starts segments starts sorted are moved = search (rules, All-permutation, IsStart, length, are.many, are.each)
 
 pub each_starts : (segments : List Segment) (starts sorted : List Start) → AreStarts segments (length segments) starts → IsPermutation starts sorted →
     (j : ℕ) → j < length segments → list_any (λ start. start.segment == j) sorted ≡ true
@@ -82,8 +78,7 @@ module _ (kind : RingKind) (segments : List Segment) (index : SegmentIndex) (is 
         at = some.0;
         below = some.2;
         base = λ d.
-            let here : get_or index.starts.items some.0 d ≡ some.1 =
-            get_or_from_slice_get index.starts.items some.0 some.1 d (slice_get-get_or index.starts.items some.0 some.1 some.2 ∙ ap (λ x. Some x) some.3) in
+            let here : get_or index.starts.items some.0 d ≡ some.1 = search (rules, get_or_from_slice_get, slice_get-get_or, Some) in
             let number : (get_or index.starts.items some.0 d).segment ≡ j = ap (λ (x : Start). x.segment) here ∙ eqb-true some.1.segment j some.4 in
             (is.starts some.0 d some.2).base ∙ ap (λ n. (segment_at segments n).base) number;
       }

@@ -1,5 +1,5 @@
 -- Bytes and words inside a ring's segments, and rings that are apart
-use Rattle.segments.proofs.Words.{◌≡◌, ◌-◌, ◌*◌, ◌%◌, ◌<◌, ◌||◌, ◌∷◌, ◌∙◌, ℕ, suc, Bool, true, false, List, [], length, nat_lt, is_some, arith, sym, ap, refl, inl, inr, get_or, lt-ltb, list_any, cases_Bool, false≢true, or_parts, and_from, nat_tests, Segment, Shape, overlap, segment_has, is_in, is_inside, touches, place_at, IsShape, segments_overlap, rings_overlap, rules}
+use Rattle.segments.proofs.Words.{◌≡◌, ◌-◌, ◌*◌, ◌%◌, ◌<◌, ◌||◌, ◌∷◌, ◌∙◌, ℕ, suc, Bool, true, false, List, [], length, nat_lt, is_some, arith, ap, refl, get_or, lt-ltb, list_any, cases_Bool, false≢true, or_parts, and_from, nat_tests, Segment, Shape, overlap, segment_has, is_in, is_inside, touches, place_at, IsShape, segments_overlap, rings_overlap, rules}
 use Rattle.segments.proofs.Blocks.{segment_at}
 use Rattle.segments.proofs.ShapeFacts.{shape_facts}
 use Rattle.segments.proofs.PlaceAtLemmas.{is_in-parts, place_at-inside, is_inside-place_at}
@@ -28,17 +28,11 @@ is_inside-word shape is x word = search (rules, is_some, place_at-inside, cases_
 
 in_any : {X : Type 0} (p : X → Bool) (xs : List X) → list_any p xs ≡ true → (q : X → Bool) → list_any q xs ≡ false → (x : X) × (p x ≡ true) × (q x ≡ false)
 in_any p [] h q none = absurd (false≢true h)
-in_any p (x ∷ xs) h q none = elim (cases_Bool (p x)) [
-  | inl here ↦ (x, here, (or_parts (q x) (list_any q xs) none).0)
-  | inr elsewhere ↦ in_any p xs (sym (ap (λ b. b || list_any p xs) elsewhere) ∙ h) q (or_parts (q x) (list_any q xs) none).1
-]
+in_any p (x ∷ xs) h q none = search (rules, cases_Bool, or_parts, list_any, in_any p xs)
 
 both_have : (x : ℕ) (s t : Segment) → segment_has x s ≡ true → segment_has x t ≡ true → segments_overlap s t ≡ true
 both_have x s t a b = search (rules, is_in-parts, and_from, nat_lt, lt-ltb)
 
 -- then no byte is inside both
 pub rings_apart : (a b : Shape) (x : ℕ) → rings_overlap a b ≡ false → is_inside a x ≡ true → is_inside b x ≡ true → ⊥
-rings_apart a b x apart ina inb =
-    let here = in_any (segment_has x) a.segments ina (λ s. list_any (segments_overlap s) b.segments) apart in
-    let there = in_any (segment_has x) b.segments inb (segments_overlap here.0) here.2 in
-    false≢true (sym there.2 ∙ both_have x here.0 there.0 here.1 there.1)
+rings_apart a b x apart ina inb = search (rules, in_any, segment_has, list_any, segments_overlap, false≢true, both_have)

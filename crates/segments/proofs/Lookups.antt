@@ -51,14 +51,8 @@ crossed_here shape is kind segments places j end n q sees other some h past e he
     let all : length (links shape) ≡ length shape.segments = length-links shape (λ event. other (sym sees.kind_is ∙ event)) in
     let many : length shape.segments ≡ length segments = ap length sees.segments_are in
     let link : j < length (links shape) = omega arith in
-    let at : slice_index (ends shape) j ≡ before kind segments (j + 1) =
-    end_is shape j link ∙ ap (λ k. before k shape.segments (j + 1)) sees.kind_is ∙ ap (λ ss. before kind ss (j + 1)) sees.segments_are in
-    let next : before kind segments (j + 1) ≡ (q - 1) % places + 1 = omega (arith, before-next kind segments j h, past.counted) in
-    crosses-from shape is q j (record {
-      positive = omega arith;
-      link = link;
-      end = at ∙ next ∙ ap (λ n. (q - 1) % n + 1) sees.places_are;
-    })
+    let at : slice_index (ends shape) j ≡ before kind segments (j + 1) = search (rules, end_is, before) in
+    search (rules, before, before-next, crosses-from)
 
 pub crossed_nowhere : (shape : Shape) → IsShape shape → (kind : RingKind) (segments : List Segment) (places j end q : ℕ) → Sees shape kind segments places →
     q ≢ 0 → length segments ≤ j → IsPast kind segments j end ((q - 1) % places + 1) → link_crossed shape q ≡ None
@@ -68,8 +62,7 @@ crossed_nowhere shape is kind segments places j end q sees some all past = elim 
       let i : ℕ = found.0 in
       let c = crosses shape q i found.1 in
       let many : length shape.segments ≡ length segments = ap length sees.segments_are in
-      let at : slice_index (ends shape) i ≡ before kind segments (i + 1) =
-      end_is shape i c.link ∙ ap (λ k. before k shape.segments (i + 1)) sees.kind_is ∙ ap (λ ss. before kind ss (i + 1)) sees.segments_are in
+      let at : slice_index (ends shape) i ≡ before kind segments (i + 1) = search (rules, end_is, before) in
       absurd (past.missed i (omega (arith, (link_is shape is i c.link).segment)) (sym at ∙ c.end ∙ ap (λ n. (q - 1) % n + 1) (sym sees.places_are)))
 ]
 
@@ -96,10 +89,7 @@ place_nowhere shape is kind segments places j count address sees all outside = s
 -- the place that a position has in its lap comes before the end of the segments
 pub lap_place : (kind : RingKind) (segments : List Segment) (places p : ℕ) → IsShape (record { kind = kind; segments = segments }) → places ≡ place_count (record { kind = kind; segments = segments }) →
     p % places < before kind segments (length segments)
-lap_place kind segments places p is count =
-    let facts = shape_facts (record { kind = kind; segments = segments }) is in
-    let pos : 0 < places = omega (arith, facts.several) in
-    omega (arith, mod-lt p pos, before-all kind segments)
+lap_place kind segments places p is count = search (rules, shape_facts, mod-lt, before-all)
 
 -- what the index has of segment j: how many data places lie before it
 pub first_is : (kind : RingKind) (segments : List Segment) (index : SegmentIndex) → IsIndex kind segments index → (j n : ℕ) → j < length segments →
@@ -124,17 +114,13 @@ past_all kind segments last j of other = search (rules, length, cases_lt, before
 -- the last segment to start at or before an address is the one that may have it
 pub near_from_last : (kind : RingKind) (segments : List Segment) → IsShape (record { kind = kind; segments = segments }) → (address : ℕ) (o : Option ℕ) →
     IsLastStart segments address o → IsNear segments address o
-near_from_last kind segments is address None above = λ k l. false_from_ne_true _ (λ has.
-    absurd (omega (arith, (is_in-parts address (segment_at segments k).base (16 * (segment_at segments k).count) has).0, above k l)))
+near_from_last kind segments is address None above = search (rules, false_from_ne_true, is_in-parts, segment_at)
 near_from_last kind segments is address (Some j) of = (
   of.number,
   λ k l has.
       let facts = shape_facts (record { kind = kind; segments = segments }) is in
       let parts = is_in-parts address (segment_at segments k).base (16 * (segment_at segments k).count) has in
-      let late = of.last k l parts.0 in
-      let some = (facts.each j of.number).blocks in
-      let low : (segment_at segments j).base ≤ address = of.start in
-      same_segment segments facts.apart k j (segment_at segments j).base l of.number late (omega (arith, parts.1)) (omega arith) (omega (arith, some)),
+      search (rules, of.last k l parts.0, (facts.each j of.number).blocks, of.start, segment_at, same_segment),
 )
 
 -- no segment may have the address
@@ -150,10 +136,7 @@ outside_near kind segments address j near misses = search (rules, length, false_
 
 -- where each segment has a multiple of so many places, so have the first ones together
 before_multiple : (kind : RingKind) (ss : List Segment) (step : ℕ) → AreMultiples kind ss step → (j : ℕ) → j ≤ length ss → before kind ss j % step ≡ 0
-before_multiple kind ss step are zero h = rw (before-zero kind ss) (zero_multiple step are.some)
-  where
-    zero_multiple : (s : ℕ) → 0 < s → 0 % s ≡ 0
-    zero_multiple s some = mod-eq_of_lt some
+before_multiple kind ss step are zero h = search (rules, before-zero, mod-eq_of_lt)
 before_multiple kind ss step are (suc j) h =
     let next = before-next kind ss j (omega arith) in
     let one : suc j ≡ j + 1 = omega arith in

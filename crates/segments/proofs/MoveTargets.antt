@@ -1,5 +1,5 @@
 -- The spot that a pointer and a cycle state name is the one to which the ring may be moved
-use Rattle.segments.proofs.Words.{◌≡◌, ◌+◌, ◌-◌, ◌≤◌, ◌==◌, ◌&&◌, if◌then◌else◌, ◌∷◌, ◌∙◌, ℕ, suc, zero, Bool, true, List, [], All, Some, arith, sym, ap, subst, inl, inr, eqb-true, range_with_len, flat_map, cases_lt, and_parts, All-nil, All-cons, All-get_or, Any-from_list_any, Spot, Data, Link, Shape, IsSpot, is_spot, number, spot_address, spot_cycle, IsShape, RingView, declared, floor_number, is_border, is_target, spots_between, target, is_reached, may_move_to, is_move, RingKeeps, rules}
+use Rattle.segments.proofs.Words.{◌≡◌, ◌+◌, ◌-◌, ◌≤◌, ◌==◌, ◌&&◌, if◌then◌else◌, ◌∷◌, ◌∙◌, ℕ, suc, zero, Bool, true, List, [], All, Some, arith, sym, ap, inl, inr, eqb-true, range_with_len, flat_map, cases_lt, and_parts, All-nil, All-cons, All-get_or, Any-from_list_any, Spot, Data, Link, Shape, IsSpot, is_spot, number, spot_address, spot_cycle, IsShape, RingView, declared, floor_number, is_border, is_target, spots_between, target, is_reached, may_move_to, is_move, RingKeeps, rules}
 use Rattle.segments.proofs.SpotOrder.{rank_least, rank_most, same_spot}
 use Rattle.segments.proofs.Named.{found_is}
 
@@ -21,10 +21,7 @@ spots_within least most a (suc n) low high =
 pub between : (least most : ℕ) → All (λ t. (least ≤ number t) × (number t ≤ most)) (spots_between least most)
 unfolding spots_between
 between least most = elim (cases_lt most least) [
-  | inl none ↦
-      let empty : 0 ≡ most + 1 - least = omega arith in
-      subst (λ n. All (λ t. (least ≤ number t) × (number t ≤ most)) (flat_map (λ q. Link q ∷ Data q ∷ []) (range_with_len least n))) empty
-      (All-nil (λ t. (least ≤ number t) × (number t ≤ most)))
+  | inl none ↦ search (rules, All, number, flat_map, Link, Data, range_with_len, All-nil)
   | inr some ↦ spots_within least most least (most + 1 - least) (omega arith) (omega arith)
 ]
 
@@ -50,9 +47,7 @@ move_target shape is memory v k address cycle least most t low high moves named 
     let any = Any-from_list_any (λ u. is_target shape address cycle u && may_move_to shape v u) (spots_between least most) moves in
     let u : Spot = any.1 in
     let passes = and_parts (is_target shape address cycle u) (may_move_to shape v u) any.4 in
-    let bounds : (least ≤ number u) × (number u ≤ most) =
-    subst (λ (x : Spot). (least ≤ number x) × (number x ≤ most)) any.3
-    (All-get_or (λ x. (least ≤ number x) × (number x ≤ most)) (spots_between least most) any.0 u any.2 (between least most)) in
+    let bounds : (least ≤ number u) × (number u ≤ most) = search (rules, number, All-get_or, spots_between, between) in
     let same : u ≡ t = one_at shape is memory v k address u t
     (target_at shape address cycle (floor_number v) (declared v) u passes.0 (omega arith, omega arith))
     (target_at shape address cycle (floor_number v) (declared v) t found.0 found.1) in

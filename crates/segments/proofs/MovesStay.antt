@@ -1,5 +1,5 @@
 -- A spot to which a ring may be moved stays one, whatever is declared, written or reached since
-use Rattle.segments.proofs.Words.{◌≡◌, ◌+◌, ◌-◌, ◌<◌, ◌≤◌, ◌==◌, ◌&&◌, ◌||◌, ◌∷◌, ◌++◌, ◌∙◌, ℕ, suc, zero, Bool, true, List, [], length, arith, sym, ap, subst, inl, inr, list_any, range_with_len, flat_map, cases_eq, and_parts, and_from, or_cases, or_left, or_right, All-get_or, Any-from_list_any, Block, Spot, Data, Link, Shape, number, RingView, floor_number, ceiling, Declares, Writes, changed, is_way_given, is_border, is_target, spots_between, are_given, are_ways_given, is_reached, may_move_to, is_move, is_placement, rules}
+use Rattle.segments.proofs.Words.{◌≡◌, ◌+◌, ◌-◌, ◌<◌, ◌≤◌, ◌==◌, ◌&&◌, ◌||◌, ◌∷◌, ◌++◌, ◌∙◌, ℕ, suc, zero, Bool, true, List, [], length, arith, sym, ap, inl, inr, list_any, range_with_len, flat_map, cases_eq, and_parts, and_from, or_cases, or_left, or_right, All-get_or, Any-from_list_any, Block, Spot, Data, Link, Shape, number, RingView, floor_number, ceiling, Declares, Writes, changed, is_way_given, is_border, is_target, spots_between, are_given, are_ways_given, is_reached, may_move_to, is_move, is_placement, rules}
 use Rattle.segments.proofs.StepFacts.{GivesMore, in_range_all, all_in_range}
 use Rattle.segments.proofs.Writing.{writes_more}
 use Rattle.segments.proofs.MoveTargets.{between}
@@ -27,9 +27,7 @@ any_between test a (suc n) u low high passes =
     ]
   where
     at_first : (test : Spot → Bool) (a : ℕ) (rest : List Spot) (u : Spot) → number u ≡ a → test u ≡ true → (test (Link a) || (test (Data a) || list_any test rest)) ≡ true
-    at_first test a rest (Data q) same passes =
-        or_right (test (Link a)) (test (Data a) || list_any test rest)
-        (or_left (test (Data a)) (list_any test rest) (ap (λ n. test (Data n)) (sym same) ∙ passes))
+    at_first test a rest (Data q) same passes = search (rules, or_right, Link, Data, list_any, or_left)
     at_first test a rest (Link q) same passes = or_left (test (Link a)) (test (Data a) || list_any test rest) (ap (λ n. test (Link n)) (sym same) ∙ passes)
 
 module _ (shape : Shape) (v w : RingView) (more : GivesMore v w) where
@@ -60,9 +58,7 @@ module _ (shape : Shape) (v w : RingView) (more : GivesMore v w) where
       let u : Spot = any.1 in
       let passes = and_parts (is_target shape address cycle u) (may_move_to shape v u) any.4 in
       let at = and_parts (is_border v.lengths 0 (number u)) (is_reached shape v u) passes.1 in
-      let bounds : (least ≤ number u) × (number u ≤ most) =
-      subst (λ (x : Spot). (least ≤ number x) × (number x ≤ most)) any.3
-      (All-get_or (λ x. (least ≤ number x) × (number x ≤ most)) (spots_between least most) any.0 u any.2 (between least most)) in
+      let bounds : (least ≤ number u) × (number u ≤ most) = search (rules, number, All-get_or, spots_between, between) in
       any_between (λ u. is_target shape address cycle u && may_move_to shape w u) low (high + 1 - low) u (omega (arith, bounds.0)) (omega (arith, bounds.0, bounds.1))
       (and_from (is_target shape address cycle u) (may_move_to shape w u) passes.0
       (and_from (is_border w.lengths 0 (number u)) (is_reached shape w u) (borders (number u) at.0) (reached_more u at.1)))
@@ -78,9 +74,7 @@ placement_still shape v address cycle placed =
 module _ (shape : Shape) (v : RingView) (address : ℕ) (cycle : Bool) (least most low high : ℕ) (below : low ≤ least) (above : most ≤ high)
     (moves : is_move shape v address cycle least most ≡ true) where
   pub move-declares : (blocks : List Block) → is_move shape (changed shape v (Declares blocks)) address cycle low high ≡ true
-  move-declares blocks =
-      move_more shape v (changed shape v (Declares blocks)) (record { given = λ p g. g; crossed = λ q g. g }) (λ q h. is_border-push v.lengths (length blocks) 0 q h)
-      address cycle least most low high below above moves
+  move-declares blocks = search (rules, move_more, changed, Declares, is_border-push, length)
 
   pub move-writes : (a w : ℕ) → is_move shape (changed shape v (Writes a w)) address cycle low high ≡ true
   move-writes a w = move_more shape v (changed shape v (Writes a w)) (writes_more shape (λ x. 0) v a w) (λ q h. h) address cycle least most low high below above moves

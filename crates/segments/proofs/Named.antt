@@ -1,5 +1,6 @@
 -- The spots that events and pointers name, and how far a ring's controller may have gone
-use Rattle.segments.proofs.Words.{◌≡◌, ◌+◌, ◌-◌, ◌<◌, ◌≤◌, ◌==◌, ◌&&◌, if◌then◌else◌, ◌∷◌, ◌∙◌, ℕ, suc, zero, Bool, true, List, [], All, find, Option, None, Some, arith, refl, sym, ap, subst, inl, inr, ltb-true, range_with_len, flat_map, cases_Bool, cond-true, cond-false, false≢true, and_parts, none-some, same_Some, All-nil, All-cons, All-head, All-tail, Spot, Data, Link, Shape, IsSpot, is_spot, number, spot_address, spot_cycle, IsShape, RingView, declared, floor_number, given_count, ceiling, named, is_data_below, is_target, spots_between, target, RingKeeps, MayHold}
+use Rattle.std.proofs.Common.{rules}
+use Rattle.segments.proofs.Words.{◌≡◌, ◌+◌, ◌-◌, ◌<◌, ◌≤◌, ◌==◌, ◌&&◌, if◌then◌else◌, ◌∷◌, ◌∙◌, ℕ, suc, zero, Bool, true, List, [], All, find, Option, None, Some, arith, refl, sym, inl, inr, ltb-true, range_with_len, flat_map, cases_Bool, cond-true, cond-false, false≢true, and_parts, none-some, same_Some, All-nil, All-cons, All-head, All-tail, Spot, Data, Link, Shape, IsSpot, is_spot, number, spot_address, spot_cycle, IsShape, RingView, declared, floor_number, given_count, ceiling, named, is_data_below, is_target, spots_between, target, RingKeeps, MayHold}
 use Rattle.segments.proofs.SpotOrder.{rank_least, rank_most}
 use Rattle.segments.proofs.NamedSpots.{IsNamed, named_spot-Some}
 use Rattle.segments.proofs.Reaching.{floor_given}
@@ -40,9 +41,7 @@ named_ahead shape memory v k address t h =
 pub found_is : (test : Spot → Bool) (P : Spot → Type 0) (ts : List Spot) (t : Spot) → find test ts ≡ Some t → All P ts → (test t ≡ true) × P t
 found_is test P [] t found all = absurd (none-some t found)
 found_is test P (u ∷ rest) t found all = elim (cases_Bool (test u)) [
-  | inl here ↦
-      let same : u ≡ t = same_Some u t (sym (cond-true (test u) (Some u) (find test rest) here) ∙ found) in
-      (ap test (sym same) ∙ here, subst P same (All-head P u rest all))
+  | inl here ↦ search (rules, same_Some, cond-true, Some, find, All-head)
   | inr later ↦ found_is test P rest t (sym (cond-false (test u) (Some u) (find test rest) later) ∙ found) (All-tail P u rest all)
 ]
 
@@ -60,7 +59,6 @@ target_ahead shape v address cycle t h =
     let is = found_is (λ u. is_spot shape u && spot_address shape u == address && spot_cycle shape u == (if cycle then 1 else 0)) (λ u. least ≤ number u)
     (flat_map (λ q. Link q ∷ Data q ∷ []) (range_with_len least (declared v + 1 - least))) t h (spots_ahead least least (declared v + 1 - least) (omega arith)) in
     record {
-      is_spot = (and_parts (is_spot shape t) (spot_address shape t == address)
-          (and_parts (is_spot shape t && spot_address shape t == address) (spot_cycle shape t == (if cycle then 1 else 0)) is.0).0).0;
+      is_spot = search (rules, and_parts, is_spot, spot_address, spot_cycle);
       from = is.1;
     }

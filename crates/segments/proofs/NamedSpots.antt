@@ -1,5 +1,5 @@
 -- Which spot an event names: the least one from a spot on with this address
-use Rattle.segments.proofs.Words.{◌≡◌, ◌≢◌, ◌+◌, ◌-◌, ◌*◌, ◌<◌, ◌≤◌, ◌==◌, ◌&&◌, ◌∙◌, ℕ, suc, zero, Bool, true, false, nat_le, Some, None, find, arith, sym, ap, refl, subst, inl, inr, eqb-true, eq-eqb, leb-true, le-leb, cases_Bool, cond-true, cond-false, false≢true, and_parts, and_from, none-some, same_Some, Spot, Shape, place_count, IsSpot, rank, number, next, spot_address, spots_from, named_spot, IsShape, rules}
+use Rattle.segments.proofs.Words.{◌≡◌, ◌≢◌, ◌+◌, ◌-◌, ◌*◌, ◌<◌, ◌≤◌, ◌==◌, ◌&&◌, ◌∙◌, ℕ, suc, zero, Bool, true, false, nat_le, Some, None, find, arith, sym, refl, subst, inl, inr, eqb-true, eq-eqb, leb-true, le-leb, cases_Bool, cond-true, cond-false, false≢true, and_parts, and_from, none-some, same_Some, Spot, Shape, place_count, IsSpot, rank, number, next, spot_address, spots_from, named_spot, IsShape, rules}
 use Rattle.segments.proofs.Search.{cases_option}
 use Rattle.segments.proofs.SpotOrder.{rank_least, rank_most, same_rank, next_is_spot, next_later, next_least, same_spot}
 
@@ -38,9 +38,7 @@ find_nowhere : (shape : Shape) (p : Spot → Bool) (n : ℕ) (s u : Spot) → fi
 find_nowhere shape p zero s u h is from near passes = omega arith
 find_nowhere shape p (suc n) s u h is from near passes = elim (cases_Bool (p s)) [
   | inl here ↦ none-some s (sym h ∙ cond-true (p s) (Some s) (find p (spots_from shape (next shape s) n)) here)
-  | inr elsewhere ↦
-      find_nowhere shape p n (next shape s) u (sym (cond-false (p s) (Some s) (find p (spots_from shape (next shape s) n)) elsewhere) ∙ h) is
-      (beyond shape p s u is elsewhere passes from) (omega (arith, next_later shape s)) passes
+  | inr elsewhere ↦ search (rules, next, cond-false, Some, find, spots_from, beyond, passes, from, next_later, find_nowhere shape p n (next shape s) u)
 ]
 
 -- t is the least spot from s on with this address, and its number is at most last
@@ -53,8 +51,7 @@ pub record IsNamed (shape : Shape) (s : Spot) (last address : ℕ) (t : Spot) : 
 
 passes_test : (shape : Shape) (last address : ℕ) (u : Spot) → spot_address shape u ≡ address → number u ≤ last →
     (spot_address shape u == address && nat_le (number u) last) ≡ true
-passes_test shape last address u at within =
-    and_from (spot_address shape u == address) (nat_le (number u) last) (eq-eqb (spot_address shape u) address at) (le-leb (number u) last within)
+passes_test shape last address u at within = search (rules, and_from, spot_address, nat_le, number, eq-eqb, le-leb, within)
 
 -- the answer is that spot
 pub named_spot-Some : (shape : Shape) (s : Spot) (last address : ℕ) (t : Spot) → IsSpot shape s → named_spot shape s last address ≡ Some t →
@@ -83,8 +80,7 @@ named_spot-is shape s last address t is named = elim (cases_option (named_spot s
   | inl none ↦ absurd (named_spot-None shape s last address t none named.spot named.from named.within named.at)
   | inr some ↦
       let found : IsNamed shape s last address some.0 = named_spot-Some shape s last address some.0 is some.1 in
-      let high = found.least t named.spot named.from named.within named.at in
-      some.1 ∙ ap (λ u. Some u) (same_rank some.0 t (omega (arith, named.least some.0 found.spot found.from found.within found.at)))
+      search (rules, found.least t named.spot named.from named.within named.at, Some, same_rank)
 ]
 
 -- a spot less than a lap behind s is the one that its address names
@@ -93,7 +89,5 @@ pub named_spot-near : (shape : Shape) → IsShape shape → (s : Spot) (last : �
 named_spot-near shape is s last t a b from near within = elim (cases_option (named_spot shape s last (spot_address shape t))) [
   | inl none ↦ absurd (named_spot-None shape s last (spot_address shape t) t none b from within refl)
   | inr some ↦
-      let found : IsNamed shape s last (spot_address shape t) some.0 = named_spot-Some shape s last (spot_address shape t) some.0 a some.1 in
-      let low = found.least t b from within refl in
-      some.1 ∙ ap (λ u. Some u) (same_spot shape is some.0 t found.spot b low (omega (arith, found.from)) found.at)
+      search (rules, named_spot-Some shape s last (spot_address shape t) some.0 a some.1, spot_address, named_spot-Some, from, within, Some, same_spot)
 ]

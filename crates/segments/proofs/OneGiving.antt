@@ -1,14 +1,12 @@
 -- A word gives one position or one crossing at most: a place has one due position, a Link one due crossing
-use Rattle.segments.proofs.Words.{◌≡◌, ◌+◌, ◌≤◌, ◌⊎◌, ◌&&◌, ◌∷◌, ◌∙◌, ℕ, suc, zero, not, Bool, true, [], filter, arith, refl, ap, inl, inr, range_with_len, cases_Bool, cond-true, cond-false, and_parts, false_from_ne_true, Spot, Shape, place_count, IsShape, RingView, floor_number, gives, due_positions, positions_given}
+use Rattle.std.proofs.Common.{rules}
+use Rattle.segments.proofs.Words.{◌≡◌, ◌+◌, ◌≤◌, ◌⊎◌, ◌∷◌, ◌∙◌, ℕ, suc, zero, not, Bool, true, [], filter, arith, refl, inl, range_with_len, cases_Bool, cond-true, cond-false, and_parts, false_from_ne_true, Spot, Shape, place_count, IsShape, RingView, floor_number, gives, due_positions, positions_given}
 use Rattle.segments.proofs.Positions.{same_position_near}
 use Rattle.segments.proofs.Giving.{gives_is}
 
 module _ (shape : Shape) (is : IsShape shape) (floor : Spot) (a w : ℕ) where
   pub gives_one : (p q : ℕ) → gives shape floor p a w ≡ true → gives shape floor q a w ≡ true → p ≡ q
-  gives_one p q first second =
-      let here = gives_is shape floor p a w first in
-      let there = gives_is shape floor q a w second in
-      same_position_near shape is p q (omega (arith, here.within, there.from)) (omega (arith, here.from, there.within)) (omega (arith, here.at, there.at))
+  gives_one p q first second = search (rules, gives_is, same_position_near)
 
 -- ---- as lists
 
@@ -22,26 +20,10 @@ none_from test a (suc n) none =
 one_from : (test : ℕ → Bool) (a n : ℕ) → ((p q : ℕ) → test p ≡ true → test q ≡ true → p ≡ q) →
     (filter test (range_with_len a n) ≡ []) ⊎ ((p : ℕ) × (filter test (range_with_len a n) ≡ p ∷ []))
 one_from test a zero one = inl refl
-one_from test a (suc n) one = elim (cases_Bool (test a)) [
-  | inl passes ↦
-      inr (
-        a,
-        cond-true (test a) (a ∷ filter test (range_with_len (a + 1) n)) (filter test (range_with_len (a + 1) n)) passes
-            ∙ ap (λ xs. a ∷ xs) (none_from test (a + 1) n (λ q h t. let same : a ≡ q = one a q passes t in absurd (omega arith))),
-      )
-  | inr fails ↦
-      let skips = cond-false (test a) (a ∷ filter test (range_with_len (a + 1) n)) (filter test (range_with_len (a + 1) n)) fails in
-      elim (one_from test (a + 1) n one) [
-        | inl none ↦ inl (skips ∙ none)
-        | inr found ↦ inr (found.0, skips ∙ found.1)
-      ]
-]
+one_from test a (suc n) one = search (rules, cases_Bool, cond-true, filter, range_with_len, none_from, cond-false, one_from test (a + 1) n one)
 
 module _ (shape : Shape) (is : IsShape shape) (v : RingView) (a w : ℕ) where
   -- none, or one
   pub positions_given-one : (positions_given shape v a w ≡ []) ⊎ ((p : ℕ) × (positions_given shape v a w ≡ p ∷ []))
   unfolding positions_given due_positions
-  positions_given-one =
-      one_from (λ p. not (v.given p) && gives shape v.floor p a w) (floor_number v) (place_count shape)
-      (λ p q first second. gives_one shape is v.floor a w p q
-      (and_parts (not (v.given p)) (gives shape v.floor p a w) first).1 (and_parts (not (v.given q)) (gives shape v.floor q a w) second).1)
+  positions_given-one = search (rules, one_from, not, gives, floor_number, place_count, gives_one, and_parts)

@@ -1,13 +1,10 @@
 -- Steps of the loops over the segments that are given as pairs
-use Rattle.segments.proofs.Words.{◌≡◌, ◌+◌, ◌-◌, ◌<◌, ◌&&◌, ◌||◌, ◌∷◌, ◌++◌, ◌∙◌, ℕ, Bool, not, List, [], length, map, take, drop, nat_le, sym, ap, refl, get_or, length-append, append-nil, list_any, list_all, take_more, drop_more, take_rest, map_push, length-map, list_all-map, flat_map-append, RingKind, Segment, segment_of, shape_of, blocks_from, data_count, place_count, segments_overlap, are_apart, is_segment, is_shape, rules}
+use Rattle.segments.proofs.Words.{◌≡◌, ◌+◌, ◌-◌, ◌<◌, ◌&&◌, ◌||◌, ◌∷◌, ◌++◌, ◌∙◌, ℕ, Bool, not, List, [], length, map, take, drop, nat_le, ap, refl, get_or, length-append, append-nil, list_any, list_all, take_more, drop_more, take_rest, map_push, length-map, list_all-map, flat_map-append, RingKind, Segment, segment_of, shape_of, blocks_from, data_count, place_count, segments_overlap, are_apart, is_segment, is_shape, rules}
 use Rattle.segments.proofs.Blocks.{places_of, length-blocks_from}
 
 length-places_of-push : (kind : RingKind) (ss : List Segment) (s : Segment) →
     length (places_of kind (ss ++ s ∷ [])) ≡ length (places_of kind ss) + data_count kind s
-length-places_of-push kind ss s =
-    ap length (flat_map-append (λ t. blocks_from t.base (data_count kind t)) ss (s ∷ []))
-    ∙ length-append (places_of kind ss) (blocks_from s.base (data_count kind s) ++ [])
-    ∙ ap (λ n. length (places_of kind ss) + n) (ap length (append-nil (blocks_from s.base (data_count kind s))) ∙ length-blocks_from s.base (data_count kind s))
+length-places_of-push kind ss s = search (rules, length, flat_map-append, blocks_from, data_count, length-append, places_of, append-nil, length-blocks_from)
 
 -- the data places of one segment more
 pub place_count_more : (kind : RingKind) (pairs : List (ℕ × ℕ)) (i : ℕ) (d : ℕ × ℕ) → i < length pairs →
@@ -39,7 +36,4 @@ is_shape_pairs kind pairs = search (rules, nat_le, length, map, length-map, list
 pub are_apart_step : (pairs : List (ℕ × ℕ)) (i : ℕ) (d : ℕ × ℕ) (b : Bool) → i < length pairs →
     b ≡ list_any (λ t. segments_overlap (segment_of (get_or pairs i d)) (segment_of t)) (take (length pairs - (i + 1)) (drop (i + 1) pairs)) →
     are_apart (map segment_of (drop i pairs)) ≡ (not b && are_apart (map segment_of (drop (i + 1) pairs)))
-are_apart_step pairs i d b h is =
-    are_apart_more pairs i d h
-    ∙ ap (λ c. not c && are_apart (map segment_of (drop (i + 1) pairs)))
-    (sym (is ∙ ap (λ rest. list_any (λ t. segments_overlap (segment_of (get_or pairs i d)) (segment_of t)) rest) (take_rest pairs (i + 1))))
+are_apart_step pairs i d b h is = search (rules, are_apart_more, not, are_apart, map, segment_of, drop, list_any, segments_overlap, get_or, take_rest)

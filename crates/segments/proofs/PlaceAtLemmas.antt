@@ -1,5 +1,5 @@
 -- Which word of a ring's blocks has an address: each word has one answer, and each answer is of such a word
-use Rattle.segments.proofs.Words.{◌≡◌, ◌≢◌, ◌+◌, ◌-◌, ◌*◌, ◌/◌, ◌%◌, ◌<◌, ◌≤◌, ◌==◌, if◌then◌else◌, ◌∙◌, ℕ, true, length, slice_index, nat_le, nat_lt, Some, None, is_some, arith, sym, ap, inl, inr, eq-eqb, ne_eqb, le-leb, lt-ltb, le-ltb, leb-true, ltb-true, option_map, option_or, none-some, same_Some, cases_lt, and_parts, and_from, cond-true, cond-false, false_from_ne_true, get_or_default, Any-from_list_any, position-Some, Place, RingKind, Cmd, Evt, Xfer, Segment, Shape, data_count, segment_has, data_places, place_count, address_of, links, link_crossed, link_address, is_in, is_inside, data_place_at, link_at, place_at, IsShape, rules}
+use Rattle.segments.proofs.Words.{◌≡◌, ◌≢◌, ◌+◌, ◌-◌, ◌*◌, ◌/◌, ◌%◌, ◌<◌, ◌≤◌, ◌==◌, if◌then◌else◌, ◌∙◌, ℕ, true, length, slice_index, nat_le, nat_lt, Some, None, is_some, arith, ap, inl, inr, eq-eqb, ne_eqb, le-leb, lt-ltb, le-ltb, leb-true, ltb-true, option_map, option_or, none-some, same_Some, cases_lt, and_parts, and_from, cond-true, cond-false, false_from_ne_true, get_or_default, Any-from_list_any, position-Some, Place, RingKind, Cmd, Evt, Xfer, Segment, Shape, data_count, segment_has, data_places, place_count, address_of, links, link_crossed, link_address, is_in, is_inside, data_place_at, link_at, place_at, IsShape, rules}
 use Rattle.segments.specs.declared.place.Place.TheVariants.{Data, Link}
 use Rattle.segments.proofs.DataPlaces.{IsPlace, place_is, block_is, link_is, length-links, byte_inside, places_apart, place_aligned, place_not_link, links_apart, link_aligned}
 use Rattle.segments.proofs.Positions.{place_below, address_of-first}
@@ -16,24 +16,19 @@ is_in-parts x a n h = let parts = and_parts (nat_le a x) (nat_lt x (a + n)) h in
 -- the data place that has a byte
 pub data_place_at-byte : (shape : Shape) → IsShape shape → (i x : ℕ) → i < place_count shape →
     slice_index (data_places shape) i ≤ x → x < slice_index (data_places shape) i + 16 → data_place_at shape x ≡ Some i
-data_place_at-byte shape is i x h low high =
-    position_only (λ a. is_in x a 16) (data_places shape) i 0 h (is_in-true x _ 16 low high)
-    (λ k l t. let there = is_in-parts x (slice_index (data_places shape) k) 16 t in places_apart shape is k i l h (omega arith) (omega arith))
+data_place_at-byte shape is i x h low high = search (rules, position_only, is_in, data_places, is_in-true, is_in-parts, slice_index, places_apart)
 
 -- no data place has a byte of a Link
 data_place_at-link : (shape : Shape) → IsShape shape → (j x : ℕ) → j < length (links shape) →
     slice_index (links shape) j ≤ x → x < slice_index (links shape) j + 16 → data_place_at shape x ≡ None
 data_place_at-link shape is j x h low high =
     position_nowhere (λ a. is_in x a 16) (data_places shape) 0 (λ k l. false_from_ne_true _ (λ t.
-    let there = is_in-parts x (slice_index (data_places shape) k) 16 t in
-    place_not_link shape is k j l h (omega arith) (omega arith)))
+    search (rules, is_in-parts x (slice_index (data_places shape) k) 16 t, is_in-parts, slice_index, data_places, place_not_link)))
 
 -- the Link that has a byte
 link_at-byte : (shape : Shape) → IsShape shape → (j x : ℕ) → j < length (links shape) →
     slice_index (links shape) j ≤ x → x < slice_index (links shape) j + 16 → link_at shape x ≡ Some j
-link_at-byte shape is j x h low high =
-    position_only (λ a. is_in x a 16) (links shape) j 0 h (is_in-true x _ 16 low high)
-    (λ k l t. let there = is_in-parts x (slice_index (links shape) k) 16 t in links_apart shape is k j l h (omega arith) (omega arith))
+link_at-byte shape is j x h low high = search (rules, position_only, is_in, links, is_in-true, is_in-parts, slice_index, links_apart)
 
 at_word : (shape : Shape) (x : ℕ) → x % 4 ≡ 0 →
     place_at shape x ≡ option_or (option_map (λ i. Data i (x % 16 / 4)) (data_place_at shape x)) (option_map (λ j. Link j (x % 16 / 4)) (link_at shape x))
@@ -42,17 +37,12 @@ at_word shape x h = cond-true (x % 4 == 0) _ None (eq-eqb (x % 4) 0 h)
 -- a word of a data place
 pub place_at-data : (shape : Shape) → IsShape shape → (i x : ℕ) → i < place_count shape → x % 4 ≡ 0 →
     slice_index (data_places shape) i ≤ x → x < slice_index (data_places shape) i + 16 → place_at shape x ≡ Some (Data i (x % 16 / 4))
-place_at-data shape is i x h word low high =
-    at_word shape x word
-    ∙ ap (λ o. option_or (option_map (λ i. Data i (x % 16 / 4)) o) (option_map (λ j. Link j (x % 16 / 4)) (link_at shape x))) (data_place_at-byte shape is i x h low high)
+place_at-data shape is i x h word low high = search (rules, at_word, option_or, option_map, Data, Link, link_at, data_place_at-byte)
 
 -- a word of a Link
 pub place_at-link : (shape : Shape) → IsShape shape → (j x : ℕ) → j < length (links shape) → x % 4 ≡ 0 →
     slice_index (links shape) j ≤ x → x < slice_index (links shape) j + 16 → place_at shape x ≡ Some (Link j (x % 16 / 4))
-place_at-link shape is j x h word low high =
-    at_word shape x word
-    ∙ ap (λ o. option_or (option_map (λ i. Data i (x % 16 / 4)) o) (option_map (λ j. Link j (x % 16 / 4)) (link_at shape x))) (data_place_at-link shape is j x h low high)
-    ∙ ap (λ o. option_map (λ j. Link j (x % 16 / 4)) o) (link_at-byte shape is j x h low high)
+place_at-link shape is j x h word low high = search (rules, at_word, option_or, option_map, Data, Link, link_at, data_place_at-link, link_at-byte)
 
 -- an address that is no multiple of 4 is none of a word
 pub place_at-odd : (shape : Shape) (x : ℕ) → x % 4 ≢ 0 → place_at shape x ≡ None
@@ -69,10 +59,7 @@ place_at-address_of shape is p w l = search (rules, place_below, word_of, place_
 -- word w of the Link of segment j
 pub place_at-link_word : (shape : Shape) → IsShape shape → (j w : ℕ) → j < length (links shape) → w < 4 →
     place_at shape (slice_index (links shape) j + 4 * w) ≡ Some (Link j w)
-place_at-link_word shape is j w inside l =
-    let word = word_of (slice_index (links shape) j) w (link_aligned shape is j inside) l in
-    place_at-link shape is j (slice_index (links shape) j + 4 * w) inside word.0 (omega arith) (omega arith)
-    ∙ ap (λ n. Some (Link j n)) word.1
+place_at-link_word shape is j w inside l = search (rules, word_of, slice_index, links, link_aligned, place_at-link, Some, Link)
 
 -- word w of the Link that crossing q goes over
 pub place_at-link_address : (shape : Shape) → IsShape shape → (q i w : ℕ) → link_crossed shape q ≡ Some i → w < 4 →
@@ -108,9 +95,7 @@ place_at-Some shape is x place h = search (rules, none-some, place_at-odd, cases
 
 pub place_at-Data : (shape : Shape) → IsShape shape → (x i w : ℕ) → place_at shape x ≡ Some (Data i w) →
     (i < place_count shape) × (w < 4) × (x ≡ address_of shape i + 4 * w)
-place_at-Data shape is x i w h =
-    let answer : (i < place_count shape) × (w < 4) × (x ≡ slice_index (data_places shape) i + 4 * w) = place_at-Some shape is x (Data i w) h in
-    (answer.0, answer.1, answer.2 ∙ ap (λ a. a + 4 * w) (sym (address_of-first shape i answer.0)))
+place_at-Data shape is x i w h = search (rules, place_at-Some shape is x (Data i w) h, place_count, slice_index, data_places, Data, address_of-first)
 
 pub place_at-Link : (shape : Shape) → IsShape shape → (x j w : ℕ) → place_at shape x ≡ Some (Link j w) →
     (j < length (links shape)) × (w < 4) × (x ≡ slice_index (links shape) j + 4 * w)
@@ -118,13 +103,11 @@ place_at-Link shape is x j w h = place_at-Some shape is x (Link j w) h
 
 -- with no answer the address is none of a word of a data place
 pub place_at-None : (shape : Shape) → IsShape shape → (x p w : ℕ) → place_at shape x ≡ None → w < 4 → x ≢ address_of shape p + 4 * w
-place_at-None shape is x p w h l same =
-    none-some (Data (p % place_count shape) w) (sym h ∙ ap (λ a. place_at shape a) same ∙ place_at-address_of shape is p w l)
+place_at-None shape is x p w h l same = search (rules, none-some, Data, place_count, place_at, place_at-address_of)
 
 -- nor of a Link
 pub place_at-None_link : (shape : Shape) → IsShape shape → (x j w : ℕ) → place_at shape x ≡ None → j < length (links shape) → w < 4 → x ≢ slice_index (links shape) j + 4 * w
-place_at-None_link shape is x j w h inside l same =
-    none-some (Link j w) (sym h ∙ ap (λ a. place_at shape a) same ∙ place_at-link_word shape is j w inside l)
+place_at-None_link shape is x j w h inside l same = search (rules, none-some, Link, place_at, place_at-link_word)
 
 -- ---- by segments
 
@@ -142,16 +125,12 @@ pub place_at-block : (shape : Shape) → IsShape shape → (j k x : ℕ) → j <
     place_at shape x ≡ Some (if nat_lt k (data_count shape.kind (segment_at shape.segments j))
     then Data (before shape.kind shape.segments j + k) (x % 16 / 4) else Link j (x % 16 / 4))
 place_at-block shape is j k x hj hk word low high = elim (cases_lt k (data_count shape.kind (segment_at shape.segments j))) [
-  | inl holds ↦
-      let place = block_is shape is j k hj holds in
-      place_at-data shape is (before shape.kind shape.segments j + k) x place.0 word (omega (arith, place.1.address)) (omega (arith, place.1.address))
-      ∙ ap (λ p. Some p) (sym (cond-true (nat_lt k (data_count shape.kind (segment_at shape.segments j))) _ _ (lt-ltb k _ holds)))
+  | inl holds ↦ search (rules, block_is shape is j k hj holds, block_is, place_at-data, before, Some, cond-true, nat_lt, data_count, segment_at, lt-ltb)
   | inr last ↦
       let links_all = length-links shape (has_link shape.kind (segment_at shape.segments j) (omega arith)) in
       let link = link_is shape is j (omega arith) in
       let end : k ≡ data_count shape.kind (segment_at shape.segments j) = link_last shape.kind (segment_at shape.segments j) k hk last in
-      place_at-link shape is j x (omega arith) word (omega (arith, link.address)) (omega (arith, link.address))
-      ∙ ap (λ p. Some p) (sym (cond-false (nat_lt k (data_count shape.kind (segment_at shape.segments j))) _ _ (le-ltb k _ last)))
+      search (rules, place_at-link, Some, cond-false, nat_lt, data_count, segment_at, le-ltb)
 ]
 
 within_segment : (a n k w x : ℕ) → k < n → w < 4 → x ≡ a + 16 * k + 4 * w → (a ≤ x) × (x < a + 16 * n)
@@ -160,14 +139,8 @@ within_segment a n k w x h l e = (omega arith, omega arith)
 answer_inside : (shape : Shape) → IsShape shape → (x : ℕ) (place : Place) → IsAnswer shape x place →
     (j : ℕ) × (j < length shape.segments) × ((segment_at shape.segments j).base ≤ x) × (x < (segment_at shape.segments j).base + 16 * (segment_at shape.segments j).count)
 answer_inside shape is x (Data i w) answer =
-    let found = place_is shape is i answer.0 in
-    let place : IsPlace shape i found.0 found.1 = found.2 in
-    let has = within_segment (segment_at shape.segments found.0).base _ found.1 w x place.inside answer.1 (omega (arith, answer.2, place.address)) in
-    (found.0, place.segment, has.0, has.1)
-answer_inside shape is x (Link j w) answer =
-    let link = link_is shape is j answer.0 in
-    let has = within_segment (segment_at shape.segments j).base _ _ w x link.inside answer.1 (omega (arith, answer.2, link.address)) in
-    (j, link.segment, has.0, has.1)
+    search (rules, place_is shape is i answer.0, (place_is shape is i answer.0).2, place_is, IsPlace, within_segment, segment_at)
+answer_inside shape is x (Link j w) answer = search (rules, link_is, within_segment, segment_at)
 
 -- an address outside each segment
 pub place_at-outside : (shape : Shape) → IsShape shape → (x : ℕ) →
@@ -175,9 +148,7 @@ pub place_at-outside : (shape : Shape) → IsShape shape → (x : ℕ) →
     place_at shape x ≡ None
 place_at-outside shape is x outside = elim (cases_option (place_at shape x)) [
   | inl none ↦ none
-  | inr some ↦
-      let at = answer_inside shape is x some.0 (place_at-Some shape is x some.0 some.1) in
-      absurd (outside at.0 at.1 at.2 at.3)
+  | inr some ↦ search (rules, answer_inside shape is x some.0 (place_at-Some shape is x some.0 some.1), answer_inside, place_at-Some)
 ]
 
 -- every word inside the ring's segments is one of a data place or a Link
@@ -196,6 +167,4 @@ place_at-inside shape is x word inside =
 
 -- outside its segments no word has an answer
 pub is_inside-place_at : (shape : Shape) → IsShape shape → (x : ℕ) (place : Place) → place_at shape x ≡ Some place → is_inside shape x ≡ true
-is_inside-place_at shape is x place h =
-    let at = answer_inside shape is x place (place_at-Some shape is x place h) in
-    byte_inside shape at.0 x at.1 at.2 at.3
+is_inside-place_at shape is x place h = search (rules, answer_inside shape is x place (place_at-Some shape is x place h), place_at-Some, byte_inside)

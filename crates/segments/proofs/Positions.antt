@@ -17,9 +17,7 @@ next_at_end n p pos h =
 -- numbers less than n apart with one remainder are equal
 pub same_in_lap : (n p q : ℕ) → 0 < n → p ≤ q → q < p + n → p % n ≡ q % n → p ≡ q
 same_in_lap n p q pos le near same =
-    let high : n * (p / n) + p % n ≡ p = div-add-mod p n in
-    let low : n * (q / n) + q % n ≡ q = div-add-mod q n in
-    same_quotient n p q (p / n) (q / n) (p % n) (q % n) le near same high low
+    search (rules, div-add-mod p n, div-add-mod q n, div-add-mod, same_quotient)
   where
     same_quotient : (n p q a b r s : ℕ) → p ≤ q → q < p + n → r ≡ s → n * a + r ≡ p → n * b + s ≡ q → p ≡ q
     same_quotient n p q a b r s le near same e f = elim (cases_order a b) [

@@ -47,9 +47,7 @@ stop_spot_reached shape v (Data p) is later h = elim (or_cases (nat_lt p (given_
   | inl below ↦
       let within : p < given_count shape v = ltb-true p (given_count shape v) below in
       data_reached shape v p later (λ q l. given_below shape v q (omega arith)) ((step_is shape v p (given_below shape v p within)).1)
-  | inr end ↦
-      let parts = and_parts (p == given_count shape v) (is_way_given shape v p) end in
-      data_reached shape v p later (λ q l. given_below shape v q (omega (arith, eqb-true p (given_count shape v) parts.0))) (way_is shape v p parts.1)
+  | inr end ↦ search (rules, and_parts, given_count, is_way_given, data_reached, given_below, eqb-true, way_is)
 ]
 stop_spot_reached shape v (Link q) is later h = link_reached shape v q is later (λ p l. given_below shape v p (omega (arith, leb-true q (given_count shape v) h)))
 

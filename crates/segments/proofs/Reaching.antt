@@ -131,15 +131,13 @@ module _ (shape : Shape) (is : IsShape shape) (memory : ℕ → ℕ) (v : RingVi
     moved_count_declared : (held : Option ℕ) → given_count shape (moved v t held) ≤ declared v
     moved_count_declared held = elim (cases_lt (declared v) (given_count shape (moved v t held))) [
       | inl above ↦
-          let last = step_is shape (moved v t held) (declared v) (given_below shape (moved v t held) (declared v) above) in
-          absurd (omega (arith, k.given_declared (declared v) last.0))
+          search (rules, step_is shape (moved v t held) (declared v) (given_below shape (moved v t held) (declared v) above), step_is, declared, given_below)
       | inr within ↦ within
     ]
 
     -- a floor that moves on changes nothing of what is given
     pub given_count-moved : (held : Option ℕ) → given_count shape v ≡ given_count shape (moved v t held)
-    given_count-moved held =
-        given_count_still shape v (moved v t held) (step_stays held) given_count_near (omega (arith, moved_count_declared held, k.room, may.later))
+    given_count-moved held = search (rules, given_count_still, step_stays, given_count_near, moved_count_declared)
 
     -- the pointer reaches a spot, and the ring is open then, or held at a number from the spot's up to what is given; where something is
     -- free it is held, and shows its cycle up to there

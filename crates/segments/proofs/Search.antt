@@ -4,15 +4,12 @@ use Rattle.segments.proofs.Words.{◌≡◌, ◌<◌, ◌⊎◌, ℕ, Bool, true
 -- the first place that passes
 pub position_is : {X : Type 0} (p : X → Bool) (xs : List X) (i : ℕ) (d : X) → i < length xs → p (get_or xs i d) ≡ true →
     ((k : ℕ) → k < i → p (get_or xs k d) ≡ false) → position p xs ≡ Some i
-position_is p xs i d inside passes first =
-    let at : position_or_len p xs ≡ i = position_or_len_is p xs i d (omega arith) first (λ _. passes) in
-    rw at (cond-true (nat_lt i (length xs)) (Some i) None (lt-ltb i (length xs) inside))
+position_is p xs i d inside passes first = search (rules, position_or_len, position_or_len_is, cond-true, nat_lt, length, Some, None, lt-ltb)
 
 -- the only place that passes
 pub position_only : {X : Type 0} (p : X → Bool) (xs : List X) (i : ℕ) (d : X) → i < length xs → p (get_or xs i d) ≡ true →
     ((k : ℕ) → k < length xs → p (get_or xs k d) ≡ true → k ≡ i) → position p xs ≡ Some i
-position_only p xs i d inside passes only =
-    position_is p xs i d inside passes (λ k l. false_from_ne_true (p (get_or xs k d)) (λ h. let same : k ≡ i = only k (omega arith) h in absurd (omega arith)))
+position_only p xs i d inside passes only = search (rules, position_is, false_from_ne_true, get_or)
 
 -- no place passes
 pub position_nowhere : {X : Type 0} (p : X → Bool) (xs : List X) (d : X) → ((k : ℕ) → k < length xs → p (get_or xs k d) ≡ false) → position p xs ≡ None

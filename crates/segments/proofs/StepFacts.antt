@@ -17,9 +17,7 @@ pub record GivesMore (v w : RingView) : Type 0 where
   pub crossed : (q : ℕ) → v.crossed q ≡ true → w.crossed q ≡ true
 
 pub step_more : (shape : Shape) (v w : RingView) → GivesMore v w → (q : ℕ) → is_step_given shape v q ≡ true → is_step_given shape w q ≡ true
-step_more shape v w more q h =
-    let parts = step_is shape v q h in
-    step_from shape w q (more.given q parts.0) (λ link. more.crossed q (parts.1 link))
+step_more shape v w more q h = search (rules, step_is, step_from)
 
 -- ---- descriptors
 
@@ -59,9 +57,7 @@ pub length_from-push : (lengths : List ℕ) (n start p : ℕ) → p < start + su
 unfolding length_from
 length_from-push [] n start p h = cond-false (start == p) n 0 (ne_eqb start p (λ e. absurd (omega arith)))
 length_from-push (m ∷ rest) n start p h = elim (cases_eq start p) [
-  | inl here ↦
-      cond-true (start == p) m (length_from (rest ++ n ∷ []) (start + m) p) (eq-eqb start p here)
-      ∙ sym (cond-true (start == p) m (length_from rest (start + m) p) (eq-eqb start p here))
+  | inl here ↦ search (rules, cond-true, length_from, eq-eqb)
   | inr past ↦
       cond-false (start == p) m (length_from (rest ++ n ∷ []) (start + m) p) (ne_eqb start p past)
       ∙ length_from-push rest n (start + m) p (omega (arith, sum_by-cons (λ x. x) m rest))

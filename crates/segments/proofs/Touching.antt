@@ -1,5 +1,6 @@
 -- Of a ring's segments only the last one to start before the end of some bytes can have one of them
-use Rattle.segments.proofs.Words.{min, list_any_none, IsLastOf, IsLastStart, ◌≡◌, ◌+◌, ◌-◌, ◌*◌, ◌<◌, ◌≤◌, ◌^◌, ◌&&◌, ◌||◌, ◌∷◌, ◌∙◌, ℕ, suc, List, [], refl, segments_overlap, rings_overlap, true, false, None, length, list_any, list_any_at, get_or_default, lt-ltb, ap, sym, arith, nat_tests, inl, inr, cases_Bool, cases_lt, false_from_ne_true, false≢true, Shape, Segment, IsShape, overlap, touches}
+use Rattle.std.proofs.Common.{rules}
+use Rattle.segments.proofs.Words.{min, list_any_none, IsLastOf, IsLastStart, ◌≡◌, ◌+◌, ◌-◌, ◌*◌, ◌<◌, ◌≤◌, ◌^◌, ◌&&◌, ◌||◌, ◌∷◌, ◌∙◌, ℕ, suc, List, [], refl, segments_overlap, rings_overlap, true, false, None, length, list_any, list_any_at, get_or_default, lt-ltb, ap, sym, arith, inl, inr, cases_Bool, cases_lt, false_from_ne_true, false≢true, Shape, Segment, IsShape, overlap, touches}
 use Rattle.segments.proofs.Blocks.{segment_at, same_segment}
 use Rattle.segments.proofs.ShapeFacts.{shape_facts}
 
@@ -14,22 +15,11 @@ module _ (shape : Shape) (is : IsShape shape) (at len last : ℕ) (some : 0 < le
       false_from_ne_true _ (λ met. none j below (rw (get_or_default shape.segments j d (record { base = 0; count = 0 }) below) at met))))
 
   pub nothing_touched : IsLastStart shape.segments last None → touches shape at len ≡ false
-  nothing_touched above = none_meets (λ j below met.
-      absurd (grind (arith, nat_tests, met, above j below, ((shape_facts shape is).each j below).low, end)))
+  nothing_touched above = search (rules, none_meets, shape_facts)
 
   -- the last one has one where another has
   last_meets : (j k : ℕ) → IsLastOf shape.segments last j → k < length shape.segments → meets k → meets j
-  last_meets j k of below met = elim (cases_lt (segment_at shape.segments j).base ((segment_at shape.segments k).base + 16 * (segment_at shape.segments k).count)) [
-    | inl inside ↦
-        let facts = shape_facts shape is in
-        let long = (facts.each j of.number).blocks in
-        let met_at : (segment_at shape.segments k).base ≤ last = grind (arith, nat_tests, met, end, (facts.each k below).low) in
-        let rising = of.last k below met_at in
-        let same : k ≡ j = same_segment shape.segments facts.apart k j (segment_at shape.segments j).base below of.number rising inside (omega arith) (omega (arith, long)) in
-        rw same at met
-    | inr behind ↦
-        grind (arith, nat_tests, met, behind, of.start, end, ((shape_facts shape is).each j of.number).blocks, some)
-  ]
+  last_meets j k of below met = search (rules, cases_lt, segment_at, shape_facts, same_segment)
 
   pub touched_last : (j : ℕ) → IsLastOf shape.segments last j → overlap at len (segment_at shape.segments j).base (16 * (segment_at shape.segments j).count) ≡ touches shape at len
   touched_last j of = elim (cases_Bool (overlap at len (segment_at shape.segments j).base (16 * (segment_at shape.segments j).count))) [

@@ -1,5 +1,6 @@
 -- From the floor's spot the controller reads whole descriptors as declared, in order, through given Links, and then waits
-use Rattle.segments.proofs.Words.{IsRestored, ◌≡◌, ◌+◌, ◌-◌, ◌*◌, ◌<◌, ◌≤◌, ◌∷◌, ◌∙◌, ℕ, suc, zero, not, true, false, List, [], length, All, map, take, filter, Some, arith, refl, sym, ap, subst, inl, inr, take_all, range_with_len, filter_map, cons_option, cases_eq, cond-true, cond-false, false≢true, not_from_true, not_from_false, take-map, All-nil, All-cons, All-map, All-take, All-contains, All-same, All-weaker, Block, Evt, kind, is_link, Spot, Data, Link, Shape, is_inside, link_address, IsSpot, rank, number, next, spot_address, spots_from, IsShape, RingView, floor_number, given_count, RingKeeps, Pointer, WalkReads, block_under, is_shown, behind, looks, walk, data_of, laid, laid_between, standing}
+use Rattle.std.proofs.Common.{rules}
+use Rattle.segments.proofs.Words.{IsRestored, ◌≡◌, ◌+◌, ◌-◌, ◌<◌, ◌≤◌, ◌∷◌, ◌∙◌, ℕ, suc, zero, not, true, false, List, [], length, All, map, take, filter, Some, arith, refl, sym, ap, subst, inl, inr, take_all, range_with_len, filter_map, cons_option, cases_eq, cond-true, cond-false, false≢true, not_from_true, not_from_false, take-map, All-nil, All-cons, All-map, All-take, All-contains, All-same, All-weaker, Block, Evt, kind, is_link, Spot, Data, Link, Shape, is_inside, link_address, IsSpot, rank, number, next, spot_address, spots_from, IsShape, RingView, floor_number, given_count, RingKeeps, Pointer, WalkReads, block_under, is_shown, behind, looks, walk, data_of, laid, laid_between, standing}
 use Rattle.segments.proofs.SpotOrder.{rank_least, rank_most, same_rank, next_is_spot, next_later, next_least}
 use Rattle.segments.proofs.ReachedSpots.{number-after}
 use Rattle.segments.proofs.Reaching.{given_count_declared, floor_given}
@@ -23,8 +24,7 @@ no_look memory at = refl
 
 look_on : (memory : ℕ → ℕ) (at on : Pointer) (n : ℕ) → is_shown memory at ≡ true → behind at (block_under memory at) ≡ on → looks memory at (suc n) ≡ at ∷ looks memory on n
 unfolding looks
-look_on memory at on n shown next =
-    ap (λ ats. at ∷ ats) (cond-true (is_shown memory at) (looks memory (behind at (block_under memory at)) n) [] shown ∙ ap (λ p. looks memory p n) next)
+look_on memory at on n shown next = search (rules, cond-true, is_shown, looks, behind, block_under, next)
 
 look_last : (memory : ℕ → ℕ) (at : Pointer) (n : ℕ) → is_shown memory at ≡ false → looks memory at (suc n) ≡ at ∷ []
 unfolding looks
@@ -64,32 +64,22 @@ module _ (shape : Shape) (memory : ℕ → ℕ) (v : RingView) (t : Spot) (w : W
 
       shown_there : (n : ℕ) → filter (is_shown memory) (map (standing shape) (take n (t ∷ []))) ≡ map (standing shape) (take n (let none : List Spot = [] in none))
       shown_there zero = refl
-      shown_there (suc n) =
-          ap (λ ts. filter (is_shown memory) (standing shape t ∷ map (standing shape) ts)) (take_none n)
-          ∙ cond-false (is_shown memory (standing shape t)) (standing shape t ∷ []) [] w.hidden
+      shown_there (suc n) = search (rules, filter, is_shown, standing, map, take_none, cond-false)
 
   data_on : (s : Spot) (rest : List Block) → ReadAs shape memory v s → number s ≤ given_count shape v → data_of rest ≡ laid_between shape v (number (next shape s)) (given_count shape v) →
       data_of (block_under memory (standing shape s) ∷ rest) ≡ laid_between shape v (number s) (given_count shape v)
   data_on (Data p) rest read low is =
       let b : Block = block_under memory (standing shape (Data p)) in
-      cond-true (not (is_link (kind b))) (b ∷ data_of rest) (data_of rest) (not_from_false (is_link (kind b)) read.1)
-      ∙ ap (λ bs. b ∷ bs) (is ∙ ap (λ n. laid_between shape v n (given_count shape v)) (number-after shape p))
-      ∙ sym (first_laid p (given_count shape v) b read.0 read.2)
+      search (rules, cond-true, not, is_link, kind, data_of, not_from_false, laid_between, given_count, number-after, first_laid)
     where
       first_laid : (p g : ℕ) (b : Block) → p < g → laid shape v p ≡ Some b → laid_between shape v p g ≡ b ∷ laid_between shape v (p + 1) g
       first_laid p g b below at =
           let one : g - p ≡ suc (g - (p + 1)) = omega arith in
-          ap (λ n. filter_map (laid shape v) (range_with_len p n)) one
-          ∙ ap (λ o. cons_option o (filter_map (laid shape v) (range_with_len (p + 1) (g - (p + 1))))) at
-  data_on (Link q) rest read low is =
-      let b : Block = block_under memory (standing shape (Link q)) in
-      cond-false (not (is_link (kind b))) (b ∷ data_of rest) (data_of rest) (not_from_true (is_link (kind b)) read.1) ∙ is
+          search (rules, filter_map, laid, range_with_len, cons_option)
+  data_on (Link q) rest read low is = search (rules, Block, block_under, standing, Link, cond-false, not, is_link, kind, data_of, not_from_true)
 
   number_below : (s : Spot) → rank s ≤ rank t → number s ≤ given_count shape v
-  number_below s near = below (number s) (rank s) (rank t) (given_count shape v) (rank_least s) near (omega (arith, rank_most t, w.at))
-    where
-      below : (n r u g : ℕ) → 2 * n ≤ r → r ≤ u → u ≤ 2 * g + 1 → n ≤ g
-      below n r u g a b c = omega arith
+  number_below s near = search (rules, number, rank, given_count, rank_least, rank_most)
 
   number_next : (s : Spot) → number s ≤ number (next shape s)
   number_next (Data p) = omega (arith, number-after shape p)
@@ -111,13 +101,10 @@ module _ (shape : Shape) (memory : ℕ → ℕ) (v : RingView) (t : Spot) (w : W
       shown_there : (n : ℕ) → filter (is_shown memory) (map (standing shape) (take n (s ∷ spots_from shape (next shape s) (suc rest.steps))))
           ≡ map (standing shape) (take n (s ∷ spots_from shape (next shape s) rest.steps))
       shown_there zero = refl
-      shown_there (suc n) =
-          cond-true (is_shown memory (standing shape s)) _ _ read.shown ∙ ap (λ ats. standing shape s ∷ ats) (rest.shown n)
+      shown_there (suc n) = search (rules, cond-true, is_shown, standing)
 
   path : (m : ℕ) (s : Spot) → IsLooked s → rank t ≤ rank s + m → Path s
-  path zero s looked near =
-      let same : s ≡ t = same_rank s t (omega (arith, looked.to)) in
-      subst Path (sym same) (at_end (subst IsLooked same looked))
+  path zero s looked near = search (rules, same_rank, at_end, looked)
   path (suc m) s looked near = elim (cases_eq (rank s) (rank t)) [
     | inl end ↦ let same : s ≡ t = same_rank s t end in subst Path (sym same) (at_end (subst IsLooked same looked))
     | inr earlier ↦
@@ -154,8 +141,7 @@ module _ (shape : Shape) (is : IsShape shape) (other : shape.kind ≡ Evt → �
 
   reads_from : (t : Spot) (w : Waits shape memory v t) → Path shape memory v t w v.floor → WalkReads shape memory v
   reads_from t w p =
-      let at_spots : (n : ℕ) → All (IsLooked shape memory v t w) (take n (spots_from shape v.floor (suc p.steps))) =
-      λ n. All-take (IsLooked shape memory v t w) n (spots_from shape v.floor (suc p.steps)) p.looked in
+      let at_spots : (n : ℕ) → All (IsLooked shape memory v t w) (take n (spots_from shape v.floor (suc p.steps))) = search (rules, All-take, spots_from) in
       let walked : (n : ℕ) → walk memory (standing shape v.floor) n ≡ map (block_under memory) (map (standing shape) (take n (spots_from shape v.floor p.steps))) = reads_of t w p in
       let whole : take p.steps (spots_from shape v.floor p.steps) ≡ spots_from shape v.floor p.steps =
       take_all p.steps (spots_from shape v.floor p.steps) (omega (arith, length-spots_from shape v.floor p.steps)) in
@@ -168,11 +154,7 @@ module _ (shape : Shape) (is : IsShape shape) (other : shape.kind ≡ Evt → �
         to = given_count_declared shape is memory v k;
         is_border = given_count_border shape is memory v k;
         spots = p.spots;
-        reads = λ n.
-            walked n
-            ∙ ap (map (block_under memory)) (sym (take-map (standing shape) n (spots_from shape v.floor p.steps)))
-            ∙ sym (take-map (block_under memory) n (map (standing shape) (spots_from shape v.floor p.steps)))
-            ∙ ap (take n) (sym all);
+        reads = search (rules, map, block_under, take-map, standing, spots_from, take);
         blocks = ap data_of all ∙ p.blocks;
         links = λ n.
             let P = λ (at : Pointer). is_shown memory at ≡ true → is_link (kind (block_under memory at)) ≡ true →

@@ -1,5 +1,5 @@
 -- One step of the walk: at each spot up to the first that isn't given a block stands that leads to the next spot, and there none
-use Rattle.segments.proofs.Words.{IsRestored, ◌≡◌, ◌≢◌, ◌+◌, ◌-◌, ◌*◌, ◌/◌, ◌^◌, ◌%◌, ◌<◌, ◌≤◌, if◌then◌else◌, ◌∙◌, ℕ, Bool, true, false, [], Some, slice_get, arith, refl, sym, ap, inl, inr, get_or, eq-eqb, ne_eqb, eqb-true, option_map, cases_Bool, cases_lt, cases_eq, cond-true, cond-false, or_parts, not-false, false≢true, false_from_ne_true, slice_get-get_or, mod-eq_of_lt, Block, Evt, is_set, aligned, block_at, word, cycle, kind, pointer, with_cycle, is_link, kind-with_cycle, Spot, Data, Link, Shape, address_of, cycle_of, is_crossing, link_address, link_target, toggles, IsSpot, rank, number, after, next, spot_address, spot_cycle, IsShape, RingView, floor_number, given_count, same, is_wrong_link, RingKeeps, Pointer, block_under, is_shown, behind, laid, standing, rules}
+use Rattle.segments.proofs.Words.{IsRestored, ◌≡◌, ◌≢◌, ◌+◌, ◌-◌, ◌*◌, ◌/◌, ◌^◌, ◌%◌, ◌<◌, ◌≤◌, ◌∙◌, ℕ, Bool, true, false, [], Some, slice_get, arith, refl, sym, ap, inl, inr, get_or, eq-eqb, ne_eqb, eqb-true, option_map, cases_Bool, cases_lt, cases_eq, cond-true, cond-false, or_parts, not-false, false≢true, false_from_ne_true, slice_get-get_or, mod-eq_of_lt, Block, Evt, is_set, aligned, block_at, word, cycle, kind, pointer, with_cycle, is_link, kind-with_cycle, Spot, Data, Link, Shape, address_of, cycle_of, is_crossing, link_address, link_target, toggles, IsSpot, rank, number, after, next, spot_address, spot_cycle, IsShape, RingView, floor_number, given_count, same, is_wrong_link, RingKeeps, Pointer, block_under, is_shown, behind, laid, standing, rules}
 use Rattle.segments.proofs.DataPlaces.{link_ends}
 use Rattle.segments.proofs.Positions.{address_ends, cycle_of_bit}
 use Rattle.segments.proofs.Crossings.{crosses, crossed_link, link_address_is, link_target-crossed, cycle_of-crossed}
@@ -60,10 +60,8 @@ module _ (shape : Shape) (is : IsShape shape) (other : shape.kind ≡ Evt → �
       let near : address_of shape p + 16 ≡ spot_address shape (after shape p) = sym (spot_address-after shape is other p) in
       let low_end : spot_address shape (after shape p) < 2 ^ 64 = spot_ends (after shape p) (next_is_spot shape (Data p)) in
       record {
-        shown = eq-eqb (cycle (block_at memory (address_of shape p))) (cycle_of shape p)
-            (cycle_at (memory (address_of shape p + 12)) ∙ kept_cycle shape is memory v k p low given (restored p));
-        on = cond-false (is_link (kind (block_at memory (address_of shape p)))) _ _ no_link
-            ∙ same_pointer _ _ _ _ (mod-eq_of_lt (omega arith) ∙ near) (sym (spot_cycle-after shape is other p));
+        shown = search (rules, eq-eqb, cycle, block_at, address_of, cycle_of, cycle_at, kept_cycle);
+        on = search (rules, cond-false, is_link, kind, block_at, address_of, same_pointer, mod-eq_of_lt, spot_cycle-after);
         stands = (high, no_link, ap (λ o. option_map (λ b. with_cycle b (cycle_of shape p)) o) declared ∙ ap (λ b. Some b) (sym stands));
       }
 
@@ -81,15 +79,12 @@ module _ (shape : Shape) (is : IsShape shape) (other : shape.kind ≡ Evt → �
       let link = leads q found.0 b stands.0 in
       record {
         shown = eq-eqb (cycle b) (cycle_of shape (q - 1)) (cycle_at (memory (link_address shape q + 12)) ∙ stands.1);
-        on = cond-true (is_link (kind b)) _ _ link.1
-            ∙ same_pointer _ _ _ _ (link.0 ∙ sym (link_target-crossed shape is q found.0 found.1))
-            (ap (λ t. if t then 1 - cycle_of shape (q - 1) else cycle_of shape (q - 1)) link.2 ∙ sym (cycle_of-crossed shape is q found.0 found.1));
+        on = search (rules, cond-true, is_link, kind, same_pointer, link_target-crossed, cycle_of, cycle_of-crossed);
         stands = (given, link.1);
       }
 
   hides : (s : Spot) → memory (spot_address shape s + 12) % 2 ≢ spot_cycle shape s → is_shown memory (standing shape s) ≡ false
-  hides s not_yet =
-      ne_eqb (cycle (block_under memory (standing shape s))) (spot_cycle shape s) (λ same. not_yet (sym (cycle_at (memory (spot_address shape s + 12))) ∙ same))
+  hides s not_yet = search (rules, ne_eqb, cycle, block_under, standing, spot_cycle, cycle_at, spot_address)
 
   -- the first position that isn't given, with the way to it
   waits_at_data : rank v.floor ≤ 2 * given_count shape v + 1 → (is_crossing shape (given_count shape v) ≡ true → v.crossed (given_count shape v) ≡ true) → Waits shape memory v (Data (given_count shape v))

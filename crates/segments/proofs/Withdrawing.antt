@@ -118,15 +118,7 @@ ones_length : (n : ℕ) (rest : List ℕ) (start q : ℕ) →
     (length_from (replicate n 1 ++ rest) start q ≡ 1) ⊎ (length_from (replicate n 1 ++ rest) start q ≡ length_from rest (start + n) q)
 unfolding length_from
 ones_length zero rest start q = inr (ap (λ s. length_from rest s q) (sym (add-zero start)))
-ones_length (suc n) rest start q = elim (cases_eq start q) [
-  | inl here ↦ inl (ones_first (suc n) rest start q (omega arith) here)
-  | inr past ↦
-      let skips = cond-false (start == q) 1 (length_from (replicate n 1 ++ rest) (start + 1) q) (ne_eqb start q past) in
-      elim (ones_length n rest (start + 1) q) [
-        | inl one ↦ inl (skips ∙ one)
-        | inr behind ↦ inr (skips ∙ behind ∙ ap (λ s. length_from rest s q) (one_on start n))
-      ]
-]
+ones_length (suc n) rest start q = search (rules, cases_eq, ones_first, cond-false, length_from, replicate, ne_eqb, one_on, ones_length n rest (start + 1) q)
 
 -- a descriptor has the blocks that it had, or one
 pub split_length : (lengths : List ℕ) (start p q : ℕ) → All (λ m. 0 < m) lengths →
@@ -185,9 +177,7 @@ module _ (shape : Shape) (is : IsShape shape) (memory : ℕ → ℕ) (v : RingVi
 
     kept_by : (q : ℕ) (d : Block) → floor_number v ≤ q → v.given q ≡ true → after_it.free q ≡ false → slice_get after_it.queue q ≡ Some d →
         block_at memory (address_of shape q) ≡ with_cycle d (cycle_of shape q)
-    kept_by q d low given kept at =
-        let parts = or_parts (v.free q) (is_in q p count && v.given q) kept in
-        k.kept q d low given parts.0 (sym (no_ops_elsewhere v.queue p count q (elsewhere q given parts.1)) ∙ at)
+    kept_by q d low given kept at = search (rules, or_parts, is_in, no_ops_elsewhere, elsewhere)
 
     shows_by : (q : ℕ) → floor_number v ≤ q → q < ceiling shape after_it → after_it.free q ≡ true → memory (address_of shape q + 12) % 2 ≡ cycle_of shape q
     shows_by q low high free = search (rules, after_it, ceiling_kept, or_cases, false≢true, kept_cycle, and_parts)
@@ -241,9 +231,7 @@ module _ (shape : Shape) (is : IsShape shape) (memory : ℕ → ℕ) (v : RingVi
     stands_again p d low given free at =
         let test = λ (p : ℕ). not (is_declared_as (block_at memory (address_of shape p)) (cycle_of shape p) (slice_get v.queue p)) in
         let fails : test p ≡ false = none_passes_at test (unrestored shape v) p may (unrestored_position shape v p (due_from shape v.floor p low (k.given_within p given)) free) in
-        same_words_is memory (address_of shape p) d (cycle_of shape p)
-        (sym (ap (λ o. is_declared_as (block_at memory (address_of shape p)) (cycle_of shape p) o) at)
-        ∙ not-false (is_declared_as (block_at memory (address_of shape p)) (cycle_of shape p) (slice_get v.queue p)) fails)
+        search (rules, same_words_is, address_of, cycle_of, is_declared_as, block_at, not-false, slice_get)
 
     steps_stay : (q : ℕ) → is_step_given shape v q ≡ is_step_given shape restored q
     unfolding is_step_given is_way_given
@@ -254,29 +242,4 @@ module _ (shape : Shape) (is : IsShape shape) (memory : ℕ → ℕ) (v : RingVi
     whole_still q given = k.whole q given
 
     pub restores_keeps : RingKeeps shape memory (changed shape v Restores)
-    restores_keeps = record {
-      is_spot = k.is_spot;
-      room = k.room;
-      passed = k.passed;
-      passed_links = k.passed_links;
-      given_within = k.given_within;
-      given_declared = k.given_declared;
-      crossed_is_crossing = k.crossed_is_crossing;
-      crossed_within = k.crossed_within;
-      kept = λ p d low given now at. elim (cases_Bool (v.free p)) [
-        | inl free ↦ stands_again p d low given free at
-        | inr kept ↦ k.kept p d low given kept at
-      ];
-      not_yet = k.not_yet;
-      kept_link = k.kept_link;
-      not_yet_link = k.not_yet_link;
-      whole = whole_still;
-      lengths = k.lengths;
-      descriptors = k.descriptors;
-      blocks = k.blocks;
-      held = λ m at. let may_hold : MayHold shape v m = k.held m at in
-          record { from = may_hold.from; to = omega (arith, may_hold.to, given_count_same shape v restored refl steps_stay) };
-      free_given = λ p free. absurd (false≢true free);
-      free_shows = λ p low high free. absurd (false≢true free);
-      open_restored = λ none p. refl;
-    }
+    restores_keeps = search (rules, cases_Bool, stands_again, whole_still, MayHold, given_count_same, steps_stay, false≢true)

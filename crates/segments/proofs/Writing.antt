@@ -1,4 +1,5 @@
 -- A write keeps the rules of a ring: it changes no leased block or Link, and what it gives stands as it must
+use Rattle.std.proofs.Common.{rules}
 use Rattle.segments.proofs.Words.{◌&&◌, ◌==◌, not, nat_lt, Option, None, lt-ltb, eq-eqb, eqb-true, and_from, false_from_ne_true, ceiling, flips_passed, unrestored, ◌≡◌, ◌≢◌, ◌+◌, ◌-◌, ◌%◌, ◌<◌, ◌≤◌, ◌⊎◌, ◌||◌, ◌∙◌, ℕ, Bool, true, false, Some, slice_get, unwrap_or, arith, refl, sym, ap, inl, inr, leb-false, cases_eq, or_cases, or_parts, or_left, false≢true, not-false, All-contains, put, Block, block_at, with_cycle, Shape, address_of, cycle_of, link_crossed, link_address, overlap, RingView, Writes, changed, declared, floor_number, is_due, is_crossing_due, gives, gives_crossing, positions_given, crossings_given, leased_positions, leased_crossings, given_count, descriptor_length, is_declared_as, is_other_than_declared, is_not_declared, is_not_whole, is_wrong_link, link_of, leads_wrong, RingKeeps, MayWrite, MayHold}
 use Rattle.segments.proofs.Giving.{gives_is, gives_from, gives_crossing_is, gives_crossing_from, due_from}
 use Rattle.segments.proofs.DueLists.{leased_position, leased_crossing, position_given, crossing_given, unrestored_position, none_passes_at}
@@ -26,10 +27,7 @@ module _ (shape : Shape) (memory : ℕ → ℕ) (v : RingView) (a w : ℕ) where
   declared_as : (p : ℕ) (d : Block) → is_other_than_declared shape v memory a w p ≡ false → slice_get v.queue p ≡ Some d →
       block_at (put memory a w) (address_of shape p) ≡ with_cycle d (cycle_of shape p)
   unfolding is_other_than_declared is_declared_as
-  declared_as p d same at =
-      same_words_is (put memory a w) (address_of shape p) d (cycle_of shape p)
-      (sym (ap (λ o. is_declared_as (block_at (put memory a w) (address_of shape p)) (cycle_of shape p) o) at)
-      ∙ not-false (is_declared_as (block_at (put memory a w) (address_of shape p)) (cycle_of shape p) (slice_get v.queue p)) same)
+  declared_as p d same at = search (rules, same_words_is, put, address_of, cycle_of, is_declared_as, block_at, not-false, slice_get)
 
   leads_on : (q i : ℕ) → leads_wrong shape memory a w q ≡ false → link_crossed shape q ≡ Some i → is_wrong_link shape i (block_at (put memory a w) (link_address shape q)) ≡ false
   unfolding leads_wrong link_of
@@ -51,9 +49,7 @@ module _ (shape : Shape) (memory : ℕ → ℕ) (v : RingView) (a w : ℕ) where
         (leased_position shape v p (due_from shape v.floor p low (k.given_within p g)) g kept))
 
     link_kept : (q : ℕ) → is_crossing_due shape v.floor q ≡ true → v.crossed q ≡ true → SameBlock memory (put memory a w) (link_address shape q)
-    link_kept q due g =
-        same_apart memory a w (link_address shape q)
-        (All-contains (λ q. overlap a 4 (link_address shape q) 16 ≡ false) (leased_crossings shape v) q may.links (leased_crossing shape v q due g))
+    link_kept q due g = search (rules, same_apart, link_address, All-contains, overlap, leased_crossings, leased_crossing, may.links)
 
     kept_by : (p : ℕ) (d : Block) → floor_number v ≤ p → (v.given p || gives shape v.floor p a w) ≡ true → v.free p ≡ false → slice_get v.queue p ≡ Some d →
         block_at (put memory a w) (address_of shape p) ≡ with_cycle d (cycle_of shape p)
@@ -65,15 +61,7 @@ module _ (shape : Shape) (memory : ℕ → ℕ) (v : RingView) (a w : ℕ) where
     ]
 
     not_yet_by : (p : ℕ) → is_due shape v.floor p ≡ true → (v.given p || gives shape v.floor p a w) ≡ false → put memory a w (address_of shape p + 12) % 2 ≢ cycle_of shape p
-    not_yet_by p due g =
-        let parts = or_parts (v.given p) (gives shape v.floor p a w) g in
-        elim (cases_eq (address_of shape p + 12) a) [
-          | inl here ↦ λ same.
-              let written : w % 2 ≡ cycle_of shape p = ap (λ n. n % 2) (sym (put_here memory a w) ∙ ap (put memory a w) (sym here)) ∙ same in
-              false≢true (sym parts.1 ∙ ap (λ x. gives shape v.floor p x w) (sym here) ∙ gives_from shape v.floor p w due written)
-          | inr elsewhere ↦ λ same.
-              k.not_yet p due parts.0 (ap (λ n. n % 2) (sym (put_elsewhere memory a w (address_of shape p + 12) elsewhere)) ∙ same)
-        ]
+    not_yet_by p due g = search (rules, or_parts, gives, cases_eq, address_of, cycle_of, put_here, put, false≢true, gives_from, put_elsewhere)
 
     kept_link_by : (q i : ℕ) → is_crossing_due shape v.floor q ≡ true → (v.crossed q || gives_crossing shape v.floor q a w) ≡ true → link_crossed shape q ≡ Some i →
         (is_wrong_link shape i (block_at (put memory a w) (link_address shape q)) ≡ false) × (put memory a w (link_address shape q + 12) % 2 ≡ cycle_of shape (q - 1))
@@ -95,11 +83,8 @@ module _ (shape : Shape) (memory : ℕ → ℕ) (v : RingView) (a w : ℕ) where
     not_yet_link_by q due g =
         let parts = or_parts (v.crossed q) (gives_crossing shape v.floor q a w) g in
         elim (cases_eq (link_address shape q + 12) a) [
-          | inl here ↦ λ same.
-              let written : w % 2 ≡ cycle_of shape (q - 1) = ap (λ n. n % 2) (sym (put_here memory a w) ∙ ap (put memory a w) (sym here)) ∙ same in
-              false≢true (sym parts.1 ∙ ap (λ x. gives_crossing shape v.floor q x w) (sym here) ∙ gives_crossing_from shape v.floor q w due written)
-          | inr elsewhere ↦ λ same.
-              k.not_yet_link q due parts.0 (ap (λ n. n % 2) (sym (put_elsewhere memory a w (link_address shape q + 12) elsewhere)) ∙ same)
+          | inl here ↦ search (rules, cycle_of, put_here, put, false≢true, gives_crossing, gives_crossing_from)
+          | inr elsewhere ↦ search (rules, put_elsewhere, link_address)
         ]
 
     -- the ceiling stays where something is free: the ring is held then
@@ -116,11 +101,7 @@ module _ (shape : Shape) (memory : ℕ → ℕ) (v : RingView) (a w : ℕ) where
     same_bit p due below free here =
         let test = λ (p : ℕ). nat_lt p (ceiling shape v) && a == address_of shape p + 12 && not (w % 2 == cycle_of shape p) in
         let fails : test p ≡ false = none_passes_at test (unrestored shape v) p may.flips (unrestored_position shape v p due free) in
-        let aimed : (nat_lt p (ceiling shape v) && a == address_of shape p + 12) ≡ true =
-        and_from (nat_lt p (ceiling shape v)) (a == address_of shape p + 12) (lt-ltb p (ceiling shape v) below) (eq-eqb a (address_of shape p + 12) (sym here)) in
-        eqb-true (w % 2) (cycle_of shape p)
-        (not-false (w % 2 == cycle_of shape p)
-        (false_from_ne_true (not (w % 2 == cycle_of shape p)) (λ flips. false≢true (sym fails ∙ and_from (nat_lt p (ceiling shape v) && a == address_of shape p + 12) (not (w % 2 == cycle_of shape p)) aimed flips))))
+        search (rules, nat_lt, ceiling, address_of, and_from, lt-ltb, eq-eqb, eqb-true, cycle_of, not-false, false_from_ne_true, not, false≢true)
 
     free_shows_by : (p : ℕ) → floor_number v ≤ p → p < ceiling shape after_write → v.free p ≡ true → put memory a w (address_of shape p + 12) % 2 ≡ cycle_of shape p
     free_shows_by p low high free =
@@ -138,18 +119,12 @@ module _ (shape : Shape) (memory : ℕ → ℕ) (v : RingView) (a w : ℕ) where
       room = k.room;
       passed = λ p h. or_left (v.given p) (gives shape v.floor p a w) (k.passed p h);
       passed_links = λ q crossing h. or_left (v.crossed q) (gives_crossing shape v.floor q a w) (k.passed_links q crossing h);
-      given_within = λ p g. elim (or_cases (v.given p) (gives shape v.floor p a w) g) [
-        | inl was ↦ k.given_within p was
-        | inr now ↦ (gives_is shape v.floor p a w now).within
-      ];
+      given_within = search (rules, or_cases, gives, gives_is);
       given_declared = λ p g. elim (was_or_now (v.given p) (gives shape v.floor p a w) g) [
         | inl was ↦ k.given_declared p was
         | inr now ↦ is_below p (All-contains (λ p. is_not_declared v p ≡ false) (positions_given shape v a w) p may.declared (position_given shape v a w p now.0 now.1))
       ];
-      crossed_is_crossing = λ q g. elim (or_cases (v.crossed q) (gives_crossing shape v.floor q a w) g) [
-        | inl was ↦ k.crossed_is_crossing q was
-        | inr now ↦ (gives_crossing_is shape v.floor q a w now).due.crossing
-      ];
+      crossed_is_crossing = search (rules, or_cases, gives_crossing, gives_crossing_is);
       crossed_within = λ q g. elim (or_cases (v.crossed q) (gives_crossing shape v.floor q a w) g) [
         | inl was ↦ k.crossed_within q was
         | inr now ↦ (gives_crossing_is shape v.floor q a w now).due.within
