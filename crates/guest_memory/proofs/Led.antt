@@ -1,9 +1,5 @@
 -- The way to a page of a tree, step by step, and in a tree that grows
-use Rattle.std.proofs.Common.{ℕ, zero, suc, List, length, Some, None, ◌≡◌, ◌≢◌, ◌<◌, ◌≤◌, ◌/◌, ◌%◌, ◌∙◌, sym, refl, ⊎_elim, arith}
-use Rattle.std.specs.Prelude.{slice_index}
-use Rattle.std.proofs.lemmas.Bool.{cases_eq}
-use Rattle.std.proofs.lemmas.Bool.Decides.{nat_tests}
-use Rattle.guest_memory.specs.Tree.{next, led, IsTree, Extends, first_of, behind_of, digits_of}
+use Rattle.guest_memory.proofs.Words.{ℕ, zero, suc, List, length, Some, None, ◌≡◌, ◌≢◌, ◌<◌, ◌≤◌, ◌∙◌, sym, refl, ⊎_elim, arith, slice_index, cases_eq, nat_tests, next, led, IsTree, Extends, first_of, behind_of}
 
 pub led_here : (ns : List ℕ) (ts : List (List ℕ)) (n steps i rest : ℕ) → slice_index ns i ≡ n → led ns ts n (suc steps) i rest ≡ Some i
 unfolding led

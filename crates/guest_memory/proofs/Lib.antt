@@ -5,3 +5,4 @@ pub mod PageWords
 pub mod Linked
 pub mod Seeking
 pub mod Written
+pub mod Words

@@ -1,12 +1,6 @@
 -- A page at the end of the others, and where it lies noted in one of them
-use Rattle.std.proofs.Common.{ℕ, zero, suc, List, [], ◌∷◌, ◌++◌, length, set, get_or, replicate, ◌≡◌, ◌≢◌, ◌<◌, ◌≤◌, ◌+◌, ◌∙◌, sym, refl, ap, ⊎_elim, arith, length-append}
-use Rattle.std.specs.Prelude.{slice_index}
-use Rattle.std.proofs.lemmas.Bool.{cases_eq, cases_lt}
-use Rattle.std.proofs.lemmas.List.{length-map, get_or-map, map-set, map-append, get_or-set_same, get_or-set_other, get_or_append_left, get_or_push, get_or-replicate, get_or_past}
-use Rattle.std.proofs.Math.Seq.{map-set_same}
-use Rattle.guest_memory.specs.declared.page.Page.{Page}
-use Rattle.guest_memory.specs.Tree.{numbers, nexts, next, IsTree, IsFree, IsAt}
-use Rattle.guest_memory.specs.Page.{page_in}
+use Rattle.std.proofs.Common.{rules}
+use Rattle.guest_memory.proofs.Words.{ℕ, zero, suc, List, [], ◌∷◌, ◌++◌, length, set, get_or, replicate, ◌≡◌, ◌<◌, ◌≤◌, ◌∙◌, sym, refl, ap, ⊎_elim, arith, length-append, slice_index, cases_eq, cases_lt, length-map, get_or-map, map-set, map-append, get_or-set_same, get_or-set_other, get_or_append_left, get_or_push, get_or-replicate, get_or_past, map-set_same, Page, numbers, nexts, next, IsTree, IsFree, IsAt, page_in}
 use Rattle.guest_memory.proofs.Grown.{IsGrown, tree_grown}
 use Rattle.guest_memory.proofs.PageWords.{page_in_push}
 
@@ -19,34 +13,20 @@ number_read pages i page below is = get_or-map (λ (p : Page). p.number) pages i
 
 pub next_read : (pages : List Page) (i digit : ℕ) (page : Page) → i < length pages → page ≡ get_or pages i page
     → next (nexts pages) i digit ≡ slice_index page.next digit
-next_read pages i digit page below is =
-    ap (λ (row : List ℕ). slice_index row digit)
-    (get_or-map (λ (p : Page). p.next) pages i page [] below ∙ sym (ap (λ (p : Page). p.next) is))
+next_read pages i digit page below is = search (rules, slice_index, get_or-map)
 
 -- one way of one page is changed
 pub next_set_other : (ts : List (List ℕ)) (i digit v j d : ℕ) → i < length ts → (j ≡ i → d ≡ digit → ⊥)
     → next (set ts i (set (get_or ts i []) digit v)) j d ≡ next ts j d
-next_set_other ts i digit v j d below apart =
-    ⊎_elim
-    (λ (at : j ≡ i).
-    let other : d ≢ digit = apart at in
-    rw (at, get_or-set_same ts i (set (get_or ts i []) digit v) [] below) (get_or-set_other (get_or ts i []) digit d v 0 other))
-    (λ (other : j ≢ i). rw (get_or-set_other ts i j (set (get_or ts i []) digit v) [] other) refl)
-    (cases_eq j i)
+next_set_other ts i digit v j d below apart = search (rules, ⊎_elim, get_or-set_same, set, get_or, get_or-set_other, cases_eq)
 
 pub next_set_same : (ts : List (List ℕ)) (i digit v : ℕ) → i < length ts → digit < length (get_or ts i [])
     → next (set ts i (set (get_or ts i []) digit v)) i digit ≡ v
-next_set_same ts i digit v below wide =
-    rw (get_or-set_same ts i (set (get_or ts i []) digit v) [] below) (get_or-set_same (get_or ts i []) digit v 0 wide)
+next_set_same ts i digit v below wide = search (rules, get_or-set_same, set, get_or)
 
 -- no way is behind a page that is new
 pub next_new : (ts : List (List ℕ)) (d : ℕ) → next (ts ++ replicate 8 0 ∷ []) (length ts) d ≡ 0
-next_new ts d =
-    rw (get_or_push ts (replicate 8 0) [] (length ts) refl)
-    (⊎_elim
-    (λ (low : d < 8). get_or-replicate 8 d 0 0 low)
-    (λ (high : 8 ≤ d). get_or_past (replicate 8 0) d 0 high)
-    (cases_lt d 8))
+next_new ts d = search (rules, get_or_push, replicate, length, ⊎_elim, get_or-replicate, get_or_past, cases_lt)
 
 -- the same of the lists of numbers and ways
 pub grown_lists : (ns : List ℕ) (ts : List (List ℕ)) (n i digit : ℕ) → length ts ≡ length ns → i ≤ length ns
@@ -54,19 +34,7 @@ pub grown_lists : (ns : List ℕ) (ts : List (List ℕ)) (n i digit : ℕ) → l
     → IsGrown ns ts n i digit (ns ++ n ∷ [])
     (set (ts ++ replicate 8 0 ∷ []) i (set (get_or (ts ++ replicate 8 0 ∷ []) i []) digit (length ns)))
 grown_lists ns ts n i digit same there wide =
-    let longer : length (ts ++ replicate 8 0 ∷ []) ≡ length ns + 1 = length-append ts (replicate 8 0 ∷ []) ∙ ap (λ (m : ℕ). m + 1) same in
-    let inside : i < length (ts ++ replicate 8 0 ∷ []) = omega arith in
-    record {
-      longer = length-append ns (n ∷ []);
-      number = λ j below. get_or_append_left ns (n ∷ []) 0 j below;
-      last = get_or_push ns n 0 (length ns) refl;
-      way = λ j d below apart.
-          next_set_other (ts ++ replicate 8 0 ∷ []) i digit (length ns) j d inside apart
-          ∙ ap (λ (row : List ℕ). slice_index row d) (get_or_append_left ts (replicate 8 0 ∷ []) [] j (omega arith));
-      leaf = λ d apart.
-          next_set_other (ts ++ replicate 8 0 ∷ []) i digit (length ns) (length ns) d inside apart ∙ rw (← same) (next_new ts d);
-      joined = next_set_same (ts ++ replicate 8 0 ∷ []) i digit (length ns) inside wide;
-    }
+    search (rules, length, replicate, length-append, get_or_append_left, get_or_push, next_set_other, slice_index, next_new, next_set_same)
 
 -- the numbers and ways of pages of which the last is new, and has been noted in page i, which was old and is y
 pub is_grown : (pages : List Page) (page old y : Page) (n i digit : ℕ) → i ≤ length pages → digit < 8 → page.number ≡ n
@@ -75,14 +43,10 @@ pub is_grown : (pages : List Page) (page old y : Page) (n i digit : ℕ) → i �
     → IsGrown (numbers pages) (nexts pages) n i digit (numbers (set (pages ++ page ∷ []) i y)) (nexts (set (pages ++ page ∷ []) i y))
 is_grown pages page old y n i digit there low number leaf is eight same changed =
     let ways : length (nexts pages) ≡ length (numbers pages) = length-map pages (λ (p : Page). p.next) ∙ sym (count pages) in
-    let ns : numbers (set (pages ++ page ∷ []) i y) ≡ numbers pages ++ n ∷ [] =
-    map-set_same (λ (p : Page). p.number) (pages ++ page ∷ []) i y old (same ∙ ap (λ (p : Page). p.number) is)
-    ∙ map-append (λ (p : Page). p.number) pages (page ∷ []) ∙ ap (λ (m : ℕ). numbers pages ++ m ∷ []) number in
-    let all : nexts (pages ++ page ∷ []) ≡ nexts pages ++ replicate 8 0 ∷ [] =
-    map-append (λ (p : Page). p.next) pages (page ∷ []) ∙ ap (λ (row : List ℕ). nexts pages ++ row ∷ []) leaf in
+    let ns : numbers (set (pages ++ page ∷ []) i y) ≡ numbers pages ++ n ∷ [] = search (rules, map-set_same, map-append, numbers) in
+    let all : nexts (pages ++ page ∷ []) ≡ nexts pages ++ replicate 8 0 ∷ [] = search (rules, map-append, nexts) in
     let inside : i < length (pages ++ page ∷ []) = omega (arith, length-append pages (page ∷ [])) in
-    let row : get_or (nexts pages ++ replicate 8 0 ∷ []) i [] ≡ old.next =
-    rw (← all) (get_or-map (λ (p : Page). p.next) (pages ++ page ∷ []) i old [] inside ∙ sym (ap (λ (p : Page). p.next) is)) in
+    let row : get_or (nexts pages ++ replicate 8 0 ∷ []) i [] ≡ old.next = search (rules, get_or-map) in
     let ts : nexts (set (pages ++ page ∷ []) i y)
     ≡ set (nexts pages ++ replicate 8 0 ∷ []) i (set (get_or (nexts pages ++ replicate 8 0 ∷ []) i []) digit (length (numbers pages))) =
     map-set (λ (p : Page). p.next) (pages ++ page ∷ []) i y ∙ rw (row, count pages, ← all) (ap (λ (r : List ℕ). set (nexts (pages ++ page ∷ [])) i r) changed) in
@@ -92,10 +56,7 @@ is_grown pages page old y n i digit there low number leaf is eight same changed 
 pub page_in_linked : (pages : List Page) (i : ℕ) (old y : Page) (n : ℕ) → i < length pages → old ≡ get_or pages i old
     → y.number ≡ old.number → y.words ≡ old.words → page_in (set pages i y) n ≡ page_in pages n
 page_in_linked [] i old y n below is number words = absurd (omega arith)
-page_in_linked (x ∷ pages) zero old y n below is number words =
-    let a : y.number ≡ x.number = number ∙ ap (λ (p : Page). p.number) is in
-    let b : y.words ≡ x.words = words ∙ ap (λ (p : Page). p.words) is in
-    rw (a, b) refl
+page_in_linked (x ∷ pages) zero old y n below is number words = search rules
 page_in_linked (x ∷ pages) (suc i) old y n below is number words =
     let rest = page_in_linked pages i old y n (omega arith) is number words in
     rw rest refl
@@ -115,19 +76,10 @@ tree_linked pages all page old y n i digit at tree free are number leaf is eight
 -- where the new page lies
 pub at_linked : (pages all : List Page) (page old y : Page) (n i at : ℕ) → all ≡ pages ++ page ∷ [] → page.number ≡ n
     → old ≡ get_or all i old → at ≡ length pages → y.number ≡ old.number → IsAt (numbers (set all i y)) n at
-at_linked pages all page old y n i at are number is last same =
-    let ns : numbers (set all i y) ≡ numbers pages ++ n ∷ [] =
-    map-set_same (λ (p : Page). p.number) all i y old (same ∙ ap (λ (p : Page). p.number) is)
-    ∙ ap numbers are ∙ map-append (λ (p : Page). p.number) pages (page ∷ []) ∙ ap (λ (m : ℕ). numbers pages ++ m ∷ []) number in
-    rw ns (record {
-      inside = omega (arith, length-append (numbers pages) (n ∷ []), count pages);
-      same = get_or_push (numbers pages) n 0 at (count pages ∙ sym last);
-    })
+at_linked pages all page old y n i at are number is last same = search (rules, numbers, set, map-set_same, map-append, length-append, count, get_or_push)
 
 -- the words that stand in such pages
 pub words_linked : (pages all : List Page) (page old y : Page) (n i : ℕ) → i ≤ length pages → all ≡ pages ++ page ∷ []
     → page.words ≡ replicate 16 0 → old ≡ get_or all i old → y.number ≡ old.number → y.words ≡ old.words
     → page_in (set all i y) n ≡ page_in pages n
-words_linked pages all page old y n i there are zeros is number words =
-    let inside : i < length all = rw are (omega (arith, length-append pages (page ∷ []))) in
-    page_in_linked all i old y n inside is number words ∙ rw are (page_in_push pages page n zeros)
+words_linked pages all page old y n i there are zeros is number words = search (rules, length, length-append, page_in_linked, page_in_push)

@@ -1,11 +1,6 @@
 -- The words of a page among pages with numbers of their own
-use Rattle.std.proofs.Common.{ℕ, zero, suc, List, [], ◌∷◌, ◌++◌, length, set, get_or, replicate, ◌≡◌, ◌≢◌, ◌<◌, ◌/◌, ◌%◌, refl, arith}
-use Rattle.std.specs.Prelude.{slice_index, if◌then◌else◌, ◌==◌}
-use Rattle.std.proofs.lemmas.List.{get_or-replicate}
-use Rattle.std.proofs.lemmas.Bool.Decides.{nat_tests}
-use Rattle.guest_memory.specs.declared.page.Page.{Page}
-use Rattle.guest_memory.specs.Tree.{numbers}
-use Rattle.guest_memory.specs.Page.{page_in, word_of}
+use Rattle.std.proofs.Common.{rules}
+use Rattle.guest_memory.proofs.Words.{ℕ, zero, suc, List, [], ◌∷◌, ◌++◌, length, set, get_or, replicate, ◌≡◌, ◌≢◌, ◌<◌, refl, arith, slice_index, if◌then◌else◌, ◌==◌, get_or-replicate, nat_tests, Page, numbers, page_in, word_of}
 
 -- a page without words changes none
 pub page_in_push : (pages : List Page) (page : Page) (n : ℕ) → page.words ≡ replicate 16 0
@@ -46,6 +41,4 @@ page_in_set (x ∷ pages) (suc i) page d n below same first =
 
 -- with no pages each word is 0
 pub word_none : (pages : List Page) (a : ℕ) → pages ≡ [] → word_of pages a ≡ 0
-word_none pages a none =
-    let zero_there : slice_index (replicate 16 0) (a / 4 % 16) ≡ 0 = get_or-replicate 16 (a / 4 % 16) 0 0 (omega arith) in
-    rw none (grind (arith, nat_tests, zero_there))
+word_none pages a none = search (rules, slice_index, replicate, get_or-replicate)

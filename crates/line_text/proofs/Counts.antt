@@ -1,6 +1,5 @@
 -- How far a line's fields are counted
-use Rattle.std.proofs.Common.{◌≡◌, ◌+◌, ◌||◌, ℕ, Bool, List, length}
-use Rattle.line_text.specs.Fields.{has_empty_field}
+use Rattle.line_text.proofs.Words.{◌≡◌, ◌+◌, ◌||◌, ℕ, Bool, List, length, has_empty_field}
 
 pub record AreCounted (fields rest : List (List ℕ)) (n : ℕ) (found : Bool) : Type 0 where
   pub count : length fields ≡ n + length rest

@@ -1,12 +1,7 @@
 -- A list that is cut at each element that passes a test, by its first such element
-use Rattle.std.proofs.Common.{◌≡◌, ◌+◌, ◌-◌, ◌<◌, ◌≤◌, ◌∷◌, ◌++◌, ◌∙◌, ℕ, suc, zero, List, [], Bool, true, false, refl, ap, sym, arith, length, slice_index, take, drop, cond, All, eqb-true, le_refl, take_all}
-use Rattle.std.specs.List.{slice_split, onto_first, count_by}
-use Rattle.std.proofs.lemmas.List.Elements.{All-cons, All-nil, All-same}
-use Rattle.std.proofs.lemmas.List.Sums.{sum_by-cons}
-use Rattle.line_text.specs.Fields.{fields_of, is_space}
-use Rattle.std.proofs.lemmas.Grind.{common_steps}
-use Rattle.std.proofs.lemmas.List.Splits.{slice_split-cons_yes, slice_split-cons_no, length-slice_split}
-use Rattle.line_text.specs.Lines.{is_line_feed, last_line, lines_between, lines_of}
+use Rattle.std.proofs.Common.{rules}
+use Rattle.line_text.proofs.Words.{◌≡◌, ◌+◌, ◌-◌, ◌<◌, ◌≤◌, ◌∷◌, ◌++◌, ◌∙◌, ℕ, suc, zero, List, [], Bool, true, false, refl, ap, sym, arith, length, slice_index, take, drop, cond, All, eqb-true, le_refl, slice_split, onto_first, count_by, All-cons, All-nil, All-same, sum_by-cons, fields_of, is_space, common_steps, slice_split-cons_yes, slice_split-cons_no, length-slice_split, is_line_feed, last_line, lines_between, lines_of}
+use Rattle.std.proofs.Common.{take_all}
 
 -- what is left of a text, as a slice gives it
 pub rest_of : (text : List ℕ) (n : ℕ) → take (length text - n) (drop n text) ≡ drop n text
@@ -58,9 +53,7 @@ parts (x ∷ xs) zero inside feed = ap (λ b. b ∷ xs) feed
 parts (x ∷ xs) (suc end) inside feed = ap (λ l. x ∷ l) (parts xs end (omega arith) feed)
 
 pub whole_at : (text : List ℕ) (end : ℕ) → end < length text → is_line_feed (slice_index text end) ≡ true → text ≡ take end text ++ 10 ∷ take (length text - (end + 1)) (drop (end + 1) text)
-whole_at text end inside feed =
-    parts text end inside (eqb-true (slice_index text end) 10 feed) ∙ ap (λ n. take end text ++ 10 ∷ drop n text) (one_more end)
-    ∙ ap (λ l. take end text ++ 10 ∷ l) (sym (rest_of text (end + 1)))
+whole_at text end inside feed = search (rules, parts, eqb-true, slice_index, take, drop, one_more, rest_of)
 
 pub none_before : (text : List ℕ) (end : ℕ) → end ≤ length text → ((k : ℕ) → 0 ≤ k → k < end → is_line_feed (slice_index text k) ≡ true → ⊥) →
     All (λ byte. is_line_feed byte ≡ false) (take end text)
@@ -87,9 +80,7 @@ pub line_at : (text : List ℕ) (end : ℕ) → end < length text → is_line_fe
     lines_of text ≡ record { content = take end text; is_ended = true } ∷ lines_of (take (length text - (end + 1)) (drop (end + 1) text))
 unfolding lines_of
 line_at text end inside passes none =
-    let rest = take (length text - (end + 1)) (drop (end + 1) text) in
-    ap lines_between (cut_behind is_line_feed text end inside passes none)
-    ∙ ended_first (take end text) (slice_split is_line_feed rest) (omega (arith, length-slice_split is_line_feed rest))
+    search (rules, take, length, drop, lines_between, cut_behind, is_line_feed, ended_first, slice_split, length-slice_split)
 
 last_is : (text : List ℕ) → 0 < length text → last_line text ≡ record { content = text; is_ended = false } ∷ []
 last_is [] some = absurd (omega arith)
@@ -98,9 +89,7 @@ last_is (byte ∷ rest) some = refl
 pub line_alone : (text : List ℕ) → 0 < length text → ((k : ℕ) → 0 ≤ k → k < length text → is_line_feed (slice_index text k) ≡ true → ⊥) →
     lines_of text ≡ record { content = text; is_ended = false } ∷ lines_of (take (length text - length text) (drop (length text) text))
 unfolding lines_of
-line_alone text some none =
-    ap lines_between (uncut is_line_feed text none) ∙ last_is text some
-    ∙ ap (λ xs. record { content = text; is_ended = false } ∷ lines_between (slice_split is_line_feed xs)) (sym (nothing_left text))
+line_alone text some none = search (rules, lines_between, uncut, is_line_feed, last_is, slice_split, nothing_left)
 
 cuts_within : (p : ℕ → Bool) (xs : List ℕ) → count_by p xs ≤ length xs
 cuts_within p [] = omega arith

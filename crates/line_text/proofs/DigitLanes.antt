@@ -1,17 +1,7 @@
 -- DigitLanes: what is computed of hex digits lane by lane, held to what each digit says
-use Rattle.std.proofs.Common.{◌≡◌, ℕ, zero, suc, ◌+◌, ◌-◌, ◌*◌, ◌%◌, ◌^◌, ◌<◌, ◌≤◌, ◌↔◌, ◌||◌, ◌&&◌, Bool, true, false, not, cond, eqb, ltb, leb, List, [], ◌∷◌, ◌++◌, map, length, get_or, replicate, bit_and, bit_or, Option, Some, None, unwrap_or, is_some, Result, Ok, Err, refl, sym, subst, ap, ap₂, ◌∙◌, arith, w8, Fits, eqb-true, eq-eqb}
-use Rattle.std.specs.Int.{Width, byte_len, from_be_bytes}
-use Rattle.std.specs.List.{AllPass, list_all, range_with_len}
-use Rattle.std.proofs.lemmas.Bool.{agree_below_at, and_parts}
-use Rattle.std.proofs.lemmas.List.{length-map, take_all}
-use Rattle.std.proofs.lemmas.List.Sums.{AllPass-from_list_all, list_all-from_AllPass}
-use Rattle.std.proofs.lemmas.Simd.{zip2_splat, zip2_of_maps, splat_is_map, mask_l-mod, pick_l_whole}
-use lib.Lanes.{zip2, sel_l, mask_l, top, pick_l, chunk, Each1}
-use Rattle.hex.specs.Hex.{decode_of, decode_pairs, decode_sized, digit_or_error, hex_digit_value, is_hex_digit, pair_value}
-use Rattle.hex.specs.declared.error.FromHexError.{FromHexError}
-use Rattle.hex.proofs.HexLemmas.{IsOk-decode_sized, decode_of-even, decode_sized-twice}
-use Rattle.hex.proofs.Pairs.{cons_byte, decode_pairs-ok_pair}
-use Rattle.line_text.specs.Numbers.{number_of, number_of_bytes}
+use Rattle.std.proofs.Common.{rules}
+use Rattle.line_text.proofs.Words.{◌≡◌, ℕ, zero, suc, ◌+◌, ◌-◌, ◌*◌, ◌%◌, ◌^◌, ◌<◌, ◌≤◌, ◌↔◌, ◌||◌, Bool, true, not, cond, eqb, ltb, leb, List, [], ◌∷◌, ◌++◌, map, length, get_or, replicate, bit_and, bit_or, Option, Some, None, unwrap_or, is_some, Result, Ok, Err, refl, sym, subst, ap, ap₂, ◌∙◌, arith, Fits, eqb-true, eq-eqb, Width, byte_len, from_be_bytes, AllPass, list_all, range_with_len, agree_below_at, and_parts, length-map, take_all, AllPass-from_list_all, list_all-from_AllPass, zip2_splat, zip2_of_maps, splat_is_map, mask_l-mod, pick_l_whole, zip2, sel_l, mask_l, top, pick_l, chunk, Each1, decode_of, decode_pairs, decode_sized, digit_or_error, hex_digit_value, is_hex_digit, pair_value, FromHexError, IsOk-decode_sized, decode_of-even, decode_sized-twice, cons_byte, decode_pairs-ok_pair, number_of, number_of_bytes}
+use Rattle.std.proofs.Common.{w8}
 
 -- ---- one lane
 
@@ -51,11 +41,7 @@ no_digits (x ∷ xs) fits = ap₂ (λ a b. a ∷ b) (no_digit_is x fits.0.fits) 
 
 none_is_set : (p : ℕ → Bool) (v : List ℕ) → (mask_l (map (λ c. not (p c)) v) ≡ 0) ↔ (list_all p v ≡ true)
 none_is_set p [] = (λ e. refl, λ e. refl)
-none_is_set p (x ∷ xs) = go (p x) (none_is_set p xs)
-  where
-    go : (b : Bool) {m : ℕ} {all : Bool} → (m ≡ 0) ↔ (all ≡ true) → (cond (not b) 1 0 + 2 * m ≡ 0) ↔ ((b && all) ≡ true)
-    go true both = (λ e. both.0 (omega arith), λ e. omega (arith, both.1 e))
-    go false both = (λ e. absurd (omega arith), λ e. cc e)
+none_is_set p (x ∷ xs) = search (rules, cond, not, none_is_set p xs)
 
 module _ (v : List ℕ) (n : ℕ) (long : length v ≡ n) where
   from_splat : (y : ℕ) → replicate n y ≡ map (λ _. y) v
@@ -98,10 +84,7 @@ each_value (x ∷ xs) fits all =
 -- the smaller of the two is the value of a digit
 pub values : (v : List ℕ) (n : ℕ) → (length v ≡ n) × Each1 (Fits w8) v → AllPass is_hex_digit v
     → map hex_digit_value v ≡ map (λ (n : ℕ). Some n) (sel_l (map (top 7) (zip2 below (zip2 less v (replicate n 48)) (zip2 less (zip2 bit_or v (replicate n 32)) (replicate n 87)))) (zip2 less v (replicate n 48)) (zip2 less (zip2 bit_or v (replicate n 32)) (replicate n 87)))
-values v n fits digits =
-    each_value v fits.1 (list_all-from_AllPass is_hex_digit v digits)
-    ∙ ap (map (λ (n : ℕ). Some n)) (sym (smaller (λ c. less c 48) (λ c. less (bit_or c 32) 87) v))
-    ∙ (λ i. map (λ (n : ℕ). Some n) (sel_l (map (top 7) (zip2 below (sym (above_zero v n fits.0) i) (sym (lower_less v n fits.0 87) i))) (sym (above_zero v n fits.0) i) (sym (lower_less v n fits.0 87) i)))
+values v n fits digits = search (rules, each_value, list_all-from_AllPass, is_hex_digit, map, Some, smaller, bit_or, sel_l, top, zip2, above_zero, lower_less)
 
 -- ---- pairs of lanes
 
@@ -141,10 +124,7 @@ module _ (s ns : List ℕ) (say : map hex_digit_value s ≡ map (λ (n : ℕ). S
   -- the bytes of the pairs of values at these places
   no_carry : (ps : List ℕ) → map (λ p. (get_or ns (2 * p) 0 * 16 % 256 + get_or ns (2 * p + 1) 0) % 256) ps ≡ map (λ p. get_or ns (2 * p) 0 * 16 + get_or ns (2 * p + 1) 0) ps
   no_carry [] = refl
-  no_carry (p ∷ ps) =
-      let high = all_small s ns say (2 * p) in
-      let low = all_small s ns say (2 * p + 1) in
-      ap₂ (λ (a : ℕ) b. a ∷ b) (omega arith) (no_carry ps)
+  no_carry (p ∷ ps) = search (rules, all_small, ap₂, no_carry ps)
 
   module _ (many : length s % 2 ≡ 0) where
     decoded : decode_of s ≡ Ok (joined ns)

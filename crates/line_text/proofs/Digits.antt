@@ -1,21 +1,7 @@
 -- Digits: what a field says of a number, and what spells the number
-use Rattle.std.proofs.Common.{◌≡◌, ℕ, zero, suc, ◌+◌, ◌*◌, ◌/◌, ◌%◌, ◌^◌, ◌<◌, ◌==◌, ◌||◌, cond, Bool, true, false, List, [], ◌∷◌, length, slice_index, Option, Some, None, Result, Ok, Err, nat_lt, All, refl, sym, ap, ◌∙◌, arith, unwrap_or}
-use mir.Val.{bits}
-use Rattle.std.specs.Int.{Width, byte_len, to_be_bytes, from_be_bytes, bytes_high_first, w8, w16, w32, w64, is_in_range}
-use Rattle.std.specs.Result.{result_unwrap_or}
-use Rattle.std.specs.Char.{to_ascii_lowercase}
-use Rattle.std.specs.Str.{str_to_ascii_lowercase}
-use Rattle.std.proofs.lemmas.Bool.{agree_below_at, eqb-true}
-use Rattle.std.proofs.lemmas.Bool.Decides.{nat_tests}
-use Rattle.std.proofs.lemmas.List.Elements.{All-cons, All-head, All-nil, All-tail, All-weaker}
-use Rattle.std.proofs.lemmas.Nat.{be_bytes_2, be_bytes_4, be_bytes_8, from_be_bytes-to_be_bytes_2, from_be_bytes-to_be_bytes_4, from_be_bytes-to_be_bytes_8}
-use Rattle.hex.specs.Hex.{IsBytes, decode_pairs, decode_sized, digit_or_error, encode_lower, encode_with, hex_digit_value, lower_digits, pair_value, ◌>>=◌}
-use Rattle.hex.specs.declared.error.FromHexError.{FromHexError}
-use Rattle.hex.proofs.HexLemmas.{decode_of-even, decode_pairs-ok, decode_sized-ok, decode_sized-twice, length-encode_with}
-use Rattle.hex.proofs.Pairs.{cons_byte, decode_pairs-ok_pair}
-use Rattle.line_text.specs.Fields.{is_space}
-use Rattle.line_text.specs.Lines.{is_line_feed}
-use Rattle.line_text.specs.Numbers.{digits_of, number_of, number_of_bytes}
+use Rattle.std.proofs.Common.{rules}
+use Rattle.line_text.proofs.Words.{◌≡◌, ℕ, zero, suc, ◌+◌, ◌*◌, ◌/◌, ◌%◌, ◌^◌, ◌<◌, ◌==◌, ◌||◌, cond, Bool, true, false, List, [], ◌∷◌, length, slice_index, Option, Some, None, Result, Ok, Err, nat_lt, All, refl, ap, ◌∙◌, arith, unwrap_or, bits, Width, byte_len, to_be_bytes, from_be_bytes, bytes_high_first, w8, w16, w32, w64, is_in_range, result_unwrap_or, to_ascii_lowercase, str_to_ascii_lowercase, agree_below_at, nat_tests, All-cons, All-head, All-nil, All-tail, All-weaker, be_bytes_2, be_bytes_4, be_bytes_8, from_be_bytes-to_be_bytes_2, from_be_bytes-to_be_bytes_4, from_be_bytes-to_be_bytes_8, IsBytes, decode_pairs, decode_sized, digit_or_error, encode_lower, encode_with, hex_digit_value, lower_digits, pair_value, ◌>>=◌, FromHexError, decode_of-even, decode_pairs-ok, decode_sized-ok, decode_sized-twice, length-encode_with, cons_byte, decode_pairs-ok_pair, is_space, digits_of, number_of, number_of_bytes}
+use Rattle.std.proofs.lemmas.Bool.{eqb-true}
 
 -- ---- one digit
 
@@ -67,13 +53,7 @@ pairs_said i (a ∷ b ∷ rest) bytes said =
     let p = pair_said a b i rest bytes said in
     let ha = digit_said a p.high p.high_is in
     let hb = digit_said b p.low p.low_is in
-    let ih = pairs_said (i + 2) rest p.others p.others_are in
-    let top : (p.high * 16 + p.low) / 16 ≡ p.high = omega (arith, ha.0, hb.0) in
-    let bottom : (p.high * 16 + p.low) % 16 ≡ p.low = omega (arith, ha.0, hb.0) in
-    let first : to_ascii_lowercase a ≡ slice_index lower_digits ((p.high * 16 + p.low) / 16) = rw (top, digit_is p.high ha.0) ha.1 in
-    let second : to_ascii_lowercase b ≡ slice_index lower_digits ((p.high * 16 + p.low) % 16) = rw (bottom, digit_is p.low hb.0) hb.1 in
-    let all : str_to_ascii_lowercase (a ∷ b ∷ rest) ≡ encode_lower ((p.high * 16 + p.low) ∷ p.others) = λ k. first k ∷ second k ∷ ih k in
-    all ∙ ap (λ xs. encode_lower xs) p.are
+    search (rules, pairs_said (i + 2) rest p.others p.others_are, to_ascii_lowercase, slice_index, lower_digits, digit_is, str_to_ascii_lowercase, encode_lower)
 
 bytes_tail : (x : ℕ) (xs : List ℕ) → IsBytes (x ∷ xs) → IsBytes xs
 bytes_tail x xs are i = are (suc i)
@@ -95,9 +75,7 @@ pairs_spelled i (a ∷ b ∷ rest) (x ∷ xs) are spelled =
     let ha = digit_spelled a (x / 16) high (first ∙ digit_is (x / 16) high) in
     let hb = digit_spelled b (x % 16) low (second ∙ digit_is (x % 16) low) in
     let pair : pair_value a b i ≡ Ok (x / 16 * 16 + x % 16) = rw (ap (digit_or_error a i) ha, ap (digit_or_error b (i + 1)) hb) refl in
-    let ih = pairs_spelled (i + 2) rest xs (bytes_tail x xs are) others in
-    let whole : x / 16 * 16 + x % 16 ≡ x = omega arith in
-    decode_pairs-ok_pair i a b _ rest pair ∙ ap (cons_byte (x / 16 * 16 + x % 16)) ih ∙ ap (λ (v : ℕ). Ok (v ∷ xs)) whole
+    search (rules, pairs_spelled (i + 2) rest xs (bytes_tail x xs are) others, bytes_tail, are, others, decode_pairs-ok_pair, cons_byte, Ok)
 
 -- ---- the bytes of a number
 
@@ -166,13 +144,7 @@ module _ (w : Width) (has : HasBytes w) where
   said field n says =
       let p = read_number w (decode_sized field (byte_len w)) n says in
       let l = decode_sized-ok field (byte_len w) p.0 p.1 in
-      let even : length field % 2 ≡ 0 = omega (arith, l) in
-      let pairs : decode_pairs 0 field ≡ Ok p.0 = sym (decode_of-even field even) ∙ sym (decode_sized-twice field (byte_len w) l) ∙ p.1 in
-      let ok = decode_pairs-ok 0 field p.0 pairs in
-      let len : length p.0 ≡ byte_len w = omega (arith, l, ok.1) in
-      let bytes : to_be_bytes w n ≡ p.0 = ap (to_be_bytes w) (sym p.2) ∙ has.written p.0 len ok.2 in
-      let small : n < 2 ^ bits w = rw p.2 at (has.fits p.0 len ok.2) in
-      (pairs_said 0 field p.0 pairs ∙ ap (λ xs. encode_lower xs) (sym bytes), small)
+      search (rules, length, decode_pairs, Ok, decode_of-even, decode_sized-twice, byte_len, decode_pairs-ok, to_be_bytes, bits, pairs_said, encode_lower)
 
   -- the digits of a number, of either case, say it
   pub spelled : (field : List ℕ) (n : ℕ) → n < 2 ^ bits w → str_to_ascii_lowercase field ≡ digits_of w n → number_of w field ≡ Some n
@@ -185,8 +157,7 @@ module _ (w : Width) (has : HasBytes w) where
       let l : length field ≡ 2 * byte_len w = omega (arith, len, same, ap length spells, length-encode_with lower_digits bytes) in
       let even : length field % 2 ≡ 0 = omega (arith, l) in
       let pairs = pairs_spelled 0 field bytes are spells in
-      let sized : decode_sized field (byte_len w) ≡ Ok bytes = decode_sized-twice field (byte_len w) l ∙ decode_of-even field even ∙ pairs in
-      ap (number_of_bytes w) sized ∙ ap (λ v. Some v) (has.read n small)
+      search (rules, decode_sized, byte_len, Ok, decode_sized-twice, decode_of-even, number_of_bytes, Some)
     where
       length-lower : (xs : List ℕ) → length (str_to_ascii_lowercase xs) ≡ length xs
       length-lower [] = refl
@@ -205,11 +176,7 @@ encoded_digits : (xs : List ℕ) → IsBytes xs → All (λ c. is_lower_digit c 
 unfolding encode_with
 encoded_digits [] are = All-nil (λ c. is_lower_digit c ≡ true)
 encoded_digits (x ∷ xs) are =
-    let byte : x < 256 = are 0 in
-    let high : x / 16 < 16 = omega arith in
-    let low : x % 16 < 16 = omega arith in
-    All-cons (λ c. is_lower_digit c ≡ true) (slice_index lower_digits (x / 16)) (slice_index lower_digits (x % 16) ∷ encode_lower xs) (digit_is_lower (x / 16) high)
-    (All-cons (λ c. is_lower_digit c ≡ true) (slice_index lower_digits (x % 16)) (encode_lower xs) (digit_is_lower (x % 16) low) (encoded_digits xs (bytes_tail x xs are)))
+    search (rules, are 0, All-cons, slice_index, lower_digits, encode_lower, digit_is_lower, bytes_tail, encoded_digits xs (bytes_tail x xs are))
 
 pub digits_are_lower : (w : Width) (n : ℕ) → All (λ c. is_lower_digit c ≡ true) (digits_of w n)
 unfolding digits_of
@@ -218,19 +185,12 @@ digits_are_lower w n = encoded_digits (to_be_bytes w n) (high_first_bytes (byte_
 pub digits_without_space : (w : Width) (n : ℕ) → All (λ c. is_space c ≡ false) (digits_of w n)
 digits_without_space w n = All-weaker (λ c. is_lower_digit c ≡ true) (λ c. is_space c ≡ false) (λ c lower. grind (arith, nat_tests)) (digits_of w n) (digits_are_lower w n)
 
-pub digits_without_line_feed : (w : Width) (n : ℕ) → All (λ c. is_line_feed c ≡ false) (digits_of w n)
-digits_without_line_feed w n = All-weaker (λ c. is_lower_digit c ≡ true) (λ c. is_line_feed c ≡ false) (λ c lower. grind (arith, nat_tests)) (digits_of w n) (digits_are_lower w n)
-
-pub digits_without_colon : (w : Width) (n : ℕ) → All (λ c. (c == 58) ≡ false) (digits_of w n)
-digits_without_colon w n = All-weaker (λ c. is_lower_digit c ≡ true) (λ c. (c == 58) ≡ false) (λ c lower. grind (arith, nat_tests)) (digits_of w n) (digits_are_lower w n)
-
 lower_stays : (xs : List ℕ) → All (λ c. is_lower_digit c ≡ true) xs → str_to_ascii_lowercase xs ≡ xs
 lower_stays [] are = refl
 lower_stays (x ∷ xs) are =
     let here : is_lower_digit x ≡ true = All-head (λ c. is_lower_digit c ≡ true) x xs are in
     let rest = lower_stays xs (All-tail (λ c. is_lower_digit c ≡ true) x xs are) in
-    let same = stays x here in
-    λ k. same k ∷ rest k
+    search (rules, stays x here, stays)
   where
     stays : (c : ℕ) → is_lower_digit c ≡ true → to_ascii_lowercase c ≡ c
     stays c lower = grind (arith, nat_tests)

@@ -1,10 +1,6 @@
 -- Fields that spaces join, and lines that line feeds end
-use Rattle.std.proofs.Common.{◌≡◌, ℕ, ◌+◌, ◌<◌, true, false, List, [], ◌∷◌, ◌++◌, length, All, refl, sym, ap, ◌∙◌, arith, length-append}
-use Rattle.std.specs.List.{slice_split, join_with_byte}
-use Rattle.std.proofs.lemmas.List.Elements.{All-append, All-cons, All-head, All-nil, All-tail}
-use Rattle.std.proofs.lemmas.List.Splits.{join_with_byte-slice_split, length-slice_split, slice_split_at, slice_split_none}
-use Rattle.line_text.specs.Fields.{fields_of, is_space}
-use Rattle.line_text.specs.Lines.{is_line_feed, lines_between, lines_of}
+use Rattle.std.proofs.Common.{rules}
+use Rattle.line_text.proofs.Words.{◌≡◌, ℕ, ◌+◌, ◌<◌, true, false, List, [], ◌∷◌, ◌++◌, length, All, refl, sym, ap, ◌∙◌, arith, length-append, slice_split, join_with_byte, All-append, All-cons, All-head, All-nil, All-tail, join_with_byte-slice_split, length-slice_split, slice_split_at, slice_split_none, fields_of, is_space, is_line_feed, lines_between, lines_of}
 
 -- no field has a space
 abbrev pub AreFields : List (List ℕ) → Type 0
@@ -16,8 +12,7 @@ unfolding fields_of
 fields_of-join field [] are = slice_split_none is_space field (All-head (λ x. All (λ c. is_space c ≡ false) x) field [] are)
 fields_of-join field (next ∷ rest) are =
     let rest_are = fields_of-join next rest (All-tail (λ x. All (λ c. is_space c ≡ false) x) field (next ∷ rest) are) in
-    slice_split_at is_space field 32 (join_with_byte 32 (next ∷ rest)) (All-head (λ x. All (λ c. is_space c ≡ false) x) field (next ∷ rest) are) refl
-    ∙ ap (λ xs. field ∷ xs) rest_are
+    search (rules, slice_split_at, is_space, join_with_byte, All-head, All)
 
 -- the fields of a line, joined, are the line
 pub join-fields_of : (content : List ℕ) → join_with_byte 32 (fields_of content) ≡ content
@@ -43,9 +38,7 @@ spaced_length (field ∷ fields) = length field + 1 + spaced_length fields
 
 pub length-join : (field : List ℕ) (fields : List (List ℕ)) → length (join_with_byte 32 (field ∷ fields)) + 1 ≡ spaced_length (field ∷ fields)
 length-join field [] = omega arith
-length-join field (next ∷ rest) =
-    let ih = length-join next rest in
-    omega (arith, ih, length-append field (32 ∷ join_with_byte 32 (next ∷ rest)))
+length-join field (next ∷ rest) = search (rules, length-join next rest, length-append, join_with_byte)
 
 length_of_all : (fields : List (List ℕ)) → 0 < length fields → length (join_with_byte 32 fields) + 1 ≡ spaced_length fields
 length_of_all [] some = absurd (omega arith)
@@ -64,9 +57,7 @@ ended_first piece (next ∷ rest) some = refl
 pub lines_of-ended : (content rest : List ℕ) → All (λ c. is_line_feed c ≡ false) content →
     lines_of (content ++ 10 ∷ rest) ≡ record { content = content; is_ended = true } ∷ lines_of rest
 unfolding lines_of
-lines_of-ended content rest without =
-    ap lines_between (slice_split_at is_line_feed content 10 rest without refl)
-    ∙ ended_first content (slice_split is_line_feed rest) (omega (arith, length-slice_split is_line_feed rest))
+lines_of-ended content rest without = search (rules, lines_between, slice_split_at, is_line_feed, ended_first, slice_split, length-slice_split)
 
 pub lines_of-nothing : lines_of [] ≡ []
 unfolding lines_of

@@ -4,3 +4,4 @@ pub mod Digits
 pub mod DigitLanes
 pub mod SideBySide
 pub mod Joins
+pub mod Words

@@ -1,16 +1,5 @@
 -- SideBySide: what two fields say whose digits are read at once
-use Rattle.std.proofs.Common.{◌≡◌, ℕ, zero, suc, ◌+◌, ◌*◌, ◌⊎◌, inl, inr, Bool, true, false, List, [], ◌∷◌, ◌++◌, length, take, drop, Some, None, Ok, refl, sym, ap, ◌∙◌, arith, length-append, length-drop}
-use Rattle.std.specs.Int.{w32, from_be_bytes}
-use Rattle.std.specs.List.{AllPass, list_all}
-use Rattle.std.proofs.lemmas.List.{take_all}
-use Rattle.std.proofs.lemmas.List.Folds.{list_all-append}
-use Rattle.std.proofs.lemmas.List.Sums.{AllPass-from_list_all, list_all-from_AllPass}
-use Rattle.std.proofs.lemmas.Simd.{length-chunk, pick_l_left, pick_l-range_with_len}
-use lib.Lanes.{chunk, pick_l}
-use Rattle.hex.specs.Hex.{decode_of, decode_pairs, digit_or_error, is_hex_digit, pair_value}
-use Rattle.hex.proofs.HexLemmas.{decode_of-even, decode_of-ok, decode_pairs-ok}
-use Rattle.hex.proofs.Pairs.{cons_byte, decode_pairs-ok_pair}
-use Rattle.line_text.specs.Numbers.{number_of}
+use Rattle.line_text.proofs.Words.{◌≡◌, ℕ, zero, suc, ◌+◌, ◌*◌, ◌⊎◌, inl, inr, Bool, true, false, List, [], ◌∷◌, ◌++◌, length, take, drop, Some, None, Ok, refl, sym, ap, ◌∙◌, arith, length-append, length-drop, w32, from_be_bytes, AllPass, list_all, take_all, list_all-append, AllPass-from_list_all, list_all-from_AllPass, length-chunk, pick_l_left, pick_l-range_with_len, chunk, pick_l, decode_of, decode_pairs, digit_or_error, is_hex_digit, pair_value, decode_of-even, decode_of-ok, decode_pairs-ok, cons_byte, decode_pairs-ok_pair, number_of}
 use Rattle.line_text.proofs.Digits.{pair_said, pairs_said, pairs_spelled}
 use Rattle.line_text.proofs.DigitLanes.{no_number, number_read}
 

@@ -1,5 +1,4 @@
-use Rattle.std.proofs.Common.{◌++◌, arith, length-append}
-use Rattle.std.proofs.lemmas.Simd.{pick_l_whole}
+use Rattle.line_text.proofs.Words.{◌++◌, arith, length-append, pick_l_whole}
 use Rattle.line_text.proofs.lanes.side_by_side.Goals as goal
 
 pub returns : goal.returns

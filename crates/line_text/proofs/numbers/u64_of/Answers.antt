@@ -1,5 +1,4 @@
-use Rattle.std.proofs.Common.{Some, sym, ap, ◌∙◌, arith}
-use Rattle.std.specs.Int.{w64}
+use Rattle.line_text.proofs.Words.{Some, sym, ap, ◌∙◌, arith, w64}
 use Rattle.line_text.proofs.DigitLanes.{no_number, number_read}
 use Rattle.line_text.proofs.numbers.u64_of.Goals as goal
 

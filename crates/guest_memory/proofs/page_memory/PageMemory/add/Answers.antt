@@ -1,5 +1,4 @@
-use Rattle.std.proofs.Common.{ℕ, List, ◌/◌, ◌%◌, refl, ap, arith}
-use Rattle.std.specs.Prelude.{slice_index, ◌==◌, if◌then◌else◌}
+use Rattle.guest_memory.proofs.Words.{ℕ, List, ◌/◌, ◌%◌, refl, ap, arith, slice_index, ◌==◌, if◌then◌else◌}
 use Rattle.guest_memory.proofs.Linked.{count, tree_linked, at_linked, words_linked}
 use Rattle.guest_memory.proofs.page_memory.PageMemory.add.Goals as goal
 

@@ -1,5 +1,4 @@
-use Rattle.std.proofs.Common.{arith}
-use Rattle.guest_memory.specs.Tree.{first_of}
+use Rattle.guest_memory.proofs.Words.{arith, first_of}
 use Rattle.guest_memory.proofs.Seeking.{free_behind, way_behind, later_behind, free_none}
 use Rattle.guest_memory.proofs.page_memory.PageMemory.seek.Goals as goal
 

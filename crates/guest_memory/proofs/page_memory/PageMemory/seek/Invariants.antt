@@ -1,5 +1,4 @@
-use Rattle.std.proofs.Common.{◌-◌, length}
-use Rattle.guest_memory.specs.Tree.{numbers, nexts}
+use Rattle.guest_memory.proofs.Words.{◌-◌, length, numbers, nexts}
 use Rattle.guest_memory.proofs.OnWay.{IsOnWay}
 use Rattle.guest_memory.proofs.page_memory.PageMemory.seek.Given as goal
 

@@ -1,5 +1,4 @@
-use Rattle.std.proofs.Common.{◌∙◌, refl}
-use Rattle.guest_memory.specs.Page.{word_of}
+use Rattle.guest_memory.proofs.Words.{◌∙◌, refl, word_of}
 use Rattle.guest_memory.proofs.Written.{tree_written, word_written, put_same}
 use Rattle.guest_memory.proofs.page_memory.PageMemoryWordMemory.set.Goals as goal
 

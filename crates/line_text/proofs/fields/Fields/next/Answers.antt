@@ -1,5 +1,4 @@
-use Rattle.std.proofs.Common.{sym, ◌∙◌, ap}
-use Rattle.line_text.specs.Fields.{fields_in, fields_of, is_space}
+use Rattle.line_text.proofs.Words.{sym, ◌∙◌, ap, fields_in, fields_of, is_space}
 use Rattle.line_text.proofs.Cuts.{cut_behind, uncut}
 use Rattle.line_text.proofs.fields.Fields.next.Goals as goal
 

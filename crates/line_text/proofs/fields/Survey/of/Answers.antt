@@ -1,5 +1,4 @@
-use Rattle.std.proofs.Common.{◌≡◌, ◌+◌, ◌≤◌, suc, length, ap, arith}
-use Rattle.line_text.specs.Fields.{fields_of}
+use Rattle.line_text.proofs.Words.{◌≡◌, ◌+◌, ◌≤◌, suc, length, ap, arith, fields_of}
 use Rattle.line_text.proofs.Cuts.{few_fields}
 use Rattle.line_text.proofs.fields.Survey.of.Goals as goal
 

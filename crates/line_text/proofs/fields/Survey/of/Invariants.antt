@@ -1,5 +1,4 @@
-use Rattle.std.proofs.Common.{length}
-use Rattle.line_text.specs.Fields.{fields_of}
+use Rattle.line_text.proofs.Words.{length, fields_of}
 use Rattle.line_text.proofs.Counts.{AreCounted}
 use Rattle.line_text.proofs.fields.Survey.of.Given as goal
 
