@@ -3,12 +3,7 @@ use Rattle.cycle_ring.proofs.Words.{common_steps, rules, ◌≡◌, ◌+◌, ◌
 
 has_room_on_ring : (p : Progress) (v : RingView) (n : ℕ) → IsShape p.shape → p.retired ≤ p.enqueued → has_room p n ≡ true → IsEnqueuedSo p v → has_no_room p.shape v n ≡ false
 unfolding has_no_room
-has_room_on_ring p v n is_shape in_order room so = search (rules, place_count_pos)
-  where
-    by_tests :
-        (e r places m d f : ℕ) → 0 < places → r ≤ e → (nat_le (e + m - r) (places - 1) && nat_lt (e + m) (2 ^ 64)) ≡ true
-        → d ≡ e → r ≤ f → nat_lt (places - 1 + f) (d + m) ≡ false
-    by_tests e r places m d f some in_order room same passed = grind (arith, nat_tests)
+has_room_on_ring p v n is_shape in_order room so = search (rules, place_count_pos, nat_le, nat_lt)
 
 command_no_link : (k : BlockKind) → (not (is_command k) && not (is_left_out_command k)) ≡ false → is_link k ≡ false
 command_no_link k h = search rules
@@ -27,11 +22,7 @@ good_descriptor : (ring : RingKind) (blocks : List Block) → is_bad_descriptor 
 good_descriptor ring blocks h = search (rules, or_parts, some_blocks, All-weaker, command_no_link, each_fails, transfer_no_link)
 
 no_fault : (ring : RingKind) (blocks : List Block) → fault_of ring blocks ≡ None → is_bad_descriptor ring blocks ≡ false
-no_fault ring blocks h = by_test (is_bad_descriptor ring blocks) _ h
-  where
-    by_test : (bad : Bool) (other : Option Fault) → (if bad then Some BadDescriptor else other) ≡ None → bad ≡ false
-    by_test true other h = absurd (cc)
-    by_test false other h = refl
+no_fault ring blocks h = search (rules, is_bad_descriptor, Fault, Some, BadDescriptor, None)
 
 pub may_be_declared : (p : Progress) (blocks : List Block) → IsShape p.shape → p.retired ≤ p.enqueued → IsAllowed p blocks → MayBeDeclared p blocks
 may_be_declared p blocks is_shape in_order allowed v so = search (rules, good_descriptor, no_fault, has_room_on_ring)

@@ -33,8 +33,7 @@ module _ (shape : Shape) (is_shape : IsShape shape) where
   same_block_position q r b d x v u near near' of of' =
       let same_w : of.w ≡ of'.w = same_number q r b d x v u of of' in
       let at : x ≡ address_of shape q + 4 * of.w = of.at in
-      let at' : x ≡ address_of shape r + 4 * of'.w = of'.at in
-      same_position_near shape is_shape q r near near' (omega arith)
+      search (rules, of'.at, address_of, same_position_near)
 
   same_block_word :
       (q r : ℕ) (b d : Block) (x v u : ℕ) → q < r + place_count shape → r < q + place_count shape
@@ -50,19 +49,7 @@ module _ (shape : Shape) (is_shape : IsShape shape) where
   same_link_word q r chain chain' x v u near near' is is' one_chain =
       let places : (is.i ≡ is'.i) × (is.of.w ≡ is'.of.w) =
       link_parts is.i is'.i is.of.w is'.of.w (some_parts (sym (link_place q chain x v is) ∙ link_place r chain' x u is')) in
-      let same_i : is.i ≡ is'.i = places.0 in
-      let crossed : link_crossed shape r ≡ Some is.i = is'.crossed ∙ ap Some (sym same_i) in
-      let position : q ≡ r =
-      elim (cases_lt q r) [
-        | inl before ↦ same_crossing shape is_shape q r is.i (omega arith) near' is.crossed crossed
-        | inr after ↦ sym (same_crossing shape is_shape r q is.i after near crossed is.crossed)
-      ] in
-      is.of.value
-      ∙ ap (λ n. word (link_block shape is.i (cycle_of shape (q - 1)) chain) n) places.1
-      ∙ ap (λ n. word (link_block shape n (cycle_of shape (q - 1)) chain) is'.of.w) same_i
-      ∙ ap (λ n. word (link_block shape is'.i (cycle_of shape (n - 1)) chain) is'.of.w) position
-      ∙ ap (λ c. word (link_block shape is'.i (cycle_of shape (r - 1)) c) is'.of.w) (one_chain position)
-      ∙ sym is'.of.value
+      search (rules, places.0, link_crossed, Some, cases_lt, same_crossing, word, link_block, cycle_of)
 
   -- no word is one of a block and one of a Link
   block_not_link :
@@ -84,13 +71,11 @@ module _ (shape : Shape) (is_shape : IsShape shape) where
         let within' : k.j < length blocks = slice_get_within blocks k.j k.b k.block in
         let near : h.q < k.q + place_count shape = omega arith in
         let near' : k.q < h.q + place_count shape = omega arith in
-        let one_block : h.q ≡ k.q → block_at_position shape h.q h.b ≡ block_at_position shape k.q k.b =
-        λ same. at_one_position h k same (omega arith) in
+        let one_block : h.q ≡ k.q → block_at_position shape h.q h.b ≡ block_at_position shape k.q k.b = search (rules, at_one_position) in
         elim h.is_word [
           | inl of_block ↦
               elim k.is_word [
-                | inl of_block' ↦
-                    same_block_word h.q k.q (block_at_position shape h.q h.b) (block_at_position shape k.q k.b) x v u near near' of_block of_block' one_block
+                | inl of_block' ↦ search (rules, same_block_word, block_at_position)
                 | inr of_link' ↦ absurd (block_not_link h.q k.q (block_at_position shape h.q h.b) (nat_lt first k.q) x v u of_block of_link')
               ]
           | inr of_link ↦
@@ -103,10 +88,7 @@ module _ (shape : Shape) (is_shape : IsShape shape) where
         at_one_position :
             (h : IsWritten shape first first blocks x v) (k : IsWritten shape first first blocks x u)
             → h.q ≡ k.q → h.j ≡ k.j → block_at_position shape h.q h.b ≡ block_at_position shape k.q k.b
-        at_one_position h k same same_j =
-            let block : slice_get blocks k.j ≡ Some h.b = ap (slice_get blocks) (sym same_j) ∙ h.block in
-            let one : h.b ≡ k.b = cc (block, k.block) in
-            ap (λ n. block_at_position shape n h.b) same ∙ ap (block_at_position shape k.q) one
+        at_one_position h k same same_j = search (rules, slice_get, Some, block_at_position)
 
     -- a word that is written stands in memory after the writes
     word_stands :
@@ -114,11 +96,8 @@ module _ (shape : Shape) (is_shape : IsShape shape) where
         → q ≡ first + j → slice_get blocks j ≡ Some b → IsWordAt shape q (nat_lt first q) b x v
         → played memory (writes_of shape first blocks) x ≡ v
     word_stands memory j q b x v position block is_word =
-        let written : IsWritten shape first first blocks x v =
-        record { j = j; q = q; b = b; position = position; block = block; is_word = is_word } in
-        played-written memory (writes_of shape first blocks) x v
-        (word_of_descriptor_written shape first blocks j q b x v position block is_word)
-        (λ u contained. one_word x u v (writes_of-words shape first blocks x u contained) written)
+        let written : IsWritten shape first first blocks x v = search rules in
+        search (rules, played-written, writes_of, word_of_descriptor_written, one_word, writes_of-words)
 
     pub blocks_stand : BlocksStand shape first blocks (writes_of shape first blocks)
     blocks_stand memory i b which =
@@ -177,9 +156,7 @@ module _ (shape : Shape) (is_shape : IsShape shape) where
         elim (Contains-append_cases (way ++ low) (later_writes shape (first + 1) rest) (address_of shape first + 12, u) contained) [
           | inl here ↦
               elim (Contains-append_cases way low (address_of shape first + 12, u) here) [
-                | inl in_way ↦
-                    block_not_link first first none false (address_of shape first + 12) (word none 3) u control
-                    (way_writes-words shape first false (address_of shape first + 12) u in_way)
+                | inl in_way ↦ search (rules, block_not_link, none, address_of, word, control, way_writes-words)
                 | inr in_low ↦ not_low (address_of shape first) (block_at_position shape first b) u in_low
               ]
           | inr in_later ↦ not_later (later_writes-words shape first (first + 1) rest (address_of shape first + 12) u (omega arith) in_later)

@@ -6,11 +6,7 @@ use Rattle.cycle_ring.proofs.DescriptorStands.{blocks_stand, links_stand, others
 
 -- blocks for which there is room are fewer than the places
 pub in_lap : (p : Progress) (n : ℕ) → IsShape p.shape → p.retired ≤ p.enqueued → has_room p n ≡ true → n < place_count p.shape
-in_lap p n is_shape in_order room = search (rules, place_count_pos)
-  where
-    by_tests :
-        (e r places m : ℕ) → 0 < places → r ≤ e → (nat_le (e + m - r) (places - 1) && nat_lt (e + m) (2 ^ 64)) ≡ true → m < places
-    by_tests e r places m some in_order room = grind (arith, nat_tests)
+in_lap p n is_shape in_order room = search (rules, place_count_pos, nat_le, nat_lt)
 
 -- a producer, by its fields and as it is seen; the list before and after; and the writes that were appended
 module _ (p seen : Progress) (is_seen : p ≡ seen) (in_order : p.retired ≤ p.enqueued) (blocks : List Block) (old writes new : List (ℕ × ℕ))

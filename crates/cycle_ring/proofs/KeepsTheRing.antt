@@ -13,9 +13,7 @@ same_test x y f g = search rules
 -- what is declared last stands behind what was
 slice_get-behind : (xs ys : List Block) (i : ℕ) → slice_get (xs ++ ys) (length xs + i) ≡ slice_get ys i
 slice_get-behind [] ys i = let none : 0 + i ≡ i = omega arith in ap (λ k. slice_get ys k) none
-slice_get-behind (x ∷ xs) ys i =
-    let moved : length (x ∷ xs) + i ≡ suc (length xs + i) = omega arith in
-    ap (λ k. slice_get (x ∷ (xs ++ ys)) k) moved ∙ slice_get-behind xs ys i
+slice_get-behind (x ∷ xs) ys i = search (rules, length, slice_get, slice_get-behind xs ys i)
 
 -- the length of the descriptor that is declared last, and of none inside it
 length_from-last : (lengths : List ℕ) (n start : ℕ) → All (λ k. 0 < k) lengths → length_from (lengths ++ n ∷ []) start (start + sum lengths) ≡ n
@@ -81,8 +79,7 @@ keeps_with p b rest memory v is fewer k so allowed =
     let last = control_write a head in
     let v1 = changed shape v (Declares (b ∷ rest)) in
     let some : 0 < count = omega arith in
-    let queued : (i : ℕ) (c : Block) → slice_get (b ∷ rest) i ≡ Some c → slice_get queue (first + i) ≡ Some c =
-    λ i c at. ap (λ n. slice_get queue (n + i)) (sym so.declared) ∙ slice_get-behind v.queue (b ∷ rest) i ∙ at in
+    let queued : (i : ℕ) (c : Block) → slice_get (b ∷ rest) i ≡ Some c → slice_get queue (first + i) ≡ Some c = search (rules, slice_get, slice_get-behind) in
     let first_queued : slice_get queue first ≡ Some b = let none : first ≡ first + 0 = omega arith in ap (λ n. slice_get queue n) none ∙ queued 0 b refl in
     let run = front_run shape is first count queue b rest memory v1 refl queued (begun p (b ∷ rest) memory v is k so allowed) in
     let m2 = played memory front in
@@ -105,9 +102,7 @@ keeps_with p b rest memory v is fewer k so allowed =
       keeps = all_keep shape memory v1 (front ++ last) (declares_keeps shape is memory v (b ∷ rest) k allowed) may;
       enqueued = subst (λ (u : RingView). IsEnqueuedSo (record p { enqueued = first + count }) u) seen (record {
         declared = s.all;
-        given = λ n. same_test _ _
-            (λ g. lt-ltb n (first + count) (first_given_only shape is first count queue (first + count) (first + count) m2 v2 s (word head 3) n some (omega arith) g))
-            (λ h. first_given shape is first count queue (first + count) (first + count) m2 v2 s (word head 3) n some refl cycle (ltb-true n (first + count) h));
+        given = search (rules, same_test, lt-ltb, first_given_only, word, first_given, ltb-true);
         crossed = λ q. same_test _ _
             (λ g.
             let only = first_crossed_only shape is first count queue (first + count) (first + count) m2 v2 s (word head 3) q some (omega arith) g in
@@ -128,5 +123,4 @@ pub keep_the_ring :
     (p : Progress) (blocks : List Block) → IsShape p.shape → p.retired ≤ p.enqueued → length blocks < place_count p.shape → IsAllowed p blocks
     → KeepTheRing p blocks (writes_of p.shape p.enqueued blocks)
 keep_the_ring p [] is in_order fewer allowed memory v k so = let may = may_be_declared p [] is in_order allowed v so in absurd (omega (arith, may.some))
-keep_the_ring p (b ∷ rest) is in_order fewer allowed memory v k so =
-    keeps_with p b rest memory v is fewer k so (may_be_declared p (b ∷ rest) is in_order allowed v so)
+keep_the_ring p (b ∷ rest) is in_order fewer allowed memory v k so = search (rules, keeps_with, may_be_declared)

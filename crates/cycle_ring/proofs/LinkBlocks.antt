@@ -29,16 +29,7 @@ module _ (shape : Shape) (is : IsShape shape) (q i : ℕ) (chain : Bool) (crosse
   link_is_right : is_wrong_link shape i (link_block shape i (cycle_of shape (q - 1)) chain) ≡ false
   unfolding is_wrong_link
   link_is_right =
-      let fields = link_fields (cycle_of shape (q - 1)) (toggles shape i) chain (cycle_of_bit shape (q - 1)) in
-      let there : (aligned (pointer (link_block shape i (cycle_of shape (q - 1)) chain)) == link_target shape i) ≡ true =
-      eq-eqb (aligned (pointer (link_block shape i (cycle_of shape (q - 1)) chain))) (link_target shape i) (whole_pointer (link_target shape i) target_aligned) in
-      by_parts _ _ _ there fields.0 fields.1
-    where
-      by_parts : (x y z : Bool) → x ≡ true → y ≡ true → z ≡ true → (not x || not y || not z) ≡ false
-      by_parts true true true a b c = refl
-      by_parts true true false a b c = absurd (cc)
-      by_parts true false z a b c = absurd (cc)
-      by_parts false y z a b c = absurd (cc)
+      search (rules, link_fields, cycle_of, toggles, cycle_of_bit, aligned, pointer, link_block, link_target, eq-eqb, whole_pointer, target_aligned, not)
 
   pub link_cycle : link_control (cycle_of shape (q - 1)) (toggles shape i) chain % 2 ≡ cycle_of shape (q - 1)
   link_cycle = (link_fields (cycle_of shape (q - 1)) (toggles shape i) chain (cycle_of_bit shape (q - 1))).2
@@ -47,30 +38,14 @@ module _ (shape : Shape) (is : IsShape shape) (q i : ℕ) (chain : Bool) (crosse
       (m : ℕ → ℕ) (a w : ℕ) → block_at (put m a w) (link_address shape q) ≡ link_block shape i (cycle_of shape (q - 1)) chain
       → (leads_wrong shape m a w q ≡ false) × (interrupts shape m a w q ≡ false)
   unfolding leads_wrong interrupts link_of
-  leads_right m a w stands = (
-    ap (λ o. is_wrong_link shape (unwrap_or o 0) (block_at (put m a w) (link_address shape q))) crossed
-        ∙ ap (λ b. is_wrong_link shape i b) stands ∙ link_is_right,
-    ap (λ (b : Block). is_set (word b 3) 5) stands ∙ (link_fields (cycle_of shape (q - 1)) (toggles shape i) chain (cycle_of_bit shape (q - 1))).3,
-  )
+  leads_right m a w stands =
+      search (rules, is_wrong_link, unwrap_or, block_at, put, link_address, link_is_right, is_set, word, link_fields, cycle_of, toggles, cycle_of_bit)
 
 pub cycle_written : (shape : Shape) (p : ℕ) (b : Block) → word (with_cycle b (cycle_of shape p)) 3 % 2 ≡ cycle_of shape p
-cycle_written shape p b = one_bit _ _ (cycle-with_cycle b (cycle_of shape p) (cycle_of_bit shape p))
-  where
-    one_bit : (w c : ℕ) → w / 1 % 2 ≡ c → w % 2 ≡ c
-    one_bit w c same = omega arith
+cycle_written shape p b = search (rules, cycle-with_cycle, cycle_of, cycle_of_bit, same)
 
 -- memory after the four words of a block
 pub four_puts :
     (m : ℕ → ℕ) (a w0 w1 w2 w3 : ℕ)
     → block_at (put (put (put (put m a w0) (a + 4) w1) (a + 8) w2) (a + 12) w3) a ≡ (let b : Block = record { w = w0 ∷ w1 ∷ w2 ∷ w3 ∷ [] } in b)
-four_puts m a w0 w1 w2 w3 =
-    let m1 = put m a w0 in
-    let m2 = put m1 (a + 4) w1 in
-    let m3 = put m2 (a + 8) w2 in
-    let m4 = put m3 (a + 12) w3 in
-    block_at-words m4 a w0 w1 w2 w3
-    (put_elsewhere m3 (a + 12) w3 a (λ e. absurd (omega arith)) ∙ put_elsewhere m2 (a + 8) w2 a (λ e. absurd (omega arith))
-    ∙ put_elsewhere m1 (a + 4) w1 a (λ e. absurd (omega arith)) ∙ put_here m a w0)
-    (put_elsewhere m3 (a + 12) w3 (a + 4) (λ e. absurd (omega arith)) ∙ put_elsewhere m2 (a + 8) w2 (a + 4) (λ e. absurd (omega arith)) ∙ put_here m1 (a + 4) w1)
-    (put_elsewhere m3 (a + 12) w3 (a + 8) (λ e. absurd (omega arith)) ∙ put_here m2 (a + 8) w2)
-    (put_here m3 (a + 12) w3)
+four_puts m a w0 w1 w2 w3 = search (rules, put, block_at-words, put_elsewhere, put_here)

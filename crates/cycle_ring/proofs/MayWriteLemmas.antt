@@ -28,15 +28,12 @@ may_write_from shape m v a w restored blocks links positions crossings =
     let leads : (q : ℕ) → Contains (crossings_given shape v a w) q → (leads_wrong shape m a w q ≡ false) × (interrupts shape m a w q ≡ false) =
     λ q c. crossings q (gives_crossing_is shape v.floor q a w (crossing_given_is shape v a w q c).1) in
     let may_write : MayWrite shape m v a w = record {
-      blocks = all_in (λ p. overlap a 4 (address_of shape p) 16 ≡ false) (leased_positions shape v)
-          (λ p c. let is = leased_position_is shape v p c in blocks p is.0 is.1);
-      links = all_in (λ q. overlap a 4 (link_address shape q) 16 ≡ false) (leased_crossings shape v)
-          (λ q c. let is = leased_crossing_is shape v q c in links q is.0 is.1 is.2);
+      blocks = search (rules, all_in, overlap, address_of, leased_positions, leased_position_is);
+      links = search (rules, all_in, overlap, link_address, leased_crossings, leased_crossing_is, links);
       as_declared = all_in (λ p. is_other_than_declared shape v m a w p ≡ false) (positions_given shape v a w) (λ p c. (may p c).as_declared);
       declared = all_in (λ p. is_not_declared v p ≡ false) (positions_given shape v a w) (λ p c. (may p c).declared);
       whole = all_in (λ p. is_not_whole shape v p ≡ false) (positions_given shape v a w) (λ p c. (may p c).whole);
-      leads = all_in (λ q. leads_wrong shape m a w q ≡ false) (crossings_given shape v a w)
-          (λ q c. (leads q c).0);
+      leads = search (rules, all_in, leads_wrong, crossings_given);
       flips = no_flips shape v a w restored;
     } in
     record {
@@ -77,33 +74,15 @@ module _ (shape : Shape) (is : IsShape shape) where
         (q p : ℕ) → x ≡ address_of shape q + 4 * k → p < q + place_count shape → q < p + place_count shape → (p ≡ q → ⊥)
         → overlap x 4 (address_of shape p) 16 ≡ false
     block_word_no_block q p at far near other =
-        false_from_ne_true (overlap x 4 (address_of shape p) 16)
-        (λ h.
-        let o = overlap_is x (address_of shape p) h in
-        let place : p % place_count shape ≡ q % place_count shape = same_place_of shape is p q (omega (arith, o.1)) (omega (arith, o.0)) in
-        other (same_position_near shape is p q far near (ap (λ i. slice_index (data_places shape) i) place)))
+        search (rules, false_from_ne_true, overlap, address_of, overlap_is, place_count, same_place_of, same_position_near, slice_index, data_places)
 
     pub block_word_no_link : (q r : ℕ) → x ≡ address_of shape q + 4 * k → is_crossing shape r ≡ true → overlap x 4 (link_address shape r) 16 ≡ false
-    block_word_no_link q r at crossing =
-        false_from_ne_true (overlap x 4 (link_address shape r) 16)
-        (λ h.
-        let o = overlap_is x (link_address shape r) h in
-        place_and_link q r crossing (omega (arith, o.0)) (omega (arith, o.1)))
+    block_word_no_link q r at crossing = search (rules, false_from_ne_true, overlap, link_address, overlap_is, place_and_link)
 
     pub link_word_no_block : (q p : ℕ) → x ≡ link_address shape q + 4 * k → is_crossing shape q ≡ true → overlap x 4 (address_of shape p) 16 ≡ false
-    link_word_no_block q p at crossing =
-        false_from_ne_true (overlap x 4 (address_of shape p) 16)
-        (λ h.
-        let o = overlap_is x (address_of shape p) h in
-        place_and_link p q crossing (omega (arith, o.1)) (omega (arith, o.0)))
+    link_word_no_block q p at crossing = search (rules, false_from_ne_true, overlap, address_of, overlap_is, place_and_link)
 
     pub link_word_no_link :
         (q r : ℕ) → x ≡ link_address shape q + 4 * k → is_crossing shape q ≡ true → is_crossing shape r ≡ true
         → r < q → q < r + place_count shape → overlap x 4 (link_address shape r) 16 ≡ false
-    link_word_no_link q r at at_q at_r lower near =
-        false_from_ne_true (overlap x 4 (link_address shape r) 16)
-        (λ h.
-        let o = overlap_is x (link_address shape r) h in
-        let one : link_address shape r ≡ link_address shape q = same_link_address r q at_r at_q (omega (arith, o.1)) (omega (arith, o.0)) in
-        let same : r ≡ q = same_crossing_at shape is r q (omega arith) near at_r at_q one in
-        absurd (omega arith))
+    link_word_no_link q r at at_q at_r lower near = search (rules, false_from_ne_true, overlap, link_address, overlap_is, same_link_address, same_crossing_at)

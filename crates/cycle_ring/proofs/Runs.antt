@@ -1,5 +1,5 @@
 -- The writes of a descriptor, one after another, keep the rules of the ring
-use Rattle.cycle_ring.proofs.Words.{rules, common_steps, ◌≡◌, ◌+◌, ◌-◌, ◌<◌, ◌≤◌, ◌⊎◌, ◌∷◌, ◌++◌, ◌∙◌, ℕ, suc, Bool, true, false, List, [], length, Some, Option, slice_get, is_some, arith, refl, sym, ap, subst, inl, inr, append_assoc, put, Block, word, Shape, IsShape, address_of, cycle_of, link_crossed, link_address, RingView, Writes, changed, RingKeeps, cases_option, is_crossing-from, writes_keeps, link_block, low_writes, block_writes, block_at_position, way_writes, later_writes, played, viewed, AllMayWrite, AllWithoutInterrupt}
+use Rattle.cycle_ring.proofs.Words.{rules, take, common_steps, ◌≡◌, ◌+◌, ◌-◌, ◌*◌, ◌<◌, ◌≤◌, ◌⊎◌, ◌∷◌, ◌++◌, ◌∙◌, ℕ, suc, Bool, true, false, List, [], length, Some, Option, slice_get, is_some, arith, refl, sym, ap, subst, inl, inr, append_assoc, put, Block, word, Shape, IsShape, address_of, cycle_of, link_crossed, link_address, RingView, Writes, changed, RingKeeps, cases_option, is_crossing-from, writes_keeps, link_block, low_writes, block_writes, control_write, block_at_position, way_writes, later_writes, played, viewed, AllMayWrite, AllWithoutInterrupt}
 use Rattle.cycle_ring.proofs.MayWriteLemmas.{MayPut}
 use Rattle.cycle_ring.proofs.Stages.{Stage, low_word, later_control, link_low_word, link_control_word, no_way}
 use Rattle.cycle_ring.proofs.LinkBlocks.{link_cycle, leads_right, cycle_written, four_puts}
@@ -46,6 +46,18 @@ abbrev pub Run : Shape → (ℕ → ℕ) → RingView → List (ℕ × ℕ) → 
 Run shape m v writes S = AllMayPut shape m v writes × S (viewed shape v writes)
 
 module _ (shape : Shape) (is : IsShape shape) (first count : ℕ) (queue : List Block) (S : RingView → Type 0) where
+  -- words 0 to 2 of a block at a, each of which keeps T
+  low_run :
+      (a : ℕ) (b : Block) (T : RingView → Type 0) (m : ℕ → ℕ) (v : RingView) (rest : List (ℕ × ℕ))
+      → ((n : ℕ → ℕ) (u : RingView) → T u → (x k w : ℕ) → k < 3 → x ≡ a + 4 * k → MayPut shape n u x w × T (changed shape u (Writes x w)))
+      → T v → (T (viewed shape v (low_writes a b)) → Run shape (played m (low_writes a b)) (viewed shape v (low_writes a b)) rest S)
+      → Run shape m v (low_writes a b ++ rest) S
+  low_run a b T m v rest step t then =
+      let one = step m v t a 0 (word b 0) (omega arith) (omega arith) in
+      let two = step (put m a (word b 0)) (changed shape v (Writes a (word b 0))) one.1 (a + 4) 1 (word b 1) (omega arith) refl in
+      let three = step (played m (take 2 (low_writes a b))) (viewed shape v (take 2 (low_writes a b))) two.1 (a + 8) 2 (word b 2) (omega arith) refl in
+      search (rules, then three.1)
+
   -- ---- a Link
 
   link_then :
@@ -57,20 +69,13 @@ module _ (shape : Shape) (is : IsShape shape) (first count : ℕ) (queue : List 
       let a = link_address shape way in
       let b = link_block shape i (cycle_of shape (way - 1)) chain in
       let crossing = is_crossing-from shape way i crossed in
-      let m1 = put m a (word b 0) in
-      let v1 = changed shape v (Writes a (word b 0)) in
-      let m2 = put m1 (a + 4) (word b 1) in
-      let v2 = changed shape v1 (Writes (a + 4) (word b 1)) in
-      let m3 = put m2 (a + 8) (word b 2) in
-      let v3 = changed shape v2 (Writes (a + 8) (word b 2)) in
-      let one = link_low_word shape is first count queue next way m v s crossing from within a 0 (word b 0) (omega arith) (omega arith) in
-      let two = link_low_word shape is first count queue next way m1 v1 one.1 crossing from within (a + 4) 1 (word b 1) (omega arith) refl in
-      let three = link_low_word shape is first count queue next way m2 v2 two.1 crossing from within (a + 8) 2 (word b 2) (omega arith) refl in
-      let four =
-      link_control_word shape is first count queue next way m3 v3 three.1 crossing from within (word b 3) (link_cycle shape is way i chain crossed)
+      let m3 = played m (low_writes a b) in
+      let v3 = viewed shape v (low_writes a b) in
+      low_run a b (Stage shape first count queue next way) m v (control_write a b ++ rest)
+      (λ n u t. link_low_word shape is first count queue next way n u t crossing from within) s (λ t.
+      let four = link_control_word shape is first count queue next way m3 v3 t crossing from within (word b 3) (link_cycle shape is way i chain crossed)
       (leads_right shape is way i chain crossed m3 (a + 12) (word b 3) (four_puts m a (word b 0) (word b 1) (word b 2) (word b 3))) in
-      let tail = then (put m3 (a + 12) (word b 3)) (changed shape v3 (Writes (a + 12) (word b 3))) four.1 in
-      ((one.0, (two.0, (three.0, (four.0, tail.0)))), tail.1)
+      search (rules, then (put m3 (a + 12) (word b 3)) (changed shape v3 (Writes (a + 12) (word b 3))) four.1, put, word, changed, Writes))
 
   way_then :
       (chain : Bool) (next way : ℕ) (m : ℕ → ℕ) (v : RingView) (rest : List (ℕ × ℕ)) → first ≤ way → way < first + count
@@ -98,22 +103,13 @@ module _ (shape : Shape) (is : IsShape shape) (first count : ℕ) (queue : List 
   block_then d next way m v rest behind within at s then =
       let a = address_of shape next in
       let b = block_at_position shape next d in
-      let from : first ≤ next = omega arith in
-      let new : (next ≡ first) ⊎ (next ≤ next) = inr (omega arith) in
-      let m1 = put m a (word b 0) in
-      let v1 = changed shape v (Writes a (word b 0)) in
-      let m2 = put m1 (a + 4) (word b 1) in
-      let v2 = changed shape v1 (Writes (a + 4) (word b 1)) in
-      let m3 = put m2 (a + 8) (word b 2) in
-      let v3 = changed shape v2 (Writes (a + 8) (word b 2)) in
-      let one = low_word shape is first count queue next way m v s next from within new a 0 (word b 0) (omega arith) (omega arith) in
-      let two = low_word shape is first count queue next way m1 v1 one.1 next from within new (a + 4) 1 (word b 1) (omega arith) refl in
-      let three = low_word shape is first count queue next way m2 v2 two.1 next from within new (a + 8) 2 (word b 2) (omega arith) refl in
-      let four =
-      later_control shape is first count queue next way m3 v3 three.1 (word b 3) d behind within at (cycle_written shape next d)
+      let m3 = played m (low_writes a b) in
+      let v3 = viewed shape v (low_writes a b) in
+      low_run a b (Stage shape first count queue next way) m v (control_write a b ++ rest)
+      (λ n u t. low_word shape is first count queue next way n u t next (omega arith) within (inr (omega arith))) s (λ t.
+      let four = later_control shape is first count queue next way m3 v3 t (word b 3) d behind within at (cycle_written shape next d)
       (four_puts m a (word b 0) (word b 1) (word b 2) (word b 3)) in
-      let tail = then (put m3 (a + 12) (word b 3)) (changed shape v3 (Writes (a + 12) (word b 3))) four.1 in
-      ((one.0, (two.0, (three.0, (four.0, tail.0)))), tail.1)
+      search (rules, then (put m3 (a + 12) (word b 3)) (changed shape v3 (Writes (a + 12) (word b 3))) four.1, put, word, changed, Writes))
 
   -- ---- words 0 to 2 of the first block
 
@@ -123,19 +119,8 @@ module _ (shape : Shape) (is : IsShape shape) (first count : ℕ) (queue : List 
       → ((n : ℕ → ℕ) (u : RingView) → Stage shape first count queue next way u → Run shape n u rest S)
       → Run shape m v (low_writes (address_of shape first) (block_at_position shape first d) ++ rest) S
   low_then d next way m v rest some s then =
-      let a = address_of shape first in
-      let b = block_at_position shape first d in
-      let m1 = put m a (word b 0) in
-      let v1 = changed shape v (Writes a (word b 0)) in
-      let m2 = put m1 (a + 4) (word b 1) in
-      let v2 = changed shape v1 (Writes (a + 4) (word b 1)) in
-      let from : first ≤ first = omega arith in
-      let within : first < first + count = omega arith in
-      let one = low_word shape is first count queue next way m v s first from within (inl refl) a 0 (word b 0) (omega arith) (omega arith) in
-      let two = low_word shape is first count queue next way m1 v1 one.1 first from within (inl refl) (a + 4) 1 (word b 1) (omega arith) refl in
-      let three = low_word shape is first count queue next way m2 v2 two.1 first from within (inl refl) (a + 8) 2 (word b 2) (omega arith) refl in
-      let tail = then (put m2 (a + 8) (word b 2)) (changed shape v2 (Writes (a + 8) (word b 2))) three.1 in
-      ((one.0, (two.0, (three.0, tail.0))), tail.1)
+      low_run (address_of shape first) (block_at_position shape first d) (Stage shape first count queue next way) m v rest
+      (λ n u t. low_word shape is first count queue next way n u t first (omega arith) (omega arith) (inl refl)) s (λ t. then _ _ t)
 
 module _ (shape : Shape) (is : IsShape shape) (first count : ℕ) (queue : List Block) where
   -- what stands when all but the first block's control word is written

@@ -24,12 +24,7 @@ declared_right :
     → block_at (put m a w) (address_of shape p) ≡ with_cycle d (cycle_of shape p) → is_other_than_declared shape v m a w p ≡ false
 unfolding is_other_than_declared is_declared_as
 declared_right shape v m a w p d at stands =
-    not_from_true (is_declared_as (block_at (put m a w) (address_of shape p)) (cycle_of shape p) (slice_get v.queue p))
-    (ap (λ o. is_declared_as (block_at (put m a w) (address_of shape p)) (cycle_of shape p) o) at
-    ∙ ap (λ b. same_words b (with_cycle d (cycle_of shape p))) stands ∙ itself (with_cycle d (cycle_of shape p)))
-  where
-    itself : (b : Block) → same_words b b ≡ true
-    itself b = search rules
+    search (rules, not_from_true, is_declared_as, block_at, put, address_of, cycle_of, slice_get, same_words, with_cycle, Block)
 
 not_declared_false : (v : RingView) (p : ℕ) → p < declared v → is_not_declared v p ≡ false
 unfolding is_not_declared
@@ -83,6 +78,14 @@ module _ (shape : Shape) (is : IsShape shape) (first count : ℕ) (queue : List 
   quiet a w none none_crossed =
       after next way a w (omega arith) (omega arith) (λ p g. absurd (none p g)) (λ q g. absurd (none_crossed q g)) (λ p above below. inl below) (λ q crossing below. inl below)
 
+  -- nor does one of words 0 to 2 of what begins at a multiple of 16
+  low_quiet :
+      (a x k w : ℕ) → a % 16 ≡ 0 → k < 3 → x ≡ a + 4 * k → ((p : ℕ) → Gives shape v.floor p x w → ⊥) × ((r : ℕ) → GivesCrossing shape v.floor r x w → ⊥)
+  low_quiet a x k w here small at = (
+    λ p g. let there = address_aligned shape is p in omega (arith, g.at),
+    λ r g. let there = link_address_aligned shape is r g.due.crossing in omega (arith, g.at),
+  )
+
   -- ---- the block of position q, which isn't given
 
   module _ (q : ℕ) (from : first ≤ q) (within : q < first + count) (new : (q ≡ first) ⊎ (next ≤ q)) where
@@ -101,17 +104,11 @@ module _ (shape : Shape) (is : IsShape shape) (first count : ℕ) (queue : List 
         (x k w : ℕ) → k < 3 → x ≡ address_of shape q + 4 * k
         → MayPut shape m v x w × Stage shape first count queue next way (changed shape v (Writes x w))
     low_word x k w small at =
-        let here = address_aligned shape is q in
-        let no_block : (p : ℕ) → Gives shape v.floor p x w → ⊥ = λ p g. let there = address_aligned shape is p in absurd (apart (address_of shape q) (address_of shape p) x k small here there at g.at) in
-        let no_link : (r : ℕ) → GivesCrossing shape v.floor r x w → ⊥ =
-        λ r g. let there = link_address_aligned shape is r g.due.crossing in absurd (apart (address_of shape q) (link_address shape r) x k small here there at g.at) in (
+        let none = low_quiet (address_of shape q) x k w (address_aligned shape is q) small at in (
           may_write_from shape m v x w s.restored (free_of_blocks x k (omega arith) at) (λ r crossing crossed above. block_word_no_link shape is x k (omega arith) q r at crossing)
-              (λ p g. absurd (no_block p g)) (λ r g. absurd (no_link r g)),
-          quiet x w no_block no_link,
+              (λ p g. absurd (none.0 p g)) (λ r g. absurd (none.1 r g)),
+          quiet x w none.0 none.1,
         )
-      where
-        apart : (a b x k : ℕ) → k < 3 → a % 16 ≡ 0 → b % 16 ≡ 0 → x ≡ a + 4 * k → x ≡ b + 12 → ⊥
-        apart a b x k small here there at again = omega arith
 
     -- the control word gives this position alone
     gives_this : (w p : ℕ) → Gives shape v.floor p (address_of shape q + 12) w → p ≡ q
@@ -131,12 +128,7 @@ module _ (shape : Shape) (is : IsShape shape) (first count : ℕ) (queue : List 
     pub may_give :
         (w : ℕ) (d : Block) → slice_get queue q ≡ Some d → block_at (put m (address_of shape q + 12) w) (address_of shape q) ≡ with_cycle d (cycle_of shape q)
         → is_not_whole shape v q ≡ false → MayGive shape m v (address_of shape q + 12) w q
-    may_give w d at stands whole =
-        record {
-          as_declared = declared_right shape v m (address_of shape q + 12) w q d (ap (λ xs. slice_get xs q) s.queue_is ∙ at) stands;
-          declared = not_declared_false v q (omega (arith, s.all));
-          whole = whole;
-        }
+    may_give w d at stands whole = search (rules, declared_right, address_of, slice_get, declared, not_declared_false)
 
     due_here : is_due shape v.floor q ≡ true
     due_here = due_from shape v.floor q (omega (arith, s.low)) (omega (arith, s.room))
@@ -179,15 +171,7 @@ module _ (shape : Shape) (is : IsShape shape) (first count : ℕ) (queue : List 
       control_word first from within (inl refl) w (may_give first from within (inl refl) w d at stands whole)
 
   pub first_given : (w p : ℕ) → 0 < count → next ≡ first + count → w % 2 ≡ cycle_of shape first → p < first + count → (v.given p || gives shape v.floor p (address_of shape first + 12) w) ≡ true
-  first_given w p some all_given cycle below =
-      let shows = gives_from shape v.floor first w (due_here first (omega arith) (omega arith) (inl refl)) cycle in
-      elim (cases_order p first) [
-        | inl here ↦ or_right (v.given p) (gives shape v.floor p (address_of shape first + 12) w) (subst (λ n. gives shape v.floor n (address_of shape first + 12) w ≡ true) (sym here) shows)
-        | inr apart ↦ elim apart [
-          | inl before ↦ or_left (v.given p) (gives shape v.floor p (address_of shape first + 12) w) (s.given p before)
-          | inr behind ↦ or_left (v.given p) (gives shape v.floor p (address_of shape first + 12) w) (s.given_later p behind (omega arith))
-        ]
-      ]
+  first_given w p some all_given cycle below = search (rules, gives_from, due_here, cases_order, or_right, gives, address_of, or_left)
 
   pub first_given_only : (w p : ℕ) → 0 < count → next ≤ first + count → (v.given p || gives shape v.floor p (address_of shape first + 12) w) ≡ true → p < first + count
   first_given_only w p some up g = search (rules, or_cases, gives_this, gives_is)
@@ -209,17 +193,11 @@ module _ (shape : Shape) (is : IsShape shape) (first count : ℕ) (queue : List 
         (x k w : ℕ) → k < 3 → x ≡ link_address shape way + 4 * k
         → MayPut shape m v x w × Stage shape first count queue next way (changed shape v (Writes x w))
     link_low_word x k w small at =
-        let here = link_address_aligned shape is way crossing in
-        let no_block : (p : ℕ) → Gives shape v.floor p x w → ⊥ = λ p g. let there = address_aligned shape is p in absurd (apart (link_address shape way) (address_of shape p) x k small here there at g.at) in
-        let no_link : (r : ℕ) → GivesCrossing shape v.floor r x w → ⊥ =
-        λ r g. let there = link_address_aligned shape is r g.due.crossing in absurd (apart (link_address shape way) (link_address shape r) x k small here there at g.at) in (
+        let none = low_quiet (link_address shape way) x k w (link_address_aligned shape is way crossing) small at in (
           may_write_from shape m v x w s.restored (λ p due given. link_word_no_block shape is x k (omega arith) way p at crossing) (free_of_links x k (omega arith) at)
-              (λ p g. absurd (no_block p g)) (λ r g. absurd (no_link r g)),
-          quiet x w no_block no_link,
+              (λ p g. absurd (none.0 p g)) (λ r g. absurd (none.1 r g)),
+          quiet x w none.0 none.1,
         )
-      where
-        apart : (a b x k : ℕ) → k < 3 → a % 16 ≡ 0 → b % 16 ≡ 0 → x ≡ a + 4 * k → x ≡ b + 12 → ⊥
-        apart a b x k small here there at again = omega arith
 
     -- the control word gives this crossing alone
     gives_this_crossing : (w r : ℕ) → GivesCrossing shape v.floor r (link_address shape way + 12) w → r ≡ way
@@ -246,9 +224,7 @@ module _ (shape : Shape) (is : IsShape shape) (first count : ℕ) (queue : List 
               (λ p above below. inl below)
               (λ r at_r below. elim (cases_lt r way) [
                 | inl was ↦ inl was
-                | inr not_below ↦
-                    let same : way ≡ r = omega arith in
-                    inr (subst (λ n. gives_crossing shape v.floor n (link_address shape way + 12) w ≡ true) same (gives_crossing_from shape v.floor way w due cycle))
+                | inr not_below ↦ search (rules, gives_crossing, link_address, gives_crossing_from)
               ]),
         )
 

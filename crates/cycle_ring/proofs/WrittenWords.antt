@@ -120,9 +120,7 @@ writes_of-words shape first (b ∷ rest) x v contained =
 word_here :
     (shape : Shape) (first q p : ℕ) (b c : Block) (x v : ℕ) → q ≡ p → b ≡ c
     → IsWordAt shape q (nat_lt first q) b x v → IsWordAt shape p (nat_lt first p) c x v
-word_here shape first q p b c x v here same is_word =
-    let at_p = subst (λ n. IsWordAt shape n (nat_lt first n) b x v) here is_word in
-    subst (λ (d : Block). IsWordAt shape p (nat_lt first p) d x v) same at_p
+word_here shape first q p b c x v here same is_word = search (rules, nat_lt, b, is_word)
 
 -- and each of these words
 pub later_word_written :
@@ -163,14 +161,10 @@ word_of_descriptor_written shape first (c ∷ rest) zero q b x v position block 
     elim word [
       | inl of_block ↦
           elim (word_written a head x v of_block) [
-            | inl in_low ↦
-                Contains-append_left (way ++ low ++ later) (control_write a head) (x, v)
-                (Contains-append_left (way ++ low) later (x, v) (Contains-append_right way low (x, v) in_low))
+            | inl in_low ↦ search (rules, Contains-append_left, control_write, Contains-append_right)
             | inr in_control ↦ Contains-append_right (way ++ low ++ later) (control_write a head) (x, v) in_control
           ]
-      | inr of_link ↦
-          Contains-append_left (way ++ low ++ later) (control_write a head) (x, v)
-          (Contains-append_left (way ++ low) later (x, v) (Contains-append_left way low (x, v) (link_word_written shape first false x v of_link)))
+      | inr of_link ↦ search (rules, Contains-append_left, control_write, link_word_written)
     ]
 word_of_descriptor_written shape first (c ∷ rest) (suc j) q b x v position block is_word =
     let a = address_of shape first in
