@@ -1,7 +1,6 @@
 -- A list that is cut at each element that passes a test, by its first such element
-use Rattle.std.proofs.Common.{rules}
-use Rattle.line_text.proofs.Words.{◌≡◌, ◌+◌, ◌-◌, ◌<◌, ◌≤◌, ◌∷◌, ◌++◌, ◌∙◌, ℕ, suc, zero, List, [], Bool, true, false, refl, ap, sym, arith, length, slice_index, take, drop, cond, All, eqb-true, le_refl, slice_split, onto_first, count_by, All-cons, All-nil, All-same, sum_by-cons, fields_of, is_space, common_steps, slice_split-cons_yes, slice_split-cons_no, length-slice_split, is_line_feed, last_line, lines_between, lines_of}
-use Rattle.std.proofs.Common.{take_all}
+use Rattle.line_text.proofs.Words.{◌≡◌, ◌+◌, ◌-◌, ◌<◌, ◌≤◌, ◌∷◌, ◌++◌, ◌∙◌, ℕ, suc, zero, List, [], Bool, true, false, refl, ap, sym, arith, length, slice_index, take, drop, cond, All, eqb-true, le_refl, slice_split, onto_first, count_by, All-cons, All-nil, All-same, sum_by-cons, fields_of, is_space, common_steps, slice_split-cons_yes, slice_split-cons_no, length-slice_split, is_line_feed, last_line, lines_between, lines_of, rules, add-one, drop-cons, false_from_ne_true, get_or-take, length-take, take-append-drop, All-from_get_or, count_by-le-length, slice_split_at, slice_split_none}
+use Rattle.line_text.proofs.Joins.{ended_first}
 
 -- what is left of a text, as a slice gives it
 pub rest_of : (text : List ℕ) (n : ℕ) → take (length text - n) (drop n text) ≡ drop n text
@@ -10,71 +9,41 @@ rest_of text n = grind (arith, common_steps)
 pub nothing_left : (text : List ℕ) → take (length text - length text) (drop (length text) text) ≡ []
 nothing_left text = grind (arith, common_steps)
 
-module _ (p : ℕ → Bool) where
-  pub cut_at : (text : List ℕ) (end : ℕ) → end < length text → p (slice_index text end) ≡ true → ((k : ℕ) → 0 ≤ k → k < end → p (slice_index text k) ≡ true → ⊥) →
+module _ (p : ℕ → Bool) (text : List ℕ) where
+  fails_all : ((k : ℕ) → 0 ≤ k → k < length text → p (slice_index text k) ≡ true → ⊥) → All (λ x. p x ≡ false) text
+  fails_all none = All-from_get_or (λ x. p x ≡ false) text 0 (λ k below. false_from_ne_true (p (slice_index text k)) (none k (omega arith) below))
+
+  fails_before : (end : ℕ) → ((k : ℕ) → 0 ≤ k → k < end → p (slice_index text k) ≡ true → ⊥) → All (λ x. p x ≡ false) (take end text)
+  fails_before end none = All-from_get_or (λ x. p x ≡ false) (take end text) 0 (λ k below.
+      let inside : k < end = omega (arith, length-take end text) in
+      rw (get_or-take end text k 0 inside) (false_from_ne_true (p (slice_index text k)) (none k (omega arith) inside)))
+
+  parts : (end : ℕ) → end < length text → text ≡ take end text ++ slice_index text end ∷ drop (suc end) text
+  parts end inside = sym (take-append-drop end text) ∙ ap (λ l. take end text ++ l) (drop-cons text end 0 inside)
+
+  pub cut_at : (end : ℕ) → end < length text → p (slice_index text end) ≡ true → ((k : ℕ) → 0 ≤ k → k < end → p (slice_index text k) ≡ true → ⊥) →
       slice_split p text ≡ take end text ∷ slice_split p (drop (suc end) text)
-  cut_at [] end inside passes none = absurd (omega arith)
-  cut_at (x ∷ xs) zero inside passes none = slice_split-cons_yes p x xs passes
-  cut_at (x ∷ xs) (suc end) inside passes none =
-      let rest : slice_split p xs ≡ take end xs ∷ slice_split p (drop (suc end) xs) = cut_at xs end (omega arith) passes (λ k low high h. none (suc k) (omega arith) (omega arith) h) in
-      slice_split-cons_no p x xs (fails (p x) (none 0 (omega arith) (omega arith))) ∙ ap (onto_first x) rest
-    where
-      fails : (b : Bool) → (b ≡ true → ⊥) → b ≡ false
-      fails true h = absurd (h refl)
-      fails false h = refl
+  cut_at end inside passes none =
+      ap (slice_split p) (parts end inside) ∙ slice_split_at p (take end text) (slice_index text end) (drop (suc end) text) (fails_before end none) passes
 
-  pub cut_behind : (text : List ℕ) (end : ℕ) → end < length text → p (slice_index text end) ≡ true → ((k : ℕ) → 0 ≤ k → k < end → p (slice_index text k) ≡ true → ⊥) →
+  pub cut_behind : (end : ℕ) → end < length text → p (slice_index text end) ≡ true → ((k : ℕ) → 0 ≤ k → k < end → p (slice_index text k) ≡ true → ⊥) →
       slice_split p text ≡ take end text ∷ slice_split p (take (length text - (end + 1)) (drop (end + 1) text))
-  cut_behind text end inside passes none =
-      cut_at text end inside passes none ∙ ap (λ n. take end text ∷ slice_split p (drop n text)) (next end)
-      ∙ ap (λ xs. take end text ∷ slice_split p xs) (sym (rest_of text (end + 1)))
-    where
-      next : (n : ℕ) → suc n ≡ n + 1
-      next n = omega arith
+  cut_behind end inside passes none = rw (rest_of text (end + 1), add-one) (cut_at end inside passes none)
 
-  pub uncut : (text : List ℕ) → ((k : ℕ) → 0 ≤ k → k < length text → p (slice_index text k) ≡ true → ⊥) → slice_split p text ≡ text ∷ []
-  uncut [] none = refl
-  uncut (x ∷ xs) none =
-      let rest : slice_split p xs ≡ xs ∷ [] = uncut xs (λ k low high h. none (suc k) (omega arith) (omega arith) h) in
-      slice_split-cons_no p x xs (fails (p x) (none 0 (omega arith) (omega arith))) ∙ ap (onto_first x) rest
-    where
-      fails : (b : Bool) → (b ≡ true → ⊥) → b ≡ false
-      fails true h = absurd (h refl)
-      fails false h = refl
+  pub uncut : ((k : ℕ) → 0 ≤ k → k < length text → p (slice_index text k) ≡ true → ⊥) → slice_split p text ≡ text ∷ []
+  uncut none = slice_split_none p text (fails_all none)
 
 -- ---- the first line's bytes, and what stands behind them
 
-one_more : (n : ℕ) → suc n ≡ n + 1
-one_more n = omega arith
-
-parts : (text : List ℕ) (end : ℕ) → end < length text → slice_index text end ≡ 10 → text ≡ take end text ++ 10 ∷ drop (suc end) text
-parts [] end inside feed = absurd (omega arith)
-parts (x ∷ xs) zero inside feed = ap (λ b. b ∷ xs) feed
-parts (x ∷ xs) (suc end) inside feed = ap (λ l. x ∷ l) (parts xs end (omega arith) feed)
-
 pub whole_at : (text : List ℕ) (end : ℕ) → end < length text → is_line_feed (slice_index text end) ≡ true → text ≡ take end text ++ 10 ∷ take (length text - (end + 1)) (drop (end + 1) text)
-whole_at text end inside feed = search (rules, parts, eqb-true, slice_index, take, drop, one_more, rest_of)
+whole_at text end inside feed = rw (rest_of text (end + 1), add-one) (parts is_line_feed text end inside ∙ ap (λ b. take end text ++ b ∷ drop (suc end) text) (eqb-true (slice_index text end) 10 feed))
 
 pub none_before : (text : List ℕ) (end : ℕ) → end ≤ length text → ((k : ℕ) → 0 ≤ k → k < end → is_line_feed (slice_index text k) ≡ true → ⊥) →
     All (λ byte. is_line_feed byte ≡ false) (take end text)
-none_before text zero within none = All-nil (λ byte. is_line_feed byte ≡ false)
-none_before [] (suc end) within none = absurd (omega arith)
-none_before (x ∷ xs) (suc end) within none =
-    All-cons (λ byte. is_line_feed byte ≡ false) x (take end xs) (fails (is_line_feed x) (none 0 (omega arith) (omega arith)))
-    (none_before xs end (omega arith) (λ k low high h. none (suc k) (omega arith) (omega arith) h))
-  where
-    fails : (b : Bool) → (b ≡ true → ⊥) → b ≡ false
-    fails true h = absurd (h refl)
-    fails false h = refl
+none_before text end within none = fails_before is_line_feed text end none
 
 pub none_at_all : (text : List ℕ) → ((k : ℕ) → 0 ≤ k → k < length text → is_line_feed (slice_index text k) ≡ true → ⊥) → All (λ byte. is_line_feed byte ≡ false) text
-none_at_all text none =
-    All-same (λ byte. is_line_feed byte ≡ false) text (take (length text) text) (sym (take_all (length text) text (le_refl (length text))))
-    (none_before text (length text) (le_refl (length text)) none)
-
-ended_first : (piece : List ℕ) (pieces : List (List ℕ)) → 0 < length pieces → lines_between (piece ∷ pieces) ≡ record { content = piece; is_ended = true } ∷ lines_between pieces
-ended_first piece [] some = absurd (omega arith)
-ended_first piece (next ∷ rest) some = refl
+none_at_all text none = fails_all is_line_feed text none
 
 pub line_at : (text : List ℕ) (end : ℕ) → end < length text → is_line_feed (slice_index text end) ≡ true → ((k : ℕ) → 0 ≤ k → k < end → is_line_feed (slice_index text k) ≡ true → ⊥) →
     lines_of text ≡ record { content = take end text; is_ended = true } ∷ lines_of (take (length text - (end + 1)) (drop (end + 1) text))
@@ -91,15 +60,7 @@ pub line_alone : (text : List ℕ) → 0 < length text → ((k : ℕ) → 0 ≤ 
 unfolding lines_of
 line_alone text some none = search (rules, lines_between, uncut, is_line_feed, last_is, slice_split, nothing_left)
 
-cuts_within : (p : ℕ → Bool) (xs : List ℕ) → count_by p xs ≤ length xs
-cuts_within p [] = omega arith
-cuts_within p (x ∷ xs) = let rest = cuts_within p xs in let e = sum_by-cons (λ y. cond (p y) 1 0) x xs in omega (arith, rest, e, at_most_one (p x))
-  where
-    at_most_one : (b : Bool) → cond b 1 0 ≤ 1
-    at_most_one true = omega arith
-    at_most_one false = omega arith
-
 -- a line has at most one field more than bytes
 pub few_fields : (content : List ℕ) → length (fields_of content) ≤ length content + 1
 unfolding fields_of
-few_fields content = omega (arith, length-slice_split is_space content, cuts_within is_space content)
+few_fields content = omega (arith, length-slice_split is_space content, count_by-le-length is_space content)

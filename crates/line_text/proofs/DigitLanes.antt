@@ -1,6 +1,5 @@
 -- DigitLanes: what is computed of hex digits lane by lane, held to what each digit says
-use Rattle.std.proofs.Common.{rules}
-use Rattle.line_text.proofs.Words.{◌≡◌, ℕ, zero, suc, ◌+◌, ◌-◌, ◌*◌, ◌%◌, ◌^◌, ◌<◌, ◌≤◌, ◌↔◌, ◌||◌, Bool, true, not, cond, eqb, ltb, leb, List, [], ◌∷◌, ◌++◌, map, length, get_or, replicate, bit_and, bit_or, Option, Some, None, unwrap_or, is_some, Result, Ok, Err, refl, sym, subst, ap, ap₂, ◌∙◌, arith, Fits, eqb-true, eq-eqb, Width, byte_len, from_be_bytes, AllPass, list_all, range_with_len, agree_below_at, and_parts, length-map, take_all, AllPass-from_list_all, list_all-from_AllPass, zip2_splat, zip2_of_maps, splat_is_map, mask_l-mod, pick_l_whole, zip2, sel_l, mask_l, top, pick_l, chunk, Each1, decode_of, decode_pairs, decode_sized, digit_or_error, hex_digit_value, is_hex_digit, pair_value, FromHexError, IsOk-decode_sized, decode_of-even, decode_sized-twice, cons_byte, decode_pairs-ok_pair, number_of, number_of_bytes}
+use Rattle.line_text.proofs.Words.{◌≡◌, ℕ, zero, suc, ◌+◌, ◌-◌, ◌*◌, ◌%◌, ◌^◌, ◌<◌, ◌≤◌, ◌↔◌, ◌||◌, Bool, true, not, cond, eqb, ltb, leb, List, [], ◌∷◌, ◌++◌, map, length, get_or, replicate, bit_and, bit_or, Option, Some, None, unwrap_or, is_some, Result, Ok, Err, refl, sym, subst, ap, ap₂, ◌∙◌, arith, Fits, eqb-true, eq-eqb, Width, byte_len, from_be_bytes, AllPass, list_all, range_with_len, agree_below_at, and_parts, length-map, take_all, AllPass-from_list_all, list_all-from_AllPass, zip2_splat, zip2_of_maps, splat_is_map, mask_l-mod, pick_l_whole, zip2, sel_l, mask_l, top, pick_l, chunk, Each1, decode_of, decode_pairs, decode_sized, digit_or_error, hex_digit_value, is_hex_digit, pair_value, FromHexError, IsOk-decode_sized, decode_of-even, decode_sized-twice, cons_byte, decode_pairs-ok_pair, number_of, number_of_bytes, rules}
 use Rattle.std.proofs.Common.{w8}
 
 -- ---- one lane

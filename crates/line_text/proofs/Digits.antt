@@ -1,6 +1,5 @@
 -- Digits: what a field says of a number, and what spells the number
-use Rattle.std.proofs.Common.{rules}
-use Rattle.line_text.proofs.Words.{◌≡◌, ℕ, zero, suc, ◌+◌, ◌*◌, ◌/◌, ◌%◌, ◌^◌, ◌<◌, ◌==◌, ◌||◌, cond, Bool, true, false, List, [], ◌∷◌, length, slice_index, Option, Some, None, Result, Ok, Err, nat_lt, All, refl, ap, ◌∙◌, arith, unwrap_or, bits, Width, byte_len, to_be_bytes, from_be_bytes, bytes_high_first, w8, w16, w32, w64, is_in_range, result_unwrap_or, to_ascii_lowercase, str_to_ascii_lowercase, agree_below_at, nat_tests, All-cons, All-head, All-nil, All-tail, All-weaker, be_bytes_2, be_bytes_4, be_bytes_8, from_be_bytes-to_be_bytes_2, from_be_bytes-to_be_bytes_4, from_be_bytes-to_be_bytes_8, IsBytes, decode_pairs, decode_sized, digit_or_error, encode_lower, encode_with, hex_digit_value, lower_digits, pair_value, ◌>>=◌, FromHexError, decode_of-even, decode_pairs-ok, decode_sized-ok, decode_sized-twice, length-encode_with, cons_byte, decode_pairs-ok_pair, is_space, digits_of, number_of, number_of_bytes}
+use Rattle.line_text.proofs.Words.{◌≡◌, ℕ, zero, suc, ◌+◌, ◌*◌, ◌/◌, ◌%◌, ◌^◌, ◌<◌, ◌==◌, ◌||◌, cond, Bool, true, false, List, [], ◌∷◌, length, slice_index, Option, Some, None, Result, Ok, Err, nat_lt, All, refl, ap, ◌∙◌, arith, unwrap_or, bits, Width, byte_len, to_be_bytes, from_be_bytes, bytes_high_first, w8, w16, w32, w64, is_in_range, result_unwrap_or, to_ascii_lowercase, str_to_ascii_lowercase, agree_below_at, nat_tests, All-cons, All-head, All-nil, All-tail, All-weaker, be_bytes_2, be_bytes_4, be_bytes_8, from_be_bytes-to_be_bytes_2, from_be_bytes-to_be_bytes_4, from_be_bytes-to_be_bytes_8, IsBytes, decode_pairs, decode_sized, digit_or_error, encode_lower, encode_with, hex_digit_value, lower_digits, pair_value, ◌>>=◌, FromHexError, decode_of-even, decode_pairs-ok, decode_sized-ok, decode_sized-twice, length-encode_with, cons_byte, decode_pairs-ok_pair, is_space, digits_of, number_of, number_of_bytes, rules}
 use Rattle.std.proofs.lemmas.Bool.{eqb-true}
 
 -- ---- one digit

@@ -1,6 +1,5 @@
 -- Fields that spaces join, and lines that line feeds end
-use Rattle.std.proofs.Common.{rules}
-use Rattle.line_text.proofs.Words.{◌≡◌, ℕ, ◌+◌, ◌<◌, true, false, List, [], ◌∷◌, ◌++◌, length, All, refl, sym, ap, ◌∙◌, arith, length-append, slice_split, join_with_byte, All-append, All-cons, All-head, All-nil, All-tail, join_with_byte-slice_split, length-slice_split, slice_split_at, slice_split_none, fields_of, is_space, is_line_feed, lines_between, lines_of}
+use Rattle.line_text.proofs.Words.{◌≡◌, ℕ, ◌+◌, ◌<◌, true, false, List, [], ◌∷◌, ◌++◌, length, All, refl, sym, ap, ◌∙◌, arith, length-append, slice_split, join_with_byte, All-append, All-cons, All-head, All-nil, All-tail, join_with_byte-slice_split, length-slice_split, slice_split_at, slice_split_none, fields_of, is_space, is_line_feed, lines_between, lines_of, rules}
 
 -- no field has a space
 abbrev pub AreFields : List (List ℕ) → Type 0
@@ -49,7 +48,7 @@ pub length-fields_of : (content : List ℕ) → length content + 1 ≡ spaced_le
 length-fields_of content =
     ap (λ xs. length xs + 1) (sym (join-fields_of content)) ∙ length_of_all (fields_of content) (fields_of-some content)
 
-ended_first : (piece : List ℕ) (pieces : List (List ℕ)) → 0 < length pieces → lines_between (piece ∷ pieces) ≡ record { content = piece; is_ended = true } ∷ lines_between pieces
+pub ended_first : (piece : List ℕ) (pieces : List (List ℕ)) → 0 < length pieces → lines_between (piece ∷ pieces) ≡ record { content = piece; is_ended = true } ∷ lines_between pieces
 ended_first piece [] some = absurd (omega arith)
 ended_first piece (next ∷ rest) some = refl
 
