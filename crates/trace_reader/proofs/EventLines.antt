@@ -5,12 +5,9 @@ as_said : Result Block LineFault → Result Said LineFault
 as_said (Ok event) = Ok (SaysRow (Plain (Read event)))
 as_said (Err fault) = Err fault
 
-by_length : (words : List (List ℕ)) (four : Bool) → said_by (cond four (Some (event_line, words)) None) ≡ as_said (valued_by event_of (cond four (Some words) None))
-unfolding as_said said_of
-by_length words four = search rules
-
 event_said : (words : List (List ℕ)) → said_by (form_as event_line words) ≡ as_said (valued_by event_of (event_form words))
-event_said words = by_length words (length words == 4)
+unfolding as_said said_of
+event_said words = search rules
 
 pub event_there : (words : List (List ℕ)) (event : Block) → valued_by event_of (event_form words) ≡ Ok event → said_by (form_as event_line words) ≡ Ok (SaysRow (Plain (Read event)))
 unfolding as_said

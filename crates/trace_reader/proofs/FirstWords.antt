@@ -28,14 +28,10 @@ rows_alone : (ring free nop : Bool) (fields : List (List ℕ)) →
     Named true true fields (cond ring (Some comes_line) (cond free (Some goes_line) (cond nop (Some withdraws_line) None))) (ring_words ring free nop)
 rows_alone ring free nop fields = search rules
 
-by_rings : (ring_rows begun : Bool) (word : List ℕ) (fields : List (List ℕ)) →
-    Named ring_rows begun fields (line_named (ring_lines ring_rows begun) word) (ring_words (bytes_eq word (codes "ring")) (bytes_eq word (codes "free")) (bytes_eq word (codes "nop")))
-by_rings ring_rows begun word fields = search (rules, header_alone, none_behind, header_and_rows, rows_alone)
-
 module _ (version : Version) (begun : Bool) where
   by_word : (word : List ℕ) (fields : List (List ℕ)) → form_of version begun (word ∷ fields) ≡ form_behind (has_ring_rows version) begun (word_named word) fields
   unfolding form_of word_named
-  by_word word fields = search (rules, by_tests, by_rings)
+  by_word word fields = search (rules, by_tests, header_alone, none_behind, header_and_rows, rows_alone)
 
   -- a line that begins with this word
   pub said_behind : (all fields : List (List ℕ)) (word : List ℕ) (kind : Option FirstWord) → all ≡ word ∷ fields → kind ≡ word_named word →

@@ -68,8 +68,7 @@ behind_written RegisterValue (name ∷ value ∷ []) v are is =
     let p = then_there (λ r. option_map (λ v. (r, v)) (register_value_of r value)) (register_named name) v is in
     let q = mapped_there (λ v. (p.0, v)) (register_value_of p.0 value) v p.2 in
     let n = number_written w64 bytes_of_64 value q.0 (value_there p.0 value q.0 q.1).0 in
-    subst (λ (x : Behind RegisterValue). (are_written (behind_fields RegisterValue x) (name ∷ value ∷ []) ≡ true) × BehindFits RegisterValue x) q.2
-    (two_written (Word (register_name p.0)) (Digits (digits_of w64 q.0)) name value (register_word name p.0 p.1) n.0, (n.1, (value_there p.0 value q.0 q.1).1))
+    rw (← q.2) (two_written (Word (register_name p.0)) (Digits (digits_of w64 q.0)) name value (register_word name p.0 p.1) n.0, (n.1, (value_there p.0 value q.0 q.1).1))
 behind_written RegisterValue (name ∷ value ∷ more ∷ rest) v are is = cc is
 behind_written Blocks fields v are is = let p = blocks_written fields v is in (p.written, (p.fit, some_blocks fields v are p.count))
 behind_written Segments [] v are is = cc are
@@ -100,8 +99,7 @@ all_written (k ∷ ks) tail (field ∷ fields) v are is =
     let p = both_there (λ a b. (a, b)) (told k field) (values ks tail fields) v is in
     let here = told_written k field p.0 p.2 in
     let rest = all_written ks tail fields p.1 (and_parts (is_known k field) (are_fields ks tail fields) are).1 p.3 in
-    subst (λ (w : Told k × Values ks tail). (are_written (all_fields (k ∷ ks) tail w) (field ∷ fields) ≡ true) × AllFit (k ∷ ks) tail w) p.4
-    (and_from (may_be_written (kind_field k p.0) field) (are_written (all_fields ks tail p.1) fields) here.0 rest.0, (here.1, rest.1))
+    rw (← p.4) (and_from (may_be_written (kind_field k p.0) field) (are_written (all_fields ks tail p.1) fields) here.0 rest.0, (here.1, rest.1))
 
 all_read : (ks : List Kind) (tail : Tail) (fields : List (List ℕ)) (v : Values ks tail) → AllFit ks tail v → are_written (all_fields ks tail v) fields ≡ true →
     (values ks tail fields ≡ Some v) × (are_fields ks tail fields ≡ true)
@@ -156,11 +154,12 @@ module _ {T : Type 0} (fields_said : T → List Field) (FitsValue : T → Type 0
         let r = mapped_there p.0.make (values p.0.kinds p.0.tail fields) t (ap value_in q.1 ∙ says) in
         let w = all_written p.0.kinds p.0.tail fields r.0 q.0 r.1 in
         let spelled = (one_of lines are word p.0 p.1).1 r.0 in
-        let written : are_written (Word p.0.word ∷ all_fields p.0.kinds p.0.tail r.0) (word ∷ fields) ≡ true =
-        and_from (bytes_eq word p.0.word) (are_written (all_fields p.0.kinds p.0.tail r.0) fields) (are_same_bytes word p.0.word (one_of lines are word p.0 p.1).0) w.0 in
-        let both = subst (λ (x : T). (are_written (fields_said x) (word ∷ fields) ≡ true) × FitsValue x) r.2
-        (ap (λ (fs : List Field). are_written fs (word ∷ fields)) spelled.0 ∙ written, spelled.1 w.1) in
-        (both.0, both.1, subst (λ (f : FormOf T). IsSort f.0 t) q.1 (subst (λ (x : T). IsSort p.0 x) r.2 spelled.2))
+        rw (← q.1, ← r.2) (
+          rw spelled.0 (and_from (bytes_eq word p.0.word) (are_written (all_fields p.0.kinds p.0.tail r.0) fields)
+              (are_same_bytes word p.0.word (one_of lines are word p.0 p.1).0) w.0),
+          spelled.1 w.1,
+          spelled.2,
+        )
 
     pub said_read : (t : T) → IsSaid lines t → (fields : List (List ℕ)) → FitsValue t → are_written (fields_said t) fields ≡ true →
         (form : FormOf T) × (form_in lines fields ≡ Some form) × (value_in form ≡ Some t)

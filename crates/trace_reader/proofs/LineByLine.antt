@@ -5,9 +5,6 @@ use Rattle.trace_reader.proofs.SpelledFields.{AllSound, all_filled, written_leng
 module _ {Form Value : Type 0} (form_of : List (List ℕ) → Option Form) (value_of : Form → Option Value) (fault_of : Value → Option LineFault) where
   -- ---- by its content and its fields
 
-  by_value : (o : Option Value) → option_map_or (unless_fault fault_of) o (Err Number) ≡ faulted_by fault_of (option_map_or Ok o (Err Number))
-  by_value o = search rules
-
   within_line : (line : TextLine) (long ended empty : Bool) → is_too_long line ≡ long → line.is_ended ≡ ended → has_empty_field (fields_of line.content) ≡ empty →
       line_says form_of value_of fault_of line ≡ option_map_or Err (content_fault line) (faulted_by fault_of (valued_by value_of (form_of (fields_of line.content))))
   unfolding line_says content_fault is_too_long
@@ -92,11 +89,8 @@ module _ {Value : Type 0} (says : ℕ → TextLine → Result Value LineFault) (
         let p = next_there number (says number line) (lines_say says (number + 1) lines) values is in
         let here = are.spells number line p.0 p.2 in
         let ih = lines_spell lines (number + 1) p.1 (omega (arith, here.2)) p.3 in
-        subst (λ (vs : List Value). (lines_written (map fields_said vs) (line ∷ lines) ≡ true) × All Fits vs × (number + length vs ≤ most + 1)) p.4 (
-          and_from (is_written (fields_said p.0) line) (lines_written (map fields_said p.1) lines) here.0 ih.0,
-          All-cons Fits p.0 p.1 here.1 ih.1,
-          omega (arith, ih.2),
-        )
+        rw (← p.4)
+        (and_from (is_written (fields_said p.0) line) (lines_written (map fields_said p.1) lines) here.0 ih.0, All-cons Fits p.0 p.1 here.1 ih.1, omega (arith, ih.2))
 
     pub lines_read : (values : List Value) (lines : List TextLine) (number : ℕ) → lines_written (map fields_said values) lines ≡ true → All Fits values → number + length values ≤ most + 1 →
         lines_say says number lines ≡ Ok values

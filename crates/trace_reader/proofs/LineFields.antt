@@ -15,12 +15,9 @@ within_line : (st : State) (line : TextLine) (long ended empty : Bool) → nat_l
 unfolding said_by_line said_by_fields is_bad_row is_past_limit form_in said_in content_fault is_too_long
 within_line st line long ended empty is_long is_ended is_empty = search rules
 
-limit_last : (most number : ℕ) (fault : Option LineFault) (wanted : Result Said LineFault) → option_map_or Err fault (limited most number wanted) ≡ limited most number (option_map_or Err fault wanted)
-limit_last most number fault wanted = search rules
-
 -- a line by what it says by itself
 pub alone : (st : State) (line : TextLine) (version : Version) (begun : Bool) → st.version ≡ version → st.begun ≡ begun → said_by_line st line ≡ limited (most_of st) (next_number st) (said_alone version begun line)
-alone st line version begun of started = search (rules, limit_last, within_line)
+alone st line version begun of started = search (rules, within_line)
 
 -- a fault of what it says by itself is the line's
 pub passed_on : (most number : ℕ) (e : LineError) (wanted : Result Said LineFault) → Answers (Err e) wanted → Answers (Err e) (limited most number wanted)

@@ -8,12 +8,9 @@ use Rattle.trace_reader.proofs.SpelledFields.{same_bytes}
 abbrev whole_line : TextLine → List ℕ
 whole_line line = line.content ++ cond line.is_ended (10 ∷ []) []
 
-last_whole : (piece : List ℕ) → flat_map whole_line (last_line piece) ≡ piece
-last_whole piece = search rules
-
 pieces_whole : (pieces : List (List ℕ)) → flat_map whole_line (lines_between pieces) ≡ join_with_byte 10 pieces
 pieces_whole [] = refl
-pieces_whole (piece ∷ []) = last_whole piece
+pieces_whole (piece ∷ []) = search rules
 pieces_whole (piece ∷ next ∷ rest) = let later = pieces_whole (next ∷ rest) in grind (arith, common_steps, later)
 
 lines_whole : (text : List ℕ) → flat_map whole_line (lines_of text) ≡ text
@@ -83,34 +80,25 @@ low_blocks : (blocks : List Block) → AreLow (flat_map block_fields blocks)
 low_blocks [] = tt
 low_blocks (block ∷ blocks) = low_append (block_fields block) (flat_map block_fields blocks) (low_words block.w) (low_blocks blocks)
 
-low_kind : (kind : RingKind) → IsLow (Word (ring_name kind))
-low_kind kind = search rules
-
-low_row : (row : Row) → AreLow (row_fields row)
-unfolding row_fields
-low_row row = search (rules, low_blocks, low_words)
-
 low_segments : (segments : List Segment) → AreLow (map segment_field segments)
 low_segments [] = tt
 low_segments (segment ∷ segments) = (tt, low_segments segments)
 
 low_ring : (ring : Ring) → AreLow (ring_fields ring)
 unfolding ring_fields
-low_ring ring = (refl, (tt, (low_kind ring.shape.kind, low_segments ring.shape.segments)))
-
-low_version : (version : Version) → AreLow (version_fields version)
-low_version version = search rules
+low_ring ring = (refl, (tt, ((search rules), low_segments ring.shape.segments)))
 
 low_size : (size : ContextSize) → AreLow (size_fields size)
 low_size size = search rules
 
-low_trace_row : (row : TraceRow) → AreLow (trace_row_fields row)
-unfolding trace_row_fields
-low_trace_row row = search (rules, low_row, low_ring)
+low_row : (row : Row) → AreLow (row_fields row)
+unfolding row_fields
+low_row row = search (rules, low_blocks, low_words)
 
 low_rows : (rows : List TraceRow) → AreLowLines (map trace_row_fields rows)
+unfolding trace_row_fields
 low_rows [] = tt
-low_rows (row ∷ rows) = (low_trace_row row, low_rows rows)
+low_rows (row ∷ rows) = ((search (rules, low_row, low_ring)), low_rows rows)
 
 low_lines : (rings : List Ring) (rows : List TraceRow) → AreLowLines (map ring_fields rings ++ map trace_row_fields rows)
 low_lines [] rows = low_rows rows
@@ -119,5 +107,5 @@ low_lines (ring ∷ rings) rows = (low_ring ring, low_lines rings rows)
 pub lowered : (text : List ℕ) (trace : TraceText) → IsTrue (spells trace text) → str_to_ascii_lowercase text ≡ printed_trace trace
 unfolding spells printed_trace trace_lines
 lowered text trace spelled =
-    let low : AreLowLines (trace_lines trace) = (low_version trace.header.version, (low_size trace.header.context_size, low_lines trace.header.rings trace.rows)) in
+    let low : AreLowLines (trace_lines trace) = ((search rules), (low_size trace.header.context_size, low_lines trace.header.rings trace.rows)) in
     ap str_to_ascii_lowercase (sym (lines_whole text)) ∙ lowered_lines (trace_lines trace) (lines_of text) low spelled

@@ -53,12 +53,9 @@ printed_lines (line ∷ lines) sound =
 
 -- ---- the lines of a trace
 
-some_row_fields : (row : TraceRow) → 0 < length (trace_row_fields row)
-unfolding trace_row_fields ring_fields row_fields
-some_row_fields row = search rules
-
 row_line : (row : TraceRow) → IsSoundLine (trace_row_fields row)
-row_line row = record { some = some_row_fields row; sound = trace_row_sound row }
+unfolding trace_row_fields ring_fields row_fields
+row_line row = record { some = (search rules); sound = trace_row_sound row }
 
 ring_line : (ring : Ring) → IsSoundLine (ring_fields ring)
 unfolding ring_fields
@@ -67,15 +64,12 @@ ring_line ring = record { some = omega arith; sound = ring_sound ring }
 version_line : (version : Version) → IsSoundLine (version_fields version)
 version_line version = search (rules, sound_named)
 
-size_line : (size : ContextSize) → IsSoundLine (size_fields size)
-size_line size = search (rules, sound_named)
-
 trace_sound : (trace : TraceText) → AllSoundLines (trace_lines trace)
 unfolding trace_lines
 trace_sound trace = (
   version_line trace.header.version,
   (
-    size_line trace.header.context_size,
+    (search (rules, sound_named)),
     sound_lines_append (map ring_fields trace.header.rings) (map trace_row_fields trace.rows) (sound_lines_map ring_fields ring_line trace.header.rings)
         (sound_lines_map trace_row_fields row_line trace.rows),
   ),

@@ -7,12 +7,9 @@ as_said : Result Ring LineFault → Result Said LineFault
 as_said (Ok ring) = Ok (SaysRing ring)
 as_said (Err fault) = Err fault
 
-by_form : (b : Bool) (fields : List (List ℕ)) → said_by (cond b (Some (ring_line, fields)) None) ≡ as_said (valued_by ring_value (cond b (Some (ring_alone, fields)) None))
-unfolding as_said said_of ring_value
-by_form b fields = search rules
-
 ring_said : (fields : List (List ℕ)) → said_by (form_as ring_line fields) ≡ as_said (valued_by ring_value (form_as ring_alone fields))
-ring_said fields = by_form (are_fields ring_line.kinds ring_line.tail fields) fields
+unfolding as_said said_of ring_value
+ring_said fields = search rules
 
 pub ring_there : (fields : List (List ℕ)) (ring : RingEntry) → valued_by ring_value (form_as ring_alone fields) ≡ Ok (ring_of ring) → said_by (form_as ring_line fields) ≡ Ok (SaysRing (ring_of ring))
 unfolding as_said

@@ -17,16 +17,13 @@ lower_all_above (c ∷ rest) above =
     All-cons (λ c. 32 < c) c rest (lower_above c (All-head (λ c. 32 < c) (to_ascii_lowercase c) (str_to_ascii_lowercase rest) above))
     (lower_all_above rest (All-tail (λ c. 32 < c) (to_ascii_lowercase c) (str_to_ascii_lowercase rest) above))
 
-written_above : (field : Field) (text : List ℕ) → IsSound field → may_be_written field text ≡ true → All (λ c. 32 < c) text
-written_above field text sound written = search (rules, same_bytes, lower_all_above)
-
 all_above : (fields : List Field) (texts : List (List ℕ)) → AllSound fields → are_written fields texts ≡ true → All (λ text. All (λ c. 32 < c) text) texts
 all_above [] [] sound written = All-nil (λ text. All (λ c. 32 < c) text)
 all_above [] (text ∷ texts) sound written = cc written
 all_above (field ∷ fields) [] sound written = All-nil (λ text. All (λ c. 32 < c) text)
 all_above (field ∷ fields) (text ∷ texts) sound written =
     let parts = and_parts (may_be_written field text) (are_written fields texts) written in
-    All-cons (λ text. All (λ c. 32 < c) text) text texts (written_above field text sound.0 parts.0) (all_above fields texts sound.1 parts.1)
+    All-cons (λ text. All (λ c. 32 < c) text) text texts (search (rules, same_bytes, lower_all_above)) (all_above fields texts sound.1 parts.1)
 
 not_line_feed : (c : ℕ) → 32 < c → is_line_feed c ≡ false
 not_line_feed c above = ne_eqb c 10 (λ same. omega (arith, same))

@@ -1,8 +1,5 @@
 -- Of segments that lie one behind the other only the last one to start before another segment's end can overlap it
-use Rattle.trace_reader.proofs.Words.{common_steps, rules, ◌≡◌, ◌+◌, ◌-◌, ◌*◌, ◌^◌, ◌<◌, ◌≤◌, ◌&&◌, ◌||◌, ◌∷◌, ◌++◌, ◌∙◌, ℕ, Bool, true, false, not, inl, inr, List, [], All, drop, filter, map, min, nat_lt, refl, sym, ap, arith, and_parts, cases_lt, nat_tests, ranked, All-cons, All-head, All-nil, All-tail, All-weaker, Ordering, Equal, Greater, Less, are_apart, segments_overlap, Segment, LieApart}
-use Rattle.std.specs.BTreeMap.{insert_entry}
-use Rattle.std.specs.List.{list_all, list_any}
-use Rattle.std.specs.Ordering.{is_lt, match_ordering, nat_cmp}
+use Rattle.trace_reader.proofs.Words.{common_steps, rules, ◌≡◌, ◌+◌, ◌-◌, ◌*◌, ◌^◌, ◌<◌, ◌≤◌, ◌&&◌, ◌||◌, ◌∷◌, ◌++◌, ◌∙◌, ℕ, Bool, true, false, not, inl, inr, List, [], All, drop, filter, map, min, nat_lt, refl, sym, ap, arith, and_parts, cases_lt, nat_tests, ranked, All-cons, All-head, All-nil, All-tail, All-weaker, Ordering, Equal, Greater, Less, are_apart, segments_overlap, Segment, LieApart, insert_entry, list_all, list_any, is_lt, match_ordering, nat_cmp}
 use Rattle.segments.specs.ShapeValue.{segment_of}
 
 or_none : (a b : Bool) → (a || b) ≡ false → (a ≡ false) × (b ≡ false)
@@ -92,17 +89,11 @@ module _ (k v : ℕ) (low : k < 2 ^ 64) (some : 0 < v) where
   after : (e : ℕ × ℕ) → e.0 < k → segments_overlap new (segment_of e) ≡ false → e.0 + 16 * e.1 ≤ k
   after e less free = grind (arith, nat_tests, less, free, some)
 
-  same_start : (e : ℕ × ℕ) → k ≡ e.0 → 0 < e.1 → segments_overlap new (segment_of e) ≡ false → ⊥
-  same_start e same there free = grind (arith, nat_tests, same, there, free, some)
-
   -- the entries with the new one, where it has no byte of them
   pub record IsAdded (es added : List (ℕ × ℕ)) : Type 0 where
     pub apart : LieApart added
     pub behind : (n : ℕ) → n ≤ k → All (λ t. n ≤ t.0) es → All (λ t. n ≤ t.0) added
     pub any : (p : Segment → Bool) → list_any p (map segment_of added) ≡ (p new || list_any p (map segment_of es))
-
-  at_front : (e : ℕ × ℕ) (es : List (ℕ × ℕ)) → LieApart (e ∷ es) → k < e.0 → segments_overlap new (segment_of e) ≡ false → IsAdded (e ∷ es) ((k, v) ∷ e ∷ es)
-  at_front e es apart less free = search (rules, before, All-weaker, All-cons)
 
   further : (e : ℕ × ℕ) (es added : List (ℕ × ℕ)) → LieApart (e ∷ es) → e.0 < k → segments_overlap new (segment_of e) ≡ false → IsAdded es added → IsAdded (e ∷ es) (e ∷ added)
   further e es added apart less free rest = record {
@@ -117,8 +108,8 @@ module _ (k v : ℕ) (low : k < 2 ^ 64) (some : 0 < v) where
 
   placed : (e : ℕ × ℕ) (es : List (ℕ × ℕ)) (r : Ordering) → r ≡ nat_cmp k e.0 → LieApart (e ∷ es) → segments_overlap new (segment_of e) ≡ false → IsAdded es (insert_entry nat_cmp es k v) →
       IsAdded (e ∷ es) (match_ordering r ((k, v) ∷ e ∷ es) ((e.0, v) ∷ es) (e ∷ insert_entry nat_cmp es k v))
-  placed e es Less is apart free rest = at_front e es apart (ranked k e.0 Less is) free
-  placed e es Equal is apart free rest = absurd (same_start e (ranked k e.0 Equal is) apart.1 free)
+  placed e es Less is apart free rest = search (rules, before, All-weaker, All-cons)
+  placed e es Equal is apart free rest = absurd (grind arith)
   placed e es Greater is apart free rest = further e es (insert_entry nat_cmp es k v) apart (ranked k e.0 Greater is) free rest
 
   pub added : (es : List (ℕ × ℕ)) → LieApart es → list_any (segments_overlap new) (map segment_of es) ≡ false → IsAdded es (insert_entry nat_cmp es k v)

@@ -28,10 +28,6 @@ version_read : (line : TextLine) (version : Version) → is_written (version_fie
 unfolding version_of
 version_read line version written = search (rules, two_words)
 
-size_written : (line : TextLine) (size : ContextSize) → size_of line ≡ Some size → is_written (size_fields size) line ≡ true
-unfolding size_of fields_of
-size_written line size is = search (rules, words_written)
-
 size_read : (line : TextLine) (size : ContextSize) → is_written (size_fields size) line ≡ true → size_of line ≡ Some size
 unfolding size_of
 size_read line size written = search (rules, two_words)
@@ -97,13 +93,14 @@ second_state first lines r is =
 
 third_state : (version : Version) (second : TextLine) (lines : List TextLine) (r : State × List TraceRow) → read_lines (behind_version version) (second ∷ lines) ≡ Ok r →
     (size : ContextSize) × (is_written (size_fields size) second ≡ true) × ((q : State × List TraceRow) × (read_lines (behind_size version size) lines ≡ Ok q) × (q.0 ≡ r.0) × (q.1 ≡ r.1))
+unfolding size_of fields_of
 third_state version second lines r is =
     let g = lines_go_on (behind_version version) second lines r is in
     let p = second_from_read version second g.next g.step_is in
     let state_is : behind_size version p.0 ≡ g.next.0 = ap (λ (x : State × Option TraceRow). x.0) p.2 in
     let row_is : None ≡ g.next.1 = ap (λ (x : State × Option TraceRow). x.1) p.2 in (
       p.0,
-      size_written second p.0 p.1,
+      (search (rules, words_written)),
       (g.others, ap (λ (x : State). read_lines x lines) state_is ∙ g.rest_is, g.end_is, ap (λ (o : Option TraceRow). with_front o g.others.1) row_is ∙ g.rows_are),
     )
 
@@ -130,7 +127,7 @@ lines_spell first second lines r b =
       and_from (is_written (version_fields r.0.version) first) _ named (and_from (is_written (size_fields r.0.size) second) (lines_written (lines_for r.0.rings r.1) lines) sized rings),
       record {
         headed = and_from (list_all is_line_ring r.0.rings) (may_stand_together r.0.rings) (ap (λ (rs : List Ring). list_all is_line_ring rs) rings_are ∙ s.are.shapes) together;
-        rows = subst (λ (version : Version). All (IsLineRow version) r.1) (sym version_is) s.are.fit;
+        rows = rw version_is s.are.fit;
         begins = s.are.begins refl;
         new_ids = ap (λ (rs : List Ring). have_new_ids rs [] r.1) rings_are ∙ s.are.new_ids;
         first = omega (arith, s.are.count, many);
@@ -143,7 +140,7 @@ read_spells [] trace is = search (rules, whole_there, read_end)
 read_spells (first ∷ []) trace is = search (rules, whole_there, second_state, read_end)
 read_spells (first ∷ second ∷ lines) trace is =
     let p = whole_there (read_lines (start true) (first ∷ second ∷ lines)) trace is in
-    subst (λ (t : TraceText). (lines_written (trace_lines t) (first ∷ second ∷ lines) ≡ true) × IsTrace t) p.3 (lines_spell first second lines p.0 (begins first second lines p.0 p.1))
+    rw (← p.3) (lines_spell first second lines p.0 (begins first second lines p.0 p.1))
 
 -- what is read is spelled by the text, and valid
 pub spelled_if_read : (text : List ℕ) (trace : TraceText) → trace_of true text ≡ Ok trace → IsTrue (spells trace text) × IsTrace trace
@@ -151,10 +148,6 @@ unfolding trace_of spells
 spelled_if_read text trace is = read_spells (lines_of text) trace is
 
 -- ---- from a text that spells a trace
-
-whole_of : (end : State) (rows : List TraceRow) (trace : TraceText) → 2 ≤ end.lines → end.version ≡ trace.header.version → end.size ≡ trace.header.context_size → end.rings ≡ trace.header.rings →
-    next_number end - length rows ≡ trace.first → rows ≡ trace.rows → whole (Ok (end, rows)) ≡ Ok trace
-whole_of end rows trace some version_is size_is rings_are first_is rows_are = search rules
 
 written_reads : (lines : List TextLine) (trace : TraceText) → lines_written (trace_lines trace) lines ≡ true → IsTrace trace → whole (read_lines (start true) lines) ≡ Ok trace
 unfolding trace_lines
@@ -173,7 +166,7 @@ written_reads (first ∷ second ∷ lines) trace written is =
     let all : read_lines (start true) (first ∷ second ∷ lines) ≡ Ok (read.end, trace.rows) =
     read_on (start true) (behind_version version) first (second ∷ lines) None read.end trace.rows (first_read first version (version_read first version p.0)) third in
     ap (λ (x : Result (State × List TraceRow) (ℕ × LineFault)). whole x) all
-    ∙ whole_of read.end trace.rows trace (omega (arith, read.count)) read.version_is read.size_is read.rings_are (omega (arith, read.count, first_is)) refl
+    ∙ (search rules)
 
 -- a valid trace that the text spells is what is read
 pub read_if_spelled : (text : List ℕ) (trace : TraceText) → IsTrue (spells trace text) → IsTrace trace → trace_of true text ≡ Ok trace

@@ -1,7 +1,6 @@
 -- Fields of a line, and how they are written
-use Rattle.trace_reader.proofs.Words.{common_steps, rules, ◌≡◌, ◌+◌, ◌<◌, ◌^◌, ◌∷◌, ◌++◌, ◌∙◌, ℕ, Bool, true, false, List, [], length, map, cond, Option, Some, None, All, refl, ap, arith, Width, byte_len, option_and_then, bytes_eq, str_to_ascii_lowercase, and_parts, and_from, nat_tests, bytes_eq-Decides, All-weaker, All-cons, All-nil, is_empty, has_empty_field, digits_of, number_of, HasBytes, said, spelled, digits_are_lower, digits_stay_lower, length-digits_of, is_lower_digit, spaced_length, Field, Word, Digits, printed, may_be_written, are_written, both}
+use Rattle.trace_reader.proofs.Words.{common_steps, rules, ◌≡◌, ◌+◌, ◌<◌, ◌^◌, ◌∷◌, ◌++◌, ◌∙◌, ℕ, Bool, true, false, List, [], length, map, cond, Option, Some, None, All, refl, ap, arith, Width, byte_len, option_and_then, bytes_eq, str_to_ascii_lowercase, and_parts, and_from, nat_tests, bytes_eq-Decides, All-weaker, All-cons, All-nil, is_empty, has_empty_field, digits_of, number_of, HasBytes, said, spelled, digits_are_lower, digits_stay_lower, length-digits_of, is_lower_digit, spaced_length, Field, Word, Digits, printed, may_be_written, are_written, both, bits}
 use Rattle.std.proofs.Common.{option_map}
-use mir.Val.{bits}
 
 -- ---- tests and options
 

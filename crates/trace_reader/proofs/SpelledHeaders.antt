@@ -9,9 +9,6 @@ use Rattle.trace_reader.proofs.SpelledSegments.{FitsSegment}
 and_swaps : (a b : Bool) → (a && b) ≡ (b && a)
 and_swaps a b = search rules
 
-or_crosses : (a b c d : Bool) → ((a || b) || (c || d)) ≡ ((a || c) || (b || d))
-or_crosses a b c d = search rules
-
 module _ {A : Type 0} where
   any_same : (f g : A → Bool) → ((x : A) → f x ≡ g x) → (xs : List A) → list_any f xs ≡ list_any g xs
   any_same f g same xs = search rules
@@ -24,7 +21,7 @@ module _ {A : Type 0} where
   any_of_more f [] y ys = refl
   any_of_more f (x ∷ xs) y ys =
       ap (λ (b : Bool). (f x y || list_any (f x) ys) || b) (any_of_more f xs y ys)
-      ∙ or_crosses (f x y) (list_any (f x) ys) (list_any (λ z. f z y) xs) (list_any (λ z. list_any (f z) ys) xs)
+      ∙ (search rules)
 
   any_turns : (f g : A → A → Bool) → ((x y : A) → f x y ≡ g y x) → (xs ys : List A) → list_any (λ x. list_any (f x) ys) xs ≡ list_any (λ y. list_any (g y) xs) ys
   any_turns f g turns xs [] = any_of_none f xs
@@ -45,14 +42,11 @@ clash_turns r q =
 
 -- ---- one ring more
 
-push_test : (a c m e : Bool) → (not (a || (c || false)) && (m && not e)) ≡ ((not a && m) && not (c || e))
-push_test a c m e = search rules
-
 pub together_push : (rings : List Ring) (ring : Ring) → may_stand_together (rings ++ ring ∷ []) ≡ (may_stand_together rings && not (list_any (clash ring) rings))
 together_push [] ring = refl
 together_push (r ∷ rest) ring =
     let ih = together_push rest ring in
-    rw (list_any-append (clash r) rest (ring ∷ []), ih, clash_turns r ring) (push_test (list_any (clash r) rest) (clash ring r) (may_stand_together rest) (list_any (clash ring) rest))
+    rw (list_any-append (clash r) rest (ring ∷ []), ih, clash_turns r ring) (search rules)
 
 pub together_front : (rings more : List Ring) → may_stand_together (rings ++ more) ≡ true → may_stand_together rings ≡ true
 together_front [] more together = refl
@@ -73,16 +67,13 @@ no_clash rings ring more together =
 
 -- ---- what an allowed shape says of the ring's line
 
-fits_of : (kind : RingKind) (s : Segment) → is_segment kind s ≡ true → FitsSegment s
-fits_of kind s is = grind (arith, nat_tests)
-
 pub record ShapeSays (shape : Shape) : Type 0 where
   pub few : length shape.segments ≤ 64
   pub some : 0 < length shape.segments
   pub fit : All FitsSegment shape.segments
 
 pub shape_says : (shape : Shape) → is_shape shape ≡ true → ShapeSays shape
-shape_says shape is = grind (arith, common_steps, All-weaker, fits_of, AllPass-from_list_all)
+shape_says shape is = grind (arith, common_steps, All-weaker, AllPass-from_list_all)
 
 pub ring_fits : (ring : Ring) → ring.id < 256 → is_shape ring.shape ≡ true → FitsRing ring
 ring_fits ring small is = search (rules, shape_says)

@@ -48,24 +48,16 @@ unfolding plan_line_fields FitsPlanLine
 each_is_said (Sub ring blocks) = record { line = plan_sub_line; says = (ring, blocks); makes = refl; named = refl; spelled = refl; fits = λ is. (is.0, (is.1, is.2)) }
 each_is_said (Ret upto) = record { line = ret_line; says = (upto, tt); makes = refl; named = refl; spelled = refl; fits = λ is. (is, tt) }
 
-line_sound : (line : PlanLine) → AllSound (plan_line_fields line)
-unfolding plan_line_fields
-line_sound line = search (rules, sound_named, digits_8, blocks_sound, digits_64)
-
 line_limits : (number : ℕ) (line : PlanLine) → plan_line_fault number line ≡ None → (number ≤ most_lines) × (declares_too_much line ≡ false)
 line_limits number line none = search (rules, or_parts)
 
-line_short : (number : ℕ) (line : PlanLine) → FitsPlanLine line → plan_line_fault number line ≡ None → spaced_length (map printed (plan_line_fields line)) ≤ most_bytes
-unfolding plan_line_fields FitsPlanLine
-line_short number line fits none = search (rules, few_blocks, line_limits, two_digits, blocks_length, sixteen_digits)
-
 line_spelling : (number : ℕ) → IsSpelling plan_form_of plan_value (plan_line_fault number) plan_line_fields FitsPlanLine
-unfolding plan_form_of plan_value
+unfolding plan_form_of plan_value plan_line_fields FitsPlanLine
 line_spelling number = record {
   to_fields = λ fields form line formed valued. let p = table_written plan_line_fields FitsPlanLine AnySort (plan_sub_line ∷ ret_line ∷ []) plan_are_lines fields form line formed valued in (p.0, p.1);
   to_form = λ fields line fits written. table_read plan_line_fields FitsPlanLine AnySort (plan_sub_line ∷ ret_line ∷ []) each_is_said fields line fits written;
-  sound = line_sound;
-  short = line_short number;
+  sound = (search (rules, sound_named, digits_8, blocks_sound, digits_64));
+  short = (search (rules, few_blocks, line_limits, two_digits, blocks_length, sixteen_digits));
 }
 
 line_from_fits : (line : PlanLine) → FitsPlanLine line → declares_too_much line ≡ false → IsPlanLine line

@@ -54,19 +54,15 @@ pub record IsRead (version : Version) (begun : Bool) (s : Said) (fields : List (
 abbrev IsSort : Bool → Bool → Line Said → Said → Type 0
 IsSort ring_rows begun l s = stands ring_rows begun s ≡ true
 
-rings_are_lines : (ring_rows begun : Bool) → AreLines fields_said FitsSaid (IsSort ring_rows begun) (ring_lines ring_rows begun)
-unfolding ring_fields trace_row_fields
-rings_are_lines ring_rows begun = search rules
-
 said_are_lines : (ring_rows begun : Bool) → AreLines fields_said FitsSaid (IsSort ring_rows begun) (driver_lines ++ ring_lines ring_rows begun)
-unfolding row_fields trace_row_fields
+unfolding row_fields trace_row_fields ring_fields
 said_are_lines ring_rows begun = (
   (λ v. (refl, (λ fits. ((fits.0, fits.1.0), fits.1.1)), refl)),
   (
     (λ v. (refl, (λ fits. ((fits.0, fits.1.0), tt)), refl)),
     (
       (λ v. (refl, (λ fits. fits), refl)),
-      ((λ v. (refl, (λ fits. ((fits.0, fits.1.0), tt)), refl)), ((λ v. (refl, (λ fits. (fits, tt)), refl)), rings_are_lines ring_rows begun)),
+      ((λ v. (refl, (λ fits. ((fits.0, fits.1.0), tt)), refl)), ((λ v. (refl, (λ fits. (fits, tt)), refl)), (search rules))),
     ),
   ),
 )
@@ -119,6 +115,3 @@ module _ (version : Version) (begun : Bool) where
       record { form = p.0; formed = p.1; says = p.2 }
 
 -- ---- a row that stands there
-
-pub row_of_version : (version : Version) (begun : Bool) (row : TraceRow) → stands (has_ring_rows version) begun (SaysRow row) ≡ true → is_of_version version row ≡ true
-row_of_version version begun row there = search rules

@@ -43,17 +43,13 @@ step_sound : (step : Step) → AllSound (step_fields step)
 unfolding step_fields
 step_sound step = search (rules, sound_named, digits_8, block_sound, digits_64, digits_32)
 
-step_short : (step : Step) → IsStep step → spaced_length (map printed (step_fields step)) ≤ most_bytes
-unfolding step_fields
-step_short step is = search (rules, two_digits, block_length, sixteen_digits, eight_digits)
-
 step_spelling : (number : ℕ) → IsSpelling step_form_of step_value (step_fault number) step_fields IsStep
-unfolding step_form_of step_value
+unfolding step_form_of step_value step_fields
 step_spelling number = record {
   to_fields = λ fields form step formed valued. let p = table_written step_fields IsStep AnySort step_lines step_are_lines fields form step formed valued in (p.0, p.1);
   to_form = λ fields step is written. table_read step_fields IsStep AnySort step_lines each_is_said fields step is written;
   sound = step_sound;
-  short = λ step is none. step_short step is;
+  short = λ step is none. (search (rules, two_digits, block_length, sixteen_digits, eight_digits));
 }
 
 none_of : (b : Bool) → cond b (Some Limit) None ≡ None → b ≡ false
@@ -111,12 +107,9 @@ one_schedule text s t spells_s is_s spells_t is_t = search (rules, schedule_read
 
 -- ---- what is printed
 
-some_fields : (step : Step) → 0 < length (step_fields step)
-unfolding step_fields
-some_fields step = search rules
-
 step_sound_line : (step : Step) → IsSoundLine (step_fields step)
-step_sound_line step = record { some = some_fields step; sound = step_sound step }
+unfolding step_fields
+step_sound_line step = record { some = (search rules); sound = step_sound step }
 
 version_line : IsSoundLine schedule_version_fields
 version_line = record { some = omega arith; sound = (sound_named (codes "xsched") (omega arith) refl, (sound_named (codes "1") (omega arith) refl, tt)) }

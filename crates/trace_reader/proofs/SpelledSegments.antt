@@ -68,11 +68,9 @@ segments_written [] segments says = search (rules, All-nil)
 segments_written (field ∷ fields) segments says =
     let p = segments_next field fields segments says in
     let ih = segments_written fields p.1 p.3 in
-    subst (λ (xs : List Segment). (are_written (map segment_field xs) (field ∷ fields) ≡ true) × All FitsSegment xs × (length (field ∷ fields) ≡ length xs)) p.4 (
-      and_from (may_be_written (segment_field p.0) field) (are_written (map segment_field p.1) fields) (segment_written field p.0 p.2).0 ih.0,
-      All-cons FitsSegment p.0 p.1 (segment_written field p.0 p.2).1 ih.1,
-      ap suc ih.2,
-    )
+    let here = segment_written field p.0 p.2 in
+    rw (← p.4)
+    (and_from (may_be_written (segment_field p.0) field) (are_written (map segment_field p.1) fields) here.0 ih.0, All-cons FitsSegment p.0 p.1 here.1 ih.1, ap suc ih.2)
 
 pub segments_read : (segments : List Segment) (fields : List (List ℕ)) → All FitsSegment segments → are_written (map segment_field segments) fields ≡ true →
     segments_of fields ≡ Some segments

@@ -11,9 +11,6 @@ plain_word word plain = All-weaker (λ c. nat_lt 32 c ≡ true) (λ c. 32 < c) (
 pub sound_named : (word : List ℕ) → 0 < length word → list_all (λ c. nat_lt 32 c) word ≡ true → IsSound (Word word)
 sound_named word some plain = sound_word word some (plain_word word plain)
 
-kind_sound : (kind : RingKind) → IsSound (Word (ring_name kind))
-kind_sound kind = search (rules, sound_named)
-
 pub digits_8 : (n : ℕ) → IsSound (Digits (digits_of w8 n))
 digits_8 n = sound_digits w8 n (omega arith)
 
@@ -36,20 +33,16 @@ pub blocks_sound : (blocks : List Block) → AllSound (flat_map block_fields blo
 blocks_sound [] = tt
 blocks_sound (block ∷ blocks) = sound_append (block_fields block) (flat_map block_fields blocks) (block_sound block) (blocks_sound blocks)
 
-pub row_sound : (row : Row) → AllSound (row_fields row)
-unfolding row_fields
-row_sound row = search (rules, sound_named, digits_8, blocks_sound, digits_64, digits_32, block_sound)
-
 pub ring_sound : (ring : Ring) → AllSound (ring_fields ring)
 unfolding ring_fields
 ring_sound ring = (
   sound_named (codes "ring") (omega arith) refl,
-  (digits_8 ring.id, (kind_sound ring.shape.kind, sound_map segment_field segment_sound ring.shape.segments)),
+  (digits_8 ring.id, ((search (rules, sound_named)), sound_map segment_field segment_sound ring.shape.segments)),
 )
 
 pub trace_row_sound : (row : TraceRow) → AllSound (trace_row_fields row)
-unfolding trace_row_fields
-trace_row_sound row = search (rules, row_sound, ring_sound, sound_named, digits_8, digits_64)
+unfolding trace_row_fields row_fields
+trace_row_sound row = search (rules, sound_named, digits_8, blocks_sound, digits_64, digits_32, block_sound, ring_sound, sound_named, digits_8, digits_64)
 
 -- ---- lengths
 

@@ -10,25 +10,8 @@ use Rattle.trace_reader.proofs.SpelledLines.{IsGood, read_from_good, step_from_r
 abbrev pub IsLineRow : Version → TraceRow → Type 0
 IsLineRow version row = IsTraceRow row × (is_of_version version row ≡ true)
 
-line_row : (rings : List Ring) (later : List ℕ) (row : TraceRow) → FitsRow row → is_too_much (SaysRow row) ≡ false → is_misplaced rings later (SaysRow row) ≡ false → IsTraceRow row
-line_row rings later row is few placed = search (rules, or_parts)
-
-row_text : (row : TraceRow) → IsTraceRow row → FitsRow row
-row_text row is = search (rules, ring_fits)
-
 row_few : (row : TraceRow) → IsTraceRow row → is_too_much (SaysRow row) ≡ false
 row_few row is = search rules
-
-row_shape : (row : TraceRow) → IsTraceRow row → has_no_shape row ≡ false
-row_shape row is = search rules
-
--- a ring is a row where rows have begun
-row_stands : (version : Version) (begun : Bool) (row : TraceRow) (rows : List TraceRow) → is_of_version version row ≡ true → (begun ≡ false → begins_with_ring (row ∷ rows) ≡ false) →
-    stands (has_ring_rows version) begun (SaysRow row) ≡ true
-row_stands version begun row rows of begins = search (rules, and_from)
-
-no_ring_first : (version : Version) (begun : Bool) (row : TraceRow) (rows : List TraceRow) → stands (has_ring_rows version) begun (SaysRow row) ≡ true → begun ≡ false → begins_with_ring (row ∷ rows) ≡ false
-no_ring_first version begun row rows there fresh = search (rules, and_parts)
 
 -- a ring with an ID of its field and an allowed shape
 abbrev pub is_line_ring : Ring → Bool
@@ -57,13 +40,9 @@ pub record IsSpelledAs (st end : State) (rings : List Ring) (rows : List TraceRo
 abbrev behind_ring : State → Ring → State
 behind_ring st ring = record st { lines = next_number st; rings = st.rings ++ ring ∷ [] }
 
-good_line : (st : State) (line : TextLine) (s : Said) (fields : List Field) (rest : List (List Field)) (lines : List TextLine) →
-    line.is_ended ≡ true → are_written fields (fields_of line.content) ≡ true → lines_written rest lines ≡ true → lines_written (fields ∷ rest) (line ∷ lines) ≡ true
-good_line st line s fields rest lines ended written others = search (rules, and_from)
-
 spelled_ring : (st end : State) (line : TextLine) (ring : Ring) (rings : List Ring) (rows : List TraceRow) (lines : List TextLine) → IsGood st line (SaysRing ring) →
     IsSpelledAs (behind_ring st ring) end rings rows lines → IsSpelledAs st end (ring ∷ rings) rows (line ∷ lines)
-spelled_ring st end line ring rings rows lines good rest = grind (arith, common_steps, good_line, and_from, together_with, or_parts)
+spelled_ring st end line ring rings rows lines good rest = grind (arith, common_steps, and_from, and_from, together_with, or_parts)
 
 -- ---- from what is read
 
@@ -111,7 +90,7 @@ spells_from_read (line ∷ lines) st r behind is =
     let ih : Spells ((with_said st (Some step.0)).0) lines g.others =
     spells_from_read lines ((with_said st (Some step.0)).0) g.others later (ap (λ (x : State). read_lines x lines) (ap (λ (x : State × Option TraceRow). x.0) next_is) ∙ g.rest_is) in
     let same : (g.others.0, with_front ((with_said st (Some step.0)).1) g.others.1) ≡ r = λ k. (g.end_is k, (ap (λ (o : Option TraceRow). with_front o g.others.1) row_is ∙ g.rows_are) k) in
-    subst (λ (x : State × List TraceRow). Spells st (line ∷ lines) x) same (spells_on st line lines step.0 g.others step.1 ih)
+    rw same at (spells_on st line lines step.0 g.others step.1 ih)
   where
     counted : (st : State) (s : Said) → 2 ≤ st.lines → 2 ≤ ((with_said st (Some s)).0).lines
     counted st (SaysRow row) behind = omega arith
@@ -148,11 +127,11 @@ rows_read (row ∷ rows) (line ∷ lines) st behind fit begins new_ids written w
     let ids = and_parts (not (has_used_id st.rings st.later row)) (have_new_ids st.rings (ids_with st.later row) rows) new_ids in
     let good : IsGood st line (SaysRow row) = record {
       ended = w.0;
-      spelled = record { written = w.1; fits = row_text row is.0 };
-      ordered = row_stands st.version st.begun row rows is.1 begins;
+      spelled = record { written = w.1; fits = (search (rules, ring_fits)) };
+      ordered = (search (rules, and_from));
       within = omega (arith, within);
       few = row_few row is.0;
-      placed = or_from (has_no_shape row) (has_used_id st.rings st.later row) (row_shape row is.0) (not-true (has_used_id st.rings st.later row) ids.0);
+      placed = or_from (has_no_shape row) (has_used_id st.rings st.later row) (search rules) (not-true (has_used_id st.rings st.later row) ids.0);
     } in
     let ih = rows_read rows lines (behind_row st row) (omega arith) (All-tail (IsLineRow st.version) row rows fit) (λ e. cc e) ids.1 w.2 (omega (arith, within)) in
     record {

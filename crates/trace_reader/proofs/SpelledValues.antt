@@ -24,9 +24,6 @@ pub words_there : (a b c d : List ℕ) (block : Block) → block_of a b c d ≡ 
 unfolding block_of
 words_there a b c d block says = search (rules, mapped_there, both_there)
 
-word_below : (x y z u : ℕ) → x < 2 ^ 32 → y < 2 ^ 32 → z < 2 ^ 32 → u < 2 ^ 32 → (i : ℕ) → slice_index (x ∷ y ∷ z ∷ u ∷ []) i < 2 ^ 32
-word_below x y z u hx hy hz hu i = search rules
-
 four_written : (x y z u : ℕ) (a b c d : List ℕ) (fields : List Field) (texts : List (List ℕ)) →
     may_be_written (word_field x) a ≡ true → may_be_written (word_field y) b ≡ true → may_be_written (word_field z) c ≡ true → may_be_written (word_field u) d ≡ true →
     are_written fields texts ≡ true → are_written (word_field x ∷ word_field y ∷ word_field z ∷ word_field u ∷ fields) (a ∷ b ∷ c ∷ d ∷ texts) ≡ true
@@ -40,10 +37,8 @@ block_written a b c d block fields texts says rest =
     let hb = number_written w32 bytes_of_32 b p.y p.second in
     let hc = number_written w32 bytes_of_32 c p.z p.third in
     let hd = number_written w32 bytes_of_32 d p.u p.fourth in
-    let written = four_written p.x p.y p.z p.u a b c d fields texts (number_written w32 bytes_of_32 a p.x p.first).0 hb.0 hc.0 hd.0 rest in (
-      subst (λ (bl : Block). are_written (block_fields bl ++ fields) (a ∷ b ∷ c ∷ d ∷ texts) ≡ true) p.are written,
-      subst (λ (bl : Block). IsBlock bl) p.are (refl, word_below p.x p.y p.z p.u (number_written w32 bytes_of_32 a p.x p.first).1 hb.1 hc.1 hd.1),
-    )
+    let ha = number_written w32 bytes_of_32 a p.x p.first in
+    rw (← p.are) (four_written p.x p.y p.z p.u a b c d fields texts ha.0 hb.0 hc.0 hd.0 rest, (refl, (search rules)))
 
 never : (t : Bool) → (t && false) ≡ true → ⊥
 never t is = search rules
@@ -61,10 +56,6 @@ record FourWritten (x y z u : ℕ) (fields : List Field) (texts : List (List ℕ
   third : may_be_written (word_field z) c ≡ true
   fourth : may_be_written (word_field u) d ≡ true
   others : are_written fields rest ≡ true
-
-four_there : (x y z u : ℕ) (fields : List Field) (texts : List (List ℕ)) → are_written (word_field x ∷ word_field y ∷ word_field z ∷ word_field u ∷ fields) texts ≡ true →
-    FourWritten x y z u fields texts
-four_there x y z u fields texts written = search (rules, never, and_parts)
 
 -- the fields that say a block, and the rest
 pub record BlockRead (block : Block) (fields : List Field) (texts : List (List ℕ)) : Type 0 where
@@ -88,7 +79,7 @@ words_read [] fields texts four small written = absurd (omega arith)
 words_read (x ∷ []) fields texts four small written = absurd (omega arith)
 words_read (x ∷ y ∷ []) fields texts four small written = absurd (omega arith)
 words_read (x ∷ y ∷ z ∷ []) fields texts four small written = absurd (omega arith)
-words_read (x ∷ y ∷ z ∷ u ∷ []) fields texts four small written = read_of x y z u fields texts (small 0) (small 1) (small 2) (small 3) (four_there x y z u fields texts written)
+words_read (x ∷ y ∷ z ∷ u ∷ []) fields texts four small written = read_of x y z u fields texts (small 0) (small 1) (small 2) (small 3) (search (rules, never, and_parts))
 words_read (x ∷ y ∷ z ∷ u ∷ v ∷ more) fields texts four small written = absurd (omega arith)
 
 pub block_read : (block : Block) (fields : List Field) (texts : List (List ℕ)) → IsBlock block → are_written (block_fields block ++ fields) texts ≡ true → BlockRead block fields texts
@@ -116,7 +107,7 @@ blocks_written (a ∷ b ∷ c ∷ d ∷ words) blocks says =
     let p = blocks_four a b c d words blocks says in
     let ih = blocks_written words p.1 p.3 in
     let here = block_written a b c d p.0 (flat_map block_fields p.1) words p.2 ih.written in
-    subst (λ (bs : List Block). BlocksWritten (a ∷ b ∷ c ∷ d ∷ words) bs) p.4 (record { written = here.0; fit = All-cons IsBlock p.0 p.1 here.1 ih.fit; count = omega (arith, ih.count) })
+    rw (← p.4) (record { written = here.0; fit = All-cons IsBlock p.0 p.1 here.1 ih.fit; count = omega (arith, ih.count) })
 
 pub blocks_read : (blocks : List Block) (words : List (List ℕ)) → All IsBlock blocks → are_written (flat_map block_fields blocks) words ≡ true →
     (blocks_of words ≡ Some blocks) × (length words ≡ 4 * length blocks)

@@ -9,12 +9,9 @@ pub kind_word : (word : List ℕ) (kind : RingKind) → kind_named word ≡ Some
 unfolding kind_named
 kind_word word kind is = search rules
 
-named_kind : (kind : RingKind) → kind_named (ring_name kind) ≡ Some kind
-unfolding kind_named
-named_kind kind = search rules
-
 pub word_kind : (word : List ℕ) (kind : RingKind) → bytes_eq word (ring_name kind) ≡ true → kind_named word ≡ Some kind
-word_kind word kind is = ap (λ (w : List ℕ). kind_named w) (same_bytes word (ring_name kind) is) ∙ named_kind kind
+unfolding kind_named
+word_kind word kind is = ap (λ (w : List ℕ). kind_named w) (same_bytes word (ring_name kind) is) ∙ (search rules)
 
 named_word : (word : List ℕ) (registers : List Register) (register : Register) → named word registers ≡ Some register → bytes_eq word (register_name register) ≡ true
 named_word word [] register is = cc is
@@ -28,12 +25,9 @@ pub register_word : (word : List ℕ) (register : Register) → register_named w
 unfolding register_named
 register_word word register is = named_word word (Usbcmd ∷ Usbsts ∷ Dnctrl ∷ Crcr ∷ Dcbaap ∷ Config ∷ Iman ∷ Imod ∷ Erstsz ∷ Erstba ∷ Erdp ∷ []) register is
 
-named_register : (register : Register) → register_named (register_name register) ≡ Some register
-unfolding register_named
-named_register register = search rules
-
 pub word_register : (word : List ℕ) (register : Register) → bytes_eq word (register_name register) ≡ true → register_named word ≡ Some register
-word_register word register is = ap (λ (w : List ℕ). register_named w) (same_bytes word (register_name register) is) ∙ named_register register
+unfolding register_named
+word_register word register is = ap (λ (w : List ℕ). register_named w) (same_bytes word (register_name register) is) ∙ (search rules)
 
 -- ---- addresses and register values
 

@@ -14,6 +14,7 @@ pub use Rattle.segments.specs.Shape.{are_apart, is_segment, is_shape, rings_over
 pub use Rattle.segments.specs.declared.segment.Segment.{Segment}
 pub use Rattle.std.proofs.Common.{All, Bool, Err, IfErr, IfOk, IfSome, IsTrue, List, None, Ok, Option, Result, Some, [], ap, append-nil, append_assoc, arith, codes, cond, drop, eq-eqb, eqb-true, false, filter, get_or, inl, inr, is_none, is_some, le-ltb, length, length-append, length-drop, lt-ltb, ltb-false, ltb-true, map, min, nat_lt, ne_eqb, not, refl, rules, slice_index, subst, suc, sym, take, take-append-drop, take_at, true, w16, w32, w64, w8, zero, ℕ, ◌%◌, ◌&&◌, ◌*◌, ◌++◌, ◌+◌, ◌-◌, ◌<◌, ◌==◌, ◌^◌, ◌||◌, ◌∙◌, ◌∷◌, ◌≡◌, ◌≢◌, ◌≤◌, ◌⊎◌}
 pub use Rattle.std.proofs.KnownBytes.{Consumes-nil, Consumes-trans}
+pub use Rattle.std.proofs.Math.Seq.{paste, take-append-add}
 pub use Rattle.std.proofs.lemmas.Bool.{and_from, and_parts, cases_Bool, cases_lt, not-false, not-true, or_from, or_parts}
 pub use Rattle.std.proofs.lemmas.Bool.Decides.{nat_tests}
 pub use Rattle.std.proofs.lemmas.Cmp.{ranked}
@@ -26,12 +27,15 @@ pub use Rattle.std.proofs.lemmas.List.Splits.{join_with_byte-slice_split, slice_
 pub use Rattle.std.proofs.lemmas.List.Sums.{AllPass-from_list_all}
 pub use Rattle.std.proofs.lemmas.Result.{err_from_is_err_and}
 pub use Rattle.std.proofs.lemmas.Slice.Eq.{bytes_eq-Decides}
+pub use Rattle.std.specs.BTreeMap.{insert_entry}
 pub use Rattle.std.specs.Char.{to_ascii_lowercase}
+pub use Rattle.std.specs.Cmp.Lexicographic.{same_text}
 pub use Rattle.std.specs.Int.{Width, byte_len}
 pub use Rattle.std.specs.Io.BufRead.{drop_through}
 pub use Rattle.std.specs.Io.KnownBytes.{Consumes, IsAtEnd}
 pub use Rattle.std.specs.List.{flat_map, join_with_byte, list_all, list_any, slice_split}
 pub use Rattle.std.specs.Option.{option_and_then, option_map, option_map_or}
+pub use Rattle.std.specs.Ordering.{is_lt, match_ordering, nat_cmp}
 pub use Rattle.std.specs.Prelude.{⊤}
 pub use Rattle.std.specs.Str.{bytes_eq, str_to_ascii_lowercase}
 pub use Rattle.std.specs.declared.cmp.Ordering.{Ordering}
@@ -113,3 +117,4 @@ pub use Rattle.trb.specs.RingKind.{ring_name}
 pub use Rattle.trb.specs.declared.block.Block.{Block}
 pub use Rattle.trb.specs.declared.ring_kind.RingKind.{RingKind}
 pub use Rattle.trb.specs.declared.ring_kind.RingKind.TheVariants.{Evt, Xfer}
+pub use mir.Val.{bits}

@@ -1,6 +1,5 @@
 -- Bytes that come in pieces
-use Rattle.trace_reader.proofs.Words.{common_steps, ◌≡◌, ◌+◌, ◌-◌, ◌<◌, ◌≤◌, ◌++◌, ◌∙◌, ℕ, List, true, Option, refl, ap, sym, append_assoc, drop, take, length, length-append, length-drop, arith, drop-drop, drop-take, drop_at, length-take-le, take-append-le, take-take, take-paste, Consumes, has_come}
-use Rattle.std.proofs.Math.Seq.{paste, take-append-add}
+use Rattle.trace_reader.proofs.Words.{common_steps, ◌≡◌, ◌+◌, ◌-◌, ◌<◌, ◌≤◌, ◌++◌, ◌∙◌, ℕ, List, true, Option, refl, ap, sym, append_assoc, drop, take, length, length-append, length-drop, arith, drop-drop, drop-take, drop_at, length-take-le, take-append-le, take-take, take-paste, Consumes, has_come, paste, take-append-add}
 
 -- ---- one read
 

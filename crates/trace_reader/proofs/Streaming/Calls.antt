@@ -38,9 +38,6 @@ module _ {held held' : Option (List ℕ)} {before ahead text : List ℕ} {line :
   pub cut_of : StandsAhead held held' before ahead text line rest → IsCut ahead line rest
   cut_of stands = record { whole = sym stands.is ∙ stands.whole; one = stands.one }
 
-  pub lines_are : StandsAhead held held' before ahead text line rest → lines_of ahead ≡ line ∷ lines_of rest
-  lines_are stands = ap lines_of (sym stands.is) ∙ stands.lines
-
 -- a bad line is bad whatever may still come
 pub record IsBadAhead (st : State) (held : Option (List ℕ)) (ahead : List ℕ) (fault : LineFault) : Type 0 where
   pub later : List ℕ
@@ -107,7 +104,7 @@ row_bad : (st : State) {held held' : Option (List ℕ)} {before ahead text : Lis
     IsFilled true held' ahead → read_line st line ≡ Err fault → number ≡ next_number st →
     IsCall (record { read = st; ended = false }) (record { read = st; ended = true }) held held' before ahead (Err (Line number fault))
 row_bad st {held} {held'} {before} {ahead} {text} {line} {rest} number fault stands filled read at =
-    let bad = bad_ahead st held' ahead rest line fault (cut_of stands) read (lines_are stands) filled in
+    let bad = bad_ahead st held' ahead rest line fault (cut_of stands) read (search (rules, lines_of)) filled in
     let call : ℕ → List ℕ → Call = λ (n : ℕ) (l : List ℕ). record { answer = Err (n, fault); progress = record { read = st; ended = true }; left = l } in
     of_one held held' before ahead ahead bad.later (λ t l. next_row (record { read = st; ended = false }) t ≡ call number l) stands.comes bad.is
     (call_of st (ahead ++ bad.later) bad.first bad.others bad.are ∙ ap (call_on st (ahead ++ bad.later)) bad.bad ∙ ap (λ n. call n (ahead ++ bad.later)) (sym at))

@@ -79,10 +79,8 @@ module _ {R : Type 0} (take : TraceRow → Result R LineFault) where
 
   rows_law : (lines : List TextLine) → RowsLaw lines
   unfolding take_lines next_row
-  rows_law [] = λ st text are begun behind.
-      subst (λ (ls : List TextLine). IsRead st (given_taken take (answered (call_in st text ls).answer ([], None))) (Ok (st, []))) (sym are) (refl, refl, refl, refl, omega arith)
-  rows_law (line ∷ lines) = λ st text are begun behind.
-      subst (λ (c : Call). IsRead st (given_taken take (answered c.answer (rows_given lines c.progress c.left))) (take_lines take st (line ∷ lines))) (sym (call_of st text line lines are))
+  rows_law [] = λ st text are begun behind. rw are (refl, refl, refl, refl, omega arith)
+  rows_law (line ∷ lines) = λ st text are begun behind. rw are
       (by_line st text line lines are begun behind (rows_law lines) (read_line st line) refl)
 
   -- ---- the whole text

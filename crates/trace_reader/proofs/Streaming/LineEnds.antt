@@ -1,6 +1,5 @@
 -- Lines that are bad whatever they say: those that no line feed ends, and those that are too long
-use Rattle.trace_reader.proofs.Words.{rules, ◌≡◌, ◌⊎◌, ◌&&◌, ◌≤◌, ◌<◌, ◌∙◌, ℕ, Bool, true, false, List, length, Option, None, Ok, Err, refl, ap, ltb-true, bytes_eq-Decides, most_bytes, TraceRow, TextLine, LineFault, Limit, placed, said_by_line, State, is_too_long, read_line, size_of, version_of}
-use Rattle.std.specs.Str.{bytes_eq}
+use Rattle.trace_reader.proofs.Words.{rules, ◌≡◌, ◌⊎◌, ◌&&◌, ◌≤◌, ◌<◌, ◌∙◌, ℕ, Bool, true, false, List, length, Option, None, Ok, Err, refl, ap, ltb-true, bytes_eq-Decides, most_bytes, TraceRow, TextLine, LineFault, Limit, placed, said_by_line, State, is_too_long, read_line, size_of, version_of, bytes_eq}
 use Rattle.trace_reader.proofs.ReadSteps.{behind_header, no_size, no_version}
 use Rattle.trace_reader.proofs.SpelledLines.{step_from_read}
 
@@ -9,13 +8,9 @@ three n = search rules
 
 -- ---- a line that no line feed ends
 
-unended_size : (line : TextLine) → line.is_ended ≡ false → size_of line ≡ None
-unfolding size_of
-unended_size line unended = rw unended refl
-
 pub ended_if_read : (st : State) (line : TextLine) (p : State × Option TraceRow) → read_line st line ≡ Ok p → line.is_ended ≡ true
-unfolding version_of
-ended_if_read st line p is = search (rules, three, no_version, no_size, unended_size, step_from_read)
+unfolding version_of size_of
+ended_if_read st line p is = search (rules, three, no_version, no_size, step_from_read)
 
 -- ---- a line of too many bytes
 
@@ -29,10 +24,6 @@ many_bytes line long = ltb-true most_bytes (length line.content) long
 no_word : (ended same : Bool) → same ≡ false → (ended && same) ≡ false
 no_word ended same other = search rules
 
-long_size : (line : TextLine) → is_too_long line ≡ true → size_of line ≡ None
-unfolding size_of
-long_size line long = search (rules, many_bytes, no_word, not_a_word)
-
 long_says : (st : State) (line : TextLine) → is_too_long line ≡ true → said_by_line st line ≡ Err Limit
 unfolding said_by_line
 long_says st line long = rw long refl
@@ -42,5 +33,5 @@ long_limit st line behind long = behind_header st line behind ∙ ap (placed st)
 
 -- all such lines have one fault
 pub long_alike : (st : State) (a b : TextLine) (fault : LineFault) → is_too_long a ≡ true → is_too_long b ≡ true → read_line st a ≡ Err fault → read_line st b ≡ Err fault
-unfolding version_of
-long_alike st a b fault long longer is = search (rules, three, no_version, no_size, long_size, long_limit, many_bytes, no_word, not_a_word)
+unfolding version_of size_of
+long_alike st a b fault long longer is = search (rules, three, no_version, no_size, many_bytes, no_word, not_a_word, long_limit, many_bytes, no_word, not_a_word)

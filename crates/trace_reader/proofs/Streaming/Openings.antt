@@ -40,20 +40,14 @@ no_row st next p lines later kept is = record {
 first_step : (st : State) (line : TextLine) (p : State × Option TraceRow) (version : Option Version) → st.lines ≡ 0 → version_of line ≡ version → read_line st line ≡ Ok p → IsStep st p
 first_step st line p version at of is = search (rules, no_row, same_step, version_read, no_version)
 
-second_step : (st : State) (line : TextLine) (p : State × Option TraceRow) (size : Option ContextSize) → st.lines ≡ 1 → size_of line ≡ size → read_line st line ≡ Ok p → IsStep st p
-second_step st line p size at of is = search (rules, no_row, same_step, size_read, no_size)
-
-later_step : (st : State) (p : State × Option TraceRow) (said : Said) → 2 ≤ st.lines → with_said st (Some said) ≡ p → IsStep st p
-later_step st p said behind is = search (rules, behind, no_row)
-
 pub step_of : (st : State) (line : TextLine) (p : State × Option TraceRow) → read_line st line ≡ Ok p → IsStep st p
 step_of st line p is =
     elim (three st.lines) [
       | inl first ↦ first_step st line p (version_of line) first refl is
       | inr later ↦
           elim later [
-            | inl second ↦ second_step st line p (size_of line) second refl is
-            | inr behind ↦ let s = step_from_read st line p behind is in later_step st p s.0 behind s.2
+            | inl second ↦ search (rules, no_row, same_step, size_read, no_size)
+            | inr behind ↦ let s = step_from_read st line p behind is in search (rules, no_row)
           ]
     ]
 
@@ -165,11 +159,7 @@ module _ {keeps : Bool} {held held' : Option (List ℕ)} {so_far : TraceSoFar} {
 
   opened_with : (reader : RowReader) (ended : Bool) (left : List ℕ) → reader.keeps ≡ keeps → reader.ended ≡ ended → ahead_of reader.ahead ≡ left →
       OfText ended held held' [] left (λ text l. opened keeps text ≡ Ok (progress_of reader, l)) → IsOpened keeps held held' (Ok reader)
-  opened_with reader ended left kept over is so = (
-    kept,
-    subst (λ (b : Bool). OfText b held held' [] (ahead_of reader.ahead) (λ text l. opened keeps text ≡ Ok (progress_of reader, l))) (sym over)
-        (subst (λ (a : List ℕ). OfText ended held held' [] a (λ text l. opened keeps text ≡ Ok (progress_of reader, l))) (sym is) so),
-  )
+  opened_with reader ended left kept over is so = (kept, rw (← over, ← is) at so)
 
   -- no ring has come
   none_later : record (state_of so_far) { begun = true; later = [] } ≡ record (state_of so_far) { begun = true }

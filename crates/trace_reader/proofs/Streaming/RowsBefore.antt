@@ -5,9 +5,6 @@ use Rattle.trace_reader.proofs.Streaming.CallsJoined.{lines_left, no_ring_read}
 use Rattle.trace_reader.proofs.Streaming.LineEnds.{ended_if_read}
 use Rattle.trace_reader.proofs.Streaming.Openings.{step_of}
 
-behind_more : (number : ℕ) (row : ℕ × TraceRow) (given : GivenRows) → IsBehind (number + 1) given → IsBehind number (row ∷ given.0, given.1)
-behind_more number row given is = search rules
-
 abbrev LinesLaw : List TextLine → Type 0
 LinesLaw lines = (st : State) (text : List ℕ) → lines_of text ≡ lines → st.begun ≡ true → 2 ≤ st.lines → AreOfLines st lines (rows_given lines (record { read = st; ended = false }) text)
 
@@ -24,7 +21,7 @@ module _ (st : State) (text : List ℕ) (line : TextLine) (lines : List TextLine
       ap (λ r. go_on (next_number st) r (λ after. read_lines after (take (length given.0) lines))) is ∙ ap (with_row (Some row)) rest.1.1 in (
         (number, subst (λ (n : ℕ). AreNumbered (n + 1) given.0) number rest.0),
         (rest.1.0, read),
-        subst (λ (n : ℕ). IsBehind n ((next.lines, row) ∷ given.0, given.1)) number (behind_more next.lines (next.lines, row) given rest.2),
+        subst (λ (n : ℕ). IsBehind n ((next.lines, row) ∷ given.0, given.1)) number (search rules),
       )
   by_line (Ok (next, None)) is = absurd (no_ring_read st next line begun behind is)
   by_line (Err fault) is = (tt, (st, refl), omega arith)
@@ -32,8 +29,6 @@ module _ (st : State) (text : List ℕ) (line : TextLine) (lines : List TextLine
 -- where calls tell a bad line, the rows before it are those that the lines before it say
 pub rows_of_lines : (lines : List TextLine) → LinesLaw lines
 unfolding read_lines next_row
-rows_of_lines [] = λ st text are begun behind.
-    subst (λ (ls : List TextLine). AreOfLines st [] (answered (call_in st text ls).answer ([], None))) (sym are) (tt, (st, refl), tt)
-rows_of_lines (line ∷ lines) = λ st text are begun behind.
-    subst (λ (c : Call). AreOfLines st (line ∷ lines) (answered c.answer (rows_given lines c.progress c.left))) (sym (call_of st text line lines are))
+rows_of_lines [] = λ st text are begun behind. rw are (tt, (st, refl), tt)
+rows_of_lines (line ∷ lines) = λ st text are begun behind. rw are
     (by_line st text line lines are begun behind (rows_of_lines lines) (read_line st line) refl)

@@ -30,7 +30,6 @@ of_call held held' ahead ahead' st st' false row behind (came, used, all) =
 pub answer_fits : (held held' : Option (List ℕ)) (r r' : RowReader) (result : Result (Option (ℕ × TraceRow)) StreamFault) → r'.ended ≡ has_ended result →
     IsCall (progress_of r) (progress_of r') held held' (ahead_of r.ahead) (ahead_of r'.ahead) result → IfOk result (λ found. IfSome found (λ row. IsTraceRow row.1))
 answer_fits held held' r r' (Ok (Some row)) on call =
-    of_call held held' (ahead_of r.ahead) (ahead_of r'.ahead) (progress_of r).read (progress_of r').read r.ended row r.behind
-    (subst (λ (e : Bool). IsCall (progress_of r) (record { read = (progress_of r').read; ended = e }) held held' (ahead_of r.ahead) (ahead_of r'.ahead) (Ok (Some row))) on call)
+    of_call held held' (ahead_of r.ahead) (ahead_of r'.ahead) (progress_of r).read (progress_of r').read r.ended row r.behind (rw on at call)
 answer_fits held held' r r' (Ok None) on call = tt
 answer_fits held held' r r' (Err fault) on call = tt

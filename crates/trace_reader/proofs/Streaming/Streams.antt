@@ -162,8 +162,7 @@ module _ {R : Type 0} (take : TraceRow → Result R LineFault) where
   pub row_numbered : (held held' : Option (List ℕ)) (r r' : RowReader) (row : ℕ × TraceRow) → r'.ended ≡ false → IsCall (progress_of r) (progress_of r') held held' (ahead_of r.ahead) (ahead_of r'.ahead) (Ok (Some row)) →
       (row.0 ≡ r.lines + 1) × (r'.lines ≡ row.0)
   row_numbered held held' r r' row on call =
-      line_of_row held held' (ahead_of r.ahead) (ahead_of r'.ahead) (progress_of r).read (progress_of r').read r.ended row
-      (subst (λ (e : Bool). IsCall (progress_of r) (record { read = (progress_of r').read; ended = e }) held held' (ahead_of r.ahead) (ahead_of r'.ahead) (Ok (Some row))) on call)
+      line_of_row held held' (ahead_of r.ahead) (ahead_of r'.ahead) (progress_of r).read (progress_of r').read r.ended row (rw on at call)
 
   module _ (held held' held'' : Option (List ℕ)) (first : ℕ) (done : List R) (r r' : RowReader) (same : IsSameTrace r r') (read : HasRead take held held' first done r) where
     pub row_read : (row : ℕ × TraceRow) (one : R) → take row.1 ≡ Ok one → r'.ended ≡ false → IsCall (progress_of r) (progress_of r') held' held'' (ahead_of r.ahead) (ahead_of r'.ahead) (Ok (Some row)) →
@@ -172,17 +171,14 @@ module _ {R : Type 0} (take : TraceRow → Result R LineFault) where
         subst (λ (k : Bool). IsReadTo k take held held'' r'.header first (done ++ one ∷ []) (progress_of r') (ahead_of r'.ahead)) (sym same.1)
         (subst (λ (h : Header). IsReadTo r.keeps take held held'' h first (done ++ one ∷ []) (progress_of r') (ahead_of r'.ahead)) (sym same.0)
         (subst (λ (e : Bool). IsReadTo r.keeps take held held'' r.header first (done ++ one ∷ []) (record { read = (progress_of r').read; ended = e }) (ahead_of r'.ahead)) (sym on)
-        (row_more r.keeps held held' held'' r.header first done (progress_of r).read (progress_of r').read (ahead_of r.ahead) (ahead_of r'.ahead) r.ended row one is read
-        (subst (λ (e : Bool). IsCall (progress_of r) (record { read = (progress_of r').read; ended = e }) held' held'' (ahead_of r.ahead) (ahead_of r'.ahead) (Ok (Some row))) on call))))
+        (row_more r.keeps held held' held'' r.header first done (progress_of r).read (progress_of r').read (ahead_of r.ahead) (ahead_of r'.ahead) r.ended row one is read (rw on at call))))
 
     pub end_read : r'.ended ≡ true → IsCall (progress_of r) (progress_of r') held' held'' (ahead_of r.ahead) (ahead_of r'.ahead) (Ok None) → (r.ended ≡ true → held'' ≡ held') →
         OfStream held held'' (λ text. text_taken r.keeps take text ≡ Ok (record { header = r.header; first = first; rows = done }))
     end_read ended call still =
-        all_read r.keeps held held' held'' r.header first done (progress_of r).read (progress_of r').read (ahead_of r.ahead) (ahead_of r'.ahead) r.ended read
-        (subst (λ (e : Bool). IsCall (progress_of r) (record { read = (progress_of r').read; ended = e }) held' held'' (ahead_of r.ahead) (ahead_of r'.ahead) (Ok None)) ended call) still
+        all_read r.keeps held held' held'' r.header first done (progress_of r).read (progress_of r').read (ahead_of r.ahead) (ahead_of r'.ahead) r.ended read (rw ended at call) still
 
     pub line_read_bad : r'.ended ≡ true → (line : ℕ) (fault : LineFault) → IsCall (progress_of r) (progress_of r') held' held'' (ahead_of r.ahead) (ahead_of r'.ahead) (Err (Line line fault)) →
         IsBadTaken r.keeps take held held'' line fault
     line_read_bad ended line fault call =
-        bad_read r.keeps held held' held'' r.header first done (progress_of r).read (progress_of r').read (ahead_of r.ahead) (ahead_of r'.ahead) r.ended line fault read
-        (subst (λ (e : Bool). IsCall (progress_of r) (record { read = (progress_of r').read; ended = e }) held' held'' (ahead_of r.ahead) (ahead_of r'.ahead) (Err (Line line fault))) ended call)
+        bad_read r.keeps held held' held'' r.header first done (progress_of r).read (progress_of r').read (ahead_of r.ahead) (ahead_of r'.ahead) r.ended line fault read (rw ended at call)

@@ -20,9 +20,6 @@ pub line_more : (text : List ℕ) (rows later : List TraceRow) (st next : State)
     took_in rows (read_line st line) ≡ Ok (next, later) → HasLines text later next (lines_of rest)
 line_more text rows later st next line rest lines so_far is took = search (rules, read_on, same_taken)
 
-fault_taken : (st : State) (line : TextLine) (e : LineError) → IfFault e (λ f. read_line st line ≡ Err f) → IfFault e (λ f. taken each (read_line st line) ≡ Err f)
-fault_taken st line e is = search (rules, same_taken)
-
 bad_read : (text : List ℕ) (e : ReadFault) → IfBadLine e (λ number code. text_taken true each text ≡ Err (number, code)) → IfBadLine e (λ number code. trace_of true text ≡ Err (number, code))
 bad_read text e is = search (rules, all_taken)
 
@@ -30,7 +27,7 @@ pub line_bad : (text : List ℕ) (rows : List TraceRow) (st : State) (line : Tex
     IfFault e (λ f. read_line st line ≡ Err f) → IfBadLine (at_line (next_number st) e) (λ number code. trace_of true text ≡ Err (number, code))
 line_bad text rows st line rest lines e so_far is bad =
     bad_read text (at_line (next_number st) e)
-    (stopped true each text rows st line (lines_of rest) e (so_far ∙ ap (λ ls. prepend rows (take_lines each st ls)) is) (fault_taken st line e bad))
+    (stopped true each text rows st line (lines_of rest) e (so_far ∙ ap (λ ls. prepend rows (take_lines each st ls)) is) (search (rules, same_taken)))
 
 pub all_read : (text rest : List ℕ) (rows : List TraceRow) (st : State) → HasLines text rows st (lines_of rest) → length rest ≡ 0 → trace_of true text ≡ whole (Ok (st, rows))
 all_read text rest rows st so_far none = sym (all_taken true text) ∙ ended true each text rest rows st so_far none

@@ -1,5 +1,4 @@
-use Rattle.trace_reader.proofs.Words.{◌||◌, ◌∙◌, ap, sym, segments_overlap, is_second}
-use Rattle.std.specs.List.{list_any}
+use Rattle.trace_reader.proofs.Words.{◌||◌, ◌∙◌, ap, sym, segments_overlap, is_second, list_any}
 use Rattle.trace_reader.proofs.RingsClash.{clashes}
 use Rattle.trace_reader.proofs.clashes.clashes_with_one.Goals as goal
 

@@ -1,5 +1,4 @@
-use Rattle.trace_reader.proofs.Words.{◌≡◌, ◌++◌, map, take, printed_line, ring_fields}
-use Rattle.std.specs.List.{flat_map}
+use Rattle.trace_reader.proofs.Words.{◌≡◌, ◌++◌, map, take, printed_line, ring_fields, flat_map}
 use Rattle.trace_reader.proofs.print.push_rings.Given as goal
 
 abbrev pub invariant-loop-ring : goal.invariant-loop-ring

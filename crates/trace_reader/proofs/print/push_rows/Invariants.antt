@@ -1,5 +1,4 @@
-use Rattle.trace_reader.proofs.Words.{◌≡◌, ◌++◌, map, take, printed_line, row_fields}
-use Rattle.std.specs.List.{flat_map}
+use Rattle.trace_reader.proofs.Words.{◌≡◌, ◌++◌, map, take, printed_line, row_fields, flat_map}
 use Rattle.trace_reader.proofs.print.push_rows.Given as goal
 
 abbrev pub invariant-loop-row : goal.invariant-loop-row

@@ -1,5 +1,4 @@
-use Rattle.trace_reader.proofs.Words.{◌≡◌, ◌||◌, ◌∙◌, false, ap, map, rules, segments_overlap}
-use Rattle.std.specs.List.{list_any}
+use Rattle.trace_reader.proofs.Words.{◌≡◌, ◌||◌, ◌∙◌, false, ap, map, rules, segments_overlap, list_any}
 use Rattle.segments.specs.ShapeValue.{segment_of}
 use Rattle.trace_reader.proofs.SegmentsSearched.{added}
 use Rattle.trace_reader.proofs.segments_so_far.SegmentsSoFar.add.Goals as goal
