@@ -1,5 +1,5 @@
 -- A descriptor for which there is room may be declared
-use Rattle.cycle_ring.proofs.Words.{common_steps, rules, ◌≡◌, ◌+◌, ◌-◌, ◌^◌, ◌<◌, ◌≤◌, ◌&&◌, if◌then◌else◌, ℕ, not, Bool, true, false, List, length, All, nat_le, nat_lt, Option, Some, None, arith, refl, list_any, or_parts, nat_tests, All-weaker, All-nil, All-cons, Block, BlockKind, Fault, BadDescriptor, RingKind, kind, is_link, is_transfer, is_command, is_left_out_command, fault_of, is_badly_formed, is_bad_descriptor, IsShape, RingView, declared, has_no_room, place_count_pos, Progress, has_room, IsAllowed, IsEnqueuedSo, MayBeDeclared}
+use Rattle.cycle_ring.proofs.Words.{common_steps, rules, ◌≡◌, ◌<◌, ◌≤◌, ◌&&◌, ℕ, not, Bool, true, false, List, length, All, nat_le, nat_lt, Some, None, arith, list_any, or_parts, All-weaker, All-nil, All-cons, Block, BlockKind, Fault, BadDescriptor, RingKind, kind, is_link, is_transfer, is_command, is_left_out_command, fault_of, is_badly_formed, is_bad_descriptor, IsShape, RingView, has_no_room, place_count_pos, Progress, has_room, IsAllowed, IsEnqueuedSo, MayBeDeclared}
 
 has_room_on_ring : (p : Progress) (v : RingView) (n : ℕ) → IsShape p.shape → p.retired ≤ p.enqueued → has_room p n ≡ true → IsEnqueuedSo p v → has_no_room p.shape v n ≡ false
 unfolding has_no_room

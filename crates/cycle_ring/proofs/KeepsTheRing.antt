@@ -1,5 +1,5 @@
 -- What a producer enqueues keeps the rules of its ring
-use Rattle.cycle_ring.proofs.Words.{zero, rules, common_steps, ◌≡◌, ◌+◌, ◌<◌, ◌≤◌, ◌==◌, ◌∷◌, ◌++◌, ◌∙◌, ℕ, suc, Bool, true, false, List, [], length, sum, nat_lt, All, Some, slice_get, arith, refl, sym, ap, subst, inl, length-append, eq-eqb, ne_eqb, ltb-true, lt-ltb, cond-true, cond-false, and_parts, and_from, or_left, All-head, All-tail, sum_by-cons, put, Block, block_at, word, Shape, IsShape, place_count, address_of, is_crossing, RingView, Declares, Writes, changed, declared, floor_number, gives_crossing, length_from, descriptor_length, RingKeeps, MayDeclare, declares_keeps, Progress, IsAllowed, low_writes, control_write, block_at_position, way_writes, later_writes, writes_of, played, IsEnqueuedSo, viewed, KeepsTheRing, KeepTheRing}
+use Rattle.cycle_ring.proofs.Words.{zero, rules, ◌≡◌, ◌+◌, ◌<◌, ◌≤◌, ◌==◌, ◌∷◌, ◌++◌, ◌∙◌, ℕ, suc, Bool, true, false, List, [], length, sum, nat_lt, All, Some, slice_get, arith, refl, sym, ap, subst, inl, length-append, eq-eqb, ne_eqb, ltb-true, lt-ltb, cond-true, cond-false, and_parts, and_from, or_left, All-head, All-tail, sum_by-cons, put, Block, block_at, word, Shape, IsShape, place_count, address_of, is_crossing, RingView, Declares, Writes, changed, declared, floor_number, gives_crossing, length_from, descriptor_length, RingKeeps, MayDeclare, declares_keeps, Progress, IsAllowed, low_writes, control_write, block_at_position, way_writes, later_writes, writes_of, played, IsEnqueuedSo, viewed, KeepsTheRing, KeepTheRing}
 use Rattle.cycle_ring.proofs.DescriptorStands.{blocks_stand}
 use Rattle.cycle_ring.proofs.Declared.{may_be_declared}
 use Rattle.cycle_ring.proofs.LinkBlocks.{cycle_written}

@@ -1,5 +1,5 @@
 -- The Link that a producer writes leads on, and a block stands once its four words are written
-use Rattle.cycle_ring.proofs.Words.{rules, ◌≡◌, ◌+◌, ◌-◌, ◌*◌, ◌/◌, ◌%◌, ◌^◌, ◌<◌, ◌==◌, ◌||◌, ◌∷◌, ◌∙◌, ℕ, suc, zero, Bool, true, false, not, [], Some, unwrap_or, arith, refl, sym, ap, eq-eqb, put, Block, is_set, aligned, block_at, word, with_cycle, kind, pointer, is_link, cycle-with_cycle, Shape, IsShape, cycle_of, link_crossed, link_address, link_target, toggles, same, is_wrong_link, link_of, leads_wrong, interrupts, address_aligned, cycle_of_bit, link_target-crossed, put_here, put_elsewhere, link_control, link_block}
+use Rattle.cycle_ring.proofs.Words.{rules, ◌≡◌, ◌+◌, ◌-◌, ◌*◌, ◌/◌, ◌%◌, ◌^◌, ◌<◌, ◌∷◌, ◌∙◌, ℕ, suc, zero, Bool, true, false, not, [], Some, unwrap_or, arith, refl, sym, ap, eq-eqb, put, Block, is_set, aligned, block_at, word, with_cycle, kind, pointer, is_link, cycle-with_cycle, Shape, IsShape, cycle_of, link_crossed, link_address, link_target, toggles, same, is_wrong_link, link_of, leads_wrong, interrupts, address_aligned, cycle_of_bit, link_target-crossed, put_here, put_elsewhere, link_control, link_block}
 use Rattle.cycle_ring.proofs.PlayedLemmas.{block_at-words}
 
 -- the fields of a Link's control word

@@ -1,5 +1,5 @@
 -- How far the writes of a descriptor are, and what each further one gives
-use Rattle.cycle_ring.proofs.Words.{rules, IsRestored, ◌≡◌, ◌+◌, ◌-◌, ◌*◌, ◌%◌, ◌<◌, ◌≤◌, ◌⊎◌, ◌||◌, ◌∙◌, ℕ, true, false, List, Some, slice_get, arith, refl, sym, ap, inl, inr, subst, cases_lt, cases_order, or_cases, or_left, or_right, false_from_ne_true, not_from_true, Block, block_at, with_cycle, same_words, word, put, Shape, IsShape, place_count, address_of, cycle_of, is_crossing, link_address, overlap, RingView, Writes, changed, declared, floor_number, is_due, is_crossing_due, gives, gives_crossing, descriptor_length, is_other_than_declared, is_declared_as, is_not_declared, is_not_whole, leads_wrong, interrupts, address_aligned, same_position_near, crossing_positive, same_crossing_at, data_not_link, Gives, GivesCrossing, due_is, due_from, crossing_due_from, gives_is, gives_crossing_is, gives_from, gives_crossing_from, whole_from, step_from}
+use Rattle.cycle_ring.proofs.Words.{rules, IsRestored, ◌≡◌, ◌+◌, ◌-◌, ◌*◌, ◌%◌, ◌<◌, ◌≤◌, ◌⊎◌, ◌||◌, ℕ, true, false, List, Some, slice_get, arith, refl, sym, inl, inr, subst, cases_lt, cases_order, or_cases, or_left, or_right, false_from_ne_true, not_from_true, Block, block_at, with_cycle, same_words, put, Shape, IsShape, place_count, address_of, cycle_of, is_crossing, link_address, overlap, RingView, Writes, changed, declared, floor_number, is_due, is_crossing_due, gives, gives_crossing, descriptor_length, is_other_than_declared, is_declared_as, is_not_declared, is_not_whole, leads_wrong, interrupts, address_aligned, same_position_near, crossing_positive, same_crossing_at, data_not_link, Gives, GivesCrossing, due_is, due_from, crossing_due_from, gives_is, gives_crossing_is, gives_from, gives_crossing_from, whole_from, step_from}
 use Rattle.cycle_ring.proofs.MayWriteLemmas.{MayGive, MayPut, may_write_from, link_address_aligned, block_word_no_block, block_word_no_link, link_word_no_block, link_word_no_link}
 
 -- a descriptor of count blocks is declared last, from position first on; given are all before it, its own blocks behind the first

@@ -1,5 +1,5 @@
 -- Which words a descriptor's writes write: those of its blocks and of the Links before them, and each of these
-use Rattle.cycle_ring.proofs.Words.{rules, ◌≡◌, ◌+◌, ◌-◌, ◌*◌, ◌<◌, ◌∷◌, ◌++◌, ◌⊎◌, ℕ, zero, suc, Bool, true, false, List, [], arith, refl, subst, inl, inr, Some, nat_lt, Contains, slice_get, nat_tests, Contains-append_left, Contains-append_right, Contains-append_cases, Block, word, Shape, address_of, cycle_of, link_crossed, link_address, cases_option, link_block, low_writes, control_write, block_writes, block_at_position, way_writes, later_writes, writes_of}
+use Rattle.cycle_ring.proofs.Words.{rules, ◌≡◌, ◌+◌, ◌-◌, ◌*◌, ◌<◌, ◌∷◌, ◌++◌, ◌⊎◌, ℕ, zero, suc, Bool, true, false, List, [], arith, refl, inl, inr, Some, nat_lt, Contains, slice_get, nat_tests, Contains-append_left, Contains-append_right, Contains-append_cases, Block, word, Shape, address_of, cycle_of, link_crossed, link_address, cases_option, link_block, low_writes, control_write, block_writes, block_at_position, way_writes, later_writes, writes_of}
 use Rattle.cycle_ring.proofs.PlayedLemmas.{same_address, same_word}
 
 -- v is word w of block b at a, and x is its address
