@@ -40,9 +40,7 @@ module _ (h : Header) where
         ((r : ℕ) → o ≡ Some r → target (shape_of h r) (l.ring r) p cycle ≡ target (shape_of h r) (k.ring r) p cycle) → Alike P (moved h k o p cycle) (moved h l o p cycle)
     unfolding moved
     moved_alike k l a None p cycle same = a
-    moved_alike k l a (Some r) p cycle same =
-        subst (λ o. Alike P (moved_to h k r (target (shape_of h r) (k.ring r) p cycle)) (moved_to h l r o)) (sym (same r refl))
-        (target_alike k l a r (target (shape_of h r) (k.ring r) p cycle))
+    moved_alike k l a (Some r) p cycle same = search (rules, moved_to, target, shape_of, k.ring, target_alike)
 
     bound_alike : (k l : Known) → Alike P k l → (s i : ℕ) (o : Option ℕ) (p : ℕ) (cycle : Bool) →
         ((r : ℕ) → o ≡ Some r → target (shape_of h r) (l.ring r) p cycle ≡ target (shape_of h r) (k.ring r) p cycle) → Alike P (bound_to h k s i o p cycle) (bound_to h l s i o p cycle)
@@ -64,8 +62,7 @@ module _ (h : Header) where
     ceiling_alike : (k l : Known) → Alike P k l → (o : Option ℕ) → Alike P (held_at_ceiling h k o) (held_at_ceiling h l o)
     unfolding held_at_ceiling
     ceiling_alike k l a None = a
-    ceiling_alike k l a (Some r) =
-        held_alike h P k l a r (ceiling (shape_of h r) (k.ring r)) (ceiling (shape_of h r) (l.ring r)) (ceiling_more (shape_of h r) (k.ring r) (l.ring r) (a.rings r))
+    ceiling_alike k l a (Some r) = search (rules, held_alike, ceiling, shape_of, k.ring, l.ring, ceiling_more, a.rings)
 
     pub change_alike : (c : Command) (k l : Known) → Alike P k l → (change : Change) → TargetIs k l change → Alike P (changed_by h c k change) (changed_by h c l change)
     unfolding changed_by disabled in_state

@@ -21,9 +21,7 @@ module _ (h : Header) (P : ℕ → Type 0) (k l : Known) (a : Alike P k l) where
   pub taken_alike : may_be_taken h k ≡ true → may_be_taken h l ≡ true
   unfolding may_be_taken
   taken_alike may =
-      let r : ℕ = command_id h in
-      lt-ltb (next_command h l) (ceiling (shape_of h r) (l.ring r))
-      (omega (arith, next_alike, ltb-true (next_command h k) (ceiling (shape_of h r) (k.ring r)) may, ceiling_more (shape_of h r) (k.ring r) (l.ring r) (a.rings r)))
+      search (rules, command_id, lt-ltb, next_command, ceiling, shape_of, l.ring, next_alike, ltb-true, k.ring, ceiling_more, a.rings)
 
   seen_alike : (c : Command) → was_stop_seen l c ≡ was_stop_seen k c
   unfolding was_stop_seen

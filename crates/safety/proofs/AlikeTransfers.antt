@@ -34,28 +34,19 @@ module _ (h : Header) (P : ℕ → Type 0) (k l : Known) (a : Alike P k l) where
 
   broken_alike : (s i r : ℕ) (t : Spot) (state : EndpointState) → Alike P (broken_off h k s i r t state) (broken_off h l s i r t state)
   unfolding broken_off passed on_ring
-  broken_alike s i r t state =
-      state_put P (on_ring h (passed h k r t) r (Holds (number t + 1))) (on_ring h (passed h l r t) r (Holds (number t + 1))) s i state
-      (held_alike h P (passed h k r t) (passed h l r t) (passed_alike r t) r (number t + 1) (number t + 1) (omega arith))
+  broken_alike s i r t state = search (rules, state_put, on_ring, passed, number, held_alike, passed_alike)
 
   stopped_alike : (s i r : ℕ) (t : Spot) → Alike P (stopped_at h k s i r t) (stopped_at h l s i r t)
   unfolding stopped_at on_ring
   stopped_alike s i r t =
-      let m : ℕ = stopped_number (shape_of h r) (k.ring r) t in
-      let n : ℕ = stopped_number (shape_of h r) (l.ring r) t in
-      let x : Known = on_ring h k r (Holds m) in
-      let y : Known = on_ring h l r (Holds n) in
-      let held : Alike P x y = held_alike h P k l a r m n (stopped_more (shape_of h r) (k.ring r) (l.ring r) (a.rings r) t) in
-      seen_put P (on_ring h x r (Reaches t)) (on_ring h y r (Reaches t)) s i true (reached_alike h P x y held r t)
+      search (rules, stopped_number, shape_of, k.ring, l.ring, on_ring, held_alike, stopped_more, a.rings, seen_put, true, reached_alike)
 
   -- ---- what is possible
 
   working_alike : (s i r : ℕ) → is_working k s i r ≡ true → is_working l s i r ≡ true
   unfolding is_working
   working_alike s i r works =
-      let parts = and_parts (is_running (k.endpoint_state s i)) (is_open (k.ring r)) works in
-      and_from (is_running (l.endpoint_state s i)) (is_open (l.ring r)) (ap (λ f. is_running (f s i)) a.endpoint_state ∙ parts.0)
-      (open_alike (shape_of h r) (k.ring r) (l.ring r) (a.rings r) parts.1)
+      search (rules, and_parts, is_running, k.endpoint_state, is_open, k.ring, and_from, l.endpoint_state, l.ring, open_alike, shape_of, a.rings)
 
   module _ (stopping : (s i : ℕ) → is_stopping_now h k s i ≡ true → is_stopping_now h l s i ≡ true) where
     report_alike : (c s i r : ℕ) (t : Spot) → can_report h k c s i r t ≡ true → can_report h l c s i r t ≡ true
@@ -82,9 +73,7 @@ module _ (h : Header) (P : ℕ → Type 0) (k l : Known) (a : Alike P k l) where
 
       event_alike : (b : Block) (at : RingSpot) → event_at h k b ≡ Some at → event_at h l b ≡ Some at
       unfolding event_at
-      event_alike b at e =
-          ap (λ f. spot_on h l (pointer b) (f (slot b) (endpoint b))) a.ring_of
-          ∙ spot_alike (slot b) (endpoint b) (pointer b) (k.ring_of (slot b) (endpoint b)) refl at e
+      event_alike b at e = search (rules, spot_on, pointer, slot, endpoint, spot_alike, k.ring_of)
 
       pub transfer_alike : (b : Block) → is_impossible_transfer h k b ≡ false → is_in_profile b ≡ true →
           (is_impossible_transfer h l b ≡ false) × Alike P (transfer_read h k b) (transfer_read h l b)

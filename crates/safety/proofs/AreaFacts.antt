@@ -21,8 +21,7 @@ not_in_other a m b n x none low high = search (rules, false_from_ne_true, and_pa
 
 -- a word that has no byte of a range
 pub word_elsewhere : (a b n x : ℕ) → overlap a 4 b n ≡ false → b ≤ x → x < b + n → x ≢ a
-word_elsewhere a b n x none low high same =
-    elim (not_overlap a 4 b n none) [ inl above ↦ absurd (omega arith) | inr below ↦ absurd (omega arith) ]
+word_elsewhere a b n x none low high same = search (rules, not_overlap)
 
 none_flat : {X Y : Type 0} (p : Y → Bool) (f : X → List Y) (xs : List X) → ((x : X) → list_any p (f x) ≡ false) → list_any p (flat_map f xs) ≡ false
 none_flat p f [] each = refl
@@ -46,16 +45,11 @@ module _ (h : Header) where
 
   pub area_parts : (k : Known) (from len : ℕ) → is_bad_area h k from len ≡ false → AreaParts k from len
   unfolding is_bad_area
-  area_parts k from len good =
-      let two = or_parts (nat_lt (2 ^ 64) (from + len) || touches_ring h from len) (list_any (covers h from len) (device_ranges h k)) good in
-      let one = or_parts (nat_lt (2 ^ 64) (from + len)) (touches_ring h from len) two.0 in
-      record { ends = one.0; rings = one.1; devices = two.1 }
+  area_parts k from len good = search (rules, or_parts, nat_lt, touches_ring, list_any, covers, device_ranges)
 
   pub area_from : (k : Known) (from len : ℕ) → AreaParts k from len → is_bad_area h k from len ≡ false
   unfolding is_bad_area
-  area_from k from len p =
-      or_from (nat_lt (2 ^ 64) (from + len) || touches_ring h from len) (list_any (covers h from len) (device_ranges h k))
-      (or_from (nat_lt (2 ^ 64) (from + len)) (touches_ring h from len) p.ends p.rings) p.devices
+  area_from k from len p = search (rules, or_from, nat_lt, touches_ring, list_any, covers, device_ranges, p.ends)
 
   covers_range : (from len n a : ℕ) (u : Use) → covers h from len (Range n a u) ≡ overlap from len a n
   unfolding covers lease_start lease_bytes
@@ -99,6 +93,4 @@ module _ (h : Header) where
   pub not_in_device : (k : Known) (a : ℕ) → is_the_controllers h k a ≡ false → (s d : ℕ) → 0 < s → s < 256 → k.device s ≡ Some d → overlap a 4 d (device_context_bytes h.context_size) ≡ false
   unfolding is_the_controllers
   not_in_device k a none s d low high at =
-      sym (covers_range a 4 (device_context_bytes h.context_size) d (DeviceContext s))
-      ∙ fails_in (covers h a 4) (segment_ranges h ++ device_ranges h k) _ none
-      (in_right (Range (device_context_bytes h.context_size) d (DeviceContext s)) (segment_ranges h) (device_ranges h k) (device_listed h k s d low high at))
+      search (rules, covers_range, device_context_bytes, fails_in, covers, segment_ranges, device_ranges, in_right, device_listed)

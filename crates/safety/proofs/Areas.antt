@@ -31,8 +31,7 @@ bad_context_parts h k n none = search (rules, or_parts)
 
 pub bad_command_context : (h : Header) (k : Known) (c : Command) → is_bad_command h k c ≡ false → has_bad_context h k (named_context c) ≡ false
 unfolding is_bad_command
-bad_command_context h k c none =
-    (or_parts _ _ (or_parts _ _ none).0).1
+bad_command_context h k c none = search (rules, or_parts)
 
 pub context_lies : (h : Header) (k : Known) (d : DriverKeeps h k) (p n : ℕ) (c : Command) → IsUnfinished h k p c → named_context c ≡ Some n → ContextLies h k n
 context_lies h k d p n c u is =

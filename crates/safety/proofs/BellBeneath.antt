@@ -14,12 +14,7 @@ module _ (h : Header) (r : ℕ) (S : ℕ → ℕ → Bool) where
   pub read_woken : (k l : Known) (e : Block) → SameDriver k l → lenient h k (Read e) ≡ [] →
       (is_impossible_by_kind h l (kind e) e ≡ false) × Woken h r S (event_read h k (kind e) e) (event_read h l (kind e) e) → ReadWoken h r S k l e
   unfolding learned
-  read_woken k l b d clean here =
-      let y = here.1 in
-      record {
-        possible = event_still h k l b d.started d.stopped d.reads (omega (arith, d.dequeue)) clean here.0;
-        after = search (rules, y);
-      }
+  read_woken k l b d clean here = search (rules, here.1, event_still, d.started, d.stopped, d.reads)
 
 module _ (h : Header) where
   -- no endpoint
@@ -41,9 +36,7 @@ module _ (h : Header) where
     -- no command was taken yet
     none_taken : may_be_taken h k ≡ true → ⊥
     unfolding may_be_taken
-    none_taken may =
-        let below = ltb-true (next_command h k) (ceiling (shape_of h (command_id h)) (k.ring (command_id h))) may in
-        omega (arith, below, ceiling_held (shape_of h (command_id h)) (k.ring (command_id h)) 0 first)
+    none_taken may = search (rules, ltb-true, next_command, ceiling, shape_of, command_id, k.ring, ceiling_held)
 
     none_stops : (s i : ℕ) → is_stopping_now h k s i ≡ true → is_stopping_now h (command_rung k) s i ≡ true
     unfolding is_stopping_now

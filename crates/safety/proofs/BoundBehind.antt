@@ -28,9 +28,7 @@ module _ (h : Header) where
   module _ (k : Known) (r : ℕ) (t : Spot) where
     stopped_opens : (s i : ℕ) → OpensNone k (stopped_at h k s i r t)
     unfolding stopped_at
-    stopped_opens s i =
-        let l : Known = on_ring h k r (Holds (stopped_number (shape_of h r) (k.ring r) t)) in
-        both_open k l (on_ring h l r (Reaches t)) (hold_opens k r (stopped_number (shape_of h r) (k.ring r) t)) (reach_opens l r t)
+    stopped_opens s i = search (rules, on_ring, stopped_number, shape_of, k.ring, both_open, hold_opens, reach_opens)
 
   at_opens : (k : Known) (b : Block) (o : Option RingSpot) → OpensNone k (transferred_at h k b o)
   unfolding transferred_at transferred broken_off passed
@@ -56,9 +54,7 @@ module _ (h : Header) where
 
   pointed_opens : (k : Known) (s i p : ℕ) (cycle : Bool) → OpensNone k (pointed h k s i p cycle)
   unfolding pointed
-  pointed_opens k s i p cycle =
-      cond_both (is_off (k.endpoint_state s i)) (bound_to h k s i (ring_having h p) p cycle) (moved h k (k.ring_of s i) p cycle) (OpensNone k)
-      (λ off. bound_opens k s i (ring_having h p) p cycle) (λ on. moved_opens k (k.ring_of s i) p cycle)
+  pointed_opens k s i p cycle = search (rules, is_off, k.endpoint_state, bound_to, ring_having, moved, k.ring_of, bound_opens, moved_opens)
 
   held_opens : (k : Known) (o : Option ℕ) → OpensNone k (held_at_ceiling h k o)
   unfolding held_at_ceiling

@@ -39,19 +39,15 @@ module _ (h : Header) where
   bound_left k s i None p cycle = none_left k
   bound_left k s i (Some r) p cycle = moved_left k (Some r) p cycle
 
-  pointed_left : (k : Known) (s i p : ℕ) (cycle : Bool) → DevicesLeft k (pointed h k s i p cycle)
-  unfolding pointed
-  pointed_left k s i p cycle = search (rules, cond_both, is_off, bound_to, ring_having, moved, bound_left, moved_left)
-
   held_left : (k : Known) (o : Option ℕ) → DevicesLeft k (held_at_ceiling h k o)
   unfolding held_at_ceiling on_ring
   held_left k None = none_left k
   held_left k (Some r) = λ s x at. at
 
   change_left : (c : Command) (k : Known) (change : Change) → DevicesLeft k (changed_by h c k change)
-  unfolding changed_by disabled in_state
+  unfolding changed_by disabled in_state pointed
   change_left c k (DeviceLeft s) = λ t x at. fewer (t == s) (k.device t) x at
-  change_left c k (Places s i p cycle state) = pointed_left k s i p cycle
+  change_left c k (Places s i p cycle state) = search (rules, cond_both, is_off, bound_to, ring_having, moved, bound_left, moved_left)
   change_left c k (Stops s i) = held_left (in_state h k s i Stopped) (k.ring_of s i)
   change_left c k _ = none_left k
 

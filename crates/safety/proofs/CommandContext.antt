@@ -1,4 +1,5 @@
 -- Behind an event that is read before it, a command that a write gives has the same input context, and may move the same rings
+use Rattle.std.proofs.Common.{rules}
 use Rattle.safety.proofs.Words.{[], ◌≡◌, ◌∙◌, ℕ, false, Bool, Option, Some, None, refl, ap, subst, MayCome, or_parts, or_from, Block, Command, SetTrDequeue, input_context_bytes, Header, Write, Read, IsHeader, Known, command_given, learned, is_bad_area, is_soiled, covers, device_ranges, is_bad_dequeue, is_bad_move, lenient, DriverKeeps, MovesIf, has_bad_context}
 use Rattle.safety.proofs.AreaFacts.{AreaParts, area_parts, area_from, clean_same}
 use Rattle.safety.proofs.MiddleLaws.{context_parts, context_from, Behind, devices_fewer, none_fewer, event_behind}
@@ -36,9 +37,7 @@ module _ (h : Header) (is : IsHeader h) (k : Known) (d : DriverKeeps h k) (e : B
 
     set_by : (s i p : ℕ) (cycle : Bool) → is_bad_move h x (SetTrDequeue s i p cycle) ≡ false → is_bad_move h l (SetTrDequeue s i p cycle) ≡ false
     unfolding is_bad_move
-    set_by s i p cycle good =
-        let parts = or_parts _ (is_bad_dequeue h x (l.ring_of s i) p cycle) good in
-        or_from _ (is_bad_dequeue h l (l.ring_of s i) p cycle) parts.0 (dequeue_same (l.ring_of s i) p cycle ∙ parts.1)
+    set_by s i p cycle good = search (rules, or_parts, is_bad_dequeue, or_from, dequeue_same)
 
     -- a Set TR Dequeue may move the ring as before
     pub set_behind : (s i p : ℕ) (cycle : Bool) → c ≡ SetTrDequeue s i p cycle → is_bad_move h l c ≡ false

@@ -25,17 +25,11 @@ module _ (h : Header) where
 
     binding : (i : ℕ) → i < 32 → binding_in h l n i ≡ binding_in h k n i
     unfolding binding_in
-    binding i low =
-        let p = pointer_same h.context_size k.memory l.memory n same i low in
-        let c = cycle_same h.context_size k.memory l.memory n same i low in
-        cc
+    binding i low = search (rules, pointer_same, h.context_size, k.memory, l.memory, cycle_same)
 
     bad_added : (s i : ℕ) → i < 32 → is_off (l.endpoint_state s i) ≡ is_off (k.endpoint_state s i) → is_bad_added h l s n i ≡ is_bad_added h k s n i
     unfolding is_bad_added type_in
-    bad_added s i low off =
-        let t = type_same h.context_size k.memory l.memory n same i low in
-        let d = drop_flag_same h.context_size k.memory l.memory n same i in
-        cc
+    bad_added s i low off = search (rules, type_same, h.context_size, k.memory, l.memory, drop_flag_same)
 
   -- ---- the rules
 

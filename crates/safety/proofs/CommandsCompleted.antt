@@ -1,4 +1,5 @@
 -- A completion keeps what is kept of the commands that stay unfinished
+use Rattle.std.proofs.Common.{rules}
 use Rattle.safety.proofs.Words.{◌≡◌, ◌≢◌, ◌==◌, if◌then◌else◌, ◌∙◌, ℕ, not, true, false, nat_lt, Option, None, Some, is_some, arith, refl, sym, ap, subst, inl, inr, ltb-true, cases_Bool, cond-true, cond-false, or_parts, and_parts, not-false, false≢true, Block, code, slot, Spot, after, Reaches, ceiling, Command, NoOp, EnableSlot, DisableSlot, AddressDevice, ConfigureEndpoint, EvaluateContext, ResetEndpoint, StopEndpoint, SetTrDequeue, ResetDevice, exclude, SlotState, Disabled, named_slot, may_answer_slot, is_disabled, can_succeed, slot_success, Header, Config, IsHeader, shape_of, command_id, register_or_zero, Known, command_at, next_command, on_ring, succeeded, stop_ended, finished, completed, may_be_taken, can_finish, was_stop_seen, is_impossible_completion, IsDriverRing, IsUnfinished, DriverKeeps, CommandsKeep, names_disabled_slot}
 use Rattle.safety.proofs.LowerLaws.{ring_shape, ceiling_given, AtFloor, at_floor, command_is_ring, completion_same, IsPart, OtherSlots, same_others, both_others, on_others, Concerns, not_both, own_keeps, pair_keeps, commands_stay}
 use Rattle.safety.proofs.TakenDevices.{slot_above, slot_named}
@@ -16,8 +17,7 @@ enabled_slot k n can = enabled_before (k.slot_state n) (and_parts (is_some (slot
 
 stop_others : (h : Header) (k x : Known) (s : ℕ) (part : Option ℕ) (B : ℕ → Type 0) (e : Command) → OtherSlots k x s part B → OtherSlots k (stop_ended h x e) s part B
 unfolding stop_ended
-stop_others h k x s part B (StopEndpoint t i) o =
-    record { device = o.device; fewer = o.fewer; slot_state = o.slot_state; states = o.states; ring_of = o.ring_of; within = o.within; was_bound = o.was_bound; rings = o.rings }
+stop_others h k x s part B (StopEndpoint t i) o = search rules
 stop_others h k x s part B _ o = o
 
 module _ (h : Header) (is : IsHeader h) (k : Known) (d : DriverKeeps h k) (b : Block) (e : Command) (here : command_at h k (next_command h k) ≡ Some e) (ends : IsUnfinished h k (next_command h k) e)

@@ -1,4 +1,5 @@
 -- A completion keeps what is kept of the commands that stay unfinished
+use Rattle.std.proofs.Common.{rules}
 use Rattle.safety.proofs.Words.{◌≡◌, ◌≢◌, ◌∙◌, ℕ, true, false, Some, option_and_then, slice_get, arith, refl, sym, ap, subst, Bool, Option, None, false≢true, Block, Spot, after, RingView, Reaches, changed, is_due, due_is, due_from, number-after, Command, command_of, named_slot, is_disabled, is_off, is_at_rest, Header, IsHeader, shape_of, command_id, Known, command_at, next_command, finished, completed, input_context_bytes, binds_ring, IsDriverRing, IsUnfinished, CommandKeeps, DriverKeeps, AddressDevice, has_bad_context}
 use Rattle.safety.specs.EndpointsKeep as endpoints
 use Rattle.safety.proofs.LowerLaws.{command_not_transfer, bound_transfer, drops_concerns, transfer_not_command, ring_here, endpoints_of, next_is, SameDriver, clean_same, area_parts, area_from, device_apart, devices_apart, IsPart, OtherSlots, Beside, Concerns, some_concerned, not_both, Standing, PlacesStay, MovesAhead, RingsBeside, still_restored, context_good}
@@ -92,9 +93,7 @@ module _ (h : Header) (is : IsHeader h) (k : Known) (d : DriverKeeps h k) (b : B
 
   command_view : l.ring (command_id h) ≡ changed (shape_of h (command_id h)) (k.ring (command_id h)) (Reaches beyond)
   unfolding completed
-  command_view =
-      ring_here h m (command_id h) (Reaches beyond)
-      ∙ ap (λ v. changed (shape_of h (command_id h)) v (Reaches beyond)) (finish_elsewhere h is k b (command_at h k (next_command h k)) (endpoints_of h k d.states))
+  command_view = search (rules, ring_here, command_id, changed, shape_of, finish_elsewhere, command_at, next_command, endpoints_of)
 
   -- what is unfinished was before, and isn't the command that ended
   pub unfinished_before : IsDriverRing h (command_id h) → (p : ℕ) (c : Command) → IsUnfinished h l p c → IsUnfinished h k p c × (p ≢ next_command h k)

@@ -75,9 +75,7 @@ module _ (h : Header) (is : IsHeader h) (k : Known) (d : DriverKeeps h k) where
 
     state_elsewhere : (q i : ℕ) → (q ≡ s → i ≡ t → ⊥) → l.endpoint_state q i ≡ k.endpoint_state q i
     unfolding l endpoint_rung on_ring
-    state_elsewhere q i other =
-        cond_both (is_stopped (k.endpoint_state s t)) (put_pair k.endpoint_state s t Running) k.endpoint_state (λ f. f q i ≡ k.endpoint_state q i)
-        (λ stopped. at_pair (λ e. e ≡ k.endpoint_state q i) k.endpoint_state s t Running q i (λ a b. absurd (other a b)) (λ apart. refl)) (λ on. refl)
+    state_elsewhere q i other = search (rules, is_stopped, k.endpoint_state, put_pair, at_pair)
 
     given_same : (q : ℕ) → SameGiven (k.ring q) (l.ring q)
     unfolding opened

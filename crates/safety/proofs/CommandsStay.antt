@@ -16,8 +16,7 @@ PlacesStay shape v w = (p : ℕ) (cycle : Bool) → is_placement shape v p cycle
 
 -- where nothing more is free, and the endpoint has the ring that it had
 pub still_restored : (k l : Known) (c : Command) → ((s i : ℕ) → Concerns c s i → l.ring_of s i ≡ k.ring_of s i) → ((r : ℕ) → (l.ring r).free ≡ (k.ring r).free) → MovesRestored k c → MovesRestored l c
-still_restored k l c ring_of free restored s i p cycle at r has q =
-    ap (λ f. f q) (free r) ∙ restored s i p cycle at r (sym (ring_of s i (subst (λ x. Concerns x s i) (sym at) (refl, (refl, refl)))) ∙ has) q
+still_restored k l c ring_of free restored s i p cycle at r has q = search rules
 
 -- a spot to which the ring may be moved is one still
 abbrev pub MovesAhead : Shape → RingView → RingView → Type 0
@@ -40,8 +39,7 @@ module _ (h : Header) where
     pub unshared : (r : ℕ) → binds_ring h k r c ≡ true → binds_ring h k r d ≡ false
 
   pub own_keeps : (k : Known) (p : ℕ) (c : Command) → CommandKeeps h k p c → OwnKeeps k c
-  own_keeps k p c keeps =
-      record { good = keeps.good; in_profile = keeps.in_profile; placed = keeps.binds; repeats = keeps.repeats; unkept = keeps.unkept; moves_on = keeps.moves_on; stays = keeps.stays }
+  own_keeps k p c keeps = search rules
 
   pub pair_keeps : (k : Known) (p q : ℕ) (c d : Command) → CommandKeeps h k p c → IsUnfinished h k q d → q ≢ p → PairKeeps k c d
   pair_keeps k p q c d keeps u other = record { alone = keeps.alone q d u other; unshared = λ r bound. keeps.unshared r q d bound u other }
@@ -76,9 +74,7 @@ module _ (h : Header) where
         is_bad_dequeue h k o p cycle ≡ false → is_bad_dequeue h l o p cycle ≡ false
     unfolding is_bad_dequeue
     dequeue_beside None p cycle ahead good = good
-    dequeue_beside (Some r) p cycle ahead good =
-        not_from_true (is_move (shape_of h r) (l.ring r) p cycle (ceiling (shape_of h r) (l.ring r)) (declared (l.ring r)))
-        (ahead r refl p cycle (not-false (is_move (shape_of h r) (k.ring r) p cycle (ceiling (shape_of h r) (k.ring r)) (declared (k.ring r))) good))
+    dequeue_beside (Some r) p cycle ahead good = search (rules, not_from_true, is_move, shape_of, l.ring, ceiling, declared, not-false, k.ring)
 
     set_beside : (s i p : ℕ) (cycle : Bool) → RingsBeside k l (SetTrDequeue s i p cycle) → is_bad_move h k (SetTrDequeue s i p cycle) ≡ false → is_bad_move h l (SetTrDequeue s i p cycle) ≡ false
     unfolding is_bad_move
@@ -100,7 +96,6 @@ module _ (h : Header) where
     stays_beside (AddressDevice s bsr n) m b stays =
         λ r at.
         let before : k.ring_of s 1 ≡ Some r = sym (b.ring_of s 1 (refl, tt)) ∙ at in
-        let old : Stays h k r n = stays r before in
         let stands : Standing (shape_of h r) (k.ring r) (l.ring r) = b.standing s n r bsr refl before in
         let same = m.memory n refl in
         record {
@@ -109,8 +104,8 @@ module _ (h : Header) where
               (pointer_same h.context_size k.memory l.memory n same 1 (omega arith))
               ∙ ap (λ x. is_move (shape_of h r) (l.ring r) (context_pointer h.context_size k.memory n 1) x (floor_number (l.ring r)) (floor_number (l.ring r)))
               (cycle_same h.context_size k.memory l.memory n same 1 (omega arith))
-              ∙ stands.here (context_pointer h.context_size k.memory n 1) (context_cycle h.context_size k.memory n 1) old.here;
-          nothing = stands.nothing old.nothing;
+              ∙ stands.here (context_pointer h.context_size k.memory n 1) (context_cycle h.context_size k.memory n 1) (stays r before).here;
+          nothing = stands.nothing (stays r before).nothing;
         }
     stays_beside _ m b stays = tt
 

@@ -13,10 +13,9 @@ module _ (h : Header) (is : IsHeader h) (first : Known) where
   set_keeps k keeps r t may shown =
       on_ring_twice_keeps h first k r (Reaches t) (Holds (number t)) keeps (λ driver.
       let allowed = shape_allowed h is r driver in
-      let kept = keeps r driver in
       record {
-        rules = reaches_and_holds_keeps (shape_of h r) allowed k.memory (k.ring r) kept.rules t (may driver) (number t) (omega arith)
-            (reached_given (shape_of h r) allowed k.memory (k.ring r) kept.rules t (may driver)) shown;
+        rules = reaches_and_holds_keeps (shape_of h r) allowed k.memory (k.ring r) (keeps r driver).rules t (may driver) (number t) (omega arith)
+            (reached_given (shape_of h r) allowed k.memory (k.ring r) (keeps r driver).rules t (may driver)) shown;
         passes = passes_at (shape_of h r) (k.ring r) (changed (shape_of h r) (changed (shape_of h r) (k.ring r) (Reaches t)) (Holds (number t))) (number t) refl refl shown;
       })
 

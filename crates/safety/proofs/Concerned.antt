@@ -1,4 +1,5 @@
 -- The endpoints that a command concerns: two commands that don't exclude each other concern none both
+use Rattle.std.proofs.Common.{rules}
 use Rattle.safety.proofs.Words.{◌≡◌, ◌==◌, ◌&&◌, ◌∙◌, ℕ, not, Bool, true, false, Option, None, Some, refl, sym, ap, eq-eqb, eqb-true, and_from, not_from_true, false_from_ne_true, false≢true, same_Some, Command, ResetEndpoint, StopEndpoint, SetTrDequeue, named_slot, named_endpoint, same_slot, other_endpoint, exclude}
 
 abbrev pub IsEndpoint : Option (ℕ × ℕ) → ℕ → ℕ → Type 0
@@ -19,24 +20,16 @@ some_concerned _ s named = (0, (named, tt))
 one_endpoint : (a b : Option (ℕ × ℕ)) (s i : ℕ) → IsEndpoint a s i → IsEndpoint b s i → other_endpoint a b ≡ false
 one_endpoint None b s i here there = refl
 one_endpoint (Some e) None s i here there = refl
-one_endpoint (Some e) (Some f) s i here there =
-    not_from_true (e.0 == f.0 && e.1 == f.1) (and_from (e.0 == f.0) (e.1 == f.1) (eq-eqb e.0 f.0 (here.0 ∙ sym there.0)) (eq-eqb e.1 f.1 (here.1 ∙ sym there.1)))
+one_endpoint (Some e) (Some f) s i here there = search (rules, not_from_true, and_from, eq-eqb, e.0, f.0, e.1, f.1)
 
 pub not_both : (c d : Command) (s i : ℕ) → exclude c d ≡ false → Concerns c s i → Concerns d s i → ⊥
 not_both c d s i apart here there =
-    false≢true (sym apart
-    ∙ and_from (same_slot (named_slot c) (named_slot d)) (not (other_endpoint (named_endpoint c) (named_endpoint d)))
-    (ap (λ o. same_slot o (named_slot d)) here.0 ∙ ap (λ o. same_slot (Some s) o) there.0 ∙ eq-eqb s s refl)
-    (ap (λ b. not b) (one_endpoint (named_endpoint c) (named_endpoint d) s i here.1 there.1)))
+    search (rules, false≢true, and_from, same_slot, named_slot, not, other_endpoint, named_endpoint, eq-eqb, one_endpoint, here.1)
 
 -- ---- neither excludes the other
 
 eqb_turned : (s t : ℕ) → (s == t) ≡ (t == s)
-eqb_turned s t = by (s == t) refl
-  where
-    by : (b : Bool) → (s == t) ≡ b → b ≡ (t == s)
-    by true is = sym (eq-eqb t s (sym (eqb-true s t is)))
-    by false is = sym (false_from_ne_true (t == s) (λ same. false≢true (sym is ∙ eq-eqb s t (sym (eqb-true t s same)))))
+eqb_turned s t = search (rules, true, eq-eqb, eqb-true, false, false_from_ne_true, false≢true)
 
 slots_turned : (x y : Option ℕ) → same_slot x y ≡ same_slot y x
 slots_turned None None = refl
@@ -51,6 +44,4 @@ endpoints_turned (Some e) None = refl
 endpoints_turned (Some e) (Some f) = ap (λ b. not (b && e.1 == f.1)) (eqb_turned e.0 f.0) ∙ ap (λ b. not (f.0 == e.0 && b)) (eqb_turned e.1 f.1)
 
 pub excludes_turned : (c d : Command) → exclude c d ≡ exclude d c
-excludes_turned c d =
-    ap (λ b. b && not (other_endpoint (named_endpoint c) (named_endpoint d))) (slots_turned (named_slot c) (named_slot d))
-    ∙ ap (λ b. same_slot (named_slot d) (named_slot c) && not b) (endpoints_turned (named_endpoint c) (named_endpoint d))
+excludes_turned c d = search (rules, not, other_endpoint, named_endpoint, slots_turned, named_slot, same_slot, endpoints_turned)

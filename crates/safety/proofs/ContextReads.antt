@@ -42,9 +42,6 @@ module _ (size : ContextSize) (m l : ℕ → ℕ) (n : ℕ) (same : AgreeIn size
   word_of : (i j : ℕ) → i < 32 → j < 32 → l (input_endpoint size n i + j) ≡ m (input_endpoint size n i + j)
   word_of i j low short = let at = inside size n i j low short in same (input_endpoint size n i + j) at.0 at.1
 
-  first : l n ≡ m n
-  first = same n (omega arith) (omega (arith, begins size n 0 (omega arith)))
-
   second : l (n + 4) ≡ m (n + 4)
   second = same (n + 4) (omega arith) (begins size n 4 (omega arith))
 
@@ -56,7 +53,7 @@ module _ (size : ContextSize) (m l : ℕ → ℕ) (n : ℕ) (same : AgreeIn size
   add_flag_same i = ap (λ w. has_flag w i) second
 
   pub drop_flag_same : (i : ℕ) → input_drop_flag l n i ≡ input_drop_flag m n i
-  drop_flag_same i = ap (λ w. has_flag w i) first
+  drop_flag_same i = ap (λ w. has_flag w i) (same n (omega arith) (omega (arith, begins size n 0 (omega arith))))
 
   pub type_same : (i : ℕ) → i < 32 → endpoint_type l (input_endpoint size n i) ≡ endpoint_type m (input_endpoint size n i)
   type_same i low = let w = word_of i 4 low (omega arith) in cc

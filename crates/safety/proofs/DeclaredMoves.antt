@@ -13,9 +13,7 @@ ceiling_declares shape v blocks = ap (λ n. unwrap_or v.held n) (sym (given_coun
 
 placed_declares : (shape : Shape) (v : RingView) (blocks : List Block) (p : ℕ) (cycle : Bool) → is_placement shape v p cycle ≡ true → is_placement shape (changed shape v (Declares blocks)) p cycle ≡ true
 unfolding is_placement
-placed_declares shape v blocks p cycle placed =
-    move-declares shape v p cycle (ceiling shape v) (floor_number v) (ceiling shape (changed shape v (Declares blocks))) (floor_number v)
-    (omega (arith, ceiling_declares shape v blocks)) (omega arith) placed blocks
+placed_declares shape v blocks p cycle placed = search (rules, move-declares, ceiling, floor_number, changed, ceiling_declares)
 
 pub moves_declares : (shape : Shape) (v : RingView) (blocks : List Block) → MovesStay shape v (changed shape v (Declares blocks))
 moves_declares shape v blocks = search (rules, move-declares, placed_declares, ceiling_declares, length-append)

@@ -37,10 +37,7 @@ find_any p q (x ∷ rest) some =
 module _ (shape : Shape) (v w : RingView) (floor : w.floor ≡ v.floor) (more : declared v ≤ declared w) where
   target_more : (address : ℕ) (cycle : Bool) (t : Spot) → target shape v address cycle ≡ Some t → target shape w address cycle ≡ Some t
   unfolding target spots_between
-  target_more address cycle t found =
-      let least : ℕ = floor_number v in
-      ap (λ f. find (is_target shape address cycle) (flat_map (λ q. Link q ∷ Data q ∷ []) (range_with_len (number f) (declared w + 1 - number f)))) floor
-      ∙ found_longer (is_target shape address cycle) least (declared v + 1 - least) (declared w + 1 - least) t (omega arith) found
+  target_more address cycle t found = search (rules, floor_number, find, is_target, flat_map, range_with_len, number, declared, found_longer)
 
   -- the target of a move
   pub target_still : (address : ℕ) (cycle : Bool) (least most : ℕ) → floor_number v ≤ least → most ≤ declared v → is_move shape v address cycle least most ≡ true →

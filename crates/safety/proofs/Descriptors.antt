@@ -10,9 +10,7 @@ pub record Surrounds (lengths : List ℕ) (start t : ℕ) : Type 0 where
 
 no_border-parts : (n : ℕ) (rest : List ℕ) (start t : ℕ) → is_border (n ∷ rest) start t ≡ false → (start ≡ t → ⊥) × (is_border rest (start + n) t ≡ false)
 unfolding is_border
-no_border-parts n rest start t none =
-    let parts = or_parts (start == t) (is_border rest (start + n) t) none in
-    (eqb-false start t parts.0, parts.1)
+no_border-parts n rest start t none = search (rules, or_parts, is_border, eqb-false)
 
 length_here : (n : ℕ) (rest : List ℕ) (start : ℕ) → length_from (n ∷ rest) start start ≡ n
 unfolding length_from

@@ -75,7 +75,5 @@ module _ (h : Header) (x : Known) where
   pub devices_same : (o : Option (ℕ × ℕ)) (now : ℕ → Option ℕ) → ((t : ℕ) → Untaken o t → now t ≡ x.device t) → ((f : ℕ × ℕ) → o ≡ Some f → now f.0 ≡ Some f.1) →
       (t : ℕ) → now t ≡ (with_device h x o).device t
   unfolding with_device
-  devices_same None now others there t = others t (λ f at. absurd (none-some f at))
-  devices_same (Some f) now others there t =
-      at_number (λ (v : Option ℕ). now t ≡ v) x.device f.0 (Some f.1) t (λ same. ap now same ∙ there f refl)
-      (λ other. others t (λ g at same. other (same ∙ ap (λ (y : ℕ × ℕ). y.0) (sym (same_Some f g at)))))
+  devices_same None now others there t = search (rules, none-some, at_number, x.device, same_Some)
+  devices_same (Some f) now others there t = search (rules, none-some, at_number, x.device, same_Some)

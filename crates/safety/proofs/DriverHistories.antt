@@ -51,16 +51,12 @@ module _ (h : Header) where
   finished_numbered k b None fits all = search rules
   finished_numbered k b (Some c) fits all = search (rules, same_numbered, stop_same, all_numbered, changes_numbered)
 
-  completed_numbered : (k : Known) (b : Block) → AreNumbered k → AreNumbered (completed h k b)
-  unfolding completed on_ring command_at
-  completed_numbered k b all = search (rules, same_numbered, finished_numbered, declared_command)
-
   -- ---- histories
 
   event_numbered : (k : Known) (b : Block) (n : BlockKind) → AreNumbered k → AreNumbered (event_read h k n b)
-  unfolding event_read
+  unfolding event_read completed on_ring command_at
   event_numbered k b TransferEvent all = same_numbered h k (transfer_read h k b) (transfer_same h k b) all
-  event_numbered k b CommandCompletion all = completed_numbered k b all
+  event_numbered k b CommandCompletion all = search (rules, same_numbered, finished_numbered, declared_command)
   event_numbered k b _ all = all
 
   pub row_numbered : (k : Known) (row : Row) → AreNumbered k → AreNumbered (learned h k row)

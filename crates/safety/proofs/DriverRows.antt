@@ -25,9 +25,7 @@ module _ (h : Header) where
 module _ (h : Header) (first : Known) where
   -- only memory and rings are spoken of
   pub same_keeps : (k l : Known) → k.memory ≡ l.memory → k.ring ≡ l.ring → RingsKept h first k → RingsKept h first l
-  same_keeps k l memory rings keeps r driver =
-      subst (λ (view : ℕ → RingView). RingKept (shape_of h r) l.memory (first.ring r) (view r)) rings
-      (subst (λ (words : ℕ → ℕ). RingKept (shape_of h r) words (first.ring r) (k.ring r)) memory (keeps r driver))
+  same_keeps k l memory rings keeps r driver = search (rules, shape_of, l.memory, first.ring, k.ring)
 
   -- a step further
   goes_on : (k : Known) (r : ℕ) → IsDriverRing h r → (w : RingView) → RingsKept h first k → (IsDriverRing h r → RingKept (shape_of h r) k.memory (k.ring r) w) →

@@ -15,14 +15,10 @@ module _ (h : Header) (k : Known) (s t r : ℕ) (has : k.ring_of s t ≡ Some r)
 
   rung_elsewhere : (u j : ℕ) → one_of s t u j ≡ false → woken.endpoint_state u j ≡ k.endpoint_state u j
   unfolding endpoint_rung
-  rung_elsewhere u j other =
-      cond_both (is_stopped (k.endpoint_state s t)) (put_pair k.endpoint_state s t Running) k.endpoint_state (λ f. f u j ≡ k.endpoint_state u j)
-      (λ stopped. cond-false (u == s && j == t) Running (k.endpoint_state u j) other) (λ on. refl)
+  rung_elsewhere u j other = search (rules, is_stopped, k.endpoint_state, put_pair, cond-false)
 
   rung_awake : (u j : ℕ) → one_of s t u j ≡ true → woken.endpoint_state u j ≡ Running
-  rung_awake u j same =
-      let parts = and_parts (u == s) (j == t) same in
-      ap (λ n. woken.endpoint_state n j) (eqb-true u s parts.0) ∙ ap (λ n. woken.endpoint_state s n) (eqb-true j t parts.1) ∙ rung_here
+  rung_awake u j same = search (rules, and_parts, eqb-true, rung_here)
 
   pub rung_woken : Woken h r (one_of s t) k woken
   unfolding endpoint_rung on_ring
@@ -30,9 +26,7 @@ module _ (h : Header) (k : Known) (s t r : ℕ) (has : k.ring_of s t ≡ Some r)
 
   pub rung_driver : SameDriver k woken
   unfolding endpoint_rung
-  rung_driver =
-      let d : SameDriver k (on_ring h k r Opens) = on_ring_same h k r Opens tt in
-      record { started = d.started; stopped = d.stopped; register = d.register; memory = d.memory; soiled = d.soiled; reads = d.reads; dequeue = d.dequeue; rings = d.rings }
+  rung_driver = search (rules, on_ring, on_ring_same)
 
   -- ---- a Transfer Event
 

@@ -41,9 +41,7 @@ module _ (h : Header) where
   pointed_keeps : IsHeader h → (k : Known) → EndpointsKeep h k → (s i p : ℕ) (cycle : Bool) → EndpointsKeep h (pointed h k s i p cycle)
   unfolding pointed
   pointed_keeps is k keeps s i p cycle =
-      cond_both (is_off (k.endpoint_state s i)) (bound_to h k s i (ring_having h p) p cycle) (moved h k (k.ring_of s i) p cycle) (EndpointsKeep h)
-      (λ off. bound_keeps k keeps s i (ring_having h p) p cycle (λ r at. having_transfer h is p r at))
-      (λ on. same_keeps k (moved h k (k.ring_of s i) p cycle) (moved_rings k (k.ring_of s i) p cycle) keeps)
+      search (rules, is_off, k.endpoint_state, bound_to, ring_having, moved, k.ring_of, bound_keeps, having_transfer, same_keeps, moved_rings)
 
   -- ---- the success of a command
 

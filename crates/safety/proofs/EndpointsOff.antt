@@ -1,4 +1,5 @@
 -- A slot that a command names has a number above 0, and an endpoint that is off has no ring
+use Rattle.std.proofs.Common.{rules}
 use Rattle.safety.proofs.Words.{◌≡◌, ◌<◌, ◌||◌, ◌∙◌, ℕ, true, false, Some, None, arith, refl, sym, ap, inl, inr, cases_lt, or_parts, false≢true, cases_option, Command, EndpointState, Off, named_slot, named_endpoint, named_context, is_disabled, is_off, Header, Known, is_bad_command, names_disabled_slot, names_disabled_endpoint, has_bad_context, has_bad_content, DriverKeeps}
 
 pub off_is : (state : EndpointState) → is_off state ≡ true → state ≡ Off
@@ -22,8 +23,4 @@ module _ (h : Header) (k : Known) where
       ]
 
   pub off_none : DriverKeeps h k → (s i : ℕ) → is_off (k.endpoint_state s i) ≡ true → k.ring_of s i ≡ None
-  off_none d s i off =
-      elim (cases_option (k.ring_of s i)) [
-        | inl none ↦ none
-        | inr some ↦ absurd (d.states.on s i some.0 some.1 (off_is (k.endpoint_state s i) off))
-      ]
+  off_none d s i off = search (rules, k.ring_of, d.states.on, off_is, k.endpoint_state)

@@ -44,17 +44,13 @@ module _ (h : Header) where
     unfolding passed
     passed_on = floors_reached k r (after (shape_of h r) (number t)) driver (omega (arith, on, number-after (shape_of h r) (number t)))
 
-    broken_on : (s i : ℕ) (state : EndpointState) → FloorsOn k (broken_off h k s i r t state)
-    unfolding broken_off
-    broken_on s i state = floors_both k (passed h k r t) (on_ring h (passed h k r t) r (Holds (number t + 1))) passed_on (floors_held (passed h k r t) r (number t + 1) driver)
-
     stopped_on : (s i : ℕ) → FloorsOn k (stopped_at h k s i r t)
     unfolding stopped_at
     stopped_on s i = search (rules, floors_both, floors_held, floors_reached, ring_here)
 
     transferred_on : (c s i : ℕ) → FloorsOn k (transferred h k c s i r t)
-    unfolding transferred
-    transferred_on c s i = search (rules, passed_on, broken_on, stopped_on, floors_same)
+    unfolding transferred broken_off
+    transferred_on c s i = search (rules, passed_on, floors_both, passed, on_ring, number, floors_held, stopped_on, floors_same)
 
   transfer_is_driver : (r : ℕ) → IsTransferRing h r → IsDriverRing h r
   transfer_is_driver r t = driver_test h r (transfer_driver h r (transfer_ring h r t))
@@ -76,14 +72,10 @@ module _ (h : Header) where
   -- ---- the success of a command
 
   module _ (is : IsHeader h) where
-    set_on : (k : Known) (r : ℕ) (t : Spot) → IsDriverRing h r → floor_number (k.ring r) ≤ number t → FloorsOn k (set_to h k r t)
-    unfolding set_to
-    set_on k r t driver on = search (rules, on_ring, floors_both, number, floors_reached, floors_held)
-
     target_on : (k : Known) (r : ℕ) (o : Option Spot) → IsDriverRing h r → ((t : Spot) → o ≡ Some t → floor_number (k.ring r) ≤ number t) → FloorsOn k (moved_to h k r o)
-    unfolding moved_to
+    unfolding moved_to set_to
     target_on k r None driver on = floors_same k k refl
-    target_on k r (Some t) driver on = set_on k r t driver (on t refl)
+    target_on k r (Some t) driver on = search (rules, on_ring, floors_both, number, floors_reached, floors_held)
 
     bound_on : (k : Known) (s i p : ℕ) (cycle : Bool) (o : Option ℕ) → ring_having h p ≡ o → FloorsOn k (bound_to h k s i o p cycle)
     unfolding bound_to moved
@@ -170,14 +162,10 @@ module _ (h : Header) where
   finish_fewer k b None t d at = at
   finish_fewer k b (Some c) t d at = search (rules, ended_fewer, code, succeeded, slot, cond_both, changes_fewer, changes)
 
-  completed_fewer : (k : Known) (b : Block) → FewerDevices k (completed h k b)
-  unfolding completed on_ring
-  completed_fewer k b t d at = finish_fewer k b (command_at h k (next_command h k)) t d at
-
   kind_fewer : (k : Known) (b : Block) (n : BlockKind) → FewerDevices k (event_read h k n b)
-  unfolding event_read
+  unfolding event_read completed on_ring
   kind_fewer k b TransferEvent t d at = ap (λ f. f t) (sym (transfer_slots h k b).device) ∙ at
-  kind_fewer k b CommandCompletion t d at = completed_fewer k b t d at
+  kind_fewer k b CommandCompletion t d at = finish_fewer k b (command_at h k (next_command h k)) t d at
   kind_fewer k b _ t d at = at
 
   -- ---- rings

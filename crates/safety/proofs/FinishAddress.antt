@@ -67,9 +67,7 @@ module _ (h : Header) (is : IsHeader h) (k : Known) (d : DriverKeeps h k) (s n :
 
   pub slot_binds : MayBind h k s 1 p cycle → MayBind h (changed_by h c k (SlotGoesOn s)) s 1 p cycle
   unfolding changed_by
-  slot_binds b =
-      let e = b.ready in
-      record { memory = b.memory; ready = record { off = e.off; ring = e.ring; named = e.named; free = e.free; keeps = e.keeps; placed = e.placed }; none = b.none }
+  slot_binds b = search (rules, b.ready)
 
   pub slot_moves : MayMove h k s 1 p cycle → MayMove h (changed_by h c k (SlotGoesOn s)) s 1 p cycle
   unfolding changed_by

@@ -61,19 +61,7 @@ module _ (h : Header) where
   none_keeps k w s = search rules
 
   pub both_keep : (k l m : Known) (w u v : World) → LeavesRest k l w u → ChangeKeeps l m u v → ChangeKeeps k m w v
-  both_keep k l m w u v one two =
-      let rest = two.rest in
-      record {
-        states = two.states;
-        rest = record {
-          known = rest.known ∙ ap (λ x. known_changed x m) one.known;
-          world = rest.world ∙ ap (λ x. world_changed x v) one.world;
-          queues = λ r. rest.queues r ∙ one.queues r;
-          lengths = λ r. rest.lengths r ∙ one.lengths r;
-          command_known = rest.command_known ∙ one.command_known;
-          command_world = rest.command_world ∙ one.command_world;
-        };
-      }
+  both_keep k l m w u v one two = search (rules, two.rest, one.queues, one.lengths)
 
   -- before the first change
   pub states_match : IsHeader h → (k : Known) (w : World) → DriverKeeps h k → AreNumbered k → Matches h k w → StatesMatch k w

@@ -1,4 +1,5 @@
 -- The controller finishes a Set TR Dequeue with success: the run goes on
+use Rattle.std.proofs.Common.{rules}
 use Rattle.safety.proofs.Words.{[], ◌≡◌, ◌==◌, ℕ, not, Bool, true, false, Option, Some, None, arith, refl, sym, or_parts, not-false, false≢true, Block, IsBlock, code, slot, ceiling, is_move, ceiling_within, Command, SetTrDequeue, EndpointState, Off, Stopped, command_of, Places, changes, is_off, is_at_rest, Header, IsHeader, shape_of, World, UnderWay, counted, Known, next_command, is_bad_dequeue, is_bad_move, DriverKeeps, CommandKeeps, Runs, all_read, effect, changed_by, succeeded, declared}
 use Rattle.controller_model.specs.Finishes as finishes
 use Rattle.safety.proofs.Headers.{ring_shape, transfer_driver}
@@ -35,9 +36,7 @@ module _ (h : Header) (is : IsHeader h) (k : Known) (d : DriverKeeps h k) (s i p
 
   pub may_move : is_bad_move h k (SetTrDequeue s i p cycle) ≡ false → MayMove h k s i p cycle
   unfolding is_bad_move
-  may_move good =
-      let parts = or_parts (not (is_at_rest (k.endpoint_state s i))) (is_bad_dequeue h k (k.ring_of s i) p cycle) good in
-      moves_of (k.ring_of s i) refl parts.1 (rest_on (k.endpoint_state s i) (not-false (is_at_rest (k.endpoint_state s i)) parts.0))
+  may_move good = search (rules, or_parts, not, is_at_rest, k.endpoint_state, is_bad_dequeue, k.ring_of, moves_of, rest_on, not-false)
 
   pub dequeue_keeps : (w : World) (n : ℕ) → StatesMatch h k w → CommandKeeps h k (next_command h k) (SetTrDequeue s i p cycle) → EffectKeeps h k w n (SetTrDequeue s i p cycle)
   unfolding effect succeeded changes

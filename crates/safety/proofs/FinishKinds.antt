@@ -73,9 +73,7 @@ failed_read h k b c n completion at fails =
 
 stop_of_is : (k : Known) (s i : ℕ) (c : Command) → is_stop_of s i (Some c) ≡ true → was_stop_seen k c ≡ k.stop_seen s i
 unfolding was_stop_seen
-stop_of_is k s i (StopEndpoint t j) at =
-    let p = and_parts (s == t) (i == j) at in
-    ap (λ x. k.stop_seen x j) (sym (eqb-true s t p.0)) ∙ ap (λ x. k.stop_seen s x) (sym (eqb-true i j p.1))
+stop_of_is k s i (StopEndpoint t j) at = search (rules, and_parts, k.stop_seen, eqb-true, false≢true)
 stop_of_is k s i _ at = absurd (false≢true at)
 
 pub stopping_of : (h : Header) (k : Known) (s i : ℕ) → is_stopping_now h k s i ≡ true → is_stop_of s i (command_at h k (next_command h k)) ≡ true

@@ -38,10 +38,6 @@ module _ (h : Header) (is : IsHeader h) (k : Known) (d : DriverKeeps h k) (on : 
     unfolding command_at
     command_kept p = ap (λ l. option_and_then command_of (slice_get l p)) (sym (queue_same (command_id h)))
 
-    -- what is unfinished was before
-    unfinished_before : (p : ℕ) (c : Command) → IsUnfinished h (next_known h k seen n) p c → IsUnfinished h k p c
-    unfinished_before p c u = search (rules, next_known, ring, ring_here, due_is, due_from, number_after, next_is, command_kept)
-
     other_ring : (u : World) (q : ℕ) → q ≢ command_id h → EndpointRing h k u q → EndpointRing h (next_known h k seen n) (let_go u) q
     other_ring u q other (inl bound) = inl (subst (λ v. BoundRing (shape_of h q) k.ring_of v (state_of u q) q) (sym (ring_same q other)) bound)
     other_ring u q other (inr free) = inr (subst (λ v. FreeRing (shape_of h q) k.ring_of v (state_of u q) q) (sym (ring_same q other)) free)
@@ -61,6 +57,6 @@ module _ (h : Header) (is : IsHeader h) (k : Known) (d : DriverKeeps h k) (on : 
         under_way = (at ∙ sym next_number, none);
       };
       scribbles = y.scribbles;
-      contexts = λ p c f. y.contexts p c (unfinished_before p c f);
+      contexts = λ p c f. y.contexts p c (search (rules, next_known, ring, ring_here, due_is, due_from, number_after, next_is, command_kept));
       inside = y.inside;
     }

@@ -1,4 +1,5 @@
 -- However the controller finishes the command under way, the run goes on
+use Rattle.std.proofs.Common.{rules}
 use Rattle.std.proofs.Common.{◌≡◌, ◌==◌, ◌∙◌, true, false, Option, None, Some, option_map, refl, sym, ap, inl, inr}
 use Rattle.safety.proofs.Words.{cases_Bool, cond-true, none-some, Block, IsBlock, code, slot, Command, NoOp, EnableSlot, DisableSlot, AddressDevice, ConfigureEndpoint, EvaluateContext, ResetEndpoint, StopEndpoint, SetTrDequeue, ResetDevice, command_of, Header, IsHeader, World, UnderWay, counted, DriverKeeps, Runs, all_read, Known}
 use Rattle.controller_model.specs.Finishes as finishes
@@ -12,8 +13,7 @@ use Rattle.safety.proofs.FinishConfigure.{finish_configure_runs}
 -- a block that is no command of the profile never succeeds
 no_success : (h : Header) (w v : World) (b : Block) (u : UnderWay) → command_of u.block ≡ None → (code b == 1) ≡ true → finishes.ended_with h w b u ≡ Some v → ⊥
 unfolding finishes.ended_with finishes.succeeded
-no_success h w v b u none one at =
-    none-some v (sym (ap (λ o. option_map (λ x. finishes.ended h x b) (finishes.succeeded h w (slot b) o)) none) ∙ sym (cond-true (code b == 1) _ _ one) ∙ at)
+no_success h w v b u none one at = search (rules, none-some, option_map, slot, cond-true, code)
 
 module _ (h : Header) (is : IsHeader h) (now : Known) (w v : World) (b : Block) (block : IsBlock b) (running : w.stopped ≡ false) (run : Runs h now w)
     (d : DriverKeeps h (all_read h now run.unread)) (one : (code b == 1) ≡ true) (at : finishes.finished h w b ≡ Some v) where
@@ -39,8 +39,4 @@ module _ (h : Header) (is : IsHeader h) (now : Known) (w v : World) (b : Block) 
 
 pub finish_runs : (h : Header) → IsHeader h → (now : Known) (w v : World) (b : Block) → IsBlock b → w.stopped ≡ false → (run : Runs h now w) →
     DriverKeeps h (all_read h now run.unread) → finishes.finished h w b ≡ Some v → Runs h now (counted h v)
-finish_runs h is now w v b block running run d at =
-    elim (cases_Bool (code b == 1)) [
-      | inl one ↦ any_success_runs h is now w v b block running run d one at
-      | inr fails ↦ finish_failure_runs h is now w v b block running run d fails at
-    ]
+finish_runs h is now w v b block running run d at = search (rules, code, any_success_runs, finish_failure_runs)

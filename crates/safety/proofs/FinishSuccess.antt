@@ -27,34 +27,25 @@ module _ (h : Header) (k m : Known) (w v : World) (c : ChangeKeeps h k m w v) (s
   abbrev before : Known
   before = next_known h k seen n
 
-  floors_same : floor_behind (shape_of h (command_id h)) (m.ring (command_id h)) (next_command h (known_changed k m)) ≡ floor_behind (shape_of h (command_id h)) (k.ring (command_id h)) (next_command h k)
-  floors_same = search (rules, floor_behind, shape_of, command_id, next_is, known_changed, floor_number, next_command)
-
   command_ring : later.ring (command_id h) ≡ before.ring (command_id h)
-  command_ring = search (rules, put_at, command_id, floors_same)
+  command_ring = search (rules, put_at, command_id, floor_behind, shape_of, next_is, known_changed, floor_number, next_command)
 
   ring_same : (q : ℕ) → q ≢ command_id h → later.ring q ≡ m.ring q
   ring_same q other = put_off m.ring (command_id h) _ q other
-
-  queue_before : (q : ℕ) → (before.ring q).queue ≡ (later.ring q).queue
-  queue_before q = search (rules, before, later, command_ring, put_off, ring_same)
 
   lengths_before : (q : ℕ) → (before.ring q).lengths ≡ (later.ring q).lengths
   lengths_before q = search (rules, before, later, command_ring, put_off, ring_same)
 
   pub stands_changed : (u : World) → Stands h before (let_go u) → Stands h later (let_go (world_changed u v))
-  stands_changed u s = search (rules, before, let_go, later, world_changed, queue_before, lengths_before)
+  stands_changed u s = search (rules, before, let_go, later, world_changed, command_ring, put_off, ring_same, lengths_before)
 
   pub events_changed : (u : World) (unread : List Block) → EventsStand h (let_go u) unread → EventsStand h (let_go (world_changed u v)) unread
   unfolding of_world.event_at
   events_changed u unread e = record { order = e.order; count = e.count; places = e.places; started = e.started; ring = e.ring }
 
-  command_kept : (p : ℕ) → command_at h later p ≡ command_at h before p
-  unfolding command_at
-  command_kept p = ap (λ x. option_and_then command_of (slice_get x.queue p)) command_ring
-
   unfinished_before : (p : ℕ) (e : Command) → IsUnfinished h later p e → IsUnfinished h before p e
-  unfinished_before p e u = search (rules, later, before, command_ring, command_kept)
+  unfolding command_at
+  unfinished_before p e u = search (rules, later, before, command_ring, option_and_then, command_of, slice_get)
 
   endpoint_ring : (u : World) (q : ℕ) → q ≢ command_id h → EndpointRing h m v q → EndpointRing h later (let_go (world_changed u v)) q
   endpoint_ring u q other (inl bound) = inl (subst (λ x. BoundRing (shape_of h q) m.ring_of x (state_of v q) q) (sym (ring_same q other)) bound)

@@ -7,16 +7,10 @@ use Rattle.safety.proofs.LookedRing.{number_after}
 abbrev pub floor_behind : Shape → RingView → ℕ → RingView
 floor_behind shape v p = record v { floor = after shape p }
 
-steps_still : (shape : Shape) (v : RingView) (p q : ℕ) → is_step_given shape v q ≡ true → is_step_given shape (floor_behind shape v p) q ≡ true
-unfolding is_step_given is_way_given
-steps_still shape v p q given = given
-
-ways_still : (shape : Shape) (v : RingView) (p q : ℕ) → is_way_given shape (floor_behind shape v p) q ≡ is_way_given shape v q
-unfolding is_way_given
-ways_still shape v p q = refl
-
 ceiling_grows : (shape : Shape) (v : RingView) (p : ℕ) → floor_number v ≤ p → ceiling shape v ≤ ceiling shape (floor_behind shape v p)
-ceiling_grows shape v p from = search (rules, cases_option, ceiling_open, given_count_grows, number_after, steps_still, ceiling_held)
+unfolding is_step_given is_way_given
+ceiling_grows shape v p from = search (rules, cases_option, ceiling_open, given_count_grows, number_after, ceiling_held)
 
 pub floor_moves : (shape : Shape) (v : RingView) (s : RingState) (t : Spot) (p : ℕ) → floor_number v ≤ p → p < number t → RingMatches shape v s t → RingMatches shape (floor_behind shape v p) s t
-floor_moves shape v s t p from below m = search (rules, rank_least, next_least, ceiling_grows, ways_still, newest_still)
+unfolding is_way_given
+floor_moves shape v s t p from below m = search (rules, rank_least, next_least, ceiling_grows, newest_still)

@@ -1,4 +1,5 @@
 -- What the rules say of a command that a write gives
+use Rattle.std.proofs.Common.{rules}
 use Rattle.safety.proofs.Words.{[], ◌≡◌, ◌==◌, ◌||◌, ◌∙◌, ℕ, not, Bool, true, false, Some, arith, refl, sym, ap, inl, inr, eqb-true, ◌≢◌, ◌<◌, and_cases, or_parts, not-false, false_from_ne_true, declared, floor_number, is_move, Command, AddressDevice, is_off, Header, Write, IsHeader, shape_of, Known, command_given, binding_in, binds_ring, drops, is_being_bound, is_bad_binding, is_bad_stay, is_bad_move, some_command, write_tests, lenient_tests, lenient, StaysIf, MovesIf, DriverKeeps, none-some, adds_streams, has_bad_content, is_bad_command, is_busy}
 use Rattle.safety.proofs.TestsPassed.{AllFail, tests_fail}
 use Rattle.safety.proofs.Headers.{transfer_driver}
@@ -34,10 +35,7 @@ module _ (h : Header) (k : Known) where
     stand_rule : (s n r : ℕ) (bsr : Bool) → is_bad_move h k (AddressDevice s bsr n) ≡ false → k.ring_of s 1 ≡ Some r → is_bad_stay h k (Some r) (binding_in h k n 1) ≡ false
     unfolding is_bad_move
     stand_rule s n r bsr good at =
-        elim (and_cases (not (is_off (k.endpoint_state s 1))) (is_bad_stay h k (k.ring_of s 1) (binding_in h k n 1)) good) [
-          | inl off ↦ absurd (d.states.on s 1 r at (off_is (k.endpoint_state s 1) (not-false (is_off (k.endpoint_state s 1)) off)))
-          | inr stand ↦ ap (λ o. is_bad_stay h k o (binding_in h k n 1)) (sym at) ∙ stand
-        ]
+        search (rules, and_cases, not, is_off, k.endpoint_state, is_bad_stay, k.ring_of, binding_in, d.states.on, off_is, not-false)
 
     none_left : (s n r : ℕ) (bsr : Bool) → is_bad_move h k (AddressDevice s bsr n) ≡ false → k.ring_of s 1 ≡ Some r → declared (k.ring r) ≡ floor_number (k.ring r)
     unfolding is_bad_stay

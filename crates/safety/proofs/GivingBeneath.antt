@@ -31,8 +31,7 @@ module _ (shape : Shape) (memory : ℕ → ℕ) (v u : RingView) (b : RingBehind
 
   pub crosses_behind : (q : ℕ) → v.crossed q ≡ false → gives_crossing shape v.floor q a x ≡ true → gives_crossing shape u.floor q a x ≡ true
   crosses_behind q fresh gives_now =
-      let g = gives_crossing_is shape v.floor q a x gives_now in
-      ap (λ y. gives_crossing shape u.floor q y x) g.at ∙ gives_crossing_from shape u.floor q x (crossing_due_from shape u.floor q (crossing_behind q g.due fresh)) g.cycle
+      search (rules, gives_crossing_is, v.floor, gives_crossing, u.floor, gives_crossing_from, crossing_due_from, crossing_behind)
 
   -- ---- what is due and changes no leased word was due
 
@@ -64,12 +63,10 @@ module _ (shape : Shape) (memory : ℕ → ℕ) (v u : RingView) (b : RingBehind
           | inr far ↦ elim (cases_eq q (place_count shape)) [
             | inl first ↦ inr (first, omega arith)
             | inr more ↦
-                let some : 0 < q - place_count shape = omega arith in
-                let lap : q - place_count shape + place_count shape ≡ q = omega arith in
                 let crossing : is_crossing shape (q - place_count shape) ≡ true =
-                sym (is_crossing-lap shape (q - place_count shape) some) ∙ ap (λ n. is_crossing shape n) lap ∙ due.crossing in
+                sym (is_crossing-lap shape (q - place_count shape) (omega arith)) ∙ ap (λ n. is_crossing shape n) (omega arith) ∙ due.crossing in
                 let place : link_address shape q ≡ link_address shape (q - place_count shape) =
-                ap (λ n. link_address shape n) (sym lap) ∙ link_address-lap shape (q - place_count shape) some in
+                ap (λ n. link_address shape n) (sym (omega arith)) ∙ link_address-lap shape (q - place_count shape) (omega arith) in
                 let given : v.crossed (q - place_count shape) ≡ true =
                 crossed_there (q - place_count shape) (b.behind.passed_links (q - place_count shape) crossing (omega (arith, rank_least u.floor))) in
                 let before = keeps.links (q - place_count shape) (crossed_due shape b.is memory v b.before (q - place_count shape) (omega arith) given) given (omega arith) in
@@ -79,9 +76,7 @@ module _ (shape : Shape) (memory : ℕ → ℕ) (v u : RingView) (b : RingBehind
 
     pub crosses_before : (q : ℕ) → gives_crossing shape u.floor q a x ≡ true → gives_crossing shape v.floor q a x ≡ true
     crosses_before q gives_now =
-        let g = gives_crossing_is shape u.floor q a x gives_now in
-        let due : IsCrossingDue shape v.floor q = record { crossing = g.due.crossing; from = omega (arith, g.due.from, b.on); within = link_near q g.due g.at g.cycle } in
-        ap (λ y. gives_crossing shape v.floor q y x) g.at ∙ gives_crossing_from shape v.floor q x (crossing_due_from shape v.floor q due) g.cycle
+        search (rules, gives_crossing_is, u.floor, v.floor, link_near, gives_crossing, gives_crossing_from, crossing_due_from)
 
     -- ---- so the write gives the same
 

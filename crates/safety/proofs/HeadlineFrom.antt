@@ -98,13 +98,9 @@ later_clean h [] ys clean = clean
 later_clean h (x ∷ xs) ys clean = later_clean h xs ys clean.0
 
 module _ (h : Header) where
-  -- nothing that is kept speaks of the rows still to come
-  agrees_rest : (k : Known) (unread : List Block) (w : World) (rest : List Row) → Agrees h k unread w → Agrees h k unread (record w { rows = rest })
-  unfolding of_world.event_at
-  agrees_rest k unread w rest g = search rules
-
   pub runs_rest : (now : Known) (w : World) (rest : List Row) → Runs h now w → Runs h now (record w { rows = rest })
-  runs_rest now w rest run = search (rules, agrees_rest)
+  unfolding of_world.event_at
+  runs_rest now w rest run = search (rules)
 
   -- a run has come to world w, with `past` the rows that were made, the newest first
   record CameTo (past : List Row) (w : World) : Type 0 where

@@ -6,9 +6,6 @@ use Rattle.safety.proofs.AlikeEvents.{EventAlike, ReadAlike, read_alike}
 
 -- ---- all fields the same, but that rings are held at greater numbers
 
-view_is : (v w : RingView) → v.queue ≡ w.queue → v.lengths ≡ w.lengths → v.given ≡ w.given → v.crossed ≡ w.crossed → v.withdrawn ≡ w.withdrawn → v.free ≡ w.free → v.floor ≡ w.floor → v.held ≡ w.held → v ≡ w
-view_is v w queue lengths given crossed withdrawn free floor held = search rules
-
 -- what events may change and the driver's rows don't, but for where rings are held
 pub record SameStates (k l : Known) : Type 0 where
   pub was_bound : l.was_bound ≡ k.was_bound
@@ -26,7 +23,7 @@ pub flip_driver : (k l : Known) → SameDriver k l → SameDriver l k
 flip_driver k l d = search rules
 
 pub held_more : (k l : Known) → SameDriver k l → SameStates k l → ((r : ℕ) → (l.ring r).floor ≡ (k.ring r).floor) → ((r : ℕ) → IsHeldMore (k.ring r).held (l.ring r).held) → HeldMore k l
-held_more k l d s floor held = search (rules, known_is, view_is)
+held_more k l d s floor held = search (rules, known_is)
 
 -- every device context is alike
 abbrev pub EverySlot : ℕ → Type 0
@@ -52,14 +49,11 @@ module _ (h : Header) where
 
   pub named_same : (r p : ℕ) (v w : RingView) → w.floor ≡ v.floor → w.queue ≡ v.queue → named (shape_of h r) w p ≡ named (shape_of h r) v p
   unfolding named
-  named_same r p v w floor queue =
-      ap (λ x. named_spot (shape_of h r) x (length w.queue) p) floor ∙ ap (λ x. named_spot (shape_of h r) v.floor (length x) p) queue
+  named_same r p v w floor queue = search (rules, named_spot, shape_of, length, v.floor)
 
   target_same : (r p : ℕ) (cycle : Bool) (v w : RingView) → w.floor ≡ v.floor → w.queue ≡ v.queue → target (shape_of h r) w p cycle ≡ target (shape_of h r) v p cycle
   unfolding target
-  target_same r p cycle v w floor queue =
-      ap (λ x. find (is_target (shape_of h r) p cycle) (spots_between (number x) (length w.queue))) floor
-      ∙ ap (λ x. find (is_target (shape_of h r) p cycle) (spots_between (floor_number v) (length x))) queue
+  target_same r p cycle v w floor queue = search (rules, find, is_target, shape_of, spots_between, number, length, floor_number)
 
   module _ (P : ℕ → Type 0) where
     target_is : (k l : Known) → Alike P k l → ((r : ℕ) → (l.ring r).queue ≡ (k.ring r).queue) → (change : Change) → TargetIs h k l change

@@ -16,8 +16,5 @@ held_twice (Some l) None c x y = absurd x
 pub held_more_same : (k : Known) → HeldMore k k
 held_more_same k = record { rest = refl; rings = λ r. record { rest = refl; held = held_same (k.ring r).held } }
 
-ring_twice : (u v w : RingView) → RingHeldMore u v → RingHeldMore v w → RingHeldMore u w
-ring_twice u v w x y = search (rules, held_twice)
-
 pub held_more_twice : (k l m : Known) → HeldMore k l → HeldMore l m → HeldMore k m
-held_more_twice k l m x y = search (rules, ring_twice)
+held_more_twice k l m x y = search (rules, held_twice)

@@ -9,12 +9,9 @@ record SameButHeld (v x : RingView) : Type 0 where
   given : x.given ≡ v.given
   floor : x.floor ≡ v.floor
 
-same_but_held : (v x : RingView) → RingHeldMore v x → SameButHeld v x
-same_but_held v x more = subst (λ y. SameButHeld v y) more.rest (record { queue = refl; given = refl; floor = refl })
-
 module _ (h : Header) (k m : Known) (more : HeldMore k m) where
   ring_more : (r : ℕ) → SameButHeld (k.ring r) (m.ring r)
-  ring_more r = same_but_held (k.ring r) (m.ring r) (more.rings r)
+  ring_more r = subst (λ y. SameButHeld (k.ring r) y) (more.rings r).rest (record { queue = refl; given = refl; floor = refl })
 
   goes_on : KnownGoesOn h k m
   goes_on = search (rules, held_goes_on)

@@ -22,9 +22,7 @@ none_before (Some y) s x e at = absurd (none-some e at)
 
 takes_is : (k : Known) (c : Command) (e : ℕ × ℕ) → taken_device k c ≡ Some e → TakesDevice k e.0 e.1 c
 unfolding taken_device
-takes_is k (AddressDevice s bsr n) e at =
-    let is = none_before (k.device s) s (device_named k s) e at in
-    record { bsr = bsr; context = n; command = ap (λ t. AddressDevice t bsr n) is.1; fresh = ap k.device (sym is.1) ∙ is.0; named = ap (device_named k) (sym is.1) ∙ is.2 }
+takes_is k (AddressDevice s bsr n) e at = search (rules, none_before, k.device, device_named, none-some)
 takes_is k _ e at = absurd (none-some e at)
 
 given_some : (k : Known) (o : Option Command) (e : ℕ × ℕ) → option_and_then (taken_device k) o ≡ Some e → (c : Command) × (o ≡ Some c) × (taken_device k c ≡ Some e)
@@ -71,9 +69,8 @@ module _ (h : Header) where
   soiled_by : (k : Known) (a w x : ℕ) (o : Option (ℕ × ℕ)) → ((e : ℕ × ℕ) → o ≡ Some e → is_in x e.1 (device_context_bytes h.context_size) ≡ false) → k.soiled x ≡ false →
       (with_device h (with_word h k a w) o).soiled x ≡ false
   unfolding with_device with_word
-  soiled_by k a w x None apart clean = and_left (k.soiled x) (not (x == a)) clean
-  soiled_by k a w x (Some e) apart clean =
-      or_from (is_in x e.1 (device_context_bytes h.context_size)) (k.soiled x && not (x == a)) (apart e refl) (and_left (k.soiled x) (not (x == a)) clean)
+  soiled_by k a w x None apart clean = search (rules, and_left, k.soiled, not, or_from, is_in, device_context_bytes)
+  soiled_by k a w x (Some e) apart clean = search (rules, and_left, k.soiled, not, or_from, is_in, e.1, device_context_bytes)
 
   clean_written : (k : Known) (a w x : ℕ) → ((e : ℕ × ℕ) → option_and_then (taken_device k) (command_given h k a w) ≡ Some e → is_in x e.1 (device_context_bytes h.context_size) ≡ false) →
       k.soiled x ≡ false → (learned h k (Write a w)).soiled x ≡ false

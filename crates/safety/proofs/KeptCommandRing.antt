@@ -1,4 +1,5 @@
 -- What CRCR and ERSTSZ say is kept by each row
+use Rattle.std.proofs.Common.{rules}
 use Rattle.safety.proofs.Words.{◌≡◌, ◌<◌, ◌==◌, ◌||◌, ◌∙◌, ℕ, not, true, false, Option, None, Some, is_some, is_none, arith, refl, sym, ap, inl, inr, eqb-true, or_parts, not-false, false≢true, same_Some, Block, kind, Shape, address_of, Header, Ring, Register, Crcr, Erstsz, Sub, Write, Reg, Bell, Read, IsHeader, is_command_kind, ring_with, shape_of, command_ring, command_id, event_ring, event_size, with_register, base_address, ring_cycle_state, command_stop, command_abort, Known, learned, is_no_first_block, is_bad_crcr, is_bad_register, IsDriverRing, CommandRingNamed, KeptByRows, lenient, Row, []}
 use Rattle.safety.proofs.Headers.{shape_is, command_found, command_named, event_ring_size}
 use Rattle.safety.proofs.RingIds.{found_again, together}
@@ -24,11 +25,8 @@ module _ (h : Header) where
     first_block : (v : ℕ) (o : Option Ring) → command_ring h ≡ o → is_no_first_block v o ≡ false → (IsDriverRing h (command_id h)) × (base_address v ≡ address_of (shape_of h (command_id h)) 0)
     unfolding is_no_first_block
     first_block v None at first = absurd (false≢true (sym first))
-    first_block v (Some c) at first = (
-      command_driver c at,
-      eqb-true (base_address v) (address_of c.shape 0) (not-false (base_address v == address_of c.shape 0) first)
-          ∙ ap (λ (s : Shape). address_of s 0) (sym (shape_is h (command_id h) c (command_with c at))),
-    )
+    first_block v (Some c) at first =
+        search (rules, false≢true, command_driver, eqb-true, base_address, address_of, c.shape, not-false, shape_is, command_id, command_with)
 
     named_by : (v : ℕ) → is_bad_crcr h v ≡ false → CommandRingNamed h v
     unfolding is_bad_crcr

@@ -109,20 +109,16 @@ module _ (h : Header) where
   -- ---- a doorbell
 
   opened_view : (k : Known) → ViewOfCommands (k.ring (command_id h)) → ViewOfCommands ((on_ring h k (command_id h) Opens).ring (command_id h))
-  opened_view k keeps =
-      subst ViewOfCommands (sym (ring_here h k (command_id h) Opens)) (record { commands = keeps.commands; alone = keeps.alone; held = inl refl })
+  opened_view k keeps = search (rules, ring_here, command_id)
 
   endpoint_view : IsHeader h → (k : Known) → EndpointsKeep h k → (s t : ℕ) (o : Option ℕ) → k.ring_of s t ≡ o → (endpoint_rung h k s t o).ring (command_id h) ≡ k.ring (command_id h)
   unfolding endpoint_rung
   endpoint_view is k keeps s t None at = refl
-  endpoint_view is k keeps s t (Some r) at =
-      ring_elsewhere h k r (command_id h) Opens (λ same. command_not_transfer h is (keeps.transfer s t (command_id h) (at ∙ ap (λ n. Some n) (sym same))))
+  endpoint_view is k keeps s t (Some r) at = search (rules, ring_elsewhere, command_id, command_not_transfer, keeps.transfer)
 
   rung_view : IsHeader h → (k : Known) → EndpointsKeep h k → (s t : ℕ) → ViewOfCommands (k.ring (command_id h)) → ViewOfCommands ((learned h k (Bell s t)).ring (command_id h))
   unfolding learned rung
-  rung_view is k keeps s t view =
-      cond_both (s == 0) (on_ring h k (command_id h) Opens) (endpoint_rung h k s t (k.ring_of s t)) (λ l. ViewOfCommands (l.ring (command_id h)))
-      (λ _. opened_view k view) (λ _. subst ViewOfCommands (sym (endpoint_view is k keeps s t (k.ring_of s t) refl)) view)
+  rung_view is k keeps s t view = search (rules, on_ring, command_id, endpoint_rung, k.ring_of, opened_view, endpoint_view)
 
   -- ---- an event
 
@@ -134,16 +130,13 @@ module _ (h : Header) where
       (completed h k b).ring (command_id h) ≡ changed (shape_of h (command_id h)) (k.ring (command_id h)) (Reaches (after (shape_of h (command_id h)) (next_command h k)))
   unfolding completed
   completed_view is k keeps b =
-      let l : Known = finished h k b (command_at h k (next_command h k)) in
-      let t = after (shape_of h (command_id h)) (next_command h k) in
-      ring_here h l (command_id h) (Reaches t) ∙ ap (λ v. changed (shape_of h (command_id h)) v (Reaches t)) (finish_elsewhere h is k b (command_at h k (next_command h k)) keeps)
+      search (rules, finished, command_at, next_command, after, shape_of, command_id, ring_here, changed, finish_elsewhere)
 
   held_after : IsHeader h → (k : Known) → EndpointsKeep h k → (b : Block) (t : BlockKind) → ViewOfCommands (k.ring (command_id h)) →
       (is_command_completion t ≡ true → (k.ring (command_id h)).held ≡ None) → ViewOfCommands ((event_read h k t b).ring (command_id h))
   unfolding event_read
-  held_after is k keeps b kinds.TransferEvent view opened = subst ViewOfCommands (sym (transfer_command h is k keeps b)) view
-  held_after is k keeps b kinds.CommandCompletion view opened =
-      subst ViewOfCommands (sym (completed_view is k keeps b)) (record { commands = view.commands; alone = view.alone; held = inl (opened refl) })
+  held_after is k keeps b kinds.TransferEvent view opened = search (rules, transfer_command, completed_view)
+  held_after is k keeps b kinds.CommandCompletion view opened = search (rules, transfer_command, completed_view)
   held_after is k keeps b _ view opened = view
 
   read_view : (k : Known) (b : Block) → (learned h k (Read b)).ring ≡ (event_read h k (kind b) b).ring

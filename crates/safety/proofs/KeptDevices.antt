@@ -41,8 +41,7 @@ module _ (h : Header) where
   kind_devices is k b _ d on possible = d.devices
 
   reads_devices : (k : Known) (n : ℕ) → DevicesKeep h k → DevicesKeep h (with_reads k n)
-  reads_devices k n keeps =
-      devices_same h k (with_reads k n) (record { memory = refl; soiled = refl; dcbaap = refl; erstba = refl; fewer = λ t c at. at }) keeps
+  reads_devices k n keeps = search (rules, devices_same, with_reads)
 
   -- ---- any row
 

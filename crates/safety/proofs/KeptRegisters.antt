@@ -13,13 +13,9 @@ some_is None e = absurd (false≢true (sym e))
 some_is (Some x) e = refl
 
 module _ (h : Header) where
-  run_register : (k : Known) (x : ℕ) → (run_or_stop k x).register ≡ k.register
-  unfolding run_or_stop
-  run_register k x = search rules
-
   registered_by : (k : Known) (r : Register) (v : ℕ) → (register_written h k r v).register ≡ with_register k.register r v
-  unfolding register_written valued
-  registered_by k Usbcmd v = run_register (valued k Usbcmd v) v
+  unfolding register_written valued run_or_stop
+  registered_by k Usbcmd v = search rules
   registered_by k r v = refl
 
   -- the last value of each register
@@ -39,12 +35,8 @@ module _ (h : Header) where
 
   starts_by : (k : Known) (r : Register) (v : ℕ) → (register_written h k r v).started ≡ true → (k.started ≡ true) ⊎ Starts k r v
   unfolding register_written valued
-  starts_by k Usbcmd v on =
-      elim (run_starts (valued k Usbcmd v) v on) [
-        | inl started ↦ inl started
-        | inr starts ↦ inr (record { before = starts.0; register = refl; runs = starts.1 })
-      ]
-  starts_by k r v on = inl on
+  starts_by k Usbcmd v on = search (rules, run_starts, valued)
+  starts_by k r v on = search (rules, run_starts, valued)
 
   pub register_starts : (k : Known) (r : Register) (v : ℕ) → (learned h k (Reg r v)).started ≡ true → (k.started ≡ true) ⊎ Starts k r v
   unfolding learned

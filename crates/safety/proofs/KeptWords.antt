@@ -2,10 +2,6 @@
 -- stands gives nothing
 use Rattle.safety.proofs.Words.{◌≡◌, ◌%◌, ◌+◌, ◌-◌, ◌<◌, ◌≤◌, ◌==◌, ◌&&◌, ◌||◌, ◌∙◌, ℕ, not, Bool, true, false, nat_lt, arith, lt-ltb, eq-eqb, eqb-true, refl, sym, ap, subst, inl, inr, rules, none_passes_at, unrestored_position, crossing_due_is, kept_cycle, fun_ext, and_from, cases_Bool, not-false, false_from_ne_true, ceiling, floor_number, flips_passed, unrestored, crossed_link, due_is, false≢true, put, put_here, put_elsewhere, Shape, IsShape, address_of, cycle_of, link_address, overlap, RingView, Writes, changed, is_due, is_crossing_due, gives, gives_crossing, gives_is, gives_crossing_is, leased_position, leased_crossing, RingKeeps, MayWrite}
 
--- the control word of a block has a byte in common with it
-control_touches : (a b : ℕ) → a ≡ b + 12 → overlap a 4 b 16 ≡ true
-control_touches a b at = and_from (nat_lt a (b + 16)) (nat_lt b (a + 4)) (lt-ltb a (b + 16) (omega arith)) (lt-ltb b (a + 4) (omega arith))
-
 -- what is written to the control word of a given block, or of a given Link, has the Cycle bit with which it was given; of a block that is
 -- free only where the controller may have passed it
 pub record KeepsCycles (shape : Shape) (v : RingView) (a w : ℕ) : Type 0 where
@@ -27,7 +23,7 @@ passed_bit shape v a w p keeps due below free at =
 
 -- the word isn't under lease
 pub free_keeps_cycles : (shape : Shape) (memory : ℕ → ℕ) (v : RingView) (a w : ℕ) → MayWrite shape memory v a w → KeepsCycles shape v a w
-free_keeps_cycles shape memory v a w may = search (rules, passed_bit, leased_position, false≢true, control_touches, leased_crossing)
+free_keeps_cycles shape memory v a w may = search (rules, passed_bit, leased_position, false≢true, and_from, nat_lt, lt-ltb, leased_crossing)
 
 -- ---- the word is written as it stands
 
@@ -37,10 +33,7 @@ put_same memory a w same = search (rules, put_here, put_elsewhere)
 module _ (shape : Shape) (memory : ℕ → ℕ) (v : RingView) (k : RingKeeps shape memory v) (a w : ℕ) (same : memory a ≡ w) where
   -- what is given shows its cycle, also where it is free and may be passed
   shown_cycle : IsShape shape → (p : ℕ) → floor_number v ≤ p → v.given p ≡ true → (v.free p ≡ true → p < ceiling shape v) → memory (address_of shape p + 12) % 2 ≡ cycle_of shape p
-  shown_cycle is p low given below = elim (cases_Bool (v.free p)) [
-    | inl free ↦ k.free_shows p low (below free) free
-    | inr kept ↦ kept_cycle shape is memory v k p low given kept
-  ]
+  shown_cycle is p low given below = search (rules, v.free, k.free_shows, kept_cycle)
 
   pub same_keeps_cycles : IsShape shape → KeepsCycles shape v a w
   same_keeps_cycles is =
@@ -57,10 +50,7 @@ module _ (shape : Shape) (memory : ℕ → ℕ) (v : RingView) (k : RingKeeps sh
   or_given false false none = refl
 
   given_same : (p : ℕ) → (v.given p || gives shape v.floor p a w) ≡ v.given p
-  given_same p =
-      or_given (v.given p) (gives shape v.floor p a w) (λ fresh now.
-      let g = gives_is shape v.floor p a w now in
-      k.not_yet p g.due fresh (ap (λ x. x % 2) (ap memory (sym g.at) ∙ same) ∙ g.cycle))
+  given_same p = search (rules, or_given, v.given, gives, v.floor, gives_is, k.not_yet)
 
   crossed_same : (q : ℕ) → (v.crossed q || gives_crossing shape v.floor q a w) ≡ v.crossed q
   crossed_same q =

@@ -36,12 +36,9 @@ module _ (h : Header) (k m : Known) (ring : m.ring (command_id h) ≡ k.ring (co
   seen_same (StopEndpoint s i) = ap (λ f. f s i) stop_seen
   seen_same _ = refl
 
-  taken_same : (u : UnderWay) → TakenCommand h k u → TakenCommand h m u
-  taken_same u t = search (rules, next_same, slice_get, command_same, seen_same)
-
   pub under_way_same : (t : Spot) (o : Option UnderWay) → UnderWayMatches h k t o → UnderWayMatches h m t o
   under_way_same t None under = (under.0 ∙ sym next_same, λ s i. ap (λ f. f s i) stop_seen ∙ under.1 s i)
-  under_way_same t (Some u) under = (under.0 ∙ ap (λ n. n + 1) (sym next_same), taken_same u under.1)
+  under_way_same t (Some u) under = (under.0 ∙ ap (λ n. n + 1) (sym next_same), search (rules, next_same, slice_get, command_same, seen_same))
 
   pub unfinished_same : (p : ℕ) (c : Command) → IsUnfinished h m p c → IsUnfinished h k p c
   unfinished_same p c u = search (rules, command_same)

@@ -197,11 +197,8 @@ module _ (h : Header) (is : IsHeader h) (k : Known) (unread : List Block) (w : W
     here : x.number ≡ next_command h k
     here = none_before.0
 
-    pointer_here : w.pointer_of (command_id h) ≡ address_of (shape_of h (command_id h)) x.number
-    pointer_here = (subst (λ t. RingMatches (shape_of h (command_id h)) (k.ring (command_id h)) (state_of w (command_id h)) t) x.was c.ring).pointer
-
     taken_command : TakenCommand h k (record { address = w.pointer_of (command_id h); block = seen w (command_id h); has_stopped = false })
-    taken_command = search (rules, seen, pointer_here, here, same_Some, slice_get, ring, not_seen, none_before)
+    taken_command = search (rules, seen, shape_of, command_id, state_of, c, here, same_Some, slice_get, ring, not_seen, none_before)
 
     -- it is unfinished, so what its giving asked for still holds
     floor : AtFloor h k

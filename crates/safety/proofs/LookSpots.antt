@@ -1,4 +1,5 @@
 -- A look at a ring of a rule-keeping driver: what it finds, and where the pointer stands behind it
+use Rattle.std.proofs.Common.{rules}
 use Rattle.safety.proofs.Words.{◌≡◌, ◌+◌, ◌-◌, ◌%◌, ◌^◌, ◌≤◌, if◌then◌else◌, ◌∷◌, ◌∙◌, ℕ, true, false, arith, refl, sym, ap, subst, inl, inr, cases_Bool, false≢true, mod-eq_of_lt, is_set, aligned, block_at, cycle, kind, pointer, word, is_link, kind-with_cycle, Spot, Data, Link, address_of, cycle_of, link_address, after, spot_address, declared_at, ceiling, cycle_of_bit, next_is_spot, spot_address-after, Header, IsHeader, shape_of, World, Took, next_take, Known, IsDriverRing, DriverKeeps, Stands, RingMatches, state_of}
 use Rattle.safety.proofs.Headers.{ring_shape}
 use Rattle.safety.proofs.AtSpots.{Takeable, Crossable, takeable, crossable, waits_at_block, waits_at_link}
@@ -79,8 +80,7 @@ module _ (h : Header) (is : IsHeader h) (k : Known) (w : World) (d : DriverKeeps
 
   declared_same : (q : ℕ) → next_take (shape_of h r) (w.events r) ≡ q →
       declared_at (w.queue r) (w.lengths r) (next_take (shape_of h r) (w.events r)) ≡ declared_at (k.ring r).queue (k.ring r).lengths q
-  declared_same q at = ap (λ x. declared_at x (w.lengths r) (next_take (shape_of h r) (w.events r))) (s.queues r)
-      ∙ ap (λ x. declared_at (k.ring r).queue x (next_take (shape_of h r) (w.events r))) (s.lengths r) ∙ ap (λ n. declared_at (k.ring r).queue (k.ring r).lengths n) at
+  declared_same q at = search (rules, declared_at, w.lengths, next_take, shape_of, w.events, s.queues, k.ring, s.lengths)
 
   pub take_done : (t : Spot) → RingMatches (shape_of h r) (k.ring r) (state_of w r) t → w.is_active r ≡ true → cycle (seen w r) ≡ w.cycle_state r → is_link (kind (seen w r)) ≡ false → TakeDone t
   take_done (Link q) m on same block = absurd (false≢true (sym block ∙ link_is q m (found_link q m same)))

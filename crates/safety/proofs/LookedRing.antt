@@ -45,13 +45,7 @@ pub number_after : (shape : Shape) (p : ℕ) → number (after shape p) ≡ p + 
 number_after shape p = search (rules, cond-true, cond-false)
 
 way_after : (shape : Shape) (v : RingView) (p q : ℕ) → after shape p ≡ Data q → is_way_given shape v q ≡ true
-way_after shape v p q e =
-    elim (cases_Bool (is_crossing shape (p + 1))) [
-      | inl link ↦ absurd (link_not_data (p + 1) q (sym (cond-true (is_crossing shape (p + 1)) (Link (p + 1)) (Data (p + 1)) link) ∙ e))
-      | inr none ↦
-          let at = same_number (p + 1) q (sym (cond-false (is_crossing shape (p + 1)) (Link (p + 1)) (Data (p + 1)) none) ∙ e) in
-          ap (λ x. is_way_given shape v x) (sym at) ∙ way_without shape v (p + 1) none
-    ]
+way_after shape v p q e = search (rules, is_crossing, link_not_data, cond-true, same_number, cond-false, is_way_given, way_without)
 
 placed_begins : (shape : Shape) (v : RingView) (n : ℕ) (events : List RingEvent) → Newest shape v n events → was_placed events ≡ true → is_border v.lengths 0 n ≡ true
 unfolding was_placed
@@ -70,19 +64,15 @@ right_place false d begins = refl
 order_kept : (shape : Shape) (a : ℕ) (b : Block) (d : Option DeclaredBlock) (older : List RingEvent) → is_right_place (was_placed older) d ≡ true →
     address_of shape (next_take shape older) ≡ a → is_out_of_order shape older ≡ false → is_out_of_order shape (Took a b d ∷ older) ≡ false
 unfolding is_out_of_order
-order_kept shape a b d older right here rest =
-    or_from _ _ (or_from _ _ (not_from_true (is_right_place (was_placed older) d) right)
-    (not_from_true (address_of shape (next_take shape older) == a) (eq-eqb (address_of shape (next_take shape older)) a here))) rest
+order_kept shape a b d older right here rest = search (rules, or_from, not_from_true, is_right_place, was_placed, address_of, next_take, eq-eqb)
 
 pub words_itself : (b : Block) → same_words b b ≡ true
-words_itself b =
-    and_from _ _ (and_from _ _ (and_from _ _ (eq-eqb (word b 0) (word b 0) refl) (eq-eqb (word b 1) (word b 1) refl)) (eq-eqb (word b 2) (word b 2) refl)) (eq-eqb (word b 3) (word b 3) refl)
+words_itself b = search (rules, and_from, eq-eqb, word)
 
 words_kept : (shape : Shape) (a : ℕ) (b : Block) (d : DeclaredBlock) (older : List RingEvent) → b ≡ with_cycle d.block (cycle_of shape (next_take shape older)) →
     has_other_words shape older ≡ false → has_other_words shape (Took a b (Some d) ∷ older) ≡ false
 unfolding has_other_words is_as_declared
-words_kept shape a b d older is rest =
-    or_from _ _ (not_from_true (same_words b (with_cycle d.block (cycle_of shape (next_take shape older)))) (ap (λ x. same_words b x) (sym is) ∙ words_itself b)) rest
+words_kept shape a b d older is rest = search (rules, or_from, not_from_true, same_words, with_cycle, d.block, cycle_of, next_take, words_itself)
 
 drop_more : (n : ℕ) (xs : List ℕ) (y : ℕ) → n ≤ length xs → drop n (xs ++ y ∷ []) ≡ drop n xs ++ y ∷ []
 drop_more zero xs y h = refl

@@ -64,7 +64,7 @@ pub use Rattle.safety.proofs.StatesPlaced.{IsBound, IsMoved, IsPlaced, MayPlace,
 pub use Rattle.safety.proofs.Stored.{Late, late_stored, memory_stored, unchanged_stored}
 pub use Rattle.safety.proofs.TestsPassed.{AllFail, any_of_map, clean_tests, each_fails, tests_fail}
 pub use Rattle.safety.proofs.TransferFrames.{LeavesSlots, event_ring_of, transfer_command, transfer_slots}
-pub use Rattle.safety.proofs.Transfers.{chain, spot_is}
+pub use Rattle.safety.proofs.Transfers.{by_code, chain, spot_is}
 pub use Rattle.safety.proofs.UnfinishedLists.{in_filter_map, in_left, in_range, in_right, unfinished_fails}
 pub use Rattle.safety.proofs.UntouchedStays.{EndpointStays, untouched_stays}
 pub use Rattle.safety.proofs.WithReads.{matches_with_reads, stands_with_reads, with_reads}

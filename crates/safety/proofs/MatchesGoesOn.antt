@@ -17,12 +17,9 @@ module _ (h : Header) (k m : Known) (floor : (m.ring (command_id h)).floor ≡ (
   abbrev pub NextStays : Type 0
   NextStays = slice_get (m.ring (command_id h)).queue (next_command h k) ≡ slice_get (k.ring (command_id h)).queue (next_command h k)
 
-  command_same : NextStays → command_at h m (next_command h k) ≡ command_at h k (next_command h k)
-  unfolding command_at
-  command_same stays = ap (λ o. option_and_then command_of o) stays
-
   taken_on : (u : UnderWay) → NextStays → TakenCommand h k u → TakenCommand h m u
-  taken_on u stays t = search (rules, next_same, slice_get, command_same, seen_same)
+  unfolding command_at
+  taken_on u stays t = search (rules, next_same, slice_get, option_and_then, command_of, seen_same)
 
   pub under_way_on : (t : Spot) (o : Option UnderWay) → ((u : UnderWay) → o ≡ Some u → NextStays) → UnderWayMatches h k t o → UnderWayMatches h m t o
   under_way_on t None stays under = (under.0 ∙ sym next_same, λ s i. ap (λ f. f s i) stop_seen ∙ under.1 s i)
@@ -54,14 +51,8 @@ same_controller w = record { slot_state = refl; endpoint_state = refl; ring_of =
 
 module _ (h : Header) (k m : Known) (w v : World) (g : KnownGoesOn h k m) (c : SameController w v) where
   endpoint_ring : (r : ℕ) → EndpointRing h k w r → EndpointRing h m v r
-  endpoint_ring r (inl bound) =
-      inl (subst (λ f. BoundRing (shape_of h r) f (m.ring r) (state_of v r) r) (sym g.ring_of)
-      (subst (λ s. BoundRing (shape_of h r) k.ring_of (m.ring r) s r) (sym (c.states r))
-      (bound_on (shape_of h r) (k.ring r) (m.ring r) (g.rings r) (state_of w r) k.ring_of r bound)))
-  endpoint_ring r (inr free) =
-      let on = g.rings r in
-      inr (subst (λ f. FreeRing (shape_of h r) f (m.ring r) (state_of v r) r) (sym g.ring_of) (subst (λ s. FreeRing (shape_of h r) k.ring_of (m.ring r) s r) (sym (c.states r))
-      (record { none = free.none; rests = free.rests; from = let floor = ap number on.floor in omega (arith, free.from); to = omega (arith, free.to, on.ceiling) })))
+  endpoint_ring r (inl bound) = search (rules, shape_of, m.ring, state_of, k.ring_of, c.states, bound_on, k.ring, g.rings, number)
+  endpoint_ring r (inr free) = search (rules, shape_of, m.ring, state_of, k.ring_of, c.states, bound_on, k.ring, g.rings, number)
 
   command_matches : ((u : UnderWay) → w.under_way ≡ Some u → NextStays h k m (g.rings (command_id h)).floor g.stop_seen) → CommandMatches h k w → CommandMatches h m v
   command_matches next y = record {

@@ -49,18 +49,11 @@ record IsTarget (shape : Shape) (address : ℕ) (cycle : Bool) (t : Spot) : Type
 
 target_is : (shape : Shape) (address : ℕ) (cycle : Bool) (t : Spot) → is_target shape address cycle t ≡ true → IsTarget shape address cycle t
 unfolding is_target
-target_is shape address cycle t is =
-    let parts = and_parts (is_spot shape t && spot_address shape t == address) (spot_cycle shape t == (if cycle then 1 else 0)) is in
-    let first = and_parts (is_spot shape t) (spot_address shape t == address) parts.0 in
-    record { spot = first.0; at = eqb-true (spot_address shape t) address first.1; cycle_is = eqb-true (spot_cycle shape t) (if cycle then 1 else 0) parts.1 }
+target_is shape address cycle t is = search (rules, and_parts, is_spot, spot_address, spot_cycle, eqb-true)
 
 -- the way to a block up to which all is given is given
 way_reached : (shape : Shape) (v : RingView) (t : Spot) → IsSpot shape t → floor_number v ≤ number t → is_reached shape v t ≡ true → (q : ℕ) → t ≡ Data q → is_way_given shape v q ≡ true
-way_reached shape v t is later reached q e =
-    elim (cases_Bool (is_spot shape (Link q))) [
-      | inl crossing ↦ let at : rank t ≡ 2 * q + 1 = ap rank e in way_crossed shape v q ((move_reached shape v t is later reached).passed_links q crossing (omega arith))
-      | inr none ↦ way_without shape v q none
-    ]
+way_reached shape v t is later reached q e = search (rules, is_spot, rank, way_crossed, move_reached, way_without)
 
 module _ (shape : Shape) (is : IsShape shape) (memory : ℕ → ℕ) (v : RingView) (k : RingKeeps shape memory v) where
   -- two spots at one address from the floor's number up to what is declared are one

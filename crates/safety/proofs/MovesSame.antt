@@ -5,9 +5,7 @@ use Rattle.safety.proofs.SameDriver.{SameGiven}
 
 module _ (shape : Shape) (v w : RingView) (same : SameGiven v w) where
   move_same : (p : ℕ) (cycle : Bool) (least most low high : ℕ) → low ≤ least → most ≤ high → is_move shape v p cycle least most ≡ true → is_move shape w p cycle low high ≡ true
-  move_same p cycle least most low high below above moves =
-      let more : GivesMore v w = record { given = λ p g. ap (λ f. f p) same.given ∙ g; crossed = λ q g. ap (λ f. f q) same.crossed ∙ g } in
-      move_more shape v w more (λ q border. ap (λ xs. is_border xs 0 q) same.lengths ∙ border) p cycle least most low high below above moves
+  move_same p cycle least most low high below above moves = search (rules, move_more, is_border)
 
   declared_same : declared w ≡ declared v
   declared_same = ap (λ q. length q) same.queue
@@ -18,9 +16,7 @@ module _ (shape : Shape) (v w : RingView) (same : SameGiven v w) where
 
   -- the ring is held where it was
   pub ahead_held : (m : ℕ) → v.held ≡ Some m → w.held ≡ Some m → MovesAhead shape v w
-  ahead_held m at still p cycle moves =
-      move_same p cycle (ceiling shape v) (declared v) (ceiling shape w) (declared w) (omega (arith, ceiling_held shape v m at, ceiling_held shape w m still))
-      (omega (arith, declared_same)) moves
+  ahead_held m at still p cycle moves = search (rules, move_same, ceiling, declared, ceiling_held, declared_same)
 
 module _ (h : Header) (k l : Known) where
   -- the same commands are unfinished where the command ring shows the same of them

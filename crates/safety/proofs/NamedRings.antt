@@ -18,14 +18,11 @@ id_is None r at = absurd (none-some r at)
 id_is (Some q) r at = (q, refl, same_Some q.id r at)
 
 module _ (h : Header) (is : IsHeader h) where
-  having_found : (p r : ℕ) → ring_having h p ≡ Some r → (q : Ring) × (find (λ r. is_transfer_kind r.shape.kind && is_inside r.shape p) h.rings ≡ Some q) × (q.id ≡ r)
-  unfolding ring_having
-  having_found p r at = id_is (find (λ r. is_transfer_kind r.shape.kind && is_inside r.shape p) h.rings) r at
-
   -- a transfer ring that has an address inside is the one that is found by it
   pub having_is : (p r q : ℕ) → IsTransferRing h r → is_inside (shape_of h r) p ≡ true → ring_having h p ≡ Some q → q ≡ r
+  unfolding ring_having
   having_is p r q transfer inside at =
-      let found = having_found p q at in
+      let found = id_is (find (λ q. is_transfer_kind q.shape.kind && is_inside q.shape p) h.rings) q at in
       let there = found_in (λ x. is_transfer_kind x.shape.kind && is_inside x.shape p) h.rings found.0 found.1 in
       let has : is_inside found.0.shape p ≡ true = (and_parts (is_transfer_kind found.0.shape.kind) (is_inside found.0.shape p) there.1).1 in
       let mine = found_in (λ x. x.id == r) h.rings transfer.ring transfer.found in

@@ -19,13 +19,9 @@ module _ (h : Header) where
   device_free k None r = refl
   device_free k (Some e) r = refl
 
-  word_free : (k : Known) (a w : ℕ) → SameFree k (with_word h k a w)
-  unfolding with_word
-  word_free k a w r = refl
-
   written_free : (k : Known) (a w : ℕ) → SameFree k (written h k a w)
-  unfolding written
-  written_free k a w r = device_free (with_word h k a w) (option_and_then (taken_device k) (command_given h k a w)) r ∙ word_free k a w r
+  unfolding written with_word
+  written_free k a w r = device_free (with_word h k a w) (option_and_then (taken_device k) (command_given h k a w)) r ∙ refl
 
   run_free : (k : Known) (x : ℕ) → SameFree k (run_or_stop k x)
   unfolding run_or_stop
@@ -43,9 +39,7 @@ module _ (h : Header) where
 
   rung_free : (k : Known) (s t : ℕ) → SameFree k (rung h k s t)
   unfolding rung
-  rung_free k s t =
-      cond_both (s == 0) (on_ring h k (command_id h) Opens) (endpoint_rung h k s t (k.ring_of s t)) (SameFree k)
-      (λ _. opened_free k (command_id h)) (λ _. endpoint_free k s t (k.ring_of s t))
+  rung_free k s t = search (rules, on_ring, command_id, endpoint_rung, k.ring_of, opened_free, endpoint_free)
 
   -- what is free stays so, and nothing more is
   pub free_same : (k : Known) (row : Row) → SameFree k (learned h k row)
@@ -63,9 +57,8 @@ module _ (h : Header) where
 
   -- where nothing is free each row restores what it has to
   pub restoring_where_restored : IsHeader h → (k : Known) (row : Row) → EndpointsKeep h k → AreRestored h k → IsRestoring h k row
-  restoring_where_restored is k (Write a w) endpoints restored =
-      (λ r driver. no_flips (shape_of h r) (k.ring r) a w (restored r driver), λ c given s i p cycle at r has. restored r (transfer_driver h r (endpoints.transfer s i r has)))
-  restoring_where_restored is k (Bell s t) endpoints restored = λ r has. restored r (transfer_driver h r (endpoints.transfer s t r has))
+  restoring_where_restored is k (Write a w) endpoints restored = search (rules, no_flips, shape_of, k.ring, transfer_driver, endpoints.transfer)
+  restoring_where_restored is k (Bell s t) endpoints restored = search (rules, no_flips, shape_of, k.ring, transfer_driver, endpoints.transfer)
   restoring_where_restored is k _ endpoints restored = tt
 
   -- so a row of a trace may come where it breaks no rule

@@ -4,17 +4,9 @@ use Rattle.safety.proofs.LowerLaws.{nothing_keeps, driver_test, from_parts}
 use Rattle.safety.proofs.EndpointHistories.{keeps_endpoints}
 
 module _ (h : Header) where
-  endpoints_at_start : IsHeader h → EndpointsKeep h nothing
-  unfolding known
-  endpoints_at_start is = keeps_endpoints h is []
-
-  command_ring_at_start : CommandRingKeeps h nothing
-  unfolding nothing
-  command_ring_at_start = search (rules, none-some, slice_get_past)
-
   states_at_start : IsHeader h → StatesKeep h nothing
-  unfolding nothing
-  states_at_start is = search (rules, none-some, false≢true, from_parts, endpoints_at_start)
+  unfolding nothing known
+  states_at_start is = search (rules, none-some, false≢true, from_parts, keeps_endpoints)
 
   unstarted_at_start : Unstarted h nothing
   unfolding nothing
@@ -23,4 +15,4 @@ module _ (h : Header) where
   -- nothing is known
   pub nothing_kept : IsHeader h → DriverKeeps h nothing
   unfolding nothing
-  nothing_kept is = search (rules, nothing_keeps, driver_test, command_ring_at_start, states_at_start, none-some, unstarted_at_start, false≢true)
+  nothing_kept is = search (rules, nothing_keeps, driver_test, slice_get_past, states_at_start, none-some, unstarted_at_start, false≢true)

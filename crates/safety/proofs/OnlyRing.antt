@@ -26,12 +26,9 @@ module _ (h : Header) (k : Known) (w v : World) (r : ℕ) (s : RingState) (o : O
   pub stands_only : Stands h k w → Stands h k v
   stands_only x = search rules
 
-  event_same : (p : ℕ) → event_at h v p ≡ event_at h w p
-  unfolding event_at
-  event_same p = ap (λ m. block_at m (address_of (event_shape h) p)) o.memory
-
   pub events_only : (unread : List Block) → EventsStand h w unread → EventsStand h v unread
-  events_only unread x = search (rules, length, event_same)
+  unfolding event_at
+  events_only unread x = search (rules, length, block_at, address_of, event_shape)
 
   pub late_only : Late w → Late v
   late_only late a = omega (arith, ap (λ f. f a) o.changed, o.steps, late a)

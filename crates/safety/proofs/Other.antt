@@ -1,4 +1,5 @@
 -- An event of the controller itself is posted: the run goes on
+use Rattle.std.proofs.Common.{rules}
 use Rattle.safety.proofs.Words.{[], ◌≡◌, ◌+◌, ◌&&◌, ◌||◌, ◌∷◌, ◌++◌, ◌∙◌, true, false, not, List, Some, sym, ap, subst, refl, false≢true, and_parts, and_left, or_right, cond_some, Block, BlockKind, IsBlock, kind, is_transfer_event, is_command_completion, is_other_event, Header, Read, IsHeader, World, can_post, posted, other_posted, counted, Known, event_read, learned, is_in_profile, is_impossible_by_kind, DriverKeeps, Agrees, Runs, all_read, BandwidthRequest, DeviceNotification, Doorbell, HostController, MfindexWrap, PortStatusChange}
 use Rattle.safety.proofs.LowerLaws.{agrees_counted, with_reads, stands_with_reads, matches_with_reads, post_keeps, learned_read, event_clean}
 use Rattle.safety.proofs.ReportSuccess.{runs_more}
@@ -21,10 +22,7 @@ says_nothing h k b _ other = absurd (false≢true other)
 
 posted_is : (h : Header) (w v : World) (b : Block) → other_posted h w b ≡ Some v → (can_post h w b ≡ true) × (is_other_event (kind b) ≡ true) × (posted h w b ≡ v)
 unfolding other_posted
-posted_is h w v b at =
-    let c = cond_some (can_post h w b && is_other_event (kind b)) (posted h w b) v at in
-    let p = and_parts (can_post h w b) (is_other_event (kind b)) c.0 in
-    (p.0, p.1, c.1)
+posted_is h w v b at = search (rules, cond_some, can_post, is_other_event, kind, posted, and_parts)
 
 module _ (h : Header) (is : IsHeader h) (k : Known) (unread : List Block) (w : World) (b : Block) (block : IsBlock b) (d : DriverKeeps h k) (g : Agrees h k unread w) (can : can_post h w b ≡ true) (other : is_other_event (kind b) ≡ true) where
   learned_same : learned h k (Read b) ≡ with_reads k (k.reads + 1)

@@ -32,9 +32,6 @@ module _ (s : ℕ) (part : Option ℕ) (B : ℕ → Type 0) where
   part_is : (i j : ℕ) → IsPart part i → j ≡ i → IsPart part j
   part_is i j mine same = subst (λ x. IsPart part x) (sym same) mine
 
-  all_part : (i : ℕ) → part ≡ None → IsPart part i
-  all_part i whole = subst (λ o. IsPart o i) (sym whole) tt
-
   module _ (h : Header) where
     -- a ring of which B holds
     pub on_others : (k : Known) → Within k → (r : ℕ) (change : RingChange) → B r → OtherSlots k (on_ring h k r change) s part B
@@ -106,7 +103,7 @@ module _ (s : ℕ) (part : Option ℕ) (B : ℕ → Type 0) where
 
     disables : (c : Command) (k : Known) (which : ℕ → Bool) → Within k → part ≡ None → OtherSlots k (changed_by h c k (Disables s which)) s part B
     unfolding changed_by disabled
-    disables c k which within whole = search (rules, cond-false, and_left, ne_eqb, all_part, cond_both, none-some)
+    disables c k which within whole = search (rules, cond-false, and_left, ne_eqb, cond_both, none-some)
 
     places : (c : Command) (k : Known) (i p : ℕ) (cycle : Bool) (state : EndpointState) → Within k → IsPart part i →
         (is_off (k.endpoint_state s i) ≡ true → (r : ℕ) → ring_having h p ≡ Some r → B r) → OtherSlots k (changed_by h c k (Places s i p cycle state)) s part B

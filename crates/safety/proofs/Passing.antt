@@ -1,14 +1,12 @@
 -- What is free of a ring, and how far the controller may pass it, from one change to the next
+use Rattle.std.proofs.Common.{rules}
 use Rattle.safety.proofs.Words.{◌≡◌, ◌<◌, ◌∙◌, ℕ, true, Option, None, Some, arith, sym, ap, false≢true, floor_number, ceiling, ceiling_held, ceiling_within, IsRestored, IsShownTo, Shape, IsShape, RingView, RingKeeps, PassesNoMore}
 
 pub passes_same : (shape : Shape) (v : RingView) → PassesNoMore shape v v
 passes_same shape v p free = (free, λ below. below)
 
 pub passes_both : (shape : Shape) (u v w : RingView) → PassesNoMore shape u v → PassesNoMore shape v w → PassesNoMore shape u w
-passes_both shape u v w first second p free =
-    let later = second p free in
-    let earlier = first p later.0 in
-    (earlier.0, λ below. earlier.1 (later.1 below))
+passes_both shape u v w first second p free = search rules
 
 -- nothing is free
 pub passes_restored : (shape : Shape) (v w : RingView) → IsRestored w → PassesNoMore shape v w
@@ -16,9 +14,7 @@ passes_restored shape v w none p free = absurd (false≢true (sym (none p) ∙ f
 
 -- the ring is held at a number below which what is free shows its cycle
 pub passes_at : (shape : Shape) (v w : RingView) (n : ℕ) → w.free ≡ v.free → w.held ≡ Some n → IsShownTo shape v n → PassesNoMore shape v w
-passes_at shape v w n same at shown p free =
-    let before : v.free p ≡ true = ap (λ f. f p) (sym same) ∙ free in
-    (before, λ below. shown p before (omega (arith, below, ceiling_held shape w n at)))
+passes_at shape v w n same at shown p free = search (rules, v.free, true, ceiling_held)
 
 -- the ring is held where it was, or open
 pub passes_held : (shape : Shape) (memory : ℕ → ℕ) (v w : RingView) → RingKeeps shape memory v → w.free ≡ v.free → w.held ≡ v.held → PassesNoMore shape v w

@@ -1,4 +1,5 @@
 -- A command's success places the ring of an endpoint, in the world as in what is known
+use Rattle.std.proofs.Common.{rules}
 use Rattle.safety.proofs.Words.{◌≡◌, ◌≢◌, ◌<◌, ◌≤◌, if◌then◌else◌, ◌∙◌, ℕ, Bool, true, false, Some, None, arith, refl, sym, ap, subst, inl, inr, none-some, same_Some, Spot, IsSpot, spot_address, spot_cycle, IsShape, declared, floor_number, ceiling, is_move, is_placement, ceiling_within, floor_given, given_count_declared, RingKeeps, place_count_pos, rank_least, rank_most, Command, EndpointState, Places, is_off, Header, IsHeader, shape_of, command_id, ring_having, World, Known, IsTransferRing, state_of, RingMatches, BoundRing, FreeRing, changed_by}
 use Rattle.controller_model.specs.Bindings as bindings
 use Rattle.safety.proofs.Headers.{ring_shape, transfer_driver, transfer_not_command}
@@ -48,17 +49,13 @@ bound_spot h is k s i p cycle b =
 
 module _ (h : Header) (is : IsHeader h) (c : Command) (k : Known) (w v : World) (s i p : ℕ) (cycle : Bool) (state : EndpointState) (y : StatesMatch h k w)
     (numbered : (0 < s) × (s < 256) × (0 < i) × (i < 32)) (at : bindings.changed_by h c w (Places s i p cycle state) ≡ Some v) where
-  possible : bindings.placed_on w s i p cycle state (ring_having h p) ≡ Some v
-  unfolding bindings.changed_by
-  possible = at
-
   x : IsPlaced w v s i p cycle state (ring_having h p)
-  x = placed_is w v s i p cycle state (ring_having h p) possible
+  unfolding bindings.changed_by
+  x = placed_is w v s i p cycle state (ring_having h p) at
 
   -- with the ring by its ID
   world_is : (r : ℕ) → x.ring ≡ r → placed_world w s i r p cycle state (rest_active w (w.ring_of s i)) ≡ v
-  world_is r same =
-      sym (placed_world_is w s i r p cycle state (w.ring_of s i) refl) ∙ ap (λ n. bindings.placed w s i n p cycle state) (sym same) ∙ x.is
+  world_is r same = search (rules, placed_world_is, w.ring_of, x)
 
   module _ (r : ℕ) (same : x.ring ≡ r) (allowed : IsShape (shape_of h r)) (t : Spot) (is_spot : IsSpot (shape_of h r) t) (not_command : r ≢ command_id h) (had : (q : ℕ) → k.ring_of s i ≡ Some q → q ≡ r)
       (only : (z j : ℕ) → k.ring_of z j ≡ Some r → (z ≡ s) × (j ≡ i)) (l : Known) (to : PlacedTo k l s i r t state)

@@ -12,25 +12,16 @@ in_place h k s i state must = record (in_state h k s i state) { must_move = must
 module _ (h : Header) (k : Known) (s i r : ℕ) (t : Spot) where
   set_here : (set_to h k r t).ring r ≡ set_view (k.ring r) t
   unfolding set_to on_ring
-  set_here =
-      let first : RingView = record (k.ring r) { floor = t } in
-      put_at (put k.ring r first) r (record (put k.ring r first r) { held = Some (number t) })
-      ∙ ap (λ (v : RingView). let x : RingView = record v { held = Some (number t) } in x) (put_at k.ring r first)
+  set_here = search (rules, k.ring, put_at, put, number)
 
   set_elsewhere : (q : ℕ) → q ≢ r → (set_to h k r t).ring q ≡ k.ring q
   unfolding set_to on_ring
-  set_elsewhere q other =
-      let first : RingView = record (k.ring r) { floor = t } in
-      put_off (put k.ring r first) r (record (put k.ring r first r) { held = Some (number t) }) q other ∙ put_off k.ring r first q other
-
-  -- the pair has the ring already
-  had_still : k.ring_of s i ≡ Some r → (x j : ℕ) → k.ring_of x j ≡ put_pair k.ring_of s i (Some r) x j
-  had_still had x j = search (rules, and_parts, eqb-true, cond-true, cond-false)
+  set_elsewhere q other = search (rules, k.ring, put_off, put, number)
 
   -- its ring is moved
   moved_placed : (state : EndpointState) (must : ℕ → ℕ → Bool) → k.ring_of s i ≡ Some r → PlacedTo k (in_place h (set_to h k r t) s i state must) s i r t state
   unfolding set_to on_ring in_state
-  moved_placed state must had = search (rules, set_here, set_elsewhere, had_still)
+  moved_placed state must had = search (rules, set_here, set_elsewhere, and_parts, eqb-true, cond-true, cond-false)
 
   -- a ring is bound
   abbrev bound : Known
@@ -42,8 +33,7 @@ module _ (h : Header) (k : Known) (s i r : ℕ) (t : Spot) where
 
   bound_is : (p : ℕ) (cycle : Bool) → target (shape_of h r) (k.ring r) p cycle ≡ Some t → bound_to h k s i (Some r) p cycle ≡ bound
   unfolding bound_to moved moved_to
-  bound_is p cycle named =
-      ap (λ (o : Option Spot). let m : Known = record (moved_to h k r o) { ring_of = put_pair k.ring_of s i (Some r); was_bound = put k.was_bound r true } in m) named
+  bound_is p cycle named = search (rules, moved_to, put_pair, k.ring_of, put, k.was_bound, true)
 
 module _ (h : Header) (c : Command) (k : Known) (s i p : ℕ) (cycle : Bool) (state : EndpointState) where
   places_is : changed_by h c k (Places s i p cycle state) ≡ in_place h (pointed h k s i p cycle) s i state (put_pair k.must_move s i false)
@@ -52,9 +42,7 @@ module _ (h : Header) (c : Command) (k : Known) (s i p : ℕ) (cycle : Bool) (st
 
   moved_is : (r : ℕ) (t : Spot) → is_off (k.endpoint_state s i) ≡ false → k.ring_of s i ≡ Some r → target (shape_of h r) (k.ring r) p cycle ≡ Some t → pointed h k s i p cycle ≡ set_to h k r t
   unfolding pointed moved moved_to
-  moved_is r t on had named =
-      cond-false (is_off (k.endpoint_state s i)) (bound_to h k s i (ring_having h p) p cycle) (moved h k (k.ring_of s i) p cycle) on
-      ∙ ap (λ o. moved h k o p cycle) had ∙ ap (λ o. moved_to h k r o) named
+  moved_is r t on had named = search (rules, cond-false, is_off, k.endpoint_state, bound_to, ring_having, moved, k.ring_of, moved_to)
 
   pub binds_placed : IsHeader h → (r : ℕ) (t : Spot) → is_off (k.endpoint_state s i) ≡ true → ring_having h p ≡ Some r → target (shape_of h r) (k.ring r) p cycle ≡ Some t →
       PlacedTo k (changed_by h c k (Places s i p cycle state)) s i r t state

@@ -14,10 +14,8 @@ placed_state s a c = record { pointer = a; cycle = c; active = false; events = P
 
 place_at_spot : (shape : Shape) (t : Spot) → IsSpot shape t → is_place shape (spot_address shape t) (number t) ≡ true
 unfolding is_place
-place_at_spot shape (Data q) is = or_left (address_of shape q == address_of shape q) (is_crossing shape q && link_address shape q == address_of shape q) (eq-eqb (address_of shape q) (address_of shape q) refl)
-place_at_spot shape (Link q) is =
-    or_right (address_of shape q == link_address shape q) (is_crossing shape q && link_address shape q == link_address shape q)
-    (and_from (is_crossing shape q) (link_address shape q == link_address shape q) is (eq-eqb (link_address shape q) (link_address shape q) refl))
+place_at_spot shape (Data q) is = search (rules, or_left, address_of, is_crossing, link_address, eq-eqb, or_right, and_from)
+place_at_spot shape (Link q) is = search (rules, or_left, address_of, is_crossing, link_address, eq-eqb, or_right, and_from)
 
 module _ (shape : Shape) (is : IsShape shape) (t : Spot) (is_spot : IsSpot shape t) where
   no_place_before : (p : ℕ) → p < number t → number t < p + place_count shape → is_place shape (spot_address shape t) p ≡ true → ⊥
@@ -56,10 +54,6 @@ module _ (shape : Shape) (is : IsShape shape) (t : Spot) (is_spot : IsSpot shape
   unfolding has_other_words
   words_placed a events = refl
 
-  takes_placed : (a : ℕ) (events : List RingEvent) → takes_of (Placed a ∷ events) ≡ takes_of events
-  unfolding takes_of
-  takes_placed a events = refl
-
   way_still : (v : RingView) (q : ℕ) → is_way_given shape (set_view v t) q ≡ is_way_given shape v q
   unfolding is_way_given
   way_still v q = refl
@@ -73,4 +67,5 @@ module _ (shape : Shape) (is : IsShape shape) (t : Spot) (is_spot : IsSpot shape
 
   -- nothing is left to be reported
   pub placed_unreported : (v : RingView) (s : RingState) (a c : ℕ) → Unreported shape (set_view v t) (placed_state s a c) t
-  placed_unreported v s a c = search (rules, takes_placed, drop_all, length, map)
+  unfolding takes_of
+  placed_unreported v s a c = search (rules, drop_all, length, map)

@@ -1,4 +1,5 @@
 -- Where more is declared of rings, an unfinished command places endpoints at the same targets
+use Rattle.std.proofs.Common.{rules}
 use Rattle.safety.proofs.Words.{[], ◌≡◌, ◌≤◌, ◌==◌, ◌&&◌, if◌then◌else◌, ◌∷◌, ◌∙◌, ℕ, not, Bool, true, false, List, map, All, Some, arith, refl, sym, ap, eq-eqb, subst, get_or, ◌≢◌, false≢true, or_parts, not-false, All-head, All-tail, declared, floor_number, ceiling, target, is_move, given_count_declared, floor_given, ceiling_within, Command, NoOp, DisableSlot, AddressDevice, ConfigureEndpoint, EvaluateContext, SetTrDequeue, ResetDevice, EndpointState, Off, Running, is_off, is_at_rest, Change, SlotGoesOn, Disables, changes, placed_by_context, added_endpoints, is_dropped, context_pointer, context_cycle, Header, IsHeader, shape_of, ring_having, Known, disabled, changed_by, is_bad_dequeue, is_bad_move, IsDriverRing, DriverKeeps, StillHolds, RingView, binds, has_repeats, is_placement, binding_in, is_among, same_Some, list_any, ring_bound, is_ring, put_pair}
 use Rattle.safety.proofs.LowerLaws.{ring_shape, transfer_driver, each_fails, any_of_map, transfer_ring, rings_of, having_transfer, Ready, ReadyAt, BoundThere, ring_at, at_rest_on, address_ready, all_ready, ready_next, placed_there, map_map, target_still}
 use Rattle.safety.proofs.AlikeChanges.{TargetsAre}
@@ -109,8 +110,7 @@ module _ (h : Header) where
 
     rest_on : (s i p : ℕ) (cycle : Bool) → is_bad_move h k (SetTrDequeue s i p cycle) ≡ false → is_off (k.endpoint_state s i) ≡ true → ⊥
     unfolding is_bad_move
-    rest_on s i p cycle good off =
-        at_rest_on (k.endpoint_state s i) (not-false (is_at_rest (k.endpoint_state s i)) (or_parts (not (is_at_rest (k.endpoint_state s i))) (is_bad_dequeue h k (k.ring_of s i) p cycle) good).0) off
+    rest_on s i p cycle good off = search (rules, at_rest_on, k.endpoint_state, not-false, is_at_rest, or_parts, not, is_bad_dequeue, k.ring_of)
 
     -- of any command of which holds still what was tested
     pub placed_targets : (n : ℕ) (c : Command) → StillHolds h k c → TargetsAre h c k l (changes h.context_size k.memory n c)

@@ -1,4 +1,5 @@
 -- An endpoint whose ring is placed at an address: what changes in the world
+use Rattle.std.proofs.Common.{rules}
 use Rattle.safety.proofs.Words.{◌≡◌, ◌≢◌, if◌then◌else◌, ◌∷◌, ◌∙◌, ℕ, Bool, false, List, length, Option, Some, None, refl, ap, inl, inr, none-some, same_Some, put, put_pair, EndpointState, World, RingEvent, Placed, takes_of, is_had_by_another, inactive, placed, placed_on, RingState, state_of}
 use Rattle.safety.proofs.LookKinds.{cond_is, put_at, put_off}
 use Rattle.safety.proofs.PlacedRing.{placed_state}
@@ -13,11 +14,7 @@ pub record IsPlaced (w v : World) (s i a : ℕ) (c : Bool) (state : EndpointStat
 pub placed_is : (w v : World) (s i a : ℕ) (c : Bool) (state : EndpointState) (o : Option ℕ) → placed_on w s i a c state o ≡ Some v → IsPlaced w v s i a c state o
 unfolding placed_on
 placed_is w v s i a c state None at = absurd (none-some v at)
-placed_is w v s i a c state (Some r) at =
-    elim (cond_is (is_had_by_another w s i r) None (Some (placed w s i r a c state)) (Some v) at) [
-      | inl had ↦ absurd (none-some v had.1)
-      | inr free ↦ record { ring = r; found = refl; unshared = free.0; is = same_Some (placed w s i r a c state) v free.1 }
-    ]
+placed_is w v s i a c state (Some r) at = search (rules, none-some, cond_is, is_had_by_another, placed, same_Some)
 
 -- which rings are active once the endpoint's isn't
 abbrev pub rest_active : World → Option ℕ → ℕ → Bool
@@ -64,14 +61,10 @@ same_state p q c d a b e f m n x y z u v = cc
 
 module _ (w : World) (s i r a : ℕ) (c : Bool) (state : EndpointState) (active : ℕ → Bool) where
   pub placed_here : state_of (placed_world w s i r a c state active) r ≡ placed_state (state_of w r) a (if c then 1 else 0)
-  placed_here =
-      same_state _ _ _ _ _ _ _ _ _ _ (put_at w.pointer_of r a) (put_at w.cycle_state r (if c then 1 else 0)) (put_at active r false)
-      (put_at w.events r (Placed a ∷ w.events r)) (put_at w.reported r (length (takes_of (w.events r))))
+  placed_here = search (rules, same_state, put_at, w.pointer_of, w.cycle_state, false, w.events, w.reported, length, takes_of)
 
   pub placed_elsewhere : (q : ℕ) → q ≢ r → active q ≡ w.is_active q → state_of (placed_world w s i r a c state active) q ≡ state_of w q
-  placed_elsewhere q other still =
-      same_state _ _ _ _ _ _ _ _ _ _ (put_off w.pointer_of r a q other) (put_off w.cycle_state r (if c then 1 else 0) q other) (put_off active r false q other ∙ still)
-      (put_off w.events r (Placed a ∷ w.events r) q other) (put_off w.reported r (length (takes_of (w.events r))) q other)
+  placed_elsewhere q other still = search (rules, same_state, put_off, w.pointer_of, w.cycle_state, false, w.events, w.reported, length, takes_of)
 
 -- the endpoint had no ring, or this one: no other ring's activity changes
 pub rest_still : (w : World) (o : Option ℕ) (r q : ℕ) → ((p : ℕ) → o ≡ Some p → p ≡ r) → q ≢ r → rest_active w o q ≡ w.is_active q

@@ -35,18 +35,7 @@ module _ (h : Header) (k l : Known) (w : World) (s i r a : ℕ) (c : Bool) (stat
   -- the ring that is placed
   this_ring : RingMatches (shape_of h r) (set_view (k.ring r) t) (placed_state (state_of w r) a (if c then 1 else 0)) t →
       Unreported (shape_of h r) (set_view (k.ring r) t) (placed_state (state_of w r) a (if c then 1 else 0)) t → BoundRing (shape_of h r) l.ring_of (l.ring r) (state_of v r) r
-  this_ring m u =
-      let here : state_of v r ≡ placed_state (state_of w r) a (if c then 1 else 0) = placed_here w s i r a c state active in
-      record {
-        slot = s;
-        index = i;
-        bound = x.ring_of s i ∙ put_pair_same k.ring_of s i (Some r);
-        spot = t;
-        matches = subst (λ z. RingMatches (shape_of h r) z (state_of v r) t) (sym x.here)
-            (subst (λ z. RingMatches (shape_of h r) (set_view (k.ring r) t) z t) (sym here) m);
-        takes = subst (λ z. Unreported (shape_of h r) z (state_of v r) t) (sym x.here)
-            (subst (λ z. Unreported (shape_of h r) (set_view (k.ring r) t) z t) (sym here) u);
-      }
+  this_ring m u = search (rules, state_of, placed_state, placed_here, x.ring_of, put_pair_same, k.ring_of, shape_of, set_view, k.ring)
 
   -- whose an endpoint's ring is: the one placed, or the one it had
   whose : (y j q : ℕ) → l.ring_of y j ≡ Some q → ((y ≡ s) × (j ≡ i) × (q ≡ r)) ⊎ (k.ring_of y j ≡ Some q)
@@ -67,14 +56,11 @@ module _ (h : Header) (k l : Known) (w : World) (s i r a : ℕ) (c : Bool) (stat
             ]
       ]
 
-  queue_still : (q : ℕ) → (l.ring q).queue ≡ (k.ring q).queue
-  queue_still q = search rules
-
   lengths_still : (q : ℕ) → (l.ring q).lengths ≡ (k.ring q).lengths
   lengths_still q = search rules
 
   leaves_rest : LeavesRest h k l w v
-  leaves_rest = search (rules, v, queue_still, lengths_still, placed_elsewhere)
+  leaves_rest = search (rules, v, lengths_still, placed_elsewhere)
 
   pub placed_keeps : RingMatches (shape_of h r) (set_view (k.ring r) t) (placed_state (state_of w r) a (if c then 1 else 0)) t →
       Unreported (shape_of h r) (set_view (k.ring r) t) (placed_state (state_of w r) a (if c then 1 else 0)) t → StatesMatch h k w → ChangeKeeps h k l w v

@@ -97,16 +97,11 @@ module _ (h : Header) (is : IsHeader h) where
 
   -- ---- Address Device
 
-  -- where endpoint 1 is off
-  first_binds : (k : Known) (s n : ℕ) (bsr : Bool) → is_off (k.endpoint_state s 1) ≡ true → binds h k (AddressDevice s bsr n) ≡ binding_in h k n 1 ∷ []
-  unfolding binds
-  first_binds k s n bsr off = cond-true (is_off (k.endpoint_state s 1)) (binding_in h k n 1 ∷ []) [] off
-
   pub address_ready : (k : Known) → RingsKeep h k → (s n : ℕ) (bsr : Bool) → StillHolds h k (AddressDevice s bsr n) → is_off (k.endpoint_state s 1) ≡ true →
       Ready h k k.memory s 1 (context_pointer h.context_size k.memory n 1) (context_cycle h.context_size k.memory n 1)
-  unfolding binds_ring binding_in ring_bound drops
+  unfolding binds_ring binding_in ring_bound drops binds
   address_ready k rings s n bsr still off =
-      let one = first_binds k s n bsr off in
+      let one = cond-true (is_off (k.endpoint_state s 1)) (binding_in h k n 1 ∷ []) [] off in
       let at : Placed k (binding_in h k n 1) =
       placed_at k (binding_in h k n 1)
       (All-head (λ b. is_placed h k (ring_bound h b) b ≡ true) (binding_in h k n 1) [] (subst (λ bs. All (λ b. is_placed h k (ring_bound h b) b ≡ true) bs) one still.placed)) in
@@ -160,13 +155,9 @@ module _ (h : Header) (is : IsHeader h) where
   unfolding pointed
   pointed_is l s i p r cycle off at = search (rules, cond-true, is_off, bound_to, ring_having, moved)
 
-  set_elsewhere : (l : Known) (r q : ℕ) (t : Spot) → q ≢ r → (set_to h l r t).ring q ≡ l.ring q
-  unfolding set_to
-  set_elsewhere l r q t other = ring_elsewhere h (on_ring h l r (Reaches t)) r q (Holds (number t)) other ∙ ring_elsewhere h l r q (Reaches t) other
-
   bound_there : (c : Command) (l : Known) (s i p r : ℕ) (cycle : Bool) → BoundThere l (let m : Known = bound_to h l s i (Some r) p cycle in in_state h m s i Running) s i r
   unfolding bound_to moved moved_to in_state set_to on_ring
-  bound_there c l s i p r cycle = search (rules, set_elsewhere)
+  bound_there c l s i p r cycle = search (rules, ring_elsewhere, on_ring, number)
 
   pub placed_there : (c : Command) (l : Known) (s i p r : ℕ) (cycle : Bool) → is_off (l.endpoint_state s i) ≡ true → ring_having h p ≡ Some r → BoundThere l (changed_by h c l (Places s i p cycle Running)) s i r
   unfolding changed_by
@@ -210,14 +201,6 @@ module _ (h : Header) (is : IsHeader h) where
   abbrev pub dropped : Command → Known → ℕ → ℕ → Known
   dropped c k s a = changed_by h c (changed_by h c k (SlotGoesOn s)) (Disables s (is_dropped k.memory a))
 
-  dropped_state : (c : Command) (k : Known) (s a i : ℕ) → (dropped c k s a).endpoint_state s i ≡ (if s == s && is_dropped k.memory a i then Off else k.endpoint_state s i)
-  unfolding changed_by disabled
-  dropped_state c k s a i = refl
-
-  dropped_ring : (c : Command) (k : Known) (s a t j : ℕ) → (dropped c k s a).ring_of t j ≡ (if t == s && is_dropped k.memory a j then None else k.ring_of t j)
-  unfolding changed_by disabled
-  dropped_ring c k s a t j = refl
-
   dropped_rings : (c : Command) (k : Known) (s a : ℕ) → (dropped c k s a).ring ≡ k.ring
   unfolding changed_by disabled
   dropped_rings c k s a = refl
@@ -230,12 +213,12 @@ module _ (h : Header) (is : IsHeader h) where
   -- no endpoint has a ring that the command binds, once those that it drops have none
   none_left : (k : Known) (s a r : ℕ) → StillHolds h k (ConfigureEndpoint s false a) → binds_ring h k r (ConfigureEndpoint s false a) ≡ true → (t j : ℕ) →
       (dropped (ConfigureEndpoint s false a) k s a).ring_of t j ≢ Some r
-  unfolding drops
-  none_left k s a r still bound t j has = search (rules, dropped, none-some, cond-true, dropped_ring, cond-false, false≢true)
+  unfolding drops changed_by disabled
+  none_left k s a r still bound t j has = search (rules, dropped, none-some, cond-true, cond-false, false≢true)
 
   pub all_ready : (k : Known) → RingsKeep h k → (s a : ℕ) → StillHolds h k (ConfigureEndpoint s false a) →
       All (ReadyAt (dropped (ConfigureEndpoint s false a) k s a) k.memory s a) (added_endpoints k.memory a)
-  unfolding binds_ring binds binding_in ring_bound
+  unfolding binds_ring binds binding_in ring_bound changed_by disabled
   all_ready k rings s a still x d inside =
       let c : Command = ConfigureEndpoint s false a in
       let added : List ℕ = added_endpoints k.memory a in
@@ -247,7 +230,7 @@ module _ (h : Header) (is : IsHeader h) where
       let bound : binds_ring h k there.ring c ≡ true =
       any_of_map (λ b. is_ring there.ring (ring_bound h b)) (binding_in h k a) added
       ∙ list_any_at (λ j. is_ring there.ring (ring_at k.memory a j)) added x d inside (ap (is_ring there.ring) there.named ∙ eq-eqb there.ring there.ring refl) in
-      search (rules, is_off, dropped_state, off_then, is_dropped, none_left, shape_of, dropped_rings, having_driver, context_pointer, is_placement, context_cycle)
+      search (rules, is_off, off_then, is_dropped, none_left, shape_of, dropped_rings, having_driver, context_pointer, is_placement, context_cycle)
 
   configures : (k : Known) → RingsKeep h k → (s a : ℕ) → StillHolds h k (ConfigureEndpoint s false a) →
       MayChangeAll h (ConfigureEndpoint s false a) (dropped (ConfigureEndpoint s false a) k s a) (map (placed_by_context h.context_size k.memory s a) (added_endpoints k.memory a))

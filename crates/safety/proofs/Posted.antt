@@ -72,9 +72,7 @@ module _ (h : Header) (k : Known) (unread : List Block) (w : World) (b : Block) 
 
   stands_posted : Stands h k (posted h w b)
   unfolding posted
-  stands_posted =
-      let s = stands_block h e k d w w.posted b g.stands in
-      record { started = s.started; stopped = s.stopped; registers = s.registers; queues = s.queues; lengths = s.lengths; dequeue = s.dequeue; quiet = s.quiet }
+  stands_posted = search (rules, stands_block, w.posted, g.stands)
 
   late_posted : Late (posted h w b)
   unfolding posted

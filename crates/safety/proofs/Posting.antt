@@ -1,4 +1,5 @@
 -- An event that is posted: it lies behind the unread ones, and nothing else that the driver or the controller did changes
+use Rattle.std.proofs.Common.{rules}
 use Rattle.safety.proofs.Words.{[], ◌≡◌, ◌≢◌, ◌+◌, ◌%◌, ◌<◌, ◌==◌, ◌&&◌, ◌∷◌, ◌∙◌, ℕ, true, List, length, nat_lt, slice_index, arith, refl, sym, ap, inr, add-zero, ltb-true, eqb-true, and_parts, Block, IsBlock, block_at, cycle, word, place_count, address_of, cycle_of, is_inside, address_aligned, place_count_pos, same_in_lap, same_place_of, address_inside, touches-word, has_room, Header, event_shape, event_size, input_context_bytes, World, stored, stored_block, can_post, Known, DriverKeeps, Stands, touches_events, Matches}
 use Rattle.safety.proofs.Headers.{EventRing}
 use Rattle.safety.proofs.Stored.{Late, IsInNoContext, late_stored, matches_stored, stands_stored, memory_stored, memory_here}
@@ -23,14 +24,7 @@ block_elsewhere w a x b apart =
 
 pub block_here : (w : World) (a : ℕ) (b : Block) → IsBlock b → block_at (stored_block w a b).memory a ≡ b
 unfolding stored_block
-block_here w a b is =
-    ap (λ l. let r : Block = record { w = l } in r)
-    (same_word_list _ _ _ _ (word b 0) (word b 1) (word b 2) (word b 3)
-    (memory_stored _ (a + 12) (word b 3) a (omega arith) ∙ memory_stored _ (a + 8) (word b 2) a (omega arith) ∙ memory_stored _ (a + 4) (word b 1) a (omega arith) ∙ memory_here w a (word b 0))
-    (memory_stored _ (a + 12) (word b 3) (a + 4) (omega arith) ∙ memory_stored _ (a + 8) (word b 2) (a + 4) (omega arith) ∙ memory_here _ (a + 4) (word b 1))
-    (memory_stored _ (a + 12) (word b 3) (a + 8) (omega arith) ∙ memory_here _ (a + 8) (word b 2))
-    (memory_here _ (a + 12) (word b 3))
-    ∙ four_of b.w is.0)
+block_here w a b is = search (rules, same_word_list, word, memory_stored, memory_here, four_of, b.w)
 
 -- ---- where it may be posted
 
@@ -43,10 +37,7 @@ pub record CanPost (h : Header) (w : World) (b : Block) : Type 0 where
 pub can_post_is : (h : Header) (w : World) (b : Block) → can_post h w b ≡ true → CanPost h w b
 unfolding can_post
 can_post_is h w b can =
-    let p = and_parts (nat_lt 0 (event_size h) && w.started && has_room (event_size h) w.posted w.dequeue) (cycle b == cycle_of (event_shape h) w.posted) can in
-    let q = and_parts (nat_lt 0 (event_size h) && w.started) (has_room (event_size h) w.posted w.dequeue) p.0 in
-    let r = and_parts (nat_lt 0 (event_size h)) w.started q.0 in
-    record { size = ltb-true 0 (event_size h) r.0; started = r.1; room = q.1; cycle_is = eqb-true (cycle b) (cycle_of (event_shape h) w.posted) p.1 }
+    search (rules, and_parts, nat_lt, event_size, has_room, w.posted, cycle, cycle_of, event_shape, w.started, ltb-true, eqb-true)
 
 pub size_is : (h : Header) → event_size h ≡ place_count (event_shape h)
 unfolding event_size
@@ -67,10 +58,7 @@ module _ (h : Header) (e : EventRing h) where
 
   -- two positions less than a lap apart have no byte in common
   pub places_apart : (p q i j : ℕ) → p < q → q < p + place_count (event_shape h) → i < 16 → j < 16 → address_of (event_shape h) p + i ≢ address_of (event_shape h) q + j
-  places_apart p q i j less near hi hj same =
-      let place = same_place_of (event_shape h) e.is p q (omega arith) (omega arith) in
-      let one : p ≡ q = same_in_lap (place_count (event_shape h)) p q (place_count_pos (event_shape h) e.is) (omega arith) near place in
-      omega arith
+  places_apart p q i j less near hi hj same = search (rules, same_place_of, event_shape, e.is, same_in_lap, place_count, place_count_pos)
 
   module _ (k : Known) (d : DriverKeeps h k) (w : World) (p : ℕ) (b : Block) where
     pub stands_block : Stands h k w → Stands h k (stored_block w (address_of (event_shape h) p) b)
@@ -84,9 +72,7 @@ module _ (h : Header) (e : EventRing h) where
 
     pub late_block : Late w → Late (stored_block w (address_of (event_shape h) p) b)
     unfolding stored_block
-    late_block late =
-        let a : ℕ = address_of (event_shape h) p in
-        late_stored h _ (a + 12) (word b 3) (late_stored h _ (a + 8) (word b 2) (late_stored h _ (a + 4) (word b 1) (late_stored h w a (word b 0) late)))
+    late_block late = search (rules, address_of, event_shape, late_stored, word)
 
     pub matches_block : Late w → Matches h k w → Matches h k (stored_block w (address_of (event_shape h) p) b)
     unfolding stored_block

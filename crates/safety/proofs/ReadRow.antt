@@ -15,10 +15,7 @@ module _ (h : Header) where
   read_is : (w v : World) (e : Block) → driver.event_read h w e ≡ Some v →
       (w.reads < w.posted) × (same_words (event_at h w w.reads) e ≡ true) × ((let x : World = record w { reads = w.reads + 1 } in x) ≡ v)
   unfolding driver.event_read
-  read_is w v e at =
-      let c = cond_some (nat_lt w.reads w.posted && same_words (event_at h w w.reads) e) (record w { reads = w.reads + 1 }) v at in
-      let p = and_parts (nat_lt w.reads w.posted) (same_words (event_at h w w.reads) e) c.0 in
-      (ltb-true w.reads w.posted p.0, p.1, c.1)
+  read_is w v e at = search (rules, cond_some, nat_lt, w.reads, same_words, event_at, and_parts, ltb-true, w.posted)
 
   -- the one behind the first
   get_next : (u : Block) (rest : List Block) (i : ℕ) → slice_get (u ∷ rest) (i + 1) ≡ slice_get rest i
@@ -32,7 +29,6 @@ module _ (h : Header) where
   agrees_read k u rest w unread g =
       let s = g.stands in
       let e = g.events in
-      let m = g.matches in
       agrees_counted h k rest (one_read w)
       (record { started = s.started; stopped = s.stopped; registers = s.registers; queues = s.queues; lengths = s.lengths; dequeue = s.dequeue; quiet = s.quiet })
       (record {

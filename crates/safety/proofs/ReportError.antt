@@ -17,12 +17,8 @@ breaks_is : (h : Header) (u v : World) (s i r a : ℕ) (state : EndpointState) �
 unfolding report_error with_reported unreported
 breaks_is h u v s i r a state at = search (rules, cond_is, drop, and_parts, same_Some, none-some)
 
-state_ended : (p c : ℕ) (a b : Bool) (e : List RingEvent) (m n : ℕ) → a ≡ b → m ≡ n →
-    ◌≡◌ {A = RingState} (record { pointer = p; cycle = c; active = a; events = e; reported = m }) (record { pointer = p; cycle = c; active = b; events = e; reported = n })
-state_ended p c a b e m n x y = cc
-
 pub only_ended : (u : World) (r c : ℕ) → OnlyRing u (ended_ring u r c) r (record (state_of u r) { active = false; reported = c })
-only_ended u r c = search (rules, state_ended, put_at, put_off)
+only_ended u r c = search (rules, put_at, put_off)
 
 -- what is known of the ring once the event is read
 pub held_behind : (h : Header) → Known → ℕ → ℕ → Known

@@ -44,13 +44,9 @@ success_is : (h : Header) (u v : World) (c s i r a : ℕ) → is_success c ≡ t
 unfolding report_code report_success unreported
 success_is h u v c s i r a success at = search (rules, mapped, with_reported, reported, position, drop, takes_of, cond-true, is_success, option_map)
 
-state_reported : (p c : ℕ) (a : Bool) (e : List RingEvent) (m n : ℕ) → m ≡ n →
-    ◌≡◌ {A = RingState} (record { pointer = p; cycle = c; active = a; events = e; reported = m }) (record { pointer = p; cycle = c; active = a; events = e; reported = n })
-state_reported p c a e m n x = cc
-
 only_reported : (h : Header) (u : World) (r n : ℕ) → OnlyRing u (with_reported h u r n) r (record (state_of u r) { reported = n })
 unfolding with_reported
-only_reported h u r n = search (rules, state_reported, put_at, put_off)
+only_reported h u r n = search (rules, put_at, put_off)
 
 reported_under : (h : Header) (u : World) (r n : ℕ) → (with_reported h u r n).under_way ≡ u.under_way
 unfolding with_reported

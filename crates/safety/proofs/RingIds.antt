@@ -36,9 +36,6 @@ module _ (h : Header) (is : IsHeader h) where
   pub together : may_stand_together h.rings ≡ true
   together = (and_parts (list_all (λ q. nat_lt q.id 256 && is_shape q.shape) h.rings) (may_stand_together h.rings) is).1
 
-  allowed : list_all (λ q. nat_lt q.id 256 && is_shape q.shape) h.rings ≡ true
-  allowed = (and_parts (list_all (λ q. nat_lt q.id 256 && is_shape q.shape) h.rings) (may_stand_together h.rings) is).0
-
   found_transfer : (test : Ring → Bool) (o : Option Ring) (r : ℕ) → find test h.rings ≡ o → ((q : Ring) → test q ≡ true → is_transfer_kind q.shape.kind ≡ true) → id_of o ≡ Some r →
       IsTransferRing h r
   found_transfer test None r found kinds e = absurd (none-some r e)
@@ -58,7 +55,7 @@ module _ (h : Header) (is : IsHeader h) where
 
   -- no ring has the ID of none
   pub none_has_256 : (q : Ring) → ring_with h 256 ≡ Some q → ⊥
-  none_has_256 q found = search (rules, eqb-true, found_passes, ltb-true, and_parts, nat_lt, found_allowed, allowed)
+  none_has_256 q found = search (rules, eqb-true, found_passes, ltb-true, and_parts, nat_lt, found_allowed, list_all, is_shape, may_stand_together)
 
   no_ring : (o : Option Ring) → ring_with h 256 ≡ o → is_transfer_ring o ≡ true → ⊥
   no_ring None found transfer = false≢true transfer

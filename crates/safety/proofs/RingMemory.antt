@@ -2,13 +2,9 @@
 use Rattle.safety.proofs.Words.{[], ◌≡◌, ◌+◌, ◌%◌, ◌^◌, ◌<◌, ◌≤◌, ◌∷◌, ◌∙◌, ℕ, true, arith, sym, ap, add-zero, Block, block_at, Spot, Data, Link, Shape, is_inside, IsSpot, spot_address, IsShape, link_aligned, link_ends, address_aligned, address_ends, crossed_link, crosses, link_address_is, address_inside, link_address_inside, Header, IsHeader, shape_of, World, Known, IsDriverRing, DriverKeeps, Stands}
 use Rattle.safety.proofs.Headers.{ring_shape, ring_not_event}
 
-four_words : (a b c d e f g h : ℕ) → a ≡ e → b ≡ f → c ≡ g → d ≡ h →
-    ◌≡◌ {A = Block} (record { w = a ∷ b ∷ c ∷ d ∷ [] }) (record { w = e ∷ f ∷ g ∷ h ∷ [] })
-four_words a b c d e f g h p q r s = cc
-
 -- blocks of two memories with the same four words
 pub same_block_at : (m n : ℕ → ℕ) (a : ℕ) → m a ≡ n a → m (a + 4) ≡ n (a + 4) → m (a + 8) ≡ n (a + 8) → m (a + 12) ≡ n (a + 12) → block_at m a ≡ block_at n a
-same_block_at m n a p q r s = four_words (m a) (m (a + 4)) (m (a + 8)) (m (a + 12)) (n a) (n (a + 4)) (n (a + 8)) (n (a + 12)) p q r s
+same_block_at m n a p q r s = cc
 
 -- where a spot lies
 pub record SpotLies (shape : Shape) (t : Spot) : Type 0 where

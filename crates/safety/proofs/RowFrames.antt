@@ -59,18 +59,14 @@ module _ (h : Header) where
   unfolding learned on_ring
   declaration_leaves k r blocks = search (rules, view_after, same_pointer)
 
-  word_leaves : (k : Known) (a w : ℕ) → WriteLeaves k (with_word h k a w)
-  unfolding with_word
-  word_leaves k a w = search rules
-
   device_leaves : (k l : Known) (taken : Option (ℕ × ℕ)) → WriteLeaves k l → WriteLeaves k (with_device h l taken)
   unfolding with_device
   device_leaves k l None leaves = search rules
   device_leaves k l (Some e) leaves = search rules
 
   pub write_leaves : (k : Known) (a w : ℕ) → WriteLeaves k (learned h k (Write a w))
-  unfolding learned written
-  write_leaves k a w = device_leaves k (with_word h k a w) (option_and_then (taken_device k) (command_given h k a w)) (word_leaves k a w)
+  unfolding learned written with_word
+  write_leaves k a w = device_leaves k (with_word h k a w) (option_and_then (taken_device k) (command_given h k a w)) (search rules)
 
   view_by : (k : Known) (a w : ℕ) (taken : Option (ℕ × ℕ)) (r : ℕ) → (with_device h (with_word h k a w) taken).ring r ≡ changed (shape_of h r) (k.ring r) (Writes a w)
   unfolding with_device with_word
@@ -111,6 +107,4 @@ module _ (h : Header) where
 
   pub bell_leaves : (k : Known) (s t : ℕ) → BellLeaves k (learned h k (Bell s t))
   unfolding learned rung
-  bell_leaves k s t =
-      cond_both (s == 0) (on_ring h k (command_id h) Opens) (endpoint_rung h k s t (k.ring_of s t)) (BellLeaves k)
-      (λ _. open_leaves k (command_id h)) (λ _. rung_leaves k s t (k.ring_of s t))
+  bell_leaves k s t = search (rules, on_ring, command_id, endpoint_rung, k.ring_of, open_leaves, rung_leaves)

@@ -5,27 +5,18 @@ use Rattle.safety.proofs.RowRings.{endpoint_agrees, command_agrees}
 
 -- opening an open ring
 same_view : (v : RingView) (o : Option ℕ) → v.held ≡ o → ◌≡◌ {A = RingView} (record v { held = o }) v
-same_view v o same = ap (λ a. with_held v a) (sym same)
-  where
-    with_held : RingView → Option ℕ → RingView
-    with_held z a = record z { held = a }
+same_view v o same = search rules
 
 rings_same : (h : Header) (k : Known) (r : ℕ) → (k.ring r).held ≡ None → (q : ℕ) → put k.ring r (changed (shape_of h r) (k.ring r) Opens) q ≡ k.ring q
 rings_same h k r none q = search (rules, put_at, same_view, put_off)
 
 pub opens_same : (h : Header) (k : Known) (r : ℕ) → (k.ring r).held ≡ None → on_ring h k r Opens ≡ k
 unfolding on_ring
-opens_same h k r none = ap (λ f. with_rings k f) (λ i q. rings_same h k r none q i)
-  where
-    with_rings : Known → (ℕ → RingView) → Known
-    with_rings z f = record z { ring = f }
-
-not_stopped : (e : EndpointState) → e ≡ Running → is_stopped e ≡ false
-not_stopped e runs = ap is_stopped runs
+opens_same h k r none = search (rules, rings_same)
 
 rung_same : (h : Header) (k : Known) (s t r : ℕ) → (k.ring r).held ≡ None → k.endpoint_state s t ≡ Running → endpoint_rung h k s t (Some r) ≡ k
 unfolding endpoint_rung
-rung_same h k s t r none runs = search (rules, cond-false, not_stopped, opens_same)
+rung_same h k s t r none runs = search (rules, cond-false, is_stopped, opens_same)
 
 -- no doorbell changes an endpoint that has halted or failed
 record AtRest (e : EndpointState) : Type 0 where
@@ -36,9 +27,6 @@ halted_rests e is = subst (λ x. AtRest x) (sym is) (record { waits = refl })
 
 failed_rests : (e : EndpointState) → e ≡ Error → AtRest e
 failed_rests e is = subst (λ x. AtRest x) (sym is) (record { waits = refl })
-
-off_rests : (e : EndpointState) → e ≡ Off → AtRest e
-off_rests e is = subst (λ x. AtRest x) (sym is) (record { waits = refl })
 
 module _ (h : Header) (k : Known) (d : DriverKeeps h k) (s t : ℕ) where
   ring_open : (o : Option ℕ) (r : ℕ) → o ≡ Some r → is_open_if k o ≡ true → (k.ring r).held ≡ None
@@ -64,7 +52,7 @@ module _ (h : Header) (k : Known) (d : DriverKeeps h k) (s t : ℕ) where
 
   -- the endpoint may be rung, and works
   may_ring_by : (o : Option ℕ) → k.ring_of s t ≡ o → is_open_if k o ≡ true → is_bad_bell h k s t ≡ false → MayRing h k s t
-  may_ring_by None at is good = absurd (false≢true (sym (off_rests (k.endpoint_state s t) (d.states.off s t at)).waits ∙ bell_state good))
+  may_ring_by None at is good = absurd (false≢true (sym (subst (λ x. AtRest x) (sym (d.states.off s t at)) (record { waits = refl })).waits ∙ bell_state good))
   may_ring_by (Some r) at is good =
       let none = open_held (k.ring r) is in
       record { untouched = bell_untouched good; state = inl (d.states.open_runs s t r at none, λ q has. ring_open (k.ring_of s t) q has (ap (λ o. is_open_if k o) at ∙ is)) }
@@ -79,11 +67,10 @@ module _ (h : Header) (k : Known) (d : DriverKeeps h k) (s t : ℕ) where
 module _ (h : Header) (is : IsHeader h) (k : Known) (unread : List Block) (w : World) (d : DriverKeeps h k) (g : Agrees h k unread w) where
   rests : (s t : ℕ) (o : Option ℕ) → AtRest (k.endpoint_state s t) → Agrees h k unread (counted h (endpoint_bell h w s t o))
   unfolding endpoint_bell activated
-  rests s t None rest = agrees_once_counted h k unread w g
+  rests s t None rest =
+      search (rules, agrees_once_counted, counted, cond-false, is_running, w.endpoint_state, is_stopped, activated, put_pair, g.matches.endpoints)
   rests s t (Some r) rest =
-      subst (λ v. Agrees h k unread (counted h v))
-      (sym (cond-false (is_running (w.endpoint_state s t) || is_stopped (w.endpoint_state s t)) (let v : World = record (activated h w r) { endpoint_state = put_pair w.endpoint_state s t Running } in v) w
-      (ap (λ e. is_running e || is_stopped e) (g.matches.endpoints s t) ∙ rest.waits))) (agrees_once_counted h k unread w g)
+      search (rules, agrees_once_counted, counted, cond-false, is_running, w.endpoint_state, is_stopped, activated, put_pair, g.matches.endpoints)
 
   works : (s t : ℕ) (o : Option ℕ) → k.ring_of s t ≡ o → k.endpoint_state s t ≡ Running → ((r : ℕ) → k.ring_of s t ≡ Some r → (k.ring r).held ≡ None) →
       Agrees h k unread (counted h (endpoint_bell h w s t o))

@@ -22,9 +22,6 @@ pub record SameRings (k m : Known) : Type 0 where
   pub device : m.device ≡ k.device
 
 module _ (h : Header) (k m : Known) (w v : World) (s : SameRings k m) (c : SameController w v) where
-  same_goes_on : KnownGoesOn h k m
-  same_goes_on = search (rules, goes_same)
-
   same_before : (p : ℕ) (d : Command) → IsUnfinished h m p d → IsUnfinished h k p d
   unfolding command_at
   same_before p d u = search (rules, option_and_then, slice_get)
@@ -35,7 +32,7 @@ module _ (h : Header) (k m : Known) (w v : World) (s : SameRings k m) (c : SameC
 
   pub same_matches : v.changed ≡ w.changed → v.written ≡ w.written → Matches h k w → Matches h m v
   same_matches changed written y =
-      matches_go_on h k m w v same_goes_on c
+      matches_go_on h k m w v (search (rules, goes_same)) c
       (λ u at. ap (λ f. slice_get (f (command_id h)).queue (next_command h k)) s.rings)
       (λ p d u. still_unchanged changed written (address_of (shape_of h (command_id h)) p) (named_context d) (y.contexts p d (same_before p d u))) y
 
@@ -46,10 +43,7 @@ module _ (h : Header) (k : Known) (unread : List Block) (w : World) (g : Agrees 
 
   valued_matches : (r : Register) (x : ℕ) → Matches h (valued k r x) (driver.valued w r x)
   unfolding valued driver.valued
-  valued_matches r x =
-      same_matches h k (valued k r x) w (driver.valued w r x)
-      (record { rings = refl; started = refl; slot_state = refl; endpoint_state = refl; ring_of = refl; was_bound = refl; stop_seen = refl; device = refl })
-      (record { slot_state = refl; endpoint_state = refl; ring_of = refl; scribbles = refl; under_way = refl; inside = refl; states = λ q. refl }) refl refl g.matches
+  valued_matches r x = search (rules, same_matches, valued)
 
   pub valued_agrees : (r : Register) (x : ℕ) → Agrees h (valued k r x) unread (driver.valued w r x)
   unfolding valued driver.valued of_world.event_at
@@ -65,9 +59,7 @@ pub record ErdpReached (h : Header) (w : World) (a : ℕ) : Type 0 where
 
 pub event_place : (shape : Shape) (p more a : ℕ) → is_reached_within shape p more a ≡ true → is_event_place shape a ≡ true
 event_place shape p more a reached =
-    let parts = and_parts (nat_lt 0 (place_count shape)) (list_any (λ q. address_of shape q == a) (range_with_len p (more + 1))) reached in
-    let found = some_of (λ q. address_of shape q == a) (range_with_len p (more + 1)) parts.1 in
-    place_of shape found.0 a (ltb-true 0 (place_count shape) parts.0) found.2
+    search (rules, and_parts, nat_lt, place_count, list_any, address_of, range_with_len, some_of, place_of, ltb-true)
 
 module _ (h : Header) (k : Known) (unread : List Block) (w : World) (g : Agrees h k unread w) (a : ℕ) (may : ErdpReached h w a) where
   moved_known : Known
@@ -77,20 +69,11 @@ module _ (h : Header) (k : Known) (unread : List Block) (w : World) (g : Agrees 
   moved_world = record w { dequeue = position_from (event_shape h) w.dequeue a }
 
   order : AreInOrder (event_size h) (record { posted = w.posted; reads = w.reads; dequeue = position_from (event_shape h) w.dequeue a })
-  order =
-      let within = position_within (event_shape h) w.dequeue may.more a may.reached in
-      record {
-        dequeued = omega (arith, within.1, may.within);
-        read = g.events.order.read;
-        room = λ some. let room = g.events.order.room some in omega (arith, within.0);
-      }
+  order = search (rules, position_within, event_shape, w.dequeue, may.more, may.reached, g.events.order.room)
 
   moved_matches : Matches h moved_known moved_world
   unfolding moved_known moved_world
-  moved_matches =
-      same_matches h k moved_known w moved_world
-      (record { rings = refl; started = refl; slot_state = refl; endpoint_state = refl; ring_of = refl; was_bound = refl; stop_seen = refl; device = refl })
-      (record { slot_state = refl; endpoint_state = refl; ring_of = refl; scribbles = refl; under_way = refl; inside = refl; states = λ q. refl }) refl refl g.matches
+  moved_matches = search (rules, same_matches, moved_known, moved_world)
 
   moved_agrees : Agrees h moved_known unread moved_world
   unfolding moved_known moved_world of_world.event_at
@@ -98,13 +81,10 @@ module _ (h : Header) (k : Known) (unread : List Block) (w : World) (g : Agrees 
 
   pub erdp_agrees : Agrees h (record k { dequeue = position_from (event_shape h) k.dequeue a }) unread (driver.with_dequeue h w a)
   unfolding moved_known moved_world driver.with_dequeue
-  erdp_agrees =
-      subst (λ v. Agrees h moved_known unread v) (sym (cond-true (is_event_place (event_shape h) a) moved_world w (event_place (event_shape h) w.dequeue may.more a may.reached))) moved_agrees
+  erdp_agrees = search (rules, moved_known, cond-true, is_event_place, event_shape, moved_world, event_place, w.dequeue, may.more, moved_agrees)
 
 -- an address that is no event place changes nothing
 pub erdp_stays : (h : Header) (k : Known) (unread : List Block) (w : World) → Agrees h k unread w → (a : ℕ) → is_event_place (event_shape h) a ≡ false →
     Agrees h (record k { dequeue = position_from (event_shape h) k.dequeue a }) unread (driver.with_dequeue h w a)
 unfolding driver.with_dequeue
-erdp_stays h k unread w g a none =
-    subst (λ v. Agrees h (record k { dequeue = position_from (event_shape h) k.dequeue a }) unread v) (sym (cond-false (is_event_place (event_shape h) a) (record w { dequeue = position_from (event_shape h) w.dequeue a }) w none))
-    (subst (λ n. Agrees h (record k { dequeue = n }) unread w) (sym (no_place_stays (event_shape h) k.dequeue a none)) g)
+erdp_stays h k unread w g a none = search (rules, position_from, event_shape, k.dequeue, cond-false, is_event_place, w.dequeue, no_place_stays)

@@ -4,20 +4,10 @@ use Rattle.controller_model.specs.DriverRows as driver
 use Rattle.safety.proofs.LowerLaws.{register_facts, starts_written, ErdpReached, agrees_once_counted, valued_agrees, erdp_agrees, erdp_stays, ring_shape, put_at, put_off}
 use Rattle.world_state.specs.World as of_world
 
--- The start of the controller: what is known agrees with the world
-state_placed : (p q c x : ℕ) (a : Bool) (e : List RingEvent) (m : ℕ) → p ≡ q → c ≡ x →
-    ◌≡◌ {A = RingState} (record { pointer = p; cycle = c; active = a; events = e; reported = m }) (record { pointer = q; cycle = x; active = a; events = e; reported = m })
-state_placed p q c x a e m f g = cc
-
 border_first : (lengths : List ℕ) → is_border lengths 0 0 ≡ true
 unfolding is_border
 border_first [] = refl
 border_first (n ∷ rest) = refl
-
--- there is no Link before position 0
-way_first : (shape : Shape) (v : RingView) (q : ℕ) → Data 0 ≡ Data q → is_way_given shape v q ≡ true
-unfolding is_way_given
-way_first shape v q at = subst (λ n. is_way_given shape v n ≡ true) (ap (λ t. number t) at) refl
 
 newest_none : (shape : Shape) (v : RingView) (events : List RingEvent) → events ≡ [] → Newest shape v 0 events
 newest_none shape v events none = subst (λ e. Newest shape v 0 e) (sym none) (border_first v.lengths)
@@ -49,7 +39,7 @@ module _ (h : Header) (is : IsHeader h) (k : Known) (unread : List Block) (w : W
 
   others : (q : ℕ) → q ≢ command_id h → state_of v q ≡ state_of w q
   unfolding v driver.started_with
-  others q other = search (rules, state_placed, put_off, command_id, base_address, register_or_zero, ring_cycle_state)
+  others q other = search (rules, put_off, command_id, base_address, register_or_zero, ring_cycle_state)
 
   pointer : v.pointer_of (command_id h) ≡ address_of (shape_of h (command_id h)) 0
   unfolding v driver.started_with
@@ -72,7 +62,8 @@ module _ (h : Header) (is : IsHeader h) (k : Known) (unread : List Block) (w : W
   none = before.none
 
   first : RingMatches (shape_of h (command_id h)) (k.ring (command_id h)) (state_of v (command_id h)) (Data 0)
-  first = search (rules, v, pointer, cycle, way_first, false≢true, inactive, next_none, events_none, newest_none, order_none, words_none)
+  unfolding is_way_given
+  first = search (rules, v, pointer, cycle, is_way_given, true, number, false≢true, inactive, next_none, events_none, newest_none, order_none, words_none)
 
   next_zero : next_command h m ≡ 0
   unfolding next_command m
@@ -126,49 +117,24 @@ record MayStart (h : Header) (k : Known) : Type 0 where
   named : CommandRingNamed h value
 
 module _ (h : Header) (is : IsHeader h) (k : Known) (unread : List Block) (w : World) (g : Agrees h k unread w) (x : ℕ) where
-  run_agrees : (k.started ≡ false → (run_bit x && not (reset_bit x)) ≡ true → MayStart h k) → k.stopped ≡ false → (run_or_stop k x).stopped ≡ false →
-      Agrees h (run_or_stop k x) unread (driver.run_or_stop h w x)
+  abbrev run_known : Bool → Bool → Bool → Known
+  run_known s a b = if not s then if a then record k { started = true } else k else if b then record k { stopped = true } else k
+
+  abbrev run_world : Bool → Bool → Bool → World
+  run_world s a b = if not s then if a then driver.started_with h w else w else if b then record w { stopped = true } else w
+
+  -- by whether it ran, and whether the value starts or stops it
+  run_by : (s a b : Bool) → k.started ≡ s → (k.started ≡ false → a ≡ true → MayStart h k) → (run_known s a b).stopped ≡ false → Agrees h (run_known s a b) unread (run_world s a b)
+  run_by true a true at may still = absurd (false≢true (sym still))
+  run_by true a false at may still = g
+  run_by false true b at may still = let m = may at refl in start_agrees h is k unread w g at m.before m.value (g.stands.registers Crcr ∙ m.written) m.named
+  run_by false false b at may still = g
+
+  run_agrees : (k.started ≡ false → (run_bit x && not (reset_bit x)) ≡ true → MayStart h k) → (run_or_stop k x).stopped ≡ false → Agrees h (run_or_stop k x) unread (driver.run_or_stop h w x)
   unfolding run_or_stop driver.run_or_stop
-  run_agrees may on still =
-      elim (cases_Bool k.started) [
-        | inl started ↦
-            let known = cond-false (not k.started) first_known later_known (not_from_true k.started started) in
-            let world = cond-false (not w.started) first_world later_world (not_from_true w.started (g.stands.started ∙ started)) in
-            elim (cases_Bool (not (run_bit x) || reset_bit x)) [
-              | inl stops ↦ absurd (false≢true (sym still ∙ ap (λ (m : Known). m.stopped) (known ∙ cond-true (not (run_bit x) || reset_bit x) (record k { stopped = true }) k stops)))
-              | inr goes ↦
-                  subst (λ m. Agrees h m unread (if not w.started then first_world else later_world))
-                  (sym (known ∙ cond-false (not (run_bit x) || reset_bit x) (record k { stopped = true }) k goes))
-                  (subst (λ v. Agrees h k unread v) (sym (world ∙ cond-false (not (run_bit x) || reset_bit x) (record w { stopped = true }) w goes)) g)
-            ]
-        | inr waits ↦
-            let known = cond-true (not k.started) first_known later_known (not_from_false k.started waits) in
-            let world = cond-true (not w.started) first_world later_world (not_from_false w.started (g.stands.started ∙ waits)) in
-            elim (cases_Bool (run_bit x && not (reset_bit x))) [
-              | inl starts ↦
-                  let m = may waits starts in
-                  subst (λ l. Agrees h l unread (if not w.started then first_world else later_world))
-                  (sym (known ∙ cond-true (run_bit x && not (reset_bit x)) (record k { started = true }) k starts))
-                  (subst (λ v. Agrees h (record k { started = true }) unread v) (sym (world ∙ cond-true (run_bit x && not (reset_bit x)) (driver.started_with h w) w starts))
-                  (start_agrees h is k unread w g waits m.before m.value (g.stands.registers Crcr ∙ m.written) m.named))
-              | inr stays ↦
-                  subst (λ l. Agrees h l unread (if not w.started then first_world else later_world))
-                  (sym (known ∙ cond-false (run_bit x && not (reset_bit x)) (record k { started = true }) k stays))
-                  (subst (λ v. Agrees h k unread v) (sym (world ∙ cond-false (run_bit x && not (reset_bit x)) (driver.started_with h w) w stays)) g)
-            ]
-      ]
-    where
-      first_known : Known
-      first_known = if run_bit x && not (reset_bit x) then record k { started = true } else k
-
-      later_known : Known
-      later_known = if not (run_bit x) || reset_bit x then record k { stopped = true } else k
-
-      first_world : World
-      first_world = if run_bit x && not (reset_bit x) then driver.started_with h w else w
-
-      later_world : World
-      later_world = if not (run_bit x) || reset_bit x then record w { stopped = true } else w
+  run_agrees may still =
+      subst (λ s. Agrees h (run_or_stop k x) unread (run_world s (run_bit x && not (reset_bit x)) (not (run_bit x) || reset_bit x))) (sym g.stands.started)
+      (run_by k.started (run_bit x && not (reset_bit x)) (not (run_bit x) || reset_bit x) refl may still)
 
 -- where an ERDP may go, in the world as it is
 unfoldable pub MayMove : Header → World → Register → ℕ → Type 0
@@ -194,7 +160,7 @@ module _ (h : Header) (is : IsHeader h) (k : Known) (unread : List Block) (w : W
       Agrees h (register_written h k r x) unread (driver.register_row h w r x)
   unfolding register_written driver.register_row MayMove valued
   register_by Usbcmd x may good on still =
-      run_agrees h is (valued k Usbcmd x) unread (driver.valued w Usbcmd x) (valued_agrees h k unread w g Usbcmd x) x (may_start x good) on still
+      run_agrees h is (valued k Usbcmd x) unread (driver.valued w Usbcmd x) (valued_agrees h k unread w g Usbcmd x) x (may_start x good) still
   register_by Erdp x may good on still =
       elim may [
         | inl reached ↦

@@ -3,17 +3,12 @@ use Rattle.safety.proofs.Words.{[], ◌≡◌, ◌==◌, ◌&&◌, ◌||◌, if�
 use Rattle.safety.proofs.LowerLaws.{transfer_driver, transfer_not_command, ring_shape, command_is_ring, BellFacts, bell_facts, at_pair, Late, agrees_counted, stands_only, events_only, late_only, read_only, matches_command, OnlyRing, stands_learns, matches_learns, LearnsRing, known_states, world_states, stands_states, events_states, matches_states, RingGoesOn, bound_on, goes_same, opens_goes_on, KnownGoesOn, same_controller, matches_go_on, view_after, put_at, put_off}
 use Rattle.safety.proofs.StatesRung.{running_is}
 
--- A ring that is opened, and that the controller may look at
-state_active : (p c : ℕ) (a b : Bool) (e : List RingEvent) (m : ℕ) → a ≡ b →
-    ◌≡◌ {A = RingState} (record { pointer = p; cycle = c; active = a; events = e; reported = m }) (record { pointer = p; cycle = c; active = b; events = e; reported = m })
-state_active p c a b e m x = cc
-
 abbrev pub activated_ring : World → ℕ → RingState
 activated_ring w r = record (state_of w r) { active = true }
 
 pub only_activated : (h : Header) (w : World) (r : ℕ) → OnlyRing w (activated h w r) r (activated_ring w r)
 unfolding activated
-only_activated h w r = search (rules, state_active, put_at, put_off)
+only_activated h w r = search (rules, put_at, put_off)
 
 pub record ActivatedRest (w v : World) : Type 0 where
   pub under_way : v.under_way ≡ w.under_way

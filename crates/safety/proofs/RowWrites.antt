@@ -39,10 +39,6 @@ unfolding with_device
 device_kept h l None s some = some
 device_kept h l (Some e) s some = at_number (λ o. o ≢ None) l.device e.0 (Some e.1) s (λ here none. cc) (λ there. some)
 
-written_device : (h : Header) (k : Known) (a x s : ℕ) → k.device s ≢ None → (learned h k (Write a x)).device s ≢ None
-unfolding learned written with_word
-written_device h k a x s some = device_kept h (with_word h k a x) (option_and_then (taken_device k) (command_given h k a x)) s some
-
 module _ (h : Header) (is : IsHeader h) (k : Known) (unread : List Block) (w : World) (a x : ℕ) (d : DriverKeeps h k) (g : Agrees h k unread w) (clean : lenient h k (Write a x) ≡ []) where
   m : Known
   m = learned h k (Write a x)
@@ -99,8 +95,8 @@ module _ (h : Header) (is : IsHeader h) (k : Known) (unread : List Block) (w : W
   -- ---- what is known
 
   goes_on : KnownGoesOn h k m
-  unfolding m
-  goes_on = search (rules, m, write_leaves, written_device, written_rings, writes_goes_on)
+  unfolding m learned written with_word
+  goes_on = search (rules, m, write_leaves, device_kept, with_word, option_and_then, taken_device, command_given, written_rings, writes_goes_on)
 
   controller : SameController w v
   unfolding v stored
@@ -140,27 +136,11 @@ module _ (h : Header) (is : IsHeader h) (k : Known) (unread : List Block) (w : W
 
   quiet : (b : ℕ) → m.soiled b ≡ false → touches_events h b ≡ false → v.memory b ≡ m.memory b
   unfolding m v stored
-  quiet b none apart =
-      elim (cases_eq b a) [
-        | inl same ↦ ap (λ c. put w.memory a x c) same ∙ put_here w.memory a x ∙ sym (ap (λ c. put k.memory a x c) same ∙ put_here k.memory a x) ∙ sym (written_memory h k a x b)
-        | inr other ↦
-            put_elsewhere w.memory a x b other ∙ g.stands.quiet b (written_soiled h k a x b none other) apart ∙ sym (put_elsewhere k.memory a x b other) ∙ sym (written_memory h k a x b)
-      ]
+  quiet b none apart = search (rules, put, w.memory, put_here, k.memory, written_memory, put_elsewhere, g.stands.quiet, written_soiled)
 
   stands : Stands h m v
   unfolding m v stored
-  stands =
-      let s = g.stands in
-      let l : WriteLeaves k m = write_leaves h k a x in
-      record {
-        started = s.started ∙ sym l.registers.started;
-        stopped = s.stopped ∙ sym l.registers.stopped;
-        registers = λ q. s.registers q ∙ ap (λ f. f q) (sym l.registers.register);
-        queues = λ r. s.queues r ∙ sym (queue_same r);
-        lengths = λ r. s.lengths r ∙ sym (lengths_same r);
-        dequeue = s.dequeue ∙ sym l.registers.dequeue;
-        quiet = quiet;
-      }
+  stands = search (rules, g.stands, m, write_leaves, queue_same, lengths_same, quiet)
 
   read : v.posted ≡ m.reads
   unfolding m v stored

@@ -55,17 +55,11 @@ only_if w b o left = either w b o None left (nowhere w)
 module _ (h : Header) where
   taken_left : (w : World) (r : ℕ) (b : Block) → (taken h w r b).rows ≡ w.rows
   unfolding taken taken_on command_begun
-  taken_left w r b =
-      (one_of w (r == command_id h) (command_begun h (taken_on h w r b) (w.pointer_of r) b) (taken_on h w r b)
-      (kept w (command_begun h (taken_on h w r b) (w.pointer_of r) b) refl) (kept w (taken_on h w r b) refl)).same
-
-  looked_at_left : (w : World) (r : ℕ) (b : Block) → RowsLeft w (looked_at h w r b)
-  unfolding looked_at seen_by_look crossed
-  looked_at_left w r b = search (rules, to_if, either, nowhere, to, taken_left)
+  taken_left w r b = search (rules, one_of, command_id, command_begun, taken_on, w.pointer_of, kept)
 
   pub looked_left : (w : World) (r : ℕ) → RowsLeft w (looked h w r)
-  unfolding looked
-  looked_left w r = only_if w (w.is_active r) (looked_at h w r (block_at w.memory (w.pointer_of r))) (looked_at_left w r (block_at w.memory (w.pointer_of r)))
+  unfolding looked looked_at seen_by_look crossed
+  looked_left w r = only_if w (w.is_active r) (looked_at h w r (block_at w.memory (w.pointer_of r))) (search (rules, to_if, either, nowhere, to, taken_left))
 
   posted_left : (w : World) (b : Block) → (posted h w b).rows ≡ w.rows
   unfolding posted stored stored_block
@@ -74,10 +68,6 @@ module _ (h : Header) where
   pub other_left : (w : World) (b : Block) → RowsLeft w (other_posted h w b)
   unfolding other_posted
   other_left w b = only_if w (can_post h w b && is_other_event (kind b)) (Some (posted h w b)) (to w (posted h w b) (posted_left w b))
-
-  success_left : (w : World) (r a : ℕ) → RowsLeft w (report_success h w r a)
-  unfolding report_success with_reported
-  success_left w r a = over w (λ n. with_reported h w r (w.reported r + n + 1)) (position (λ b. b == a) (unreported w r)) (λ n. refl)
 
   error_left : (w : World) (s i r a : ℕ) (state : EndpointState) → RowsLeft w (report_error h w s i r a state)
   unfolding report_error with_reported
@@ -88,8 +78,8 @@ module _ (h : Header) where
   stop_left w s i r a = search (rules, either, nowhere, to_if, only_if, to)
 
   report_left : (w : World) (c s i r a : ℕ) → RowsLeft w (report_code h w c s i r a)
-  unfolding report_code
-  report_left w c s i r a = search (rules, either, success_left, error_left, only_if, stop_left)
+  unfolding report_code report_success with_reported
+  report_left w c s i r a = search (rules, either, over, with_reported, position, unreported, error_left, only_if, stop_left)
 
   reported_on_left : (w : World) (b : Block) (o : Option ℕ) → RowsLeft w (reported_on h w b o)
   unfolding reported_on
@@ -111,10 +101,8 @@ module _ (h : Header) where
 
   placed_left : (w : World) (s i a : ℕ) (cycle : Bool) (state : EndpointState) (o : Option ℕ) → RowsLeft w (bindings.placed_on w s i a cycle state o)
   unfolding bindings.placed_on bindings.placed
-  placed_left w s i a cycle state None = nowhere w
-  placed_left w s i a cycle state (Some r) =
-      either w (bindings.is_had_by_another w s i r) None (Some (bindings.placed w s i r a cycle state)) (nowhere w)
-      (to w (bindings.placed w s i r a cycle state) (inactive_left (bindings.inactive w (w.ring_of s i)) (Some r) ∙ inactive_left w (w.ring_of s i)))
+  placed_left w s i a cycle state None = search (rules, nowhere, either, to, inactive_left, w.ring_of)
+  placed_left w s i a cycle state (Some r) = search (rules, nowhere, either, to, inactive_left, w.ring_of)
 
   changed_left : (c : Command) (w : World) (change : Change) → RowsLeft w (bindings.changed_by h c w change)
   unfolding bindings.changed_by bindings.disabled bindings.in_state
@@ -165,17 +153,11 @@ module _ (h : Header) where
   bell_on_left : (w : World) (s t : ℕ) (o : Option ℕ) → (driver.endpoint_bell h w s t o).rows ≡ w.rows
   unfolding driver.endpoint_bell driver.activated
   bell_on_left w s t None = refl
-  bell_on_left w s t (Some r) =
-      let on : World = record (driver.activated h w r) { endpoint_state = put_pair w.endpoint_state s t Running } in
-      (one_of w (is_running (w.endpoint_state s t) || is_stopped (w.endpoint_state s t)) on w (kept w on refl) (kept w w refl)).same
-
-  bell_left : (w : World) (s t : ℕ) → (driver.bell_row h w s t).rows ≡ w.rows
-  unfolding driver.bell_row driver.activated
-  bell_left w s t = search (rules, one_of, kept, bell_on_left)
+  bell_on_left w s t (Some r) = search (rules, put_pair, w.endpoint_state, one_of, is_running, is_stopped, kept)
 
   pub row_left : (w : World) (row : Row) → RowsLeft w (driver.row_done h w row)
-  unfolding driver.row_done driver.declared stored driver.event_read
+  unfolding driver.row_done driver.declared stored driver.event_read driver.bell_row driver.activated
   row_left w (Reg r v) = search (rules, to, register_left)
-  row_left w (Bell s t) = search (rules, to, bell_left)
+  row_left w (Bell s t) = search (rules, to, one_of, kept, bell_on_left)
   row_left w (Read e) = search (rules, to, only_if)
   row_left w _ = search (rules, to)

@@ -16,10 +16,6 @@ use Rattle.safety.proofs.UntouchedCompletion.{touches_any}
 -- A Command Completion Event that is possible where an endpoint's ring is held and no unfinished command touches it: it is so where the
 -- ring was woken, and leaves it woken
 module _ (h : Header) (r s i : ℕ) (k l : Known) (w : Woken h r (one_of s i) k l) (d : SameDriver k l) where
-  pub untouched_list : (n : ℕ) (c : Command) → touches_endpoint h k s i c ≡ false → list_any (touches s i) (changes h.context_size k.memory n c) ≡ false
-  unfolding touches_endpoint
-  untouched_list n c apart = touches_any h.context_size k.memory n s i c ∙ apart
-
   -- the endpoint that a command names is another one
   endpoint_same : (c : Command) → touches_endpoint h k s i c ≡ false → is_some (endpoint_success c (endpoint_meant k.endpoint_state (named_endpoint c))) ≡ true →
       is_some (endpoint_success c (endpoint_meant l.endpoint_state (named_endpoint c))) ≡ true
@@ -29,19 +25,14 @@ module _ (h : Header) (r s i : ℕ) (k l : Known) (w : Woken h r (one_of s i) k 
   endpoint_same (SetTrDequeue t j p cycle) apart may = search (rules, is_some, flipped, or_parts)
   endpoint_same _ apart may = search rules
 
-  success_same : (n : ℕ) (c : Command) → touches_endpoint h k s i c ≡ false → can_succeed k.slot_state k.endpoint_state (register_or_zero k.register Config) n c ≡ true →
-      can_succeed l.slot_state l.endpoint_state (register_or_zero l.register Config) n c ≡ true
-  unfolding can_succeed
-  success_same n c apart may = search (rules, is_some, and_parts, and_from, endpoint_same)
-
   seen_same : (c : Command) → was_stop_seen l c ≡ was_stop_seen k c
   unfolding was_stop_seen
   seen_same (StopEndpoint t j) = ap (λ f. f t j) w.stop_seen
   seen_same _ = refl
 
   pub finish_same : (b : Block) (c : Command) → touches_endpoint h k s i c ≡ false → can_finish k b (Some c) ≡ true → can_finish l b (Some c) ≡ true
-  unfolding can_finish
-  finish_same b c apart may = search (rules, and_parts, and_from, cond-true, success_same, cond-false, seen_same)
+  unfolding can_finish can_succeed
+  finish_same b c apart may = search (rules, and_parts, and_from, cond-true, is_some, endpoint_same, cond-false, seen_same)
 
   stop_woken : (m n : Known) → Woken h r (one_of s i) m n → (c : Command) → Woken h r (one_of s i) (stop_ended h m c) (stop_ended h n c)
   unfolding stop_ended
@@ -51,14 +42,14 @@ module _ (h : Header) (r s i : ℕ) (k l : Known) (w : Woken h r (one_of s i) k 
   module _ (is : IsHeader h) (o : Owns h r s i k) (b : Block) (c : Command) (apart : touches_endpoint h k s i c ≡ false)
       (fits : (code b == 1) ≡ true → FitAll h c k (changes h.context_size k.memory (slot b) c)) where
     finished_woken : Woken h r (one_of s i) (finished h k b (Some c)) (finished h l b (Some c))
-    unfolding finished succeeded
+    unfolding finished succeeded touches_endpoint
     finished_woken =
         let all : List Change = changes h.context_size k.memory (slot b) c in
         let theirs : List Change = changes h.context_size l.memory (slot b) c in
         stop_woken (if code b == 1 then changed_by_all h c k all else k) (if code b == 1 then changed_by_all h c l theirs else l)
         (both_sides_if (Woken h r (one_of s i)) (code b == 1) (changed_by_all h c k all) k (changed_by_all h c l theirs) l
         (λ success. subst (λ m. Woken h r (one_of s i) (changed_by_all h c k all) (changed_by_all h c l (changes h.context_size m (slot b) c))) (sym d.memory)
-        (changes_woken h r s i is c k l w o all (untouched_list (slot b) c apart) (fits success))) (λ fails. w)) c
+        (changes_woken h r s i is c k l w o all (touches_any h.context_size k.memory (slot b) s i c ∙ apart) (fits success))) (λ fails. w)) c
 
     pub completed_woken : command_id h ≢ r → command_at h k (next_command h k) ≡ Some c → Woken h r (one_of s i) (completed h k b) (completed h l b)
     unfolding completed next_command command_at
@@ -90,9 +81,6 @@ module _ (h : Header) (k : Known) (s t r : ℕ) (has : k.ring_of s t ≡ Some r)
   driver : SameDriver k woken
   driver = rung_driver h k s t r has may
 
-  owns : Owns h r s t k
-  owns = record { keeps = endpoints_of h k d.states; stands = endpoints_part h k d.states; has = has }
-
   -- ---- a Command Completion Event
 
   module _ (b : Block) (started : k.started ≡ true) (possible : is_impossible_completion h k b ≡ false) where
@@ -114,7 +102,7 @@ module _ (h : Header) (k : Known) (s t r : ℕ) (has : k.ring_of s t ≡ Some r)
         (is_impossible_completion h woken b ≡ false) × Woken h r (one_of s t) (completed h k b) (completed h woken b)
     unfolding can_finish
     next_rung None at can = search (rules, possible_woken, completed_woken)
-    next_rung (Some c) at can = search (rules, possible_woken, awake, driver, not_command, next_apart, completed_woken, owns, next_fits)
+    next_rung (Some c) at can = search (rules, possible_woken, awake, driver, not_command, next_apart, completed_woken, endpoints_of, endpoints_part, next_fits)
 
     pub completion_rung : (is_impossible_completion h woken b ≡ false) × Woken h r (one_of s t) (completed h k b) (completed h woken b)
     completion_rung = next_rung (command_at h k (next_command h k)) refl facts.finishes

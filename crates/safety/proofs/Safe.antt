@@ -1,5 +1,5 @@
 -- A world that agrees with what a rule-keeping driver's rows lead to is safe: harm by harm
-use Rattle.std.proofs.Common.{[], ◌≡◌, ◌+◌, ◌-◌, ◌<◌, ◌≤◌, ◌==◌, ◌&&◌, ◌∷◌, ◌∙◌, ℕ, Bool, false, not, List, nat_lt, nat_le, None, find, option_map, arith, refl, sym, ap, inl, inr, eq-eqb, le-ltb, rules}
+use Rattle.std.proofs.Common.{[], ◌≡◌, ◌+◌, ◌-◌, ◌<◌, ◌≤◌, ◌==◌, ◌&&◌, ◌∷◌, ◌∙◌, ℕ, Bool, false, not, List, nat_lt, nat_le, None, find, option_map, arith, refl, sym, ap, subst, inl, inr, eq-eqb, le-ltb, rules}
 use Rattle.safety.proofs.Words.{list_any, cases_Bool, cases_eq, and_left, and_right, or_from, lt-leb, not_from_true, Block, block_at, cycle, number, spot_address, Spot, Header, Ring, IsHeader, shape_of, command_id, event_size, some_ring, Harm, TakenOutOfOrder, TakenOtherWords, WaitsInsideDescriptor, LooksOutside, PostsOverUnread, InputContextChanged, World, is_out_of_order, has_other_words, is_inside_descriptor, waits, harms, harm_of, IsSafe, has_changed_context, Known, IsDriverRing, DriverKeeps, Stands, RingMatches, state_of, Agrees, Runs, all_read}
 use Rattle.safety.proofs.Headers.{transfer_driver, ring_shape}
 use Rattle.safety.proofs.AtSpots.{MayStand}
@@ -15,19 +15,9 @@ pub no_some_ring : (h : Header) (test : ℕ → Bool) → ((r : ℕ) → test r 
 unfolding some_ring
 no_some_ring h test none = no_ring h.rings test none
 
-in_order_nothing : (h : Header) (r : ℕ) → is_out_of_order (shape_of h r) [] ≡ false
-unfolding is_out_of_order
-in_order_nothing h r = refl
-
-as_declared_nothing : (h : Header) (r : ℕ) → has_other_words (shape_of h r) [] ≡ false
-unfolding has_other_words
-as_declared_nothing h r = refl
-
 waits_not : (w : World) (r : ℕ) → cycle (block_at w.memory (w.pointer_of r)) ≡ w.cycle_state r → waits w r ≡ false
 unfolding waits
-waits_not w r same =
-    and_right (w.is_active r) (not (cycle (block_at w.memory (w.pointer_of r)) == w.cycle_state r))
-    (not_from_true (cycle (block_at w.memory (w.pointer_of r)) == w.cycle_state r) (eq-eqb (cycle (block_at w.memory (w.pointer_of r))) (w.cycle_state r) same))
+waits_not w r same = search (rules, and_right, w.is_active, not, cycle, block_at, w.memory, w.pointer_of, w.cycle_state, not_from_true, eq-eqb)
 
 waits_inactive : (w : World) (r : ℕ) → w.is_active r ≡ false → waits w r ≡ false
 unfolding waits
@@ -74,36 +64,33 @@ unfolding harm_of harms
 safe_from h w a b c d e f = nothing_found _ _ _ _ _ _ a b c d e f
 
 module _ (h : Header) (is : IsHeader h) (k : Known) (unread : List Block) (w : World) (d : DriverKeeps h k) (g : Agrees h k unread w) where
-  in_order : (r : ℕ) → is_out_of_order (shape_of h r) (w.events r) ≡ false
-  in_order r =
-      elim (cases_eq r (command_id h)) [
-        | inl command ↦ elim (cases_Bool k.started) [
-          | inl on ↦ ap (λ r. is_out_of_order (shape_of h r) (w.events r)) command ∙ (g.matches.command on).ring.in_order
-          | inr off ↦ ap (λ r. is_out_of_order (shape_of h r) (w.events r)) command ∙ ap (λ es. is_out_of_order (shape_of h (command_id h)) es) (g.matches.before off).no_events ∙ in_order_nothing h (command_id h)
-        ]
-        | inr other ↦ elim (g.matches.rings r other) [ inl bound ↦ bound.matches.in_order | inr free ↦ free.rests.in_order ]
+  -- what is safe of a ring
+  record IsSafeRing (r : ℕ) : Type 0 where
+    in_order : is_out_of_order (shape_of h r) (w.events r) ≡ false
+    as_declared : has_other_words (shape_of h r) (w.events r) ≡ false
+    no_wait : (waits w r && is_inside_descriptor (w.events r)) ≡ false
+
+  matched_safe : (r : ℕ) (t : Spot) → IsDriverRing h r → RingMatches (shape_of h r) (k.ring r) (state_of w r) t → IsSafeRing r
+  matched_safe r t ring m = record { in_order = m.in_order; as_declared = m.as_declared; no_wait = matched_no_wait h is k w d g.stands r t ring m }
+
+  idle_safe : (r : ℕ) → w.is_active r ≡ false → is_out_of_order (shape_of h r) (w.events r) ≡ false → has_other_words (shape_of h r) (w.events r) ≡ false → IsSafeRing r
+  idle_safe r off order words = record { in_order = order; as_declared = words; no_wait = and_left (waits w r) (is_inside_descriptor (w.events r)) (waits_inactive w r off) }
+
+  command_safe : IsSafeRing (command_id h)
+  unfolding is_out_of_order has_other_words
+  command_safe =
+      elim (cases_Bool k.started) [
+        | inl on ↦ let c = g.matches.command on in matched_safe (command_id h) c.spot (command_is_ring h k d on) c.ring
+        | inr off ↦ let b = g.matches.before off in idle_safe (command_id h) b.inactive (ap (is_out_of_order (shape_of h (command_id h))) b.no_events) (ap (has_other_words (shape_of h (command_id h))) b.no_events)
       ]
 
-  as_declared : (r : ℕ) → has_other_words (shape_of h r) (w.events r) ≡ false
-  as_declared r =
+  ring_safe : (r : ℕ) → IsSafeRing r
+  ring_safe r =
       elim (cases_eq r (command_id h)) [
-        | inl command ↦ elim (cases_Bool k.started) [
-          | inl on ↦ ap (λ r. has_other_words (shape_of h r) (w.events r)) command ∙ (g.matches.command on).ring.as_declared
-          | inr off ↦ ap (λ r. has_other_words (shape_of h r) (w.events r)) command ∙ ap (λ es. has_other_words (shape_of h (command_id h)) es) (g.matches.before off).no_events ∙ as_declared_nothing h (command_id h)
-        ]
-        | inr other ↦ elim (g.matches.rings r other) [ inl bound ↦ bound.matches.as_declared | inr free ↦ free.rests.as_declared ]
-      ]
-
-  no_wait : (r : ℕ) → (waits w r && is_inside_descriptor (w.events r)) ≡ false
-  no_wait r =
-      elim (cases_eq r (command_id h)) [
-        | inl command ↦ ap (λ r. waits w r && is_inside_descriptor (w.events r)) command ∙ elim (cases_Bool k.started) [
-          | inl on ↦ matched_no_wait h is k w d g.stands (command_id h) (g.matches.command on).spot (command_is_ring h k d on) (g.matches.command on).ring
-          | inr off ↦ and_left (waits w (command_id h)) (is_inside_descriptor (w.events (command_id h))) (waits_inactive w (command_id h) (g.matches.before off).inactive)
-        ]
+        | inl command ↦ subst IsSafeRing (sym command) command_safe
         | inr other ↦ elim (g.matches.rings r other) [
-          | inl bound ↦ matched_no_wait h is k w d g.stands r bound.spot (transfer_driver h r (d.states.transfer bound.slot bound.index r bound.bound)) bound.matches
-          | inr free ↦ and_left (waits w r) (is_inside_descriptor (w.events r)) (waits_inactive w r free.rests.inactive)
+          | inl bound ↦ matched_safe r bound.spot (transfer_driver h r (d.states.transfer bound.slot bound.index r bound.bound)) bound.matches
+          | inr free ↦ idle_safe r free.rests.inactive free.rests.in_order free.rests.as_declared
         ]
       ]
 
@@ -111,7 +98,7 @@ module _ (h : Header) (is : IsHeader h) (k : Known) (unread : List Block) (w : W
   context_kept = search (rules, under_way_unchanged, command_is_ring, changed_none)
 
   pub agreed_safe : IsSafe h w
-  agreed_safe = search (rules, safe_from, no_some_ring, in_order, as_declared, no_wait, room_left, context_kept)
+  agreed_safe = search (rules, safe_from, no_some_ring, (λ (r : ℕ). (ring_safe r).in_order), (λ (r : ℕ). (ring_safe r).as_declared), (λ (r : ℕ). (ring_safe r).no_wait), room_left, context_kept)
 
 -- each world of a run is safe
 pub safe : (h : Header) → IsHeader h → (now : Known) (w : World) (r : Runs h now w) → DriverKeeps h (all_read h now r.unread) → IsSafe h w

@@ -24,15 +24,11 @@ pub record SameDriver (k l : Known) : Type 0 where
 same_given : (v : RingView) → SameGiven v v
 same_given v = record { queue = refl; lengths = refl; given = refl; crossed = refl; withdrawn = refl; free = refl }
 
-both_given : (u v w : RingView) → SameGiven u v → SameGiven v w → SameGiven u w
-both_given u v w a b = record { queue = b.queue ∙ a.queue; lengths = b.lengths ∙ a.lengths; given = b.given ∙ a.given; crossed = b.crossed ∙ a.crossed; withdrawn = b.withdrawn ∙ a.withdrawn; free = b.free ∙ a.free }
-
 pub same_driver : (k : Known) → SameDriver k k
-same_driver k =
-    record { started = refl; stopped = refl; register = refl; memory = refl; soiled = refl; reads = refl; dequeue = refl; rings = λ r. same_given (k.ring r) }
+same_driver k = search (rules, same_given, k.ring)
 
 pub both_drivers : (k l m : Known) → SameDriver k l → SameDriver l m → SameDriver k m
-both_drivers k l m a b = search (rules, both_given)
+both_drivers k l m a b = search (rules)
 
 -- the pointer of a ring, or where it is held
 abbrev pub IsPointerChange : RingChange → Type 0
@@ -121,8 +117,7 @@ module _ (h : Header) where
 
   state_same : (k : Known) (s i : ℕ) (state : EndpointState) → SameDriver k (in_state h k s i state)
   unfolding in_state
-  state_same k s i state =
-      record { started = refl; stopped = refl; register = refl; memory = refl; soiled = refl; reads = refl; dequeue = refl; rings = λ q. same_given (k.ring q) }
+  state_same k s i state = search (rules, same_given, k.ring)
 
   held_same : (k : Known) (o : Option ℕ) → SameDriver k (held_at_ceiling h k o)
   unfolding held_at_ceiling
@@ -143,9 +138,8 @@ module _ (h : Header) where
 
   pub stop_same : (k : Known) (c : Command) → SameDriver k (stop_ended h k c)
   unfolding stop_ended
-  stop_same k (StopEndpoint s i) =
-      record { started = refl; stopped = refl; register = refl; memory = refl; soiled = refl; reads = refl; dequeue = refl; rings = λ q. same_given (k.ring q) }
-  stop_same k _ = same_driver k
+  stop_same k (StopEndpoint s i) = search (rules, same_given, k.ring, same_driver)
+  stop_same k _ = search (rules, same_given, k.ring, same_driver)
 
   finish_same : (k : Known) (b : Block) (o : Option Command) → SameDriver k (finished h k b o)
   unfolding finished succeeded

@@ -18,13 +18,9 @@ module _ (h : Header) where
   unfolding written with_word
   written_same k a w = device_same (with_word h k a w) (option_and_then (taken_device k) (command_given h k a w))
 
-  run_same : (k : Known) (x : ℕ) → SameRings k (run_or_stop k x)
-  unfolding run_or_stop
-  run_same k x = search (rules, either_same)
-
   pub register_same : (k : Known) (r : Register) (x : ℕ) → SameRings k (register_written h k r x)
-  unfolding register_written valued
-  register_same k Usbcmd x = run_same (valued k Usbcmd x) x
+  unfolding register_written valued run_or_stop
+  register_same k Usbcmd x = search (rules, either_same)
   register_same k r x = refl
 
   endpoint_same : (k : Known) (s t : ℕ) (o : Option ℕ) → SameRings k (endpoint_rung h k s t o)
@@ -36,13 +32,9 @@ module _ (h : Header) where
   unfolding rung on_ring
   rung_same k s t = either_same k (s == 0) (on_ring h k (command_id h) Opens) (endpoint_rung h k s t (k.ring_of s t)) refl (endpoint_same k s t (k.ring_of s t))
 
-  transferred_same : (k : Known) (c s i r : ℕ) (t : Spot) → SameRings k (transferred h k c s i r t)
-  unfolding transferred passed broken_off stopped_at on_ring
-  transferred_same k c s i r t = search (rules, either_same)
-
   pub transfer_same : (k : Known) (b : Block) → SameRings k (transfer_read h k b)
-  unfolding transfer_read transferred_at
-  transfer_same k b = search (rules, transferred_same)
+  unfolding transfer_read transferred_at transferred passed broken_off stopped_at on_ring
+  transfer_same k b = search (rules, either_same)
 
   pub stop_same : (k : Known) (c : Command) → SameRings k (stop_ended h k c)
   unfolding stop_ended

@@ -11,26 +11,18 @@ pub same_put_pair : {A : Type 0} (f g : ℕ → ℕ → A) (s i : ℕ) (x : A) �
 same_put_pair f g s i x same t j = ap (λ z. if t == s && j == i then x else z) (same t j)
 
 module _ (h : Header) (c : Command) (k : Known) (w : World) (m : StatesMatch h k w) where
-  slot_made : (s : ℕ) → ChangeKeeps h k (changed_by h c k (SlotGoesOn s)) w (let v : World = record w { slot_state = slot_gone_on c w.slot_state s } in v)
-  unfolding changed_by
-  slot_made s = search (rules, same_put, unwrap_or)
-
-  device_made : (s : ℕ) → ChangeKeeps h k (changed_by h c k (DeviceLeft s)) w (let v : World = record w { scribbles = put w.scribbles s false } in v)
-  unfolding changed_by
-  device_made s = search (rules, false≢true, put_at, put_off)
-
   -- an endpoint is in a new state
   pub state_made : (s i : ℕ) (state : EndpointState) → ChangeKeeps h k (in_state h k s i state) w (bindings.in_state w s i state)
   unfolding in_state bindings.in_state
   state_made s i state = search (rules, same_put_pair)
 
   pub slot_keeps : (s : ℕ) (v : World) → bindings.changed_by h c w (SlotGoesOn s) ≡ Some v → ChangeKeeps h k (changed_by h c k (SlotGoesOn s)) w v
-  unfolding bindings.changed_by
-  slot_keeps s v at = subst (λ x. ChangeKeeps h k (changed_by h c k (SlotGoesOn s)) w x) (same_Some _ v at) (slot_made s)
+  unfolding bindings.changed_by changed_by
+  slot_keeps s v at = subst (λ x. ChangeKeeps h k (changed_by h c k (SlotGoesOn s)) w x) (same_Some _ v at) (search (rules, same_put, unwrap_or))
 
   pub device_keeps : (s : ℕ) (v : World) → bindings.changed_by h c w (DeviceLeft s) ≡ Some v → ChangeKeeps h k (changed_by h c k (DeviceLeft s)) w v
-  unfolding bindings.changed_by
-  device_keeps s v at = subst (λ x. ChangeKeeps h k (changed_by h c k (DeviceLeft s)) w x) (same_Some _ v at) (device_made s)
+  unfolding bindings.changed_by changed_by
+  device_keeps s v at = subst (λ x. ChangeKeeps h k (changed_by h c k (DeviceLeft s)) w x) (same_Some _ v at) (search (rules, false≢true, put_at, put_off))
 
   pub reset_keeps : (s i : ℕ) (v : World) → bindings.changed_by h c w (Resets s i) ≡ Some v → ChangeKeeps h k (changed_by h c k (Resets s i)) w v
   unfolding bindings.changed_by changed_by

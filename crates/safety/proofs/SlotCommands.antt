@@ -1,4 +1,5 @@
 -- The success of an unfinished command changes its own slot alone, or its own endpoint, and binds only rings that it names
+use Rattle.std.proofs.Common.{rules}
 use Rattle.safety.proofs.Words.{[], ◌≡◌, if◌then◌else◌, ◌∷◌, ◌∙◌, ℕ, not, Bool, true, false, List, map, Some, refl, ap, inl, inr, eq-eqb, Option, None, list_any, or_parts, or_left, not-false, Command, NoOp, EnableSlot, DisableSlot, AddressDevice, ConfigureEndpoint, EvaluateContext, ResetEndpoint, StopEndpoint, SetTrDequeue, ResetDevice, is_off, is_at_rest, changes, placed_by_context, added_endpoints, context_pointer, Header, command_id, is_ring, ring_having, Known, changed_by, succeeded, binding_in, binds, ring_bound, binds_ring, is_bad_dequeue, is_bad_move, IsIn, any_of, MovesIf}
 use Rattle.safety.proofs.LowerLaws.{any_of_map, IsPart, OtherSlots, Within, AllOnly, changes_others, at_rest_on}
 
@@ -35,16 +36,12 @@ module _ (h : Header) (k : Known) where
   address_binds : (s n r : ℕ) (bsr : Bool) → is_off (k.endpoint_state s 1) ≡ true → ring_having h (context_pointer h.context_size k.memory n 1) ≡ Some r →
       binds_ring h k r (AddressDevice s bsr n) ≡ true
   unfolding binds_ring binds binding_in ring_bound
-  address_binds s n r bsr off at =
-      ap (λ t. list_any (λ b. is_ring r (ring_bound h b)) (if t then binding_in h k n 1 ∷ [] else [])) off
-      ∙ or_left (is_ring r (ring_bound h (binding_in h k n 1))) false (ap (λ o. is_ring r o) at ∙ eq-eqb r r refl)
+  address_binds s n r bsr off at = search (rules, list_any, is_ring, ring_bound, binding_in, or_left, false, eq-eqb)
 
   configure_binds : (s n i r : ℕ) → IsIn i (added_endpoints k.memory n) → ring_having h (context_pointer h.context_size k.memory n i) ≡ Some r →
       binds_ring h k r (ConfigureEndpoint s false n) ≡ true
   unfolding binds_ring binds binding_in ring_bound
-  configure_binds s n i r added at =
-      any_of_map (λ b. is_ring r (ring_bound h b)) (binding_in h k n) (added_endpoints k.memory n)
-      ∙ any_of (λ x. is_ring r (ring_bound h (binding_in h k n x))) (added_endpoints k.memory n) i added (ap (λ o. is_ring r o) at ∙ eq-eqb r r refl)
+  configure_binds s n i r added at = search (rules, any_of_map, is_ring, ring_bound, binding_in, added_endpoints, k.memory, any_of, eq-eqb)
 
   places_only : (s n : ℕ) (e : Command) (B : ℕ → Type 0) (l : Known) (xs : List ℕ) → ((i : ℕ) → IsIn i xs → (r : ℕ) → ring_having h (context_pointer h.context_size k.memory n i) ≡ Some r → B r) →
       AllOnly s None B h e l (map (placed_by_context h.context_size k.memory s n) xs)

@@ -36,17 +36,9 @@ AreOfSlot s [] = Unit {0}
 AreOfSlot s (change ∷ rest) = (slot_of change ≡ s) × AreOfSlot s rest
 
 module _ (h : Header) where
-  set_leaves : (k : Known) (s i r : ℕ) (t : Spot) → GetsRing k (set_to h k r t) s i
-  unfolding set_to on_ring
-  set_leaves k s i r t = record { slot_state = refl; device = refl; rings = λ u j. inr refl; some = λ u j has. has }
-
   moved_tables : (k : Known) (r p : ℕ) (cycle : Bool) → ((moved h k (Some r) p cycle).slot_state ≡ k.slot_state) × ((moved h k (Some r) p cycle).device ≡ k.device)
   unfolding moved moved_to set_to on_ring
-  moved_tables k r p cycle = by (target (shape_of h r) (k.ring r) p cycle)
-    where
-      by : (o : Option Spot) → ((moved_to h k r o).slot_state ≡ k.slot_state) × ((moved_to h k r o).device ≡ k.device)
-      by None = (refl, refl)
-      by (Some t) = (refl, refl)
+  moved_tables k r p cycle = search (rules, target, shape_of, k.ring, moved_to)
 
   bound_leaves : (k : Known) (s i : ℕ) (o : Option ℕ) (p : ℕ) (cycle : Bool) → GetsRing k (bound_to h k s i o p cycle) s i
   unfolding bound_to
@@ -54,9 +46,9 @@ module _ (h : Header) where
   bound_leaves k s i (Some r) p cycle = search (rules, moved_tables, same_pair, at_pair, none-some)
 
   target_leaves : (k : Known) (s i r : ℕ) (o : Option Spot) → GetsRing k (moved_to h k r o) s i
-  unfolding moved_to
+  unfolding moved_to set_to on_ring
   target_leaves k s i r None = record { slot_state = refl; device = refl; rings = λ u j. inr refl; some = λ u j has. has }
-  target_leaves k s i r (Some t) = set_leaves k s i r t
+  target_leaves k s i r (Some t) = record { slot_state = refl; device = refl; rings = λ u j. inr refl; some = λ u j has. has }
 
   moved_leaves : (k : Known) (s i : ℕ) (o : Option ℕ) (p : ℕ) (cycle : Bool) → GetsRing k (moved h k o p cycle) s i
   unfolding moved

@@ -43,22 +43,14 @@ module _ (h : Header) where
   abbrev with_value : Known → Register → ℕ → Known
   with_value k r v = record k { register = with_register k.register r v; dequeue = dequeue_after k.dequeue r v }
 
-  run_on : (k : Known) (v : ℕ) → k.started ≡ true → (not (run_bit v) || reset_bit v) ≡ false → run_or_stop k v ≡ k
-  unfolding run_or_stop
-  run_on k v on goes = search (rules, cond-false, not_from_true)
-
-  run_stops : (k : Known) (v : ℕ) → k.started ≡ true → (run_or_stop k v).stopped ≡ false → (not (run_bit v) || reset_bit v) ≡ false
-  unfolding run_or_stop
-  run_stops k v on still = search (rules, false≢true, cond-false, not_from_true, cond-true)
-
   goes_on : (k : Known) (r : Register) (v : ℕ) → k.started ≡ true → (learned h k (Reg r v)).stopped ≡ false → stops r v ≡ false
-  unfolding learned register_written valued
-  goes_on k Usbcmd v on still = run_stops (valued k Usbcmd v) v on still
+  unfolding learned register_written valued run_or_stop
+  goes_on k Usbcmd v on still = search (rules, false≢true, cond-false, not_from_true, cond-true)
   goes_on k _ v on still = refl
 
   value_is : (k : Known) (r : Register) (v : ℕ) → k.started ≡ true → stops r v ≡ false → learned h k (Reg r v) ≡ with_value k r v
-  unfolding learned register_written valued
-  value_is k Usbcmd v on goes = run_on (valued k Usbcmd v) v on goes
+  unfolding learned register_written valued run_or_stop
+  value_is k Usbcmd v on goes = search (rules, cond-false, not_from_true)
   value_is k _ v on goes = refl
 
   -- ---- the write is allowed behind the event
@@ -78,12 +70,9 @@ module _ (h : Header) where
   erdp_still k l Erdp v on started dequeue reads good = search (rules, erdp_says, false≢true, and_parts, nat_lt, reached_is_good, and_from, any_longer)
   erdp_still k l _ v on started dequeue reads good = search rules
 
-  none_broken : (x y : Bool) → x ≡ false → y ≡ false → broken_of ((BadRegister, x) ∷ (BadErdp, y) ∷ []) ≡ []
-  none_broken x y one two = rw (one, two) refl
-
   register_clean : (k : Known) (r : Register) (v : ℕ) → k.stopped ≡ false → is_bad_register h k r v ≡ false → is_bad_erdp h k r v ≡ false → lenient h k (Reg r v) ≡ []
   unfolding lenient lenient_tests register_tests
-  register_clean k r v on one two = search (rules, cond-false, broken_of, register_tests, none_broken, is_bad_register, is_bad_erdp)
+  register_clean k r v on one two = search (rules, cond-false, broken_of, register_tests, is_bad_register, is_bad_erdp)
 
   dequeue_grows : (k : Known) (r : Register) (v : ℕ) → is_bad_erdp h k r v ≡ false → k.dequeue ≤ dequeue_after k.dequeue r v
   dequeue_grows k Erdp v good = (erdp_within h k v good).0
@@ -226,13 +215,9 @@ module _ (h : Header) (r : ℕ) (blocks : List Block) where
 
   -- ---- the declaration behind the event
 
-  room_still : (v w : RingView) → floor_number v ≤ floor_number w → w.queue ≡ v.queue → has_no_room (shape_of h r) v (length blocks) ≡ false → has_no_room (shape_of h r) w (length blocks) ≡ false
-  unfolding has_no_room
-  room_still v w grows queue room = search (rules, ltb-false, place_count, shape_of, floor_number, declared, length, le-ltb)
-
   still_clean : (k l : Known) → l.stopped ≡ false → floor_number (k.ring r) ≤ floor_number (l.ring r) → (l.ring r).queue ≡ (k.ring r).queue → lenient h k (Sub r blocks) ≡ [] → lenient h l (Sub r blocks) ≡ []
-  unfolding lenient lenient_tests declaration_tests
-  still_clean k l on grows queue clean = search (rules, tests_fail, cond-false, length, room_still)
+  unfolding lenient lenient_tests declaration_tests has_no_room
+  still_clean k l on grows queue clean = search (rules, tests_fail, cond-false, length, ltb-false, place_count, shape_of, floor_number, declared, le-ltb)
 
   learned_declaring : (k : Known) → learned h k (Sub r blocks) ≡ declaring k
   unfolding learned

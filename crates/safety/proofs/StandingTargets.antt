@@ -7,13 +7,9 @@ find_here test u t rest found here = same_Some u t (sym (cond-true (test u) (Som
 find_later : (test : Spot → Bool) (u t : Spot) (rest : List Spot) → find test (u ∷ rest) ≡ Some t → test u ≡ false → find test rest ≡ Some t
 find_later test u t rest found none = sym (cond-false (test u) (Some u) (find test rest) none) ∙ found
 
-either_found : (test more : Spot → Bool) (u v t : Spot) (rest : List Spot) → ((test u && more u) || ((test v && more v) || false)) ≡ true → find test (u ∷ v ∷ rest) ≡ Some t →
-    number u ≡ number v → number t ≡ number u
-either_found test more u v t rest some found same = search (rules, find, find_here, find_later, false≢true)
-
 first_found : (test more : Spot → Bool) (f n : ℕ) (t : Spot) → list_any (λ u. test u && more u) (flat_map (λ q. Link q ∷ Data q ∷ []) (range_with_len f 1)) ≡ true →
     find test (flat_map (λ q. Link q ∷ Data q ∷ []) (range_with_len f (suc n))) ≡ Some t → number t ≡ f
-first_found test more f n t some found = either_found test more (Link f) (Data f) t (flat_map (λ q. Link q ∷ Data q ∷ []) (range_with_len (f + 1) n)) some found refl
+first_found test more f n t some found = search (rules, find, find_here, find_later, false≢true)
 
 -- where the spots at the floor's number pass the test of a move, the target is one of them
 pub target_here : (shape : Shape) (v : RingView) (p : ℕ) (cycle : Bool) (t : Spot) → floor_number v ≤ declared v → is_move shape v p cycle (floor_number v) (floor_number v) ≡ true →

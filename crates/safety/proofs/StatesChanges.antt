@@ -63,10 +63,7 @@ module _ (h : Header) where
   stop_stands_by : (k : Known) (s i : ℕ) (o : Option ℕ) → EndpointsStand k → k.endpoint_state s i ≢ Off → k.ring_of s i ≡ o → EndpointsStand (held_at_ceiling h (in_state h k s i Stopped) o)
   unfolding held_at_ceiling
   stop_stands_by k s i None e on at = absurd (on (e.off s i at))
-  stop_stands_by k s i (Some r) e on at =
-      let l : Known = in_state h k s i Stopped in
-      let n : ℕ = ceiling (shape_of h r) (l.ring r) in
-      one_stands k (on_ring h l r (Holds n)) s i r e (held_one k s i r Stopped e at (λ off. cc) n)
+  stop_stands_by k s i (Some r) e on at = search (rules, e.off, in_state, ceiling, shape_of, one_stands, on_ring, held_one)
 
   -- ---- any change, and one after the other
 

@@ -35,14 +35,6 @@ module _ (h : Header) (k : Known) (was : SlotsStand k) (e : EndpointsStand k) wh
   unfolding changed_by
   slot_goes c s = cond-true (s == s) (state_after c (k.slot_state s)) (k.slot_state s) (eq-eqb s s refl)
 
-  same_rings : (c : Command) (s i : ℕ) → k.ring_of s i ≡ (changed_by h c k (SlotGoesOn s)).ring_of s i
-  unfolding changed_by
-  same_rings c s i = refl
-
-  state_kept : (c : Command) (s : ℕ) (which : ℕ → Bool) → (changed_by h c (changed_by h c k (SlotGoesOn s)) (Disables s which)).slot_state s ≡ (changed_by h c k (SlotGoesOn s)).slot_state s
-  unfolding changed_by disabled
-  state_kept c s which = refl
-
   first_kept : (c : Command) (s : ℕ) (which : ℕ → Bool) → which 1 ≡ false → k.ring_of s 1 ≢ None → (changed_by h c (changed_by h c k (SlotGoesOn s)) (Disables s which)).ring_of s 1 ≢ None
   unfolding changed_by disabled
   first_kept c s which not has = first_stays s (which 1) (k.ring_of s 1) not has
@@ -60,7 +52,7 @@ module _ (h : Header) (k : Known) (was : SlotsStand k) (e : EndpointsStand k) wh
   pub addressed_slots : (config n s a : ℕ) (bsr : Bool) → s ≢ 0 → Succeeds k.slot_state k.endpoint_state config n (AddressDevice s bsr a) →
       EndpointsStand (changed_by_all h (AddressDevice s bsr a) k (SlotGoesOn s ∷ placed_by_context h.context_size k.memory s a 1 ∷ [])) →
       SlotsStand (changed_by_all h (AddressDevice s bsr a) k (SlotGoesOn s ∷ placed_by_context h.context_size k.memory s a 1 ∷ []))
-  unfolding changed_by_all
+  unfolding changed_by_all changed_by
   addressed_slots config n s a bsr slot may after =
       let c : Command = AddressDevice s bsr a in
       let p : ℕ = context_pointer h.context_size k.memory a 1 in
@@ -74,12 +66,12 @@ module _ (h : Header) (k : Known) (was : SlotsStand k) (e : EndpointsStand k) wh
       but_one k l s slot was (λ t other. changes_elsewhere h c k s (SlotGoesOn s ∷ Places s 1 p cycle Running ∷ []) t (refl, (refl, tt)) other)
       (subst (λ x. SlotStands x (l.ring_of s) (l.device s)) (sym (ap (λ f. f s) gets.slot_state ∙ slot_goes c s))
       (slot_addressed (k.ring_of s) (l.ring_of s) (k.device s) (l.device s) s a bsr (k.slot_state s) may.slot (was.each s)
-      (λ i r at. elim (gets.rings s i) [ inl here ↦ inl here.1 | inr same ↦ inr (same_rings c s i ∙ sym same ∙ at) ])
+      (λ i r at. elim (gets.rings s i) [ inl here ↦ inl here.1 | inr same ↦ inr (refl ∙ sym same ∙ at) ])
       (λ none. off_runs (after.off s 1 none) runs)))
 
   pub configured_slots : (config n s a : ℕ) → s ≢ 0 → Succeeds k.slot_state k.endpoint_state config n (ConfigureEndpoint s false a) →
       SlotsStand (changed_by_all h (ConfigureEndpoint s false a) k (SlotGoesOn s ∷ Disables s (is_dropped k.memory a) ∷ map (placed_by_context h.context_size k.memory s a) (added_endpoints k.memory a)))
-  unfolding changed_by_all
+  unfolding changed_by_all changed_by disabled
   configured_slots config n s a slot may =
       let c : Command = ConfigureEndpoint s false a in
       let adds : List Change = map (placed_by_context h.context_size k.memory s a) (added_endpoints k.memory a) in
@@ -88,7 +80,7 @@ module _ (h : Header) (k : Known) (was : SlotsStand k) (e : EndpointsStand k) wh
       let keeps : KeepsRings h d l = placed_all h c d h.context_size k.memory s a (added_endpoints k.memory a) in
       but_one k l s slot was
       (λ t other. changes_elsewhere h c k s (SlotGoesOn s ∷ Disables s (is_dropped k.memory a) ∷ adds) t (refl, (refl, placed_of_slot h h.context_size k.memory s a (added_endpoints k.memory a))) other)
-      (subst (λ x. SlotStands x (l.ring_of s) (l.device s)) (sym (ap (λ f. f s) keeps.slot_state ∙ state_kept c s (is_dropped k.memory a) ∙ slot_goes c s))
+      (subst (λ x. SlotStands x (l.ring_of s) (l.device s)) (sym (ap (λ f. f s) keeps.slot_state ∙ refl ∙ slot_goes c s))
       (slot_configured (k.ring_of s) (l.ring_of s) (k.device s) (l.device s) s a (k.slot_state s) may.slot (was.each s)
       (λ has. keeps.some s 1 (first_kept c s (is_dropped k.memory a) refl has))))
 
@@ -170,18 +162,14 @@ module _ (h : Header) where
   bound_seen k s i None p cycle = refl
   bound_seen k s i (Some r) p cycle = moved_seen k (Some r) p cycle
 
-  pointed_seen : (k : Known) (s i p : ℕ) (cycle : Bool) → (pointed h k s i p cycle).stop_seen ≡ k.stop_seen
-  unfolding pointed
-  pointed_seen k s i p cycle = search (rules, cond_both, is_off, bound_to, ring_having, moved, bound_seen, moved_seen)
-
   held_seen : (k : Known) (o : Option ℕ) → (held_at_ceiling h k o).stop_seen ≡ k.stop_seen
   unfolding held_at_ceiling on_ring
   held_seen k None = refl
   held_seen k (Some r) = refl
 
   change_seen : (c : Command) (k : Known) (change : Change) → (changed_by h c k change).stop_seen ≡ k.stop_seen
-  unfolding changed_by disabled in_state
-  change_seen c k (Places s i p cycle state) = pointed_seen k s i p cycle
+  unfolding changed_by disabled in_state pointed
+  change_seen c k (Places s i p cycle state) = search (rules, cond_both, is_off, bound_to, ring_having, moved, bound_seen, moved_seen)
   change_seen c k (Stops s i) = held_seen (in_state h k s i Stopped) (k.ring_of s i)
   change_seen c k _ = refl
 

@@ -12,8 +12,7 @@ pub record ViewGoesOn (shape : Shape) (v w : RingView) : Type 0 where
   pub queue : (p : ℕ) (d : Block) → slice_get v.queue p ≡ Some d → slice_get w.queue p ≡ Some d
 
 pub view_same : (shape : Shape) (v w : RingView) → w ≡ v → ViewGoesOn shape v w
-view_same shape v w same =
-    subst (λ u. ViewGoesOn shape v u) (sym same) (record { floor = refl; ceiling = omega arith; queue = λ p d at. at })
+view_same shape v w same = search (rules, ceiling)
 
 view_declares : (h : Header) (shape : Shape) (v : RingView) (blocks : List Block) → ViewGoesOn shape v (changed shape v (Declares blocks))
 view_declares h shape v blocks = search (rules, ceiling_declares, slice_get-append, slice_get_within)
@@ -76,11 +75,6 @@ module _ (h : Header) where
 
   -- ---- a write of memory
 
-  -- a slot whose device context comes under lease isn't Disabled
-  enabled : (k : Known) (s n : ℕ) (bsr : Bool) (c : Command) → c ≡ AddressDevice s bsr n → is_bad_command h k c ≡ false → k.slot_state s ≡ Disabled → ⊥
-  unfolding is_bad_command names_disabled_slot
-  enabled k s n bsr c is good disabled = search (rules, or_parts, false≢true)
-
   -- which slots have a device context under lease
   taken_by : (k : Known) (a w : ℕ) (o : Option (ℕ × ℕ)) (s : ℕ) → ((e : ℕ × ℕ) → o ≡ Some e → s ≢ e.0) → (with_device h (with_word h k a w) o).device s ≡ k.device s
   unfolding with_device with_word
@@ -92,6 +86,7 @@ module _ (h : Header) where
   no_more k a w s others = taken_by k a w (option_and_then (taken_device k) (command_given h k a w)) s others
 
   written_slots : (k : Known) (a w : ℕ) → lenient h k (Write a w) ≡ [] → SlotsStand k → SlotsStand (learned h k (Write a w))
+  unfolding is_bad_command names_disabled_slot
   written_slots k a w clean e =
       let l : Known = learned h k (Write a w) in
       let same : WriteLeaves k l = write_leaves h k a w in record {
@@ -107,7 +102,7 @@ module _ (h : Header) where
               let before : k.slot_state s ≡ Disabled = ap (λ f. f s) (sym same.slots.slot_state) ∙ disabled in
               no_more k a w s (λ t takes here.
               let taken : CleanTaking h k a w t.0 t.1 = taking h k a w t clean takes in
-              enabled k t.0 taken.takes.context taken.takes.bsr taken.command taken.takes.command taken.good (ap k.slot_state (sym here) ∙ before))
+              search (rules, or_parts, false≢true))
               ∙ (e.each s).no_device before;
         };
       }

@@ -12,9 +12,7 @@ pub record Succeeds (slots : ℕ → SlotState) (endpoints : ℕ → ℕ → End
 pub succeeds_is : (slots : ℕ → SlotState) (endpoints : ℕ → ℕ → EndpointState) (config n : ℕ) (c : Command) → can_succeed slots endpoints config n c ≡ true → Succeeds slots endpoints config n c
 unfolding can_succeed
 succeeds_is slots endpoints config n c can =
-    let two = and_parts _ (is_slot_enabled config n c) can in
-    let one = and_parts (is_some (slot_success c (slots (slot_meant n (named_slot c))))) (is_some (endpoint_success c (endpoint_meant endpoints (named_endpoint c)))) two.0 in
-    record { slot = one.0; endpoint = one.1; enabled = two.1 }
+    search (rules, and_parts, is_slot_enabled, is_some, slot_success, slot_meant, named_slot, endpoint_success, endpoint_meant, named_endpoint)
 
 stopping_runs : (s i : ℕ) (e : EndpointState) → is_some (endpoint_success (StopEndpoint s i) e) ≡ true → e ≡ Running
 stopping_runs s i Running is = refl

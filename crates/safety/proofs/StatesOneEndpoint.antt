@@ -25,8 +25,7 @@ module _ (k l : Known) (s i r : ℕ) (e : EndpointsStand k) (one : OneEndpoint k
 
   -- another endpoint has another ring
   other_ring : (t j q : ℕ) → (t ≡ s → j ≡ i → ⊥) → l.ring_of t j ≡ Some q → q ≢ r
-  other_ring t j q other at same =
-      let pair = e.one_endpoint t j s i q (was t j q at) (one.bound ∙ ap (λ n. Some n) (sym same)) in other pair.0 pair.1
+  other_ring t j q other at same = search (rules, e.one_endpoint, was)
 
   pub one_stands : EndpointsStand l
   one_stands = search (rules, same_pair, none-some, was, same_Some, other_ring)
@@ -50,10 +49,8 @@ module _ (k l : Known) (s i r : ℕ) (e : EndpointsStand k) (one : OneEndpoint k
     held = λ t j q is at none.
         elim (same_pair t j s i) [
           | inl here ↦
-              let own_seen = own.here (ap (λ n. l.stop_seen s n) (sym here.1) ∙ ap (λ n. l.stop_seen n j) (sym here.0) ∙ is) in
-              let named : k.ring_of s i ≡ Some q = ap (λ n. k.ring_of s n) (sym here.1) ∙ ap (λ n. k.ring_of n j) (sym here.0) ∙ was t j q at in
-              let ring : r ≡ q = same_Some r q (sym one.bound ∙ named) in
-              own_seen.2 (ap (λ n. (l.ring n).held) ring ∙ none)
+              let ring : r ≡ q = same_Some r q (sym one.bound ∙ (ap (λ n. k.ring_of s n) (sym here.1) ∙ ap (λ n. k.ring_of n j) (sym here.0) ∙ was t j q at)) in
+              (own.here (ap (λ n. l.stop_seen s n) (sym here.1) ∙ ap (λ n. l.stop_seen n j) (sym here.0) ∙ is)).2 (ap (λ n. (l.ring n).held) ring ∙ none)
           | inr other ↦ seen.held t j q (sym (own.others t j other) ∙ is) (was t j q at) (sym (one.held q (other_ring t j q other at)) ∙ none)
         ];
   }

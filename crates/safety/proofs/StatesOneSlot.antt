@@ -22,11 +22,7 @@ module _ (rings after : ℕ → Option ℕ) (device left : Option ℕ) where
 
   -- which endpoints were there
   only_first : (state : SlotState) → state ≢ Configured → SlotStands state rings device → (i r : ℕ) → (i ≡ 1) ⊎ (rings i ≡ Some r) → i ≡ 1
-  only_first state other was i r at =
-      elim at [
-        | inl one ↦ one
-        | inr there ↦ elim ((was.slots i r there).2) [ inl one ↦ one | inr configured ↦ absurd (other configured) ]
-      ]
+  only_first state other was i r at = search (rules, was.slots)
 
   no_endpoints : SlotStands Enabled rings device → (i r : ℕ) → (i ≡ 1) ⊎ (rings i ≡ Some r) → i ≡ 1
   no_endpoints was i r at = elim at [ inl one ↦ one | inr there ↦ absurd ((was.slots i r there).1 refl) ]
@@ -45,11 +41,7 @@ module _ (rings after : ℕ → Option ℕ) (device left : Option ℕ) where
   slot_addressed s n false Configured may was fewer first = absurd (false≢true may)
 
   first_there : (state : SlotState) → state ≢ Disabled → state ≢ Enabled → SlotStands state rings device → rings 1 ≢ None
-  first_there state there some was =
-      elim was.first [
-        | inl disabled ↦ absurd (there disabled)
-        | inr rest ↦ elim rest [ inl enabled ↦ absurd (some enabled) | inr first ↦ first ]
-      ]
+  first_there state there some was = search rules
 
   -- all endpoints may be there
   all_there : after 1 ≢ None → SlotStands Configured after left

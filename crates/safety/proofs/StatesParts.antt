@@ -30,23 +30,18 @@ pub record SeenStand (h : Header) (k : Known) : Type 0 where
   pub held : (s i r : ℕ) → k.stop_seen s i ≡ true → k.ring_of s i ≡ Some r → (k.ring r).held ≢ None
 
 pub stop_is : (s i : ℕ) (o : Option Command) → is_stop_of s i o ≡ true → o ≡ Some (StopEndpoint s i)
-stop_is s i (Some (StopEndpoint t j)) is =
-    let parts = and_parts _ _ is in
-    ap (λ n. Some (StopEndpoint n j)) (sym (eqb-true s t parts.0)) ∙ ap (λ n. Some (StopEndpoint s n)) (sym (eqb-true i j parts.1))
+stop_is s i (Some (StopEndpoint t j)) is = search (rules, and_parts, eqb-true, false≢true)
 stop_is s i _ is = absurd (false≢true is)
 
 module _ (h : Header) where
   pub stops_is : (k : Known) (s i : ℕ) → is_stopping_now h k s i ≡ true → StopsNext h k s i
   unfolding is_stopping_now may_be_taken
-  stops_is k s i is =
-      let parts = and_parts _ (is_stop_of s i (command_at h k (next_command h k))) is in
-      record { below = ltb-true _ _ parts.0; command = stop_is s i (command_at h k (next_command h k)) parts.1 }
+  stops_is k s i is = search (rules, and_parts, is_stop_of, command_at, next_command, ltb-true, stop_is)
 
   pub stops_from : (k : Known) (s i : ℕ) → StopsNext h k s i → is_stopping_now h k s i ≡ true
   unfolding is_stopping_now may_be_taken
   stops_from k s i stops =
-      and_from (nat_lt (next_command h k) (ceiling (shape_of h (command_id h)) (k.ring (command_id h)))) (is_stop_of s i (command_at h k (next_command h k))) (lt-ltb _ _ stops.below)
-      (ap (λ o. is_stop_of s i o) stops.command ∙ and_from _ _ (eq-eqb s s refl) (eq-eqb i i refl))
+      search (rules, and_from, nat_lt, next_command, ceiling, shape_of, command_id, k.ring, is_stop_of, command_at, lt-ltb, eq-eqb)
 
   pub endpoints_part : (k : Known) → StatesKeep h k → EndpointsStand k
   endpoints_part k s = record { no_endpoint = s.no_endpoint; off = s.off; on = s.on; one_endpoint = s.one_endpoint; open_runs = s.open_runs }

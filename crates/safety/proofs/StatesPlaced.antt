@@ -62,13 +62,9 @@ module _ (h : Header) where
   unfolding moved
   moved_is k r p cycle = target_is k r (target (shape_of h r) (k.ring r) p cycle)
 
-  bound_is : (k : Known) (s i r p : ℕ) (cycle : Bool) → IsBound k (bound_to h k s i (Some r) p cycle) s i r
-  unfolding bound_to
-  bound_is k s i r p cycle = search (rules, moved, moved_is)
-
   pub pointed_off : (k : Known) (s i p r : ℕ) (cycle : Bool) → is_off (k.endpoint_state s i) ≡ true → ring_having h p ≡ Some r → IsBound k (pointed h k s i p cycle) s i r
-  unfolding pointed
-  pointed_off k s i p r cycle off at = search (rules, cond-true, is_off, bound_to, ring_having, moved, bound_is)
+  unfolding pointed bound_to
+  pointed_off k s i p r cycle off at = search (rules, cond-true, is_off, bound_to, ring_having, moved, moved_is)
 
   pub pointed_on : (k : Known) (s i p r : ℕ) (cycle : Bool) → is_off (k.endpoint_state s i) ≡ false → k.ring_of s i ≡ Some r → IsMoved k (pointed h k s i p cycle) r
   unfolding pointed

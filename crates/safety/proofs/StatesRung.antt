@@ -11,9 +11,6 @@ pub running_is : (e : EndpointState) → is_running e ≡ true → e ≡ Running
 running_is Running is = refl
 running_is _ is = absurd (false≢true is)
 
-running_not_off : (e : EndpointState) → e ≡ Running → e ≢ Off
-running_not_off e runs off = cc
-
 -- an open ring that is opened
 opens_open : (shape : Shape) (v : RingView) → v.held ≡ None → ViewGoesOn shape v (changed shape v Opens)
 unfolding is_step_given is_way_given
@@ -32,19 +29,7 @@ module _ (h : Header) where
     not_command s i r at same = command_not_transfer h is ((endpoints_of h k d.states).transfer s i (command_id h) (at ∙ ap (λ n. Some n) same))
 
     command_endpoints : EndpointsStand (on_ring h k (command_id h) Opens)
-    command_endpoints =
-        let l : Known = on_ring h k (command_id h) Opens in
-        let same = opened k (command_id h) in
-        let e : EndpointsStand k = endpoints_part h k d.states in
-        record {
-          no_endpoint = λ s i zero. ap (λ f. f s i) same.0 ∙ e.no_endpoint s i zero;
-          off = λ s i none. ap (λ f. f s i) same.1 ∙ e.off s i (ap (λ f. f s i) (sym same.0) ∙ none);
-          on = λ s i r at off. e.on s i r (ap (λ f. f s i) (sym same.0) ∙ at) (ap (λ f. f s i) (sym same.1) ∙ off);
-          one_endpoint = λ s i t j r a b. e.one_endpoint s i t j r (ap (λ f. f s i) (sym same.0) ∙ a) (ap (λ f. f t j) (sym same.0) ∙ b);
-          open_runs = λ s i r at none.
-              let was : k.ring_of s i ≡ Some r = ap (λ f. f s i) (sym same.0) ∙ at in
-              ap (λ f. f s i) same.1 ∙ e.open_runs s i r was (ap (λ v. v.held) (sym (ring_elsewhere h k (command_id h) r Opens (not_command s i r was))) ∙ none);
-        }
+    command_endpoints = search (rules, on_ring, command_id, opened, endpoints_part, d.states, k.ring_of, ring_elsewhere, not_command)
 
     command_seen : SeenStand h (on_ring h k (command_id h) Opens)
     command_seen =
@@ -83,9 +68,7 @@ module _ (h : Header) where
 
     rung_others : (s t r q j : ℕ) → (q ≡ s → j ≡ t → ⊥) → (endpoint_rung h k s t (Some r)).endpoint_state q j ≡ k.endpoint_state q j
     unfolding endpoint_rung
-    rung_others s t r q j other =
-        cond_both (is_stopped (k.endpoint_state s t)) (put_pair k.endpoint_state s t Running) k.endpoint_state (λ f. f q j ≡ k.endpoint_state q j)
-        (λ stopped. at_pair (λ e. e ≡ k.endpoint_state q j) k.endpoint_state s t Running q j (λ a b. absurd (other a b)) (λ apart. refl)) (λ on. refl)
+    rung_others s t r q j other = search (rules, is_stopped, k.endpoint_state, put_pair, at_pair)
 
     rung_rest : (s t r : ℕ) → ((endpoint_rung h k s t (Some r)).ring_of ≡ k.ring_of) × ((endpoint_rung h k s t (Some r)).stop_seen ≡ k.stop_seen) × ((endpoint_rung h k s t (Some r)).ring ≡ (on_ring h k r Opens).ring)
     unfolding endpoint_rung on_ring
@@ -97,7 +80,7 @@ module _ (h : Header) where
       pub untouched : is_touched h k s t ≡ false
 
     rung_one : (s t r : ℕ) → k.ring_of s t ≡ Some r → MayRing s t → OneEndpoint k (endpoint_rung h k s t (Some r)) s t r
-    rung_one s t r at may = search (rules, rung_rest, running_not_off, rung_state, rung_others, ring_elsewhere)
+    rung_one s t r at may = search (rules, rung_rest, rung_state, rung_others, ring_elsewhere)
 
     endpoint_stands : (s t : ℕ) (o : Option ℕ) → k.started ≡ true → k.ring_of s t ≡ o → MayRing s t → EndpointsStand (endpoint_rung h k s t o) × SeenStand h (endpoint_rung h k s t o)
     unfolding endpoint_rung

@@ -1,6 +1,6 @@
 -- A Transfer Event keeps what is known of states
 use Rattle.safety.proofs.Words.{◌≡◌, ◌≢◌, ◌+◌, ◌&&◌, ◌||◌, if◌then◌else◌, ◌∙◌, ℕ, Bool, true, false, Option, None, Some, is_none, refl, ap, rules, cond_both, and_parts, and_cases, or_parts, or_left, or_right, or_from, not-false, false≢true, none-some, put_pair, Block, code, slot, endpoint, is_success, is_halting, is_trb_error, is_stopping, Spot, number, after, Reaches, Holds, ceiling, is_open, is_data_below, is_stop_spot, stopped_number, EndpointState, Off, Running, Halted, Error, is_running, Header, IsHeader, shape_of, command_id, Known, RingSpot, on_ring, event_at, passed, broken_off, stopped_at, transferred, transferred_at, transfer_read, is_in_profile, is_working, is_stopping_now, can_report, can_report_at, is_impossible_transfer, DriverKeeps}
-use Rattle.safety.proofs.LowerLaws.{chain, ring_here, ring_elsewhere, at_pair, endpoints_of, LeavesSlots, event_ring_of, transfer_command, transfer_slots, EndpointsStand, SlotsStand, StopsNext, SeenStand, endpoints_part, slots_part, seen_part, stops_is, slots_same, OneEndpoint, OneSeen, one_stands, one_seen, none_is}
+use Rattle.safety.proofs.LowerLaws.{by_code, ring_here, ring_elsewhere, at_pair, endpoints_of, LeavesSlots, event_ring_of, transfer_command, transfer_slots, EndpointsStand, SlotsStand, StopsNext, SeenStand, endpoints_part, slots_part, seen_part, stops_is, slots_same, OneEndpoint, OneSeen, one_stands, one_seen, none_is}
 use Rattle.safety.proofs.StatesDriver.{view_same, stops_on}
 use Rattle.safety.proofs.StatesRung.{running_is}
 
@@ -16,9 +16,7 @@ record Works (k : Known) (s i r : ℕ) : Type 0 where
 
 works_is : (k : Known) (s i r : ℕ) → is_working k s i r ≡ true → Works k s i r
 unfolding is_working is_open
-works_is k s i r is =
-    let parts = and_parts (is_running (k.endpoint_state s i)) (is_none (k.ring r).held) is in
-    record { runs = running_is (k.endpoint_state s i) parts.0; opened = none_is (k.ring r).held parts.1 }
+works_is k s i r is = search (rules, and_parts, is_running, k.endpoint_state, is_none, k.ring, running_is, none_is)
 
 module _ (h : Header) (k : Known) (e : EndpointsStand k) (seen : SeenStand h k) (s i r : ℕ) (bound : k.ring_of s i ≡ Some r) where
   -- what the event changes
@@ -29,21 +27,13 @@ module _ (h : Header) (k : Known) (e : EndpointsStand k) (seen : SeenStand h k) 
   nothing_more : OnlyThis k
   nothing_more = search rules
 
-  passed_held : (t : Spot) → ((passed h k r t).ring r).held ≡ (k.ring r).held
-  unfolding passed
-  passed_held t = ap (λ v. v.held) (ring_here h k r (Reaches (after (shape_of h r) (number t))))
-
   passed_other : (t : Spot) (q : ℕ) → q ≢ r → ((passed h k r t).ring q).held ≡ (k.ring q).held
   unfolding passed
   passed_other t q other = ap (λ v. v.held) (ring_elsewhere h k r q (Reaches (after (shape_of h r) (number t))) other)
 
   passed_only : (t : Spot) → OnlyThis (passed h k r t)
   unfolding passed on_ring
-  passed_only t = search (rules, passed_other, passed_held)
-
-  broken_held : (t : Spot) (state : EndpointState) → ((broken_off h k s i r t state).ring r).held ≡ Some (number t + 1)
-  unfolding broken_off
-  broken_held t state = ap (λ v. v.held) (ring_here h (passed h k r t) r (Holds (number t + 1)))
+  passed_only t = search (rules, passed_other, ring_here, after, shape_of, number)
 
   broken_other : (t : Spot) (state : EndpointState) (q : ℕ) → q ≢ r → ((broken_off h k s i r t state).ring q).held ≡ (k.ring q).held
   unfolding broken_off
@@ -51,19 +41,15 @@ module _ (h : Header) (k : Known) (e : EndpointsStand k) (seen : SeenStand h k) 
 
   broken_only : (t : Spot) (state : EndpointState) → state ≢ Off → Works k s i r → OnlyThis (broken_off h k s i r t state)
   unfolding broken_off passed on_ring
-  broken_only t state on works = search (rules, at_pair, broken_other, none-some, broken_held)
+  broken_only t state on works = search (rules, at_pair, broken_other, none-some, ring_here, passed, number)
 
   stopped_held : (t : Spot) → ((stopped_at h k s i r t).ring r).held ≡ Some (stopped_number (shape_of h r) (k.ring r) t)
   unfolding stopped_at
-  stopped_held t =
-      let n : ℕ = stopped_number (shape_of h r) (k.ring r) t in
-      ap (λ v. v.held) (ring_here h (on_ring h k r (Holds n)) r (Reaches t)) ∙ ap (λ v. v.held) (ring_here h k r (Holds n))
+  stopped_held t = search (rules, stopped_number, shape_of, k.ring, ring_here, on_ring)
 
   stopped_other : (t : Spot) (q : ℕ) → q ≢ r → ((stopped_at h k s i r t).ring q).held ≡ (k.ring q).held
   unfolding stopped_at
-  stopped_other t q other =
-      let n : ℕ = stopped_number (shape_of h r) (k.ring r) t in
-      ap (λ v. v.held) (ring_elsewhere h (on_ring h k r (Holds n)) r q (Reaches t) other) ∙ ap (λ v. v.held) (ring_elsewhere h k r q (Holds n) other)
+  stopped_other t q other = search (rules, stopped_number, shape_of, k.ring, ring_elsewhere, on_ring)
 
   stopped_only : (t : Spot) → Works k s i r → StopsNext h k s i → OnlyThis (stopped_at h k s i r t)
   unfolding stopped_at on_ring
@@ -75,34 +61,13 @@ module _ (h : Header) (k : Known) (e : EndpointsStand k) (seen : SeenStand h k) 
   transferred_only : (c : ℕ) (t : Spot) → can_report h k c s i r t ≡ true → OnlyThis (transferred h k c s i r t)
   unfolding transferred can_report
   transferred_only c t can =
-      let below : Bool = is_data_below (ceiling (shape_of h r) (k.ring r)) t in
-      let stops : Bool = is_working k s i r && is_stopping_now h k s i && is_stop_spot (shape_of h r) (k.ring r) t in
-      let cases = chain (is_success c) (is_halting c || is_trb_error c) below (below && is_working k s i r) stops can in
-      let broken : Known = broken_off h k s i r t Halted in
-      let halts : Known = record broken { must_move = put_pair k.must_move s i true } in
-      let fails : Known = broken_off h k s i r t Error in
-      let stopped : Known = if is_stopping c then stopped_at h k s i r t else k in
-      cond_both (is_success c) (passed h k r t) (if is_halting c then halts else if is_trb_error c then fails else stopped) OnlyThis
-      (λ success. passed_only t)
-      (λ other. cond_both (is_halting c) halts (if is_trb_error c then fails else stopped) OnlyThis
-      (λ halting.
-      let works = (and_parts below (is_working k s i r) (cases.1 other (or_left (is_halting c) (is_trb_error c) halting))).1 in
-      must_only broken (put_pair k.must_move s i true) (broken_only t Halted (λ off. cc) (works_is k s i r works)))
-      (λ not_halting. cond_both (is_trb_error c) fails stopped OnlyThis
-      (λ error.
-      let works = (and_parts below (is_working k s i r) (cases.1 other (or_right (is_halting c) (is_trb_error c) error))).1 in
-      broken_only t Error (λ off. cc) (works_is k s i r works))
-      (λ not_error.
-      let spot = and_parts (is_working k s i r && is_stopping_now h k s i) (is_stop_spot (shape_of h r) (k.ring r) t)
-      (cases.2 other (or_from (is_halting c) (is_trb_error c) not_halting not_error)) in
-      let both = and_parts (is_working k s i r) (is_stopping_now h k s i) spot.0 in
-      cond_both (is_stopping c) (stopped_at h k s i r t) k OnlyThis (λ _. stopped_only t (works_is k s i r both.0) (stops_is h k s i both.1)) (λ _. nothing_more))))
+      by_code OnlyThis (is_success c) (is_halting c) (is_trb_error c) (is_stopping c) _ _ _ _ _ _ _ _ can (λ _. passed_only t)
+      (λ both. must_only (broken_off h k s i r t Halted) (put_pair k.must_move s i true) (broken_only t Halted (λ off. cc) (works_is k s i r (and_parts _ _ both).1)))
+      (λ both. broken_only t Error (λ off. cc) (works_is k s i r (and_parts _ _ both).1))
+      (λ all. let both = and_parts _ _ (and_parts _ _ all).0 in stopped_only t (works_is k s i r both.0) (stops_is h k s i both.1)) nothing_more
 
   only_both : (l : Known) → l.ring (command_id h) ≡ k.ring (command_id h) → OnlyThis l → EndpointsStand l × SeenStand h l
-  only_both l command only = (
-    one_stands k l s i r e only.one,
-    one_seen k l s i r e only.one h seen only.own (stops_on h k l (view_same (shape_of h (command_id h)) (k.ring (command_id h)) (l.ring (command_id h)) command)),
-  )
+  only_both l command only = search (rules, one_stands, one_seen, only.one, only.own, stops_on, view_same, shape_of, command_id, k.ring, l.ring)
 
 module _ (h : Header) (is : IsHeader h) (k : Known) (d : DriverKeeps h k) where
   pub reported : (b : Block) → is_impossible_transfer h k b ≡ false → is_in_profile b ≡ true → can_report_at h k b (event_at h k b) ≡ true

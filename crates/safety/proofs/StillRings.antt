@@ -24,14 +24,10 @@ module _ (h : Header) where
     pub passed_holds : (t : Spot) → EndpointHolds k (passed h k r t) s i
     passed_holds t = let rest = passed_rest t in record { state = ap (λ f. f s i) rest.0; ring_of = ap (λ f. f s i) rest.1; must_move = ap (λ f. f s i) rest.2; held = λ q at. passed_held t q }
 
-    broken_state : (t : Spot) (state : EndpointState) → (broken_off h k s i r t state).endpoint_state s i ≡ state
-    unfolding broken_off
-    broken_state t state = at_pair (λ x. x ≡ state) k.endpoint_state s i state s i (λ a b. refl) (λ other. absurd (other refl refl))
-
     -- on the endpoint itself, which isn't being stopped
     transferred_idle : (c : ℕ) (t : Spot) → can_report h k c s i r t ≡ true → (is_stopping_now h k s i ≡ true → ⊥) → IsIdleEndpoint h k s i → IsIdleEndpoint h (transferred h k c s i r t) s i
-    unfolding transferred can_report
-    transferred_idle c t can never idle = search (rules, chain, idle_held, passed_holds, broken_state, and_parts, or_from)
+    unfolding transferred can_report broken_off
+    transferred_idle c t can never idle = search (rules, chain, idle_held, passed_holds, at_pair, and_parts, or_from)
 
   module _ (is : IsHeader h) (k : Known) (d : DriverKeeps h k) (s i : ℕ) where
     -- no unfinished command stops it
@@ -81,13 +77,9 @@ module _ (h : Header) where
 
   -- ---- what is unfinished
 
-  memory_same : (k : Known) (e : Block) → (learned h k (Read e)).memory ≡ k.memory
-  unfolding learned
-  memory_same k e = (event_same h k (kind e) e).memory
-
   touches_same : (k : Known) (e : Block) (s i : ℕ) (c : Command) → touches_endpoint h (learned h k (Read e)) s i c ≡ touches_endpoint h k s i c
-  unfolding touches_endpoint
-  touches_same k e s i c = ap (λ m. list_any (touches s i) (changes h.context_size m 0 c)) (memory_same k e)
+  unfolding touches_endpoint learned
+  touches_same k e s i c = ap (λ m. list_any (touches s i) (changes h.context_size m 0 c)) ((event_same h k (kind e) e).memory)
 
   pub untouched_behind : IsHeader h → (k : Known) (d : DriverKeeps h k) (e : Block) → lenient h k (Read e) ≡ [] → (s i : ℕ) → is_touched h k s i ≡ false → is_touched h (learned h k (Read e)) s i ≡ false
   unfolding is_touched

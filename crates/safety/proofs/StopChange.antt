@@ -16,12 +16,9 @@ held_view shape v = record v { held = Some (ceiling shape v) }
 abbrev resting : RingState → RingState
 resting s = record s { active = false }
 
-ways_still : (shape : Shape) (v : RingView) (q : ℕ) → is_way_given shape (held_view shape v) q ≡ is_way_given shape v q
-unfolding is_way_given
-ways_still shape v q = refl
-
 held_matches : (shape : Shape) (v : RingView) (s : RingState) (t : Spot) → RingMatches shape v s t → RingMatches shape (held_view shape v) (resting s) t
-held_matches shape v s t m = search (rules, ceiling_held, ways_still, false≢true, newest_still)
+unfolding is_way_given
+held_matches shape v s t m = search (rules, ceiling_held, false≢true, newest_still)
 
 held_ring : (shape : Shape) (ring_of : ℕ → ℕ → Option ℕ) (v : RingView) (s : RingState) (r : ℕ) → BoundRing shape ring_of v s r → BoundRing shape ring_of (held_view shape v) (resting s) r
 held_ring shape ring_of v s r b = search (rules, held_matches)

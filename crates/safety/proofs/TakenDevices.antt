@@ -1,4 +1,5 @@
 -- What the rules say of a device context that a write takes
+use Rattle.std.proofs.Common.{rules}
 use Rattle.safety.proofs.Words.{◌≡◌, ◌%◌, ◌<◌, ◌==◌, ◌||◌, ◌∙◌, ℕ, not, Bool, true, false, suc, zero, None, Some, is_none, is_some, arith, sym, ap, subst, inl, inr, eqb-true, and_cases, or_parts, not-false, false≢true, overlap, Command, AddressDevice, named_slot, named_endpoint, named_context, is_disabled, device_context_bytes, input_context_bytes, Header, Dcbaap, Known, device_named, entry_of, is_bad_area, is_in_range_lease, is_soiled, DriverKeeps, has_bad_content, has_bad_context, has_bad_entry, is_bad_command, is_bad_device, names_disabled_endpoint, names_disabled_slot, takes_bad_device}
 use Rattle.safety.proofs.GivenCommands.{content_good}
 use Rattle.safety.proofs.KeptClean.{CleanTaking}
@@ -20,8 +21,7 @@ module _ (h : Header) (k : Known) where
   pub slot_named : (c : Command) → is_bad_command h k c ≡ false → names_disabled_slot k (named_slot c) ≡ false
   unfolding is_bad_command
   slot_named c good =
-      let three = or_parts _ (has_bad_content h k c) good in
-      let two = or_parts _ (has_bad_context h k (named_context c)) three.0 in
+      let two = or_parts _ (has_bad_context h k (named_context c)) (or_parts _ (has_bad_content h k c) good).0 in
       (or_parts (names_disabled_slot k (named_slot c)) (names_disabled_endpoint k (named_endpoint c)) two.0).0
 
   -- a slot that is there isn't slot 0
@@ -30,12 +30,8 @@ module _ (h : Header) (k : Known) where
   slot_above d zero on = absurd (false≢true (sym on ∙ ap is_disabled d.states.no_slot))
   slot_above d (suc s) on = omega arith
 
-  entry_parts : (s : ℕ) → has_bad_entry h k s ≡ false → (is_bad_area h k (entry_of k s) 8 ≡ false) × (is_soiled k (entry_of k s) 8 ≡ false)
-  unfolding has_bad_entry
-  entry_parts s good = or_parts (is_bad_area h k (entry_of k s) 8) (is_soiled k (entry_of k s) 8) good
-
   device_rules : DriverKeeps h k → (s n : ℕ) (bsr : Bool) → is_bad_command h k (AddressDevice s bsr n) ≡ false → k.device s ≡ None → DeviceRules s (device_named k s) n
-  unfolding has_bad_content takes_bad_device is_bad_device
+  unfolding has_bad_content takes_bad_device is_bad_device has_bad_entry
   device_rules keeps s n bsr good fresh =
       let content = content_good h k (AddressDevice s bsr n) good in
       let takes = (or_parts _ (takes_bad_device h k s n) content).1 in
@@ -45,7 +41,7 @@ module _ (h : Header) (k : Known) where
             let d = device_named k s in
             let three = or_parts (is_none (k.register Dcbaap) || has_bad_entry h k s) (is_bad_device h k s n (device_named k s)) rules in
             let two = or_parts (is_none (k.register Dcbaap)) (has_bad_entry h k s) three.0 in
-            let entry = entry_parts s two.1 in
+            let entry = or_parts (is_bad_area h k (entry_of k s) 8) (is_soiled k (entry_of k s) 8) two.1 in
             let six = or_parts _ (overlap (device_named k s) (device_context_bytes h.context_size) n (input_context_bytes h.context_size)) three.1 in
             let five = or_parts _ (overlap (device_named k s) (device_context_bytes h.context_size) (entry_of k s) 8) six.0 in
             let four = or_parts _ (is_in_range_lease h k (device_named k s) (device_context_bytes h.context_size)) five.0 in
@@ -65,6 +61,4 @@ module _ (h : Header) (k : Known) where
       ]
 
   pub taken_rules : DriverKeeps h k → (a w s d : ℕ) (t : CleanTaking h k a w s d) → DeviceRules s d t.takes.context
-  taken_rules keeps a w s d t =
-      subst (λ x. DeviceRules s x t.takes.context) t.takes.named
-      (device_rules keeps s t.takes.context t.takes.bsr (ap (λ c. is_bad_command h k c) (sym t.takes.command) ∙ t.good) t.takes.fresh)
+  taken_rules keeps a w s d t = search (rules, device_rules, t.takes.context, t.takes.bsr, is_bad_command)

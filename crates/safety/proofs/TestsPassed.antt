@@ -1,15 +1,12 @@
 -- A row that breaks no rule fails none of its tests
+use Rattle.std.proofs.Common.{rules}
 use Rattle.safety.proofs.Words.{[], ◌≡◌, ◌||◌, ◌∷◌, ◌∙◌, Bool, true, false, List, map, All, refl, sym, ap, inl, inr, get_or, list_any, cases_Bool, cond-true, cond-false, false≢true, false_from_ne_true, list_any_at, Header, Row, Known, AfterStop, Test, broken_of, lenient_tests, lenient}
 use Rattle.safety.proofs.Lenient.{some_none}
 
 -- before a stop, and with no test failed
 pub clean_tests : (h : Header) (k : Known) (row : Row) → lenient h k row ≡ [] → (k.stopped ≡ false) × (broken_of (lenient_tests h k row) ≡ [])
 unfolding lenient
-clean_tests h k row clean =
-    elim (cases_Bool k.stopped) [
-      | inl stopped ↦ absurd (some_none AfterStop [] (sym (cond-true k.stopped (AfterStop ∷ []) (broken_of (lenient_tests h k row)) stopped) ∙ clean))
-      | inr on ↦ (on, sym (cond-false k.stopped (AfterStop ∷ []) (broken_of (lenient_tests h k row)) on) ∙ clean)
-    ]
+clean_tests h k row clean = search (rules, some_none, cond-true, k.stopped, broken_of, lenient_tests, cond-false)
 
 -- each test fails
 abbrev pub AllFail : List Test → Type 0

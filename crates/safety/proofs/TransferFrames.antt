@@ -1,4 +1,5 @@
 -- What a Transfer Event leaves as it is: all rings but that of its endpoint, and all slots
+use Rattle.std.proofs.Common.{rules}
 use Rattle.safety.proofs.Words.{◌≡◌, ◌≢◌, ◌+◌, if◌then◌else◌, ◌∙◌, ℕ, true, Option, None, Some, refl, sym, ap, option_map, cond_both, none-some, same_Some, put_pair, Block, pointer, code, slot, endpoint, is_success, is_halting, is_trb_error, is_stopping, Spot, number, after, Reaches, Holds, named, stopped_number, EndpointState, Halted, Error, Header, IsHeader, shape_of, command_id, Known, RingSpot, on_ring, spot_on, event_at, passed, broken_off, stopped_at, transferred, transferred_at, transfer_read, EndpointsKeep}
 use Rattle.safety.proofs.RingIds.{command_not_transfer}
 use Rattle.safety.proofs.DriverRows.{ring_elsewhere}
@@ -8,11 +9,7 @@ module _ (h : Header) where
   pub spot_ring : (k : Known) (a : ℕ) (o : Option ℕ) (at : RingSpot) → spot_on h k a o ≡ Some at → o ≡ Some at.ring
   unfolding spot_on
   spot_ring k a None at e = absurd (none-some at e)
-  spot_ring k a (Some r) at e = by (named (shape_of h r) (k.ring r) a) e
-    where
-      by : (m : Option Spot) → option_map (λ t. let x : RingSpot = record { ring = r; spot = t } in x) m ≡ Some at → Some r ≡ Some at.ring
-      by None e = absurd (none-some at e)
-      by (Some t) e = ap (λ (x : RingSpot). Some x.ring) (same_Some (record { ring = r; spot = t }) at e)
+  spot_ring k a (Some r) at e = search (rules, none-some, named, shape_of, k.ring, option_map, same_Some)
 
   pub event_ring_of : (k : Known) (b : Block) (at : RingSpot) → event_at h k b ≡ Some at → k.ring_of (slot b) (endpoint b) ≡ Some at.ring
   unfolding event_at
@@ -31,9 +28,7 @@ module _ (h : Header) where
 
     stopped_off : (s i : ℕ) (t : Spot) → (stopped_at h k s i r t).ring q ≡ k.ring q
     unfolding stopped_at
-    stopped_off s i t =
-        let l : Known = on_ring h k r (Holds (stopped_number (shape_of h r) (k.ring r) t)) in
-        ring_elsewhere h l r q (Reaches t) other ∙ ring_elsewhere h k r q (Holds (stopped_number (shape_of h r) (k.ring r) t)) other
+    stopped_off s i t = search (rules, on_ring, stopped_number, shape_of, k.ring, ring_elsewhere)
 
     transferred_off : (c s i : ℕ) (t : Spot) → (transferred h k c s i r t).ring q ≡ k.ring q
     unfolding transferred
@@ -72,17 +67,7 @@ module _ (h : Header) where
   transferred_slots : (k : Known) (c s i r : ℕ) (t : Spot) → LeavesSlots k (transferred h k c s i r t)
   unfolding transferred passed broken_off stopped_at on_ring
   transferred_slots k c s i r t =
-      let halts : Known = record (broken_off h k s i r t Halted) { must_move = put_pair k.must_move s i true } in
-      let fails : Known = broken_off h k s i r t Error in
-      let stopped : Known = if is_stopping c then stopped_at h k s i r t else k in
-      cond_both (is_success c) (passed h k r t) (if is_halting c then halts else if is_trb_error c then fails else stopped) (LeavesSlots k)
-      (λ _. record { slot_state = refl; ring_of = refl; was_bound = refl; device = refl })
-      (λ _. cond_both (is_halting c) halts (if is_trb_error c then fails else stopped) (LeavesSlots k)
-      (λ _. record { slot_state = refl; ring_of = refl; was_bound = refl; device = refl })
-      (λ _. cond_both (is_trb_error c) fails stopped (LeavesSlots k)
-      (λ _. record { slot_state = refl; ring_of = refl; was_bound = refl; device = refl })
-      (λ _. cond_both (is_stopping c) (stopped_at h k s i r t) k (LeavesSlots k)
-      (λ _. record { slot_state = refl; ring_of = refl; was_bound = refl; device = refl }) (λ _. record { slot_state = refl; ring_of = refl; was_bound = refl; device = refl }))))
+      search (rules, broken_off, put_pair, k.must_move, true, is_stopping, stopped_at, is_success, passed, is_halting, is_trb_error)
 
   at_slots : (k : Known) (b : Block) (o : Option RingSpot) → LeavesSlots k (transferred_at h k b o)
   unfolding transferred_at

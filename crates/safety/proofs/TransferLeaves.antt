@@ -19,8 +19,7 @@ pub record TransferLeaves (k l : Known) (s i r : ℕ) : Type 0 where
 
 module _ (h : Header) (k : Known) (s i r : ℕ) where
   idle_leaves : TransferLeaves k k s i r
-  idle_leaves =
-      record { device = refl; slot_state = refl; ring_of = refl; was_bound = refl; others = λ q other. refl; states = λ q j other. refl; moves = λ q j other. refl; on = λ on. on; rests = λ off. (refl, refl) }
+  idle_leaves = search rules
 
   passed_leaves : (t : Spot) → TransferLeaves k (passed h k r t) s i r
   unfolding passed on_ring
@@ -29,12 +28,9 @@ module _ (h : Header) (k : Known) (s i r : ℕ) where
   on_twice : (a b : RingChange) (q : ℕ) → q ≢ r → (on_ring h (on_ring h k r a) r b).ring q ≡ k.ring q
   on_twice a b q other = ring_elsewhere h (on_ring h k r a) r q b other ∙ ring_elsewhere h k r q a other
 
-  state_on : (state : EndpointState) → is_off state ≡ false → is_off (put_pair k.endpoint_state s i state s i) ≡ false
-  state_on state on = at_pair (λ e. is_off e ≡ false) k.endpoint_state s i state s i (λ a b. on) (λ other. absurd (other refl refl))
-
   broken_leaves : (t : Spot) (state : EndpointState) → is_off state ≡ false → is_working k s i r ≡ true → TransferLeaves k (broken_off h k s i r t state) s i r
   unfolding broken_off passed on_ring is_working
-  broken_leaves t state on works = search (rules, on_twice, at_pair, state_on, false≢true, and_parts)
+  broken_leaves t state on works = search (rules, on_twice, at_pair, is_off, false, false≢true, and_parts)
 
   stopped_leaves : (t : Spot) → is_working k s i r ≡ true → TransferLeaves k (stopped_at h k s i r t) s i r
   unfolding stopped_at on_ring is_working

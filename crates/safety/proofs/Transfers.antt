@@ -13,6 +13,15 @@ chain true c x y z h = (λ _. h, λ e. absurd (false≢true (sym e)), λ e. absu
 chain false true x y z h = (λ e. absurd (false≢true e), λ _ _. h, λ _ e. absurd (false≢true (sym e)))
 chain false false x y z h = (λ e. absurd (false≢true e), λ _ e. absurd (false≢true e), λ _ _. h)
 
+-- what an event changes, by its code
+pub by_code : {A : Type 0} (P : A → Type 0) (a b c d x y z : Bool) (p q r s t : A) → (if a then x else if b || c then y else z) ≡ true →
+    (x ≡ true → P p) → (y ≡ true → P q) → (y ≡ true → P r) → (z ≡ true → P s) → P t → P (if a then p else if b then q else if c then r else if d then s else t)
+by_code P true b c d x y z p q r s t can success halting error stops none = success can
+by_code P false true c d x y z p q r s t can success halting error stops none = halting can
+by_code P false false true d x y z p q r s t can success halting error stops none = error can
+by_code P false false false true x y z p q r s t can success halting error stops none = stops can
+by_code P false false false false x y z p q r s t can success halting error stops none = none
+
 -- the spot that an event names is named on its ring
 pub spot_is : (h : Header) (k : Known) (a : ℕ) (o : Option ℕ) (at : RingSpot) → spot_on h k a o ≡ Some at → named (shape_of h at.ring) (k.ring at.ring) a ≡ Some at.spot
 unfolding spot_on
@@ -43,10 +52,9 @@ module _ (h : Header) (is : IsHeader h) (k : Known) (keeps : RingsKeep h k) wher
       same_keeps h k (on_ring h (on_ring h k r (Reaches (after (shape_of h r) (number t)))) r (Holds (number t + 1))) (broken_off h k s i r t state) refl refl
       (on_ring_twice_keeps h k k r (Reaches (after (shape_of h r) (number t))) (Holds (number t + 1)) (stands h k keeps) (λ driver.
       let allowed = shape_allowed h is r driver in
-      let ring : RingKeeps (shape_of h r) k.memory (k.ring r) = keeps r driver in
-      let within = ceiling_within (shape_of h r) allowed k.memory (k.ring r) ring in
+      let within = ceiling_within (shape_of h r) allowed k.memory (k.ring r) (keeps r driver) in
       record {
-        rules = reaches_and_holds_keeps (shape_of h r) allowed k.memory (k.ring r) ring (after (shape_of h r) (number t))
+        rules = reaches_and_holds_keeps (shape_of h r) allowed k.memory (k.ring r) (keeps r driver) (after (shape_of h r) (number t))
             (after_reached (shape_of h r) (k.ring r) (number t) (omega (arith, ahead driver)) (omega (arith, within.1, below)))
             (number t + 1) (omega (arith, number-after (shape_of h r) (number t))) (omega (arith, within.1, below)) (λ p free low. omega arith);
         passes = passes_at (shape_of h r) (k.ring r) (changed (shape_of h r) (changed (shape_of h r) (k.ring r) (Reaches (after (shape_of h r) (number t)))) (Holds (number t + 1))) (number t + 1) refl refl
@@ -77,28 +85,12 @@ module _ (h : Header) (is : IsHeader h) (k : Known) (keeps : RingsKeep h k) wher
   transferred_keeps : (c s i r : ℕ) (t : Spot) → (IsDriverRing h r → IsAhead (shape_of h r) (k.ring r) t) → can_report h k c s i r t ≡ true → RingsKept h k (transferred h k c s i r t)
   unfolding transferred can_report
   transferred_keeps c s i r t ahead can =
-      let below : Bool = is_data_below (ceiling (shape_of h r) (k.ring r)) t in
-      let stops : Bool = is_working k s i r && is_stopping_now h k s i && is_stop_spot (shape_of h r) (k.ring r) t in
-      let cases = chain (is_success c) (is_halting c || is_trb_error c) below (below && is_working k s i r) stops can in
-      let halts : Known = record (broken_off h k s i r t Halted) { must_move = put_pair k.must_move s i true } in
-      let fails : Known = broken_off h k s i r t Error in
-      let stopped : Known = if is_stopping c then stopped_at h k s i r t else k in
       let from : IsDriverRing h r → floor_number (k.ring r) ≤ number t = λ driver. (ahead driver).from in
-      cond_both (is_success c) (passed h k r t) (if is_halting c then halts else if is_trb_error c then fails else stopped) (RingsKept h k)
-      (λ success. passed_keeps r t from (below_is (ceiling (shape_of h r) (k.ring r)) t (cases.0 success)))
-      (λ other. cond_both (is_halting c) halts (if is_trb_error c then fails else stopped) (RingsKept h k)
-      (λ halting.
-      let given = (and_parts below (is_working k s i r) (cases.1 other (or_left (is_halting c) (is_trb_error c) halting))).0 in
-      same_keeps h k (broken_off h k s i r t Halted) halts refl refl (broken_keeps s i r t Halted from (below_is (ceiling (shape_of h r) (k.ring r)) t given)))
-      (λ not_halting. cond_both (is_trb_error c) fails stopped (RingsKept h k)
-      (λ error.
-      let given = (and_parts below (is_working k s i r) (cases.1 other (or_right (is_halting c) (is_trb_error c) error))).0 in
-      broken_keeps s i r t Error from (below_is (ceiling (shape_of h r) (k.ring r)) t given))
-      (λ not_error.
-      let given = and_parts (is_working k s i r && is_stopping_now h k s i) (is_stop_spot (shape_of h r) (k.ring r) t)
-      (cases.2 other (or_from (is_halting c) (is_trb_error c) not_halting not_error)) in
-      cond_both (is_stopping c) (stopped_at h k s i r t) k (RingsKept h k)
-      (λ _. stopped_keeps s i r t ahead given.1 (working_open s i r (and_parts (is_working k s i r) (is_stopping_now h k s i) given.0).0)) (λ _. stands h k keeps))))
+      let below = λ (given : is_data_below (ceiling (shape_of h r) (k.ring r)) t ≡ true). below_is (ceiling (shape_of h r) (k.ring r)) t given in
+      by_code (RingsKept h k) (is_success c) (is_halting c) (is_trb_error c) (is_stopping c) _ _ _ _ _ _ _ _ can (λ given. passed_keeps r t from (below given))
+      (λ both. same_keeps h k (broken_off h k s i r t Halted) (record (broken_off h k s i r t Halted) { must_move = put_pair k.must_move s i true }) refl refl (broken_keeps s i r t Halted from (below (and_parts _ _ both).0)))
+      (λ both. broken_keeps s i r t Error from (below (and_parts _ _ both).0))
+      (λ all. let given = and_parts _ _ all in stopped_keeps s i r t ahead given.1 (working_open s i r (and_parts _ _ given.0).0)) (stands h k keeps)
 
   reported_keeps : (b : Block) (o : Option RingSpot) → event_at h k b ≡ o → can_report_at h k b o ≡ true → RingsKept h k (transferred_at h k b o)
   unfolding transferred_at can_report_at event_at

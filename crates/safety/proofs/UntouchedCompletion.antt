@@ -1,4 +1,5 @@
 -- A Command Completion Event leaves an endpoint that no unfinished command touches
+use Rattle.std.proofs.Common.{rules}
 use Rattle.safety.proofs.Words.{◌≡◌, ◌==◌, if◌then◌else◌, ◌∙◌, ℕ, true, false, Option, None, Some, refl, ap, list_any, cond_both, Block, code, slot, Spot, after, Reaches, ContextSize, Command, NoOp, StopEndpoint, changes, touches, Header, Config, IsHeader, shape_of, command_id, register_or_zero, Known, on_ring, command_at, next_command, succeeded, stop_ended, finished, completed, touches_endpoint, is_touched, can_finish, IsUnfinished, CommandKeeps, DriverKeeps}
 use Rattle.safety.proofs.LowerLaws.{endpoints_of, rings_of, endpoints_part, unfinished_fails}
 use Rattle.safety.proofs.MiddleLaws.{CompletionFacts, next_unfinished, command_holds, success_fits, reached_fields, reached_held, can_be, EndpointHolds, same_holds, both_hold, changes_hold}
@@ -21,9 +22,7 @@ module _ (h : Header) (s i : ℕ) where
   reached_must m r t = refl
 
   reached_holds : (m : Known) (r : ℕ) (t : Spot) → EndpointHolds m (on_ring h m r (Reaches t)) s i
-  reached_holds m r t =
-      let same = reached_fields h m r t in
-      record { state = ap (λ f. f s i) same.1; ring_of = ap (λ f. f s i) same.0; must_move = ap (λ f. f s i) (reached_must m r t); held = λ q at. reached_held h m r t q }
+  reached_holds m r t = search (rules, reached_fields, reached_must, reached_held)
 
   module _ (is : IsHeader h) (k : Known) (d : DriverKeeps h k) (b : Block) (started : k.started ≡ true) (facts : CompletionFacts h k b) (untouched : is_touched h k s i ≡ false) where
     -- the command is unfinished, and so doesn't touch the endpoint

@@ -1,4 +1,5 @@
 -- The success of a command that doesn't touch an endpoint leaves its state, its ring, whether that must be moved, and where it is held
+use Rattle.std.proofs.Common.{rules}
 use Rattle.safety.proofs.Words.{[], ◌≡◌, ◌≢◌, ◌==◌, ◌&&◌, ◌∷◌, ◌∙◌, ℕ, Bool, false, List, Option, None, Some, refl, sym, ap, inl, inr, eq-eqb, list_any, cases_Bool, false≢true, and_from, or_parts, Holds, ceiling, Command, EndpointState, Stopped, Change, Places, Stops, touches, is_off, Header, IsHeader, shape_of, Known, pointed, disabled, in_state, held_at_ceiling, changed_by, changed_by_all, EndpointsKeep}
 use Rattle.safety.proofs.LowerLaws.{ring_elsewhere, change_keeps, EndpointsStand, MayPlace, IsBound, IsMoved, IsPlaced, pointed_off, pointed_on, placed_is, is_off_of, some_ring, EndpointStays, untouched_stays}
 use Rattle.safety.proofs.StatesChanges.{Fits, FitAll, change_stands}
@@ -20,39 +21,31 @@ module _ (h : Header) (s i : ℕ) where
   module _ (k : Known) (keeps : EndpointsKeep h k) (e : EndpointsStand k) (r : ℕ) (at : k.ring_of s i ≡ Some r) where
     -- another endpoint has another ring
     others_ring : (t j q : ℕ) → (s == t && i == j) ≡ false → k.ring_of t j ≡ Some q → r ≢ q
-    others_ring t j q apart there same =
-        let both = e.one_endpoint s i t j r at (there ∙ ap (λ n. Some n) (sym same)) in
-        false≢true (sym apart ∙ and_from (s == t) (i == j) (eq-eqb s t both.0) (eq-eqb i j both.1))
+    others_ring t j q apart there same = search (rules, e.one_endpoint, false≢true, and_from, eq-eqb)
 
     pointed_held : (t j p : ℕ) (cycle : Bool) (state : EndpointState) → MayPlace h k t j p state → (s == t && i == j) ≡ false → ((pointed h k t j p cycle).ring r).held ≡ (k.ring r).held
     pointed_held t j p cycle state may apart =
         elim (cases_Bool (is_off (k.endpoint_state t j))) [
           | inl off ↦
               let new = may.binds off in
-              let bound : IsBound k (pointed h k t j p cycle) t j new.ring = pointed_off h k t j p new.ring cycle off new.named in
-              bound.others r (λ same. new.free s i (at ∙ ap (λ n. Some n) same))
+              (pointed_off h k t j p new.ring cycle off new.named).others r (λ same. new.free s i (at ∙ ap (λ n. Some n) same))
           | inr on ↦
               elim (some_ring (k.ring_of t j)) [
                 | inl none ↦ absurd (false≢true (sym on ∙ is_off_of (k.endpoint_state t j) (e.off t j none)))
                 | inr has ↦
-                    let moved : IsMoved k (pointed h k t j p cycle) has.0 = pointed_on h k t j p has.0 cycle on has.1 in
-                    moved.others r (others_ring t j has.0 apart has.1)
+                    (pointed_on h k t j p has.0 cycle on has.1).others r (others_ring t j has.0 apart has.1)
               ]
         ]
 
     stopped_held : (t j : ℕ) (o : Option ℕ) → k.ring_of t j ≡ o → (s == t && i == j) ≡ false → ((held_at_ceiling h (in_state h k t j Stopped) o).ring r).held ≡ (k.ring r).held
     unfolding held_at_ceiling in_state
     stopped_held t j None there apart = refl
-    stopped_held t j (Some q) there apart =
-        let l : Known = in_state h k t j Stopped in
-        ap (λ v. v.held) (ring_elsewhere h l q r (Holds (ceiling (shape_of h q) (l.ring q))) (others_ring t j q apart there))
+    stopped_held t j (Some q) there apart = search (rules, in_state, ring_elsewhere, ceiling, shape_of, others_ring)
 
     untouched_held : (c : Command) (change : Change) → Fits h k change → touches s i change ≡ false → ((changed_by h c k change).ring r).held ≡ (k.ring r).held
     unfolding changed_by disabled in_state
-    untouched_held c (Places t j p cycle state) fits apart =
-        let placed : IsPlaced (pointed h k t j p cycle) (changed_by h c k (Places t j p cycle state)) t j state = placed_is h c k t j p cycle state in
-        ap (λ f. (f r).held) placed.ring ∙ pointed_held t j p cycle state fits apart
-    untouched_held c (Stops t j) fits apart = stopped_held t j (k.ring_of t j) refl apart
+    untouched_held c (Places t j p cycle state) fits apart = search (rules, pointed, changed_by, placed_is, pointed_held, stopped_held, k.ring_of)
+    untouched_held c (Stops t j) fits apart = search (rules, pointed, changed_by, placed_is, pointed_held, stopped_held, k.ring_of)
     untouched_held c _ fits apart = refl
 
   untouched_holds : (c : Command) (k : Known) (change : Change) → EndpointsKeep h k → EndpointsStand k → Fits h k change → touches s i change ≡ false → EndpointHolds k (changed_by h c k change) s i

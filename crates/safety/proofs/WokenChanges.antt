@@ -14,8 +14,7 @@ module _ (h : Header) (r s i : ℕ) where
 
   set_woken : (k l : Known) → Awake k l → (q : ℕ) (t : Spot) → q ≢ r → Awake (set_to h k q t) (set_to h l q t)
   unfolding set_to
-  set_woken k l w q t other =
-      woken_elsewhere h r (one_of s i) (on_ring h k q (Reaches t)) (on_ring h l q (Reaches t)) (woken_reach h r (one_of s i) k l w q t) q (Holds (number t)) other
+  set_woken k l w q t other = search (rules, woken_elsewhere, on_ring, woken_reach, number)
 
   bound_with : (m n : Known) → Awake m n → (t j q : ℕ) (f g : ℕ → ℕ → Option ℕ) (x y : ℕ → Bool) → g ≡ f → y ≡ x →
       Awake (let u : Known = record m { ring_of = put_pair f t j (Some q); was_bound = put x q true } in u)
@@ -30,9 +29,7 @@ module _ (h : Header) (r s i : ℕ) where
   moved_woken : (k l : Known) → Awake k l → (o : Option ℕ) (p : ℕ) (cycle : Bool) → ((q : ℕ) → o ≡ Some q → q ≢ r) → Awake (moved h k o p cycle) (moved h l o p cycle)
   unfolding moved
   moved_woken k l w None p cycle others = w
-  moved_woken k l w (Some q) p cycle others =
-      subst (λ v. Awake (moved_to h k q (target (shape_of h q) (k.ring q) p cycle)) (moved_to h l q (target (shape_of h q) v p cycle))) (sym (w.rings q (others q refl)))
-      (target_woken k l w q (target (shape_of h q) (k.ring q) p cycle) (others q refl))
+  moved_woken k l w (Some q) p cycle others = search (rules, moved_to, target, shape_of, k.ring, w.rings, target_woken)
 
   bound_woken : (k l : Known) → Awake k l → (t j : ℕ) (o : Option ℕ) (p : ℕ) (cycle : Bool) → ((q : ℕ) → o ≡ Some q → q ≢ r) → Awake (bound_to h k t j o p cycle) (bound_to h l t j o p cycle)
   unfolding bound_to
@@ -43,9 +40,7 @@ module _ (h : Header) (r s i : ℕ) where
   ceiling_woken : (k l : Known) → Awake k l → (o : Option ℕ) → ((q : ℕ) → o ≡ Some q → q ≢ r) → Awake (held_at_ceiling h k o) (held_at_ceiling h l o)
   unfolding held_at_ceiling
   ceiling_woken k l w None others = w
-  ceiling_woken k l w (Some q) others =
-      subst (λ v. Awake (on_ring h k q (Holds (ceiling (shape_of h q) (k.ring q)))) (on_ring h l q (Holds (ceiling (shape_of h q) v)))) (sym (w.rings q (others q refl)))
-      (woken_elsewhere h r (one_of s i) k l w q (Holds (ceiling (shape_of h q) (k.ring q))) (others q refl))
+  ceiling_woken k l w (Some q) others = search (rules, on_ring, ceiling, shape_of, k.ring, w.rings, woken_elsewhere)
 
   -- ---- one change
 
@@ -57,17 +52,13 @@ module _ (h : Header) (r s i : ℕ) where
 
   -- a ring of another endpoint is another one
   other_ring : (k : Known) → Owns k → (t j : ℕ) → one_of s i t j ≡ false → (q : ℕ) → k.ring_of t j ≡ Some q → q ≢ r
-  other_ring k o t j apart q at same =
-      let is = o.stands.one_endpoint t j s i r (at ∙ ap (λ n. Some n) same) o.has in
-      false≢true (sym apart ∙ and_from (t == s) (j == i) (eq-eqb t s is.0) (eq-eqb j i is.1))
+  other_ring k o t j apart q at same = search (rules, o.stands.one_endpoint, o.has, false≢true, and_from, eq-eqb)
 
   pub flipped : (t j : ℕ) → (s == t && i == j) ≡ false → one_of s i t j ≡ false
   flipped t j apart = search (rules, and_parts, false≢true, and_from, eq-eqb, eqb-true)
 
   own_pair : (which : ℕ → Bool) (u t j : ℕ) → (s == u && which i) ≡ false → one_of s i t j ≡ true → (t == u && which j) ≡ false
-  own_pair which u t j apart same =
-      let parts = and_parts (t == s) (j == i) same in
-      ap (λ n. n == u && which j) (eqb-true t s parts.0) ∙ ap (λ n. s == u && which n) (eqb-true j i parts.1) ∙ apart
+  own_pair which u t j apart same = search (rules, and_parts, eqb-true)
 
   pointed_woken : (k l : Known) → Awake k l → Owns k → (t j p : ℕ) (cycle : Bool) (e : EndpointState) → one_of s i t j ≡ false → MayPlace h k t j p e →
       Awake (pointed h k t j p cycle) (pointed h l t j p cycle)

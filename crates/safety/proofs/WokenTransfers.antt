@@ -5,11 +5,6 @@ use Rattle.safety.proofs.AlikeChanges.{both_sides_if}
 use Rattle.safety.proofs.LowerLaws.{SameDriver, event_ring_of, Woken, woken_floor, woken_reach, woken_elsewhere, woken_state, woken_move, woken_seen}
 use Rattle.safety.proofs.HeldFurther.{named_same}
 
--- the ceiling of an opened ring is all that is given
-pub opened_ceiling : (shape : Shape) (v : RingView) → ceiling shape (changed shape v Opens) ≡ given_count shape v
-unfolding is_step_given is_way_given
-opened_ceiling shape v = ceiling_open shape (changed shape v Opens) refl ∙ sym (given_count_same shape v (changed shape v Opens) refl (λ p. refl))
-
 below_further : (m n : ℕ) (t : Spot) → m ≤ n → is_data_below m t ≡ true → is_data_below n t ≡ true
 unfolding is_data_below
 below_further m n (Data p) further below = lt-ltb p n (omega (arith, ltb-true p m below))
@@ -31,9 +26,7 @@ module _ (h : Header) (r : ℕ) (S : ℕ → ℕ → Bool) (k l : Known) (w : Wo
   module _ (s i q : ℕ) (t : Spot) (other : q ≢ r) (apart : S s i ≡ false) where
     broken_woken : (e : EndpointState) → Woken h r S (broken_off h k s i q t e) (broken_off h l s i q t e)
     unfolding broken_off passed on_ring
-    broken_woken e =
-        woken_state h r S (on_ring h (passed h k q t) q (Holds (number t + 1))) (on_ring h (passed h l q t) q (Holds (number t + 1))) s i e apart
-        (woken_elsewhere h r S (passed h k q t) (passed h l q t) (passed_woken q t) q (Holds (number t + 1)) other)
+    broken_woken e = search (rules, woken_state, on_ring, passed, number, woken_elsewhere, passed_woken)
 
     stopped_woken : Woken h r S (stopped_at h k s i q t) (stopped_at h l s i q t)
     unfolding stopped_at on_ring
@@ -53,7 +46,8 @@ module _ (h : Header) (r : ℕ) (S : ℕ → ℕ → Bool) (k l : Known) (w : Wo
   module _ (held : is_open (k.ring r) ≡ false) (within : ceiling (shape_of h r) (k.ring r) ≤ given_count (shape_of h r) (k.ring r))
       (mine : (s i : ℕ) → S s i ≡ true → k.ring_of s i ≡ Some r) (stopping : (s i : ℕ) → is_stopping_now h k s i ≡ true → is_stopping_now h l s i ≡ true) where
     below_woken : (q : ℕ) (t : Spot) → is_data_below (ceiling (shape_of h q) (k.ring q)) t ≡ true → is_data_below (ceiling (shape_of h q) (l.ring q)) t ≡ true
-    below_woken q t below = search (rules, below_further, opened_ceiling)
+    unfolding is_step_given is_way_given
+    below_woken q t below = search (rules, below_further, ceiling_open, changed, given_count_same)
 
     -- an endpoint that works hasn't the ring that is held
     works_apart : (s i q : ℕ) → k.ring_of s i ≡ Some q → is_working k s i q ≡ true → (q ≢ r) × (S s i ≡ false)
@@ -62,8 +56,7 @@ module _ (h : Header) (r : ℕ) (S : ℕ → ℕ → Bool) (k l : Known) (w : Wo
 
     working_woken : (s i q : ℕ) → (q ≢ r) × (S s i ≡ false) → is_working k s i q ≡ true → is_working l s i q ≡ true
     unfolding is_working
-    working_woken s i q apart works =
-        ap (λ e. is_running e && is_open (l.ring q)) (w.state s i apart.1) ∙ ap (λ v. is_running (k.endpoint_state s i) && is_open v) (w.rings q apart.0) ∙ works
+    working_woken s i q apart works = search (rules, is_running, is_open, l.ring, w.state, k.endpoint_state, w.rings)
 
     report_woken : (c s i q : ℕ) (t : Spot) → k.ring_of s i ≡ Some q → can_report h k c s i q t ≡ true → can_report h l c s i q t ≡ true
     unfolding can_report
@@ -92,8 +85,7 @@ module _ (h : Header) (r : ℕ) (S : ℕ → ℕ → Bool) (k l : Known) (w : Wo
       spot_same : (p : ℕ) (o : Option ℕ) → spot_on h l p o ≡ spot_on h k p o
       unfolding spot_on
       spot_same p None = refl
-      spot_same p (Some q) =
-          ap (option_map (λ t. let x : RingSpot = record { ring = q; spot = t } in x)) (named_same h q p (k.ring q) (l.ring q) (woken_floor h r S k l w q) (d.rings q).queue)
+      spot_same p (Some q) = search (rules, option_map, named_same, k.ring, l.ring, woken_floor, d.rings)
 
       event_same : (b : Block) → event_at h l b ≡ event_at h k b
       unfolding event_at

@@ -7,11 +7,8 @@ module _ (h : Header) (r : ℕ) (S : ℕ → ℕ → Bool) (k l m : Known) (one 
   same_view : (q : ℕ) → m.ring q ≡ l.ring q
   same_view q = search rules
 
-  same_state : (s i : ℕ) → m.endpoint_state s i ≡ l.endpoint_state s i
-  same_state s i = search rules
-
   same_states : SameStates l m
-  same_states = search (rules, same_state)
+  same_states = search (rules)
 
   pub woken_more : SameDriver l m → HeldMore l m
   woken_more d = held_more l m d same_states (λ q. ap (λ v. v.floor) (same_view q)) (λ q. held_same (l.ring q).held (m.ring q).held (ap (λ v. v.held) (same_view q)))

@@ -26,9 +26,8 @@ module _ (shape : Shape) (memory : ℕ → ℕ) (v u : RingView) (b : RingBehind
       let parts = and_parts (not (u.crossed q)) (gives_crossing shape u.floor q a x) found.1 in
       let gives_then : gives_crossing shape v.floor q a x ≡ true = crosses_before shape memory v u b a x keeps q parts.1 in
       let g = gives_crossing_is shape v.floor q a x gives_then in
-      let below : q < floor_number v + (place_count shape + 1) = elim g.due.within [ inl near ↦ omega arith | inr first ↦ omega arith ] in
       in_filter (λ q. not (v.crossed q) && gives_crossing shape v.floor q a x) (range_with_len (floor_number v) (place_count shape + 1)) q
-      (in_range (floor_number v) (place_count shape + 1) q g.due.from below)
+      (in_range (floor_number v) (place_count shape + 1) q g.due.from (elim g.due.within [ inl near ↦ omega arith | inr first ↦ omega arith ]))
       (and_from (not (v.crossed q)) (gives_crossing shape v.floor q a x) (ap (λ f. not (f q)) (sym b.same.crossed) ∙ parts.0) gives_then)
 
   position_stays : (p : ℕ) → IsIn p (positions_given shape v a x) → IsIn p (positions_given shape u a x)
@@ -54,9 +53,7 @@ module _ (shape : Shape) (memory : ℕ → ℕ) (v u : RingView) (b : RingBehind
             elim (positions_given-one shape b.is v a x) [
               | inl none ↦ absurd (subst (λ xs. IsIn one.0 xs) none was)
               | inr other ↦
-                  let at : IsIn one.0 (other.0 ∷ []) = subst (λ xs. IsIn one.0 xs) other.1 was in
-                  let same : one.0 ≡ other.0 = elim at [ inl here ↦ here | inr later ↦ absurd later ] in
-                  one.1 ∙ ap (λ p. p ∷ []) same ∙ sym other.1
+                  one.1 ∙ ap (λ p. p ∷ []) (elim (subst (λ xs. IsIn one.0 xs) other.1 was) [ inl here ↦ here | inr later ↦ absurd later ]) ∙ sym other.1
             ]
       ]
 

@@ -52,8 +52,7 @@ module _ (h : Header) (is : IsHeader h) (k : Known) (d : DriverKeeps h k) (a w :
 
   word_after : HeldMore behind beneath
   unfolding with_word
-  word_after =
-      held_more behind beneath (both_drivers behind (counted h m) beneath word_driver (read_same h m e)) states (λ r. (read.after.rings r).floor) (λ r. (read.after.rings r).held)
+  word_after = search (rules, held_more, both_drivers, counted, word_driver, read_same, states, read)
 
 module _ (h : Header) (is : IsHeader h) (k : Known) (d : DriverKeeps h k) (a w : ℕ) (e : Block) (clean : MayCome h k (Write a w)) (none : command_given h k a w ≡ None)
     (may : lenient h k (Read e) ≡ []) where

@@ -21,8 +21,7 @@ module _ (h : Header) (k : Known) where
 
   pub context_parts : (n : ℕ) → has_bad_context h k (Some n) ≡ false → ContextParts n
   unfolding has_bad_context
-  context_parts n good =
-      let p = or_parts (is_bad_area h k n (input_context_bytes h.context_size)) (is_soiled k n (input_context_bytes h.context_size)) good in record { area = p.0; clean = p.1 }
+  context_parts n good = search (rules, or_parts, is_bad_area, input_context_bytes, is_soiled)
 
   pub context_from : (n : ℕ) → is_bad_area h k n (input_context_bytes h.context_size) ≡ false → is_soiled k n (input_context_bytes h.context_size) ≡ false →
       has_bad_context h k (Some n) ≡ false
@@ -59,9 +58,7 @@ module _ (h : Header) (is : IsHeader h) (k : Known) (d : DriverKeeps h k) (a w :
 
     now_clean : (i : ℕ) → i < input_context_bytes h.context_size / 4 → l.soiled (n + 4 * i) ≡ false
     now_clean i low =
-        let x : ℕ = n + 4 * i in
-        let before : k.soiled (n + 4 * i) ≡ false = clean_word k n (input_context_bytes h.context_size) i parts.clean low in
-        let kept = and_left (k.soiled (n + 4 * i)) (not (n + 4 * i == a)) before in
+        let kept = and_left (k.soiled (n + 4 * i)) (not (n + 4 * i == a)) (clean_word k n (input_context_bytes h.context_size) i parts.clean low) in
         elim (cases_option (taken h k a w)) [
           | inl none ↦ written_soiled_none h k a w none (n + 4 * i) ∙ kept
           | inr some ↦
@@ -129,7 +126,6 @@ module _ (h : Header) (is : IsHeader h) (k : Known) (d : DriverKeeps h k) (a w :
   given_word : (p : ℕ) (c : Command) → GivesCommand h k a w p c → is_bad_command h k c ≡ false → (n : ℕ) → named_context c ≡ Some n → (x : ℕ) → n ≤ x →
       x < n + input_context_bytes h.context_size → x ≢ a
   given_word p c g good n at x low high same =
-      let shape = shape_of h (command_id h) in
       let writes = gives_is (shape_of h (command_id h)) (k.ring (command_id h)).floor p a w g.gives in
       let inside : is_inside (shape_of h (command_id h)) a ≡ true =
       ap (λ y. is_inside (shape_of h (command_id h)) y) writes.at ∙ address_inside (shape_of h (command_id h)) (ring_shape h is (command_id h) g.ring).is p 12 (omega arith) in

@@ -132,13 +132,9 @@ module _ (h : Header) (c : Command) where
     held_floor : (l : Known) (r n q : ℕ) → ((on_ring h l r (Holds n)).ring q).floor ≡ (l.ring q).floor
     held_floor l r n q = search (rules, ring_here, ring_elsewhere)
 
-    held_closed : (l : Known) (r n : ℕ) → is_open ((on_ring h l r (Holds n)).ring r) ≡ false
-    unfolding is_open
-    held_closed l r n = ap (λ v. is_open v) (ring_here h l r (Holds n))
-
     ring_stops : (s i r : ℕ) → LeavesRings k (held_at_ceiling h (known_in_state h k s i Stopped) (Some r)) w (inactive (world_in_state w s i Stopped) (Some r))
-    unfolding world_in_state known_in_state inactive held_at_ceiling on_ring
-    ring_stops s i r = search (rules, held_floor, false≢true, held_closed, put_off, ring_elsewhere)
+    unfolding world_in_state known_in_state inactive held_at_ceiling on_ring is_open
+    ring_stops s i r = search (rules, held_floor, false≢true, is_open, ring_here, put_off, ring_elsewhere)
 
     stops_by : (s i : ℕ) (o : Option ℕ) → LeavesRings k (held_at_ceiling h (known_in_state h k s i Stopped) o) w (inactive (world_in_state w s i Stopped) o)
     unfolding inactive held_at_ceiling
@@ -244,9 +240,7 @@ module _ (h : Header) (is : IsHeader h) where
 
     state_elsewhere : (q : ℕ) → q ≢ r → state_of v q ≡ state_of w q
     unfolding v active
-    state_elsewhere q other =
-        placed_elsewhere w s i r p cycle state (rest_active w (w.ring_of s i)) q other
-        (rest_still w (w.ring_of s i) r q (λ n e. had n (sym (m.ring_of s i) ∙ e)) other)
+    state_elsewhere q other = search (rules, placed_elsewhere, rest_active, w.ring_of, rest_still, m.ring_of)
 
     floor_here : (l.ring r).floor ≡ t
     unfolding l

@@ -49,14 +49,10 @@ module _ (h : Header) where
       let facts : EventFacts h k b = event_facts h k b clean in
       by_completion k b facts.started (ap (λ n. is_impossible_by_kind h k n b) (sym (completion_kind (kind b) completion)) ∙ facts.possible)
 
-  -- the command ring is open, so the next command is given
-  open_view : (v : RingView) → v.held ≡ None → is_open v ≡ true
-  unfolding is_open
-  open_view v none = rw none refl
-
   pub record CommandsOpen (k : Known) : Type 0 where
     pub opened : is_open (k.ring (command_id h)) ≡ true
     pub given : next_command h k < given_count (shape_of h (command_id h)) (k.ring (command_id h))
 
   pub commands_open : (k : Known) → DriverKeeps h k → next_command h k < ceiling (shape_of h (command_id h)) (k.ring (command_id h)) → CommandsOpen k
-  commands_open k d below = search (rules, open_view, ceiling_open, ceiling_held)
+  unfolding is_open
+  commands_open k d below = search (rules, ceiling_open, ceiling_held)

@@ -40,22 +40,17 @@ module _ (h : Header) where
   unfolding stop_ended
   stop_ended_held k s i r held = held
 
-  stop_held : (k : Known) (b : Block) (s i r : ℕ) → r ≢ command_id h → is_command_completion (kind b) ≡ true → (code b == 1) ≡ true → command_at h k (next_command h k) ≡ Some (StopEndpoint s i) →
-      k.ring_of s i ≡ Some r → IsHeld (learned h k (Read b)) r
-  unfolding learned event_read completed known_finished
-  stop_held k b s i r other completion one here had = search (rules, stop_ended_held, cond-true, stop_succeeded, ring_elsewhere, completion_kind)
-
   module _ (is : IsHeader h) (past : Past h) (later : List TraceRow) (b : Block) (completion : is_command_completion (kind b) ≡ true) (timely : AreTimely h past.known (Plain (Read b) ∷ later))
       (d : DriverKeeps h past.known) where
     abbrev k : Known
     k = past.known
 
     open_idle : (s i : ℕ) (o : Option ℕ) → k.ring_of s i ≡ o → command_at h k (next_command h k) ≡ Some (StopEndpoint s i) → (code b == 1) ≡ true → IsIdle k (open_goals h k later b o)
-    unfolding open_goals
+    unfolding open_goals learned event_read completed known_finished
     open_idle s i None had here one = inl refl
     open_idle s i (Some r) had here one =
         let other : r ≢ command_id h = transfer_not_command h is r (d.states.transfer s i r had) in
-        let held : IsHeld (learned h past.known (Read b)) r = stop_held k b s i r other completion one here had in
+        let held : IsHeld (learned h past.known (Read b)) r = search (rules, stop_ended_held, cond-true, stop_succeeded, ring_elsewhere, completion_kind) in
         let none : need h (learned h k (Read b)) r later ≡ 0 = need_of_held later h (learned h past.known (Read b)) r other held (timely_then h past.known b later timely) in
         elim (cases_Bool (is_open (k.ring r))) [
           | inl opened ↦ inr (s, i, r, had, cond-true (is_open (k.ring r)) _ [] opened ∙ no_need r (need h (learned h k (Read b)) r later) none)
@@ -352,9 +347,7 @@ module _ (h : Header) where
     command_is = rings_are (command_id h) ∙ leaves.command
 
     command_stands : StandsAt h v (command_id h) (pointers_after h past.known past.pointers (Read b) later (command_id h))
-    command_stands =
-        subst (λ t. StandsAt h v (command_id h) t) (sym (other_pointer b past later (command_id h) goes.not_command ∙ brought (command_id h)))
-        (stands_same h w v (command_id h) (now (command_id h)) command_is (trace.command started))
+    command_stands = search (rules, command_id, other_pointer, brought, stands_same, command_is)
 
     follows : Follows h (learned h past.known (Read b)) (pointers_after h past.known past.pointers (Read b) later) v
     unfolding counted

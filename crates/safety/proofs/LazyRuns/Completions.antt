@@ -23,19 +23,10 @@ module _ (h : Header) where
 
   -- ---- what it leaves
 
-  success_leaves : (k m : Known) (w x : World) (b : Block) → LeavesRest h k m w x → FinishLeaves h w (let_go (posted h x b)) x b
-  unfolding posted stored_block stored
-  success_leaves k m w x b rest = search (rules, let_go)
-
-  ended_learns : (k m : Known) (b : Block) (c : Command) → m.started ≡ k.started →
-      CompletionLearns h k (let l : Known = record (on_ring h (stop_ended h m c) (command_id h) (Reaches (after (shape_of h (command_id h)) (next_command h k)))) { reads = k.reads + 1 } in l) m
-  unfolding on_ring
-  ended_learns k m b c started = search (rules, seen_after, stop_ended_is, ring_elsewhere)
-
   success_learns : (k : Known) (b : Block) (c : Command) → is_command_completion (kind b) ≡ true → (code b == 1) ≡ true → command_at h k (next_command h k) ≡ Some c →
       (known_succeeded h k (slot b) c).started ≡ k.started → CompletionLearns h k (learned h k (Read b)) (known_succeeded h k (slot b) c)
-  unfolding learned event_read completed known_finished
-  success_learns k b c completion one here started = search (rules, completion_kind, cond-true, ended_learns)
+  unfolding learned event_read completed known_finished on_ring
+  success_learns k b c completion one here started = search (rules, completion_kind, cond-true, seen_after, stop_ended_is, ring_elsewhere)
 
   placed_is : (k : Known) (r : ℕ) (b : Block) (c : Command) → is_command_completion (kind b) ≡ true → (code b == 1) ≡ true → command_at h k (next_command h k) ≡ Some c →
       is_placed h k r b ≡ is_placed_by_all h c k r (changes h.context_size k.memory (slot b) c)
@@ -51,9 +42,8 @@ module _ (h : Header) where
   -- what was tested of the command when it was given holds still
   pub given_then : (past : Past h) (later : List TraceRow) (b : Block) → IsHeader h → (ready : ReadyToFinish h past later b) → CommandKeeps h past.known (next_command h past.known) ready.says.command
   given_then past later b is ready =
-      let k : Known = past.known in
       let c : Command = ready.says.command in
-      ready.keeps.unfinished (next_command h k) c (next_unfinished h is k ready.keeps ready.says.started ready.says.below c ready.says.here)
+      ready.keeps.unfinished (next_command h past.known) c (next_unfinished h is past.known ready.keeps ready.says.started ready.says.below c ready.says.here)
 
   module _ (past : Past h) (later : List TraceRow) (b : Block) (completion : is_command_completion (kind b) ≡ true) (one : (code b == 1) ≡ true) (ready : ReadyToFinish h past later b) (is : IsHeader h)
       (effect : EffectGoes past.known ready.world (slot b) ready.says.command) where
@@ -92,19 +82,16 @@ module _ (h : Header) where
 
     rings_go : RingsGo h k m list.world (λ r. is_placed h k r b)
     unfolding known_succeeded
-    rings_go = record {
-      at_floors = list.goes.at_floors;
-      had = λ s i r has other. list.goes.had s i r has (sym (placed_is k r b c completion one ready.says.here) ∙ other);
-      not_command = placed_is k (command_id h) b c completion one ready.says.here ∙ list.goes.not_command;
-    }
+    rings_go = search (rules, list, placed_is, command_id)
 
     started : m.started ≡ k.started
     started = ap (λ (y : Known). y.started) keeps.rest.known
 
     pub success_step : IsBlock b → lenient h past.known (Read b) ≡ [] → Carries h past (Read b) later
+    unfolding posted stored_block stored
     success_step block clean =
         completion_step h is past later b block clean completion (spots_then h past later b) (λ q. refl) w (let_go (posted h list.world b)) list.world m ready.traced ready.stay
-        ready.says.started ready.opened (finish_posted h past later b (let_go (posted h list.world b)) completion ready ends) (success_leaves k m w list.world b keeps.rest)
+        ready.says.started ready.opened (finish_posted h past later b (let_go (posted h list.world b)) completion ready ends) (search (rules, let_go))
         (success_learns k b c completion one ready.says.here started) rings_go ready.run
 
   -- the states of what is known are those of the world, before the first change
@@ -189,20 +176,14 @@ module _ (h : Header) where
       let same : learned h k (Read b) ≡ next_known h k (seen_after k c) (k.reads + 1) = learned_read h k b ∙ failed_read h k b c (k.reads + 1) completion here fails in
       subst (λ l. CompletionLearns h k l k) (sym same) (record { started = refl; ring_of = λ s i. refl; rings = λ q other. put_off k.ring (command_id h) _ q other })
 
-  not_placed : (k : Known) (r : ℕ) (b : Block) → (code b == 1) ≡ false → is_placed h k r b ≡ false
-  unfolding is_placed
-  not_placed k r b fails = search (rules, and_left, is_command_completion, kind, code, is_placed_by, slot, command_at, next_command, and_right)
-
   module _ (past : Past h) (later : List TraceRow) (b : Block) (completion : is_command_completion (kind b) ≡ true) (fails : (code b == 1) ≡ false) (ready : ReadyToFinish h past later b) where
-    fresh : was_stop_seen past.known ready.says.command ≡ false
-    fresh = not-true (was_stop_seen past.known ready.says.command) (sym (cond-false (code b == 1) _ (not (was_stop_seen past.known ready.says.command)) fails) ∙ ready.says.may)
-
     fails_so : ended_with h ready.world b ready.taken ≡ Some (let_go (posted h ready.world b))
     unfolding ended_with ended
-    fails_so = search (rules, cond-false, code, option_map, ended, finish_succeeded, slot, command_of, let_go, posted, fresh)
+    fails_so = search (rules, cond-false, code, option_map, ended, finish_succeeded, slot, command_of, let_go, posted, not-true, was_stop_seen, not)
 
     rings_stay : RingsGo h past.known past.known ready.world (λ r. is_placed h past.known r b)
-    rings_stay = search (rules, floors_then, not_placed)
+    unfolding is_placed
+    rings_stay = search (rules, floors_then, and_left, is_command_completion, kind, code, is_placed_by, slot, command_at, next_command, and_right)
 
   pub failed_step : (past : Past h) (later : List TraceRow) (b : Block) (w : World) → is_command_completion (kind b) ≡ true → (code b == 1) ≡ false → IsHeader h → IsBlock b → lenient h past.known (Read b) ≡ [] →
       AreTimely h past.known (Plain (Read b) ∷ later) → Leads h past past.made (Plain (Read b) ∷ later) w → Follows h past.known past.pointers w → Carries h past (Read b) later

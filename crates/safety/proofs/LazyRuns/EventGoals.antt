@@ -90,14 +90,10 @@ module _ (h : Header) (k : Known) (b : Block) (clean : lenient h k (Read b) ≡ 
   unfolding taken_up_to
   taken_within n r low = omega (arith, low, number_taken (shape_of h r) n)
 
-  next_is : next_command h k ≡ floor_number (k.ring (command_id h))
-  unfolding next_command
-  next_is = refl
-
   module _ (is : IsHeader h) (d : DriverKeeps h k) where
     command_within : IsWithin (command_taken h k)
-    unfolding command_taken
-    command_within = search (rules, arith, taken_within, next_command, command_id, top_command, next_is, floors_grow)
+    unfolding command_taken next_command
+    command_within = search (rules, arith, taken_within, next_command, command_id, top_command, floors_grow)
 
     module _ (transfer : is_transfer_event (kind b) ≡ true) (f : TransferFacts h k b) where
       abbrev at : RingSpot
@@ -119,13 +115,11 @@ module _ (h : Header) (k : Known) (b : Block) (clean : lenient h k (Read b) ≡ 
     open_within : (o : Option ℕ) → AreWithin top (open_goals h k later b o)
     unfolding open_goals
     open_within None = tt
-    open_within (Some r) =
-        cond_both (is_open (k.ring r)) (taken_up_to h r (need h l r later) ∷ []) [] (AreWithin top) (λ _. (taken_within (need h l r later) r (top_need r), tt)) (λ _. tt)
+    open_within (Some r) = search (rules, is_open, k.ring, taken_up_to, need, taken_within, top_need)
 
     stopped_within : (o : Option Command) → AreWithin top (stopped_goals h k later b o)
     unfolding stopped_goals
-    stopped_within (Some (StopEndpoint s i)) =
-        cond_both (code b == 1) (open_goals h k later b (k.ring_of s i)) [] (AreWithin top) (λ _. open_within (k.ring_of s i)) (λ _. tt)
+    stopped_within (Some (StopEndpoint s i)) = search (rules, code, open_goals, k.ring_of, open_within)
     stopped_within _ = tt
 
     kind_within : (n : BlockKind) → kind b ≡ n → AreWithin top (lazy_goals h k later n b)
@@ -190,14 +184,11 @@ module _ (h : Header) (k : Known) (b : Block) (clean : lenient h k (Read b) ≡ 
       open_few : (s i : ℕ) (o : Option ℕ) → k.ring_of s i ≡ o → AreFewThen (open_goals h k later b o)
       unfolding open_goals
       open_few s i None has = command_few
-      open_few s i (Some r) has =
-          cond_both (is_open (k.ring r)) (taken_up_to h r (need h l r later) ∷ []) [] AreFewThen
-          (λ _. both_few (taken_up_to h r (need h l r later)) (taken_on r (need h l r later) (d.states.transfer s i r has))) (λ _. command_few)
+      open_few s i (Some r) has = search (rules, command_few, is_open, k.ring, taken_up_to, need, both_few, taken_on, d.states.transfer)
 
       stopped_few : (o : Option Command) → AreFewThen (stopped_goals h k later b o)
       unfolding stopped_goals
-      stopped_few (Some (StopEndpoint s i)) =
-          cond_both (code b == 1) (open_goals h k later b (k.ring_of s i)) [] AreFewThen (λ _. open_few s i (k.ring_of s i) refl) (λ _. command_few)
+      stopped_few (Some (StopEndpoint s i)) = search (rules, code, open_goals, k.ring_of, open_few, command_few)
       stopped_few _ = command_few
 
       kind_few : (n : BlockKind) → kind b ≡ n → AreFew h pointers (lazy_goals h k later n b)

@@ -162,10 +162,6 @@ module _ (h : Header) where
         let g : Header = header_now h past in
         omega (arith, before, restored_most g n (known_now h past) row, row_most g n (kept_before (Plain row) past are kept).headed (restored g (known_now h past) row) row)
 
-    change_on : (g : Header) (k : Known) (r : ℕ) (change : RingChange) → k.stopped ≡ false → (on_ring g k r change).stopped ≡ false
-    unfolding on_ring
-    change_on g k r change on = on
-
     stays_on : (k : Known) (id : ℕ) → k.stopped ≡ false → (forgotten k id).stopped ≡ false
     unfolding forgotten
     stays_on k id on = on
@@ -200,6 +196,7 @@ module _ (h : Header) where
     -- ---- before a floor all is given
 
     rings_kept : (past : List TraceRow) → All FitsFields past → AreKept h past → RingsKeep (header_now h past) (known_now h past)
+    unfolding on_ring
     rings_kept [] are kept = nothing_keeps h is
     rings_kept (Plain row ∷ past) are kept =
         let p = kept_before (Plain row) past are kept in
@@ -209,7 +206,7 @@ module _ (h : Header) where
         row_keeps g p.headed k row (rings_of g k d) (endpoints_of g k d.states) d.commands_stay (row_comes g p.headed (known_now h past) p.keeps row kept.1.0 kept.1.2)
         (still_reads g p.headed k row (rings_of g k d) (endpoints_of g k d.states) (still_of g p.headed k row d kept.1.0))
     rings_kept (Withdraws r q ∷ past) are kept =
-        let p = now_keeps h is (Withdraws r q ∷ past) are kept (change_on (header_now h past) (known_now h past) r (RingWithdraws q) kept.1.0) in rings_of (header_now h past) (known_now h (Withdraws r q ∷ past)) p.keeps
+        let p = now_keeps h is (Withdraws r q ∷ past) are kept (kept.1.0) in rings_of (header_now h past) (known_now h (Withdraws r q ∷ past)) p.keeps
     rings_kept (Comes ring ∷ past) are kept =
         rings_of (header_now h (Comes ring ∷ past)) (known_now h (Comes ring ∷ past)) (now_keeps h is (Comes ring ∷ past) are kept (stays_on (known_now h past) ring.id kept.1.0)).keeps
     rings_kept (Goes id ∷ past) are kept =

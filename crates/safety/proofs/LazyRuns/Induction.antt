@@ -66,12 +66,7 @@ module _ (h : Header) where
 
     before : l.started ≡ false → pointers_after h past.known past.pointers row later (command_id h) ≡ Data 0
     unfolding l
-    before off =
-        pointers_same h past.known past.pointers row later (command_id h) driver_row
-        ∙ elim (cases_Bool past.known.started) [
-          | inl on ↦ absurd (false≢true (sym off ∙ row_starts h past.known row driver_row on))
-          | inr waits ↦ f.before waits
-        ]
+    before off = search (rules, pointers_same, past.known, past.pointers, command_id, false≢true, row_starts)
 
     module _ (on : l.stopped ≡ false) where
       runs : Runs h (learned h past.known row) (counted h v)

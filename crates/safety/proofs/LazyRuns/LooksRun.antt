@@ -29,9 +29,6 @@ either_only : (w x y : World) (r : ℕ) (s : RingState) (c : Bool) → OnlyRing 
 either_only w x y r s true a b = a
 either_only w x y r s false a b = b
 
-is_none_some : (o : Option UnderWay) → o ≡ None → is_some o ≡ false
-is_none_some o none = ap (λ x. is_some x) none
-
 module _ (h : Header) where
   only_taken_any : (w : World) (r : ℕ) (b : Block) → OnlyRing w (looks_taken h (seen_by_look h w r) r b) r (behind_block h w r b)
   unfolding looks_taken
@@ -69,7 +66,7 @@ module _ (h : Header) where
 
     free_ring : (q : ℕ) (t : Spot) → q < number t → w.is_active r ≡ true → StandsAt h w r (Data q) → (r ≡ command_id h → number t ≤ next_command h k + 1) →
         (r == command_id h && is_some w.under_way) ≡ false
-    free_ring q t before active at one = search (rules, arith, cases_eq, command_id, and_left, is_some, ne_eqb, cases_Bool, commands_stand, and_right, none_yet, is_none_some)
+    free_ring q t before active at one = search (rules, arith, cases_eq, command_id, and_left, is_some, ne_eqb, cases_Bool, commands_stand, and_right, none_yet)
 
     take_look : (q : ℕ) (t : Spot) → rank (Data q) < rank t → StandsAt h w r (Data q) → MayBring h k w r t → LookDone w r (Data q)
     take_look q t before at may =
@@ -142,9 +139,6 @@ pub first_made : (s : Step) (steps made : List Step) → reverse (s ∷ steps) +
 first_made s steps made = ap (λ l. l ++ made) (reverse-append (s ∷ []) steps) ∙ append_assoc (reverse steps) (s ∷ []) made
 
 module _ (h : Header) where
-  leaves_nothing : (w : World) (r : ℕ) → LooksLeave h w w r
-  leaves_nothing w r = search rules
-
   leaves_then : (w v x : World) (r : ℕ) → LooksLeave h w v r → LooksLeave h v x r → LooksLeave h w x r
   leaves_then w v x r a b = search rules
 
@@ -163,7 +157,7 @@ module _ (h : Header) where
   module _ (is : IsHeader h) (past : Past h) (to_come : List TraceRow) (r : ℕ) where
     -- no look is made
     stays : (made : List Step) (w : World) (t : Spot) (steps : List Step) → steps ≡ [] → Leads h past made to_come w → Runs h past.known w → StandsAt h w r t → Looked h past to_come made w r t steps
-    stays made w t steps none run runs at = search (rules, reverse, leaves_nothing)
+    stays made w t steps none run runs at = search (rules, reverse)
 
     still_may : (w v : World) (t : Spot) → LooksLeave h w v r → MayBring h past.known w r t → MayBring h past.known v r t
     still_may w v t leaves may = record { active = leaves.active ∙ may.active; reach = may.reach; one_command = may.one_command }
@@ -255,14 +249,7 @@ module _ (h : Header) where
     still_active q = search rules
 
     moved_on : Runs h k v → Traced h k now w → Traced h k (put now r t) v
-    moved_on runs trace = record {
-      runs = runs;
-      all_read = leaves.posted ∙ trace.all_read ∙ sym leaves.reads;
-      rings = λ s i q at. moved_stands q (trace.rings s i q at);
-      active = λ s i q at opened. still_active q ∙ trace.active s i q at opened;
-      command = λ on. moved_stands (command_id h) (trace.command on);
-      command_active = λ opened. still_active (command_id h) ∙ trace.command_active opened;
-    }
+    moved_on runs trace = search (rules, moved_stands, trace.rings, still_active, trace.active, command_id, trace.command, trace.command_active)
 
   same_spot_looks : (pointers now : ℕ → Spot) (goal : RingSpot) → now goal.ring ≡ pointers goal.ring → looks_to h now goal ≡ looks_to h pointers goal
   unfolding looks_to
@@ -270,12 +257,9 @@ module _ (h : Header) where
 
   -- the looks at one ring leave the goals on others as they are
   module _ (k : Known) (w v : World) (now : ℕ → Spot) (r : ℕ) (t : Spot) (there : StandsAt h v r t) (leaves : LooksLeave h w v r) where
-    fits_still : (goal : RingSpot) → goal.ring ≢ r → Fits k w now goal → Fits k v (put now r t) goal
-    fits_still goal other fits = search (rules, put_off, moved_stands, still_active)
-
     all_fit_still : (goals : List RingSpot) → AreElsewhere r goals → AllFit k w now goals → AllFit k v (put now r t) goals
     all_fit_still [] other fits = tt
-    all_fit_still (goal ∷ rest) other fits = (fits_still goal other.0 fits.0, all_fit_still rest other.1 fits.1)
+    all_fit_still (goal ∷ rest) other fits = ((search (rules, put_off, moved_stands, still_active)), all_fit_still rest other.1 fits.1)
 
   abbrev AreSame : (ℕ → Spot) → (ℕ → Spot) → List RingSpot → Type 0
   AreSame pointers now [] = Unit {0}

@@ -119,17 +119,12 @@ module _ (h : Header) where
   on_open_ring : (k : Known) (r a : ℕ) (o : Option ℕ) → IsHeld k r → is_held_ring k o ≡ false → number_behind r (spot_on h k a o) ≡ 0
   unfolding spot_on is_held_ring number_behind
   on_open_ring k r a None held opened = refl
-  on_open_ring k r a (Some q) held opened =
-      at_spot k r q (named (shape_of h q) (k.ring q) a)
-      (ne_eqb q r (λ same. false≢true (sym opened ∙ not_from_false (is_open (k.ring q)) (subst (λ n. is_open (k.ring n) ≡ false) (sym same) held))))
+  on_open_ring k r a (Some q) held opened = search (rules, at_spot, named, shape_of, k.ring, ne_eqb, false≢true, not_from_false, is_open, false)
 
   none_reported : (k : Known) (r : ℕ) (row : Row) → IsHeld k r → is_late k row ≡ false → number_reported h k r row ≡ 0
   unfolding number_reported is_late event_at
   none_reported k r (Read b) held timely =
-      cond_both (is_report_of_success b) (number_behind r (event_at h k b)) 0 (λ n. n ≡ 0)
-      (λ success. on_open_ring k r (pointer b) (k.ring_of (slot b) (endpoint b)) held
-      (sym (ap (λ c. c && is_held_ring k (k.ring_of (slot b) (endpoint b))) success) ∙ timely))
-      (λ _. refl)
+      search (rules, is_report_of_success, number_behind, event_at, on_open_ring, pointer, k.ring_of, slot, endpoint, is_held_ring)
   none_reported k r _ held timely = refl
 
 -- none of the rows to come is late, and the command ring stays the same one

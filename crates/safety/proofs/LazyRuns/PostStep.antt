@@ -123,19 +123,11 @@ module _ (h : Header) where
     module _ (no_command : r ≢ command_id h) (here : pointers r ≡ t) (others : (s i q : ℕ) → past.known.ring_of s i ≡ Some q → q ≢ r → pointers q ≡ (past.known.ring q).floor)
         (after : (q : ℕ) → pointers_after h past.known past.pointers (Read b) later q ≡ pointers q) (still : IsActiveIfOpen (learned h past.known (Read b)) u r) where
       pointers_are : (s i q : ℕ) → l.ring_of s i ≡ Some q → pointers q ≡ (l.ring q).floor
-      pointers_are s i q there =
-          elim (cases_eq q r) [
-            | inl same ↦ subst (λ n. pointers n ≡ (l.ring n).floor) (sym same) (here ∙ sym learns.floor)
-            | inr other ↦ others s i q (had s i q there) other ∙ ap (λ e. e.floor) (sym (learns.others q other))
-          ]
+      pointers_are s i q there = search (rules, had)
 
       active : (q : ℕ) → IsActiveIfOpen past.known w q → IsActiveIfOpen l v q
       unfolding counted
-      active q was opened =
-          elim (cases_eq q r) [
-            | inl same ↦ subst (λ n. u.is_active n ≡ true) (sym same) (still (subst (λ n. is_open (l.ring n) ≡ true) same opened))
-            | inr other ↦ leaves.active q other ∙ was (subst (λ e. is_open e ≡ true) (learns.others q other) opened)
-          ]
+      active q was opened = search (rules, u.is_active, true, is_open)
 
       follows : Follows h (learned h past.known (Read b)) (pointers_after h past.known past.pointers (Read b) later) v
       unfolding counted

@@ -58,12 +58,9 @@ module _ (h : Header) where
   pub withdrawn_learns : (k : Known) (r p : ℕ) → Learns k (on_ring h k r (RingWithdraws p))
   withdrawn_learns k r p = one_learns k r (RingWithdraws p) (λ v. refl) (λ v. refl)
 
-  all_stays : (w : World) → StaysPut w w
-  all_stays w = record { posted = refl; reads = refl; pointers = refl; cycles = refl; active = refl }
-
   pub restored_follows : IsHeader h → (k : Known) (pointers : ℕ → Spot) (w : World) (row : Row) → DriverKeeps h k → is_left h k (ring_restored h k row) ≡ false → Follows h k pointers w →
       Follows h (restored h k row) pointers w
-  restored_follows is k pointers w row d good f = search (rules, follows_too, restored, restored_learns, ring_restored, all_stays, restores.row_runs)
+  restored_follows is k pointers w row d good f = search (rules, follows_too, restored, restored_learns, ring_restored, restores.row_runs)
 
   withdrawn_stays : (w : World) (r p : ℕ) → StaysPut w (counted h (without_descriptor w r p))
   unfolding counted without_descriptor
@@ -117,17 +114,14 @@ module _ (h g : Header) (k : Known) (id : ℕ) (o : OthersStay h g k id) (pointe
   unfolding forgotten
   started_same = refl
 
-  read_same : v.posted ≡ v.reads
-  unfolding counted emptied
-  read_same = f.all_read
-
   pointer_same : (r : ℕ) → r ≢ id → now r ≡ pointers r
   pointer_same r other = put_off pointers id (Data 0) r other
 
   pub others_follow : Runs g l v → Follows g l now v
+  unfolding counted emptied
   others_follow run = record {
     runs = run;
-    all_read = read_same;
+    all_read = f.all_read;
     floors = λ s i r at.
         let other = o.not_had s i r (had s i r at) in
         subst (λ x. StandsAt g v r x.floor) (sym (ring_stays r other)) (stands_on r (k.ring r).floor other (f.floors s i r (had s i r at)));

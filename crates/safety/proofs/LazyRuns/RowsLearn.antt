@@ -34,12 +34,7 @@ module _ (h : Header) where
 
   runs_or_stops : (w : World) (x : ℕ) → RowLeaves w (driver_run_or_stop h w x)
   unfolding driver_run_or_stop
-  runs_or_stops w x =
-      let ended : World = record w { stopped = true } in
-      let stays : RowLeaves w ended = record { posted = refl; reads = refl; events = λ r. refl; active = λ r on. on; pointers = λ r why. record { pointer = refl; cycle = refl } } in
-      cond_both (not w.started) (if run_bit x && not (reset_bit x) then started_with h w else w) (if not (run_bit x) || reset_bit x then ended else w) (RowLeaves w)
-      (λ off. cond_both (run_bit x && not (reset_bit x)) (started_with h w) w (RowLeaves w) (λ _. starts w (not_back w.started off)) (λ _. leaves_all w))
-      (λ _. cond_both (not (run_bit x) || reset_bit x) ended w (RowLeaves w) (λ _. stays) (λ _. leaves_all w))
+  runs_or_stops w x = search (rules, true, not, run_bit, reset_bit, started_with, starts, not_back, w.started, leaves_all)
 
   -- a register's value is no part of it
   from_valued : (w v : World) (r : Register) (x : ℕ) → RowLeaves (driver_valued w r x) v → RowLeaves w v
@@ -68,18 +63,12 @@ module _ (h : Header) where
 
   endpoint_rings : (w : World) (s t : ℕ) (o : Option ℕ) → RowLeaves w (driver_endpoint_bell h w s t o)
   unfolding driver_endpoint_bell activated
-  endpoint_rings w s t None = leaves_all w
-  endpoint_rings w s t (Some r) =
-      let runs : World = record (activated h w r) { endpoint_state = put_pair w.endpoint_state s t Running } in
-      let goes : RowLeaves w runs = record { posted = refl; reads = refl; events = λ q. refl; active = still_active w r; pointers = λ q why. record { pointer = refl; cycle = refl } } in
-      cond_both (is_running (w.endpoint_state s t) || is_stopped (w.endpoint_state s t)) runs w (RowLeaves w) (λ _. goes) (λ _. leaves_all w)
+  endpoint_rings w s t None = search (rules, leaves_all, activated, put_pair, w.endpoint_state, still_active, is_running, is_stopped)
+  endpoint_rings w s t (Some r) = search (rules, leaves_all, activated, put_pair, w.endpoint_state, still_active, is_running, is_stopped)
 
   rings : (w : World) (s t : ℕ) → RowLeaves w (bell_row h w s t)
   unfolding bell_row
-  rings w s t =
-      cond_both (s == 0) (if t == 0 && w.started then activated h w (command_id h) else w) (driver_endpoint_bell h w s t (w.ring_of s t)) (RowLeaves w)
-      (λ _. cond_both (t == 0 && w.started) (activated h w (command_id h)) w (RowLeaves w) (λ _. activates w (command_id h)) (λ _. leaves_all w))
-      (λ _. endpoint_rings w s t (w.ring_of s t))
+  rings w s t = search (rules, w.started, activated, command_id, driver_endpoint_bell, w.ring_of, activates, leaves_all, endpoint_rings)
 
   -- ---- all of them
 
@@ -216,13 +205,9 @@ module _ (h : Header) where
 
   -- ---- the start
 
-  run_starts : (k : Known) (x : ℕ) → k.started ≡ true → (run_or_stop k x).started ≡ true
-  unfolding run_or_stop
-  run_starts k x on = search rules
-
   register_starts : (k : Known) (r : Register) (x : ℕ) → k.started ≡ true → (register_written h k r x).started ≡ true
-  unfolding register_written valued
-  register_starts k Usbcmd x on = run_starts (valued k Usbcmd x) x on
+  unfolding register_written valued run_or_stop
+  register_starts k Usbcmd x on = search rules
   register_starts k r x on = on
 
   register_started : (k : Known) (r : Register) (x : ℕ) → k.started ≡ true → (learned h k (Reg r x)).started ≡ true

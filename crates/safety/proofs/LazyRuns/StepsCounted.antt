@@ -29,18 +29,10 @@ module _ (h : Header) where
   unfolding need
   need_by k r row later = search (rules, arith, max, number_needed, need, header_after, known_after, cond_both, ends_need)
 
-  need_by_event : (k : Known) (r : ℕ) (b : Block) (later : List TraceRow) → need h k r (Plain (Read b) ∷ later) ≤ max (number_reported h k r (Read b)) (need h (learned h k (Read b)) r later)
-  unfolding number_needed ring_restored restored_on
-  need_by_event k r b later = need_by k r (Plain (Read b)) later
-
   reports_none : (k : Known) (r : ℕ) (row : Row) → IsDriverRow row → number_reported h k r row ≡ 0
   unfolding number_reported
   reports_none k r (Read b) is = absurd is
   reports_none k r _ is = refl
-
-  needs_none : (k : Known) (r : ℕ) (row : Row) → IsDriverRow row → number_needed h k r (Plain row) ≡ 0
-  unfolding number_needed
-  needs_none k r row driver_row = reports_none k r row driver_row
 
   comes_none : (k : Known) (r : ℕ) (ring : Ring) → number_needed h k r (Comes ring) ≡ 0
   unfolding number_needed
@@ -49,10 +41,6 @@ module _ (h : Header) where
   goes_none : (k : Known) (r id : ℕ) → number_needed h k r (Goes id) ≡ 0
   unfolding number_needed
   goes_none k r id = refl
-
-  withdraws_none : (k : Known) (r q p : ℕ) → number_needed h k r (Withdraws q p) ≡ 0
-  unfolding number_needed
-  withdraws_none k r q p = refl
 
   pub need_placed : (k : Known) (r : ℕ) (b : Block) (later : List TraceRow) → is_placed h k r b ≡ true → need h k r (Plain (Read b) ∷ later) ≡ 0
   unfolding need ends_need begins_anew
@@ -75,13 +63,14 @@ module _ (h : Header) where
 
   row_near : (k : Known) (pointers : ℕ → Spot) (later : List TraceRow) (row : Row) → IsDriverRow row → (r : ℕ) → IsNear k pointers (Plain row ∷ later) r →
       IsNear (learned h (restored h k row) row) (pointers_after h (restored h k row) pointers row later) later r
-  row_near k pointers later row is r near = search (rules, pointers_same, row_learns, restored_learns, need_by, needs_none)
+  unfolding number_needed
+  row_near k pointers later row is r near = search (rules, pointers_same, row_learns, restored_learns, need_by, reports_none)
 
   module _ (is : IsHeader h) (k : Known) (pointers : ℕ → Spot) (later : List TraceRow) (b : Block) (d : DriverKeeps h k) (clean : lenient h k (Read b) ≡ [])
       (near : (r : ℕ) → IsNear k pointers (Plain (Read b) ∷ later) r) where
     before_goals : (r : ℕ) → number (pointers r) ≤ top h k b clean later r
-    unfolding top
-    before_goals r = omega (arith, near r, need_by_event k r b later, reported_most h k b clean later r, floors_grow h is k d b clean r)
+    unfolding top number_needed ring_restored restored_on
+    before_goals r = omega (arith, near r, need_by k r (Plain (Read b)) later, reported_most h k b clean later r, floors_grow h is k d b clean r)
 
     -- where the goals bring the pointers
     pub goals_near : (r : ℕ) → number (brought h pointers (goals h k later (kind b) b) r) ≤ top h k b clean later r
@@ -93,7 +82,8 @@ module _ (h : Header) where
 
   -- a descriptor that is withdrawn moves no floor
   withdrawn_near : (k : Known) (pointers : ℕ → Spot) (later : List TraceRow) (q p r : ℕ) → IsNear k pointers (Withdraws q p ∷ later) r → IsNear (known_after h k (Withdraws q p)) pointers later r
-  withdrawn_near k pointers later q p r near = search (rules, arith, need_by, withdraws_none, number, withdrawn_learns, floors)
+  unfolding number_needed
+  withdrawn_near k pointers later q p r near = search (rules, arith, need_by, number, withdrawn_learns, floors)
 
 -- a ring comes or goes
 module _ (h g : Header) (k : Known) (pointers : ℕ → Spot) (later : List TraceRow) (id : ℕ) (command : command_id g ≡ command_id h) where

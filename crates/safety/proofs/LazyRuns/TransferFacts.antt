@@ -91,9 +91,7 @@ module _ (h : Header) where
     pub stop_names : is_success (code b) ≡ false → (is_halting (code b) || is_trb_error (code b)) ≡ false → StopsThere
     unfolding stops works
     stop_names fails quiet =
-        let all = and_parts (works && is_stopping_now h k (slot b) (endpoint b)) (is_stop_spot (shape_of h f.ring) (k.ring f.ring) f.spot) (cases.2 fails quiet) in
-        let two = and_parts works (is_stopping_now h k (slot b) (endpoint b)) all.0 in
-        record { work = at_work k b f.ring two.0; now = two.1; there = all.1 }
+        search (rules, and_parts, works, is_stopping_now, slot, endpoint, is_stop_spot, shape_of, k.ring, cases, at_work, f.ring)
 
     -- a code of the profile that is none of the others is that of a stop
     pub stop_code : is_success (code b) ≡ false → (is_halting (code b) || is_trb_error (code b)) ≡ false → StopCode (code b)

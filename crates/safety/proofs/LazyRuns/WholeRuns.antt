@@ -58,8 +58,7 @@ module _ (h : Header) where
 
       may_stop : not (is_stop_under_way h (slot b) (endpoint b) u.under_way && is_running (u.endpoint_state (slot b) (endpoint b)) && u.is_active f.ring) ≡ false
       unfolding posts_posted stored_block stored
-      may_stop =
-          not_from_true _ (and_from _ (w.is_active f.ring) (and_from _ (is_running (w.endpoint_state (slot b) (endpoint b))) under (ap is_running (g.matches.endpoints (slot b) (endpoint b)) ∙ runs)) on)
+      may_stop = search (rules, not_from_true, and_from, w.is_active, is_running, w.endpoint_state, slot, endpoint, under, g.matches.endpoints)
 
       at_pointer : (pointer b == u.pointer_of f.ring) ≡ true
       unfolding posts_posted stored_block stored
@@ -72,10 +71,6 @@ module _ (h : Header) where
             | inl last ↦ stop_leaves (u.reported f.ring + length (unreported u f.ring) - 1) (cond-false _ None _ may_stop ∙ cond-true _ _ _ last)
             | inr other ↦ stop_leaves (u.reported f.ring + length (unreported u f.ring)) (cond-false _ None _ may_stop ∙ cond-false _ _ _ other ∙ cond-true _ _ None at_pointer)
           ]
-
--- the further one of two spots is no less far than the second
-further_most : (s t : Spot) → rank t ≤ rank (further s t)
-further_most s t = search (rules, cases_lt, further_then, further_not)
 
 module _ (h : Header) where
   -- where no event is late, the ring of a success is open
@@ -264,7 +259,7 @@ module _ (h : Header) where
 
       beyond : next_command h past.known + 1 ≤ number at_command
       unfolding at_command
-      beyond = search (rules, at_command, further_most, at_first, rank_least, rank_most, number-after)
+      beyond = search (rules, at_command, cases_lt, further_then, further_not, at_first, rank_least, rank_most, number-after)
 
       stop_near : rank (at_first e.ring) ≤ rank e.spot
       stop_near =

@@ -80,14 +80,10 @@ module _ (h : Header) (rings : List Ring) (over : (ℕ → RingView) → ℕ →
     unfolding event_at
     event_kept k b at kept is = spot_kept k (pointer b) (k.ring_of (slot b) (endpoint b)) at (kept (slot b) (endpoint b)) is
 
-    transferred_alike : (k : Known) (c s i r : ℕ) (t : Spot) → Kept r → transferred g (other k) c s i r t ≡ other (transferred h k c s i r t)
-    unfolding transferred
-    transferred_alike k c s i r t kept = search (rules, either, is_success, passed_alike, is_halting, broken_alike, put_pair, is_trb_error, is_stopping, stopped_alike)
-
     at_alike : (k : Known) (b : Block) (q : Option RingSpot) → ((at : RingSpot) → q ≡ Some at → Kept at.ring) → transferred_at g (other k) b q ≡ other (transferred_at h k b q)
-    unfolding transferred_at
+    unfolding transferred_at transferred
     at_alike k b None kept = refl
-    at_alike k b (Some at) kept = transferred_alike k (code b) (slot b) (endpoint b) at.ring at.spot (kept at refl)
+    at_alike k b (Some at) kept = search (rules, either, is_success, passed_alike, is_halting, broken_alike, put_pair, is_trb_error, is_stopping, stopped_alike)
 
     pub transfer_alike : (k : Known) (b : Block) → HasKept k → transfer_read g (other k) b ≡ other (transfer_read h k b)
     unfolding transfer_read
@@ -107,14 +103,12 @@ module _ (h : Header) (rings : List Ring) (over : (ℕ → RingView) → ℕ →
     moved_alike : (k : Known) (q : Option ℕ) (p : ℕ) (cycle : Bool) → IsKept q → moved g (other k) q p cycle ≡ other (moved h k q p cycle)
     unfolding moved
     moved_alike k None p cycle kept = refl
-    moved_alike k (Some r) p cycle kept =
-        (λ j. moved_to g (other k) r (target (o.shape r (kept r refl) j) (o.view k.ring r (kept r refl) j) p cycle)) ∙ target_alike k r (target (shape_of h r) (k.ring r) p cycle) (kept r refl)
+    moved_alike k (Some r) p cycle kept = search (rules, moved_to, target, o.shape, o.view, k.ring, target_alike, shape_of)
 
     bound_alike : (k : Known) (s i : ℕ) (q : Option ℕ) (p : ℕ) (cycle : Bool) → IsKept q → bound_to g (other k) s i q p cycle ≡ other (bound_to h k s i q p cycle)
     unfolding bound_to
     bound_alike k s i None p cycle kept = refl
-    bound_alike k s i (Some r) p cycle kept =
-        λ j. record ((moved_alike k (Some r) p cycle kept) j) { ring_of = put_pair k.ring_of s i (Some r); was_bound = put k.was_bound r true }
+    bound_alike k s i (Some r) p cycle kept = search (rules, moved_alike, put_pair, k.ring_of, put, k.was_bound, true)
 
     pointed_alike : (k : Known) (s i p : ℕ) (cycle : Bool) → HasKept k → (is_off (k.endpoint_state s i) ≡ true → HavesAlike p) → pointed g (other k) s i p cycle ≡ other (pointed h k s i p cycle)
     unfolding pointed
@@ -123,8 +117,7 @@ module _ (h : Header) (rings : List Ring) (over : (ℕ → RingView) → ℕ →
     held_alike : (k : Known) (q : Option ℕ) → IsKept q → held_at_ceiling g (other k) q ≡ other (held_at_ceiling h k q)
     unfolding held_at_ceiling
     held_alike k None kept = refl
-    held_alike k (Some r) kept =
-        (λ j. on_ring g (other k) r (Holds (ceiling (o.shape r (kept r refl) j) (o.view k.ring r (kept r refl) j)))) ∙ on_alike k r (Holds (ceiling (shape_of h r) (k.ring r))) (kept r refl)
+    held_alike k (Some r) kept = search (rules, on_ring, ceiling, o.shape, o.view, k.ring, on_alike, shape_of)
 
     change_alike : (c : Command) (k : Known) (change : Change) → HasKept k → ChangeAlike k change → changed_by g c (other k) change ≡ other (changed_by h c k change)
     unfolding changed_by disabled in_state
@@ -149,8 +142,7 @@ module _ (h : Header) (rings : List Ring) (over : (ℕ → RingView) → ℕ →
     bound_has : (k : Known) (s i : ℕ) (q : Option ℕ) (p : ℕ) (cycle : Bool) → HasKept k → IsKept q → HasKept (bound_to h k s i q p cycle)
     unfolding bound_to
     bound_has k s i None p cycle kept one = kept
-    bound_has k s i (Some r) p cycle kept one = λ t n x at.
-        cond_both (t == s && n == i) (Some r) (k.ring_of t n) (λ q. q ≡ Some x → Kept x) (λ here is. one x is) (λ apart is. kept t n x is) at
+    bound_has k s i (Some r) p cycle kept one = search (rules, k.ring_of)
 
     pointed_has : (k : Known) (s i p : ℕ) (cycle : Bool) → HasKept k → (is_off (k.endpoint_state s i) ≡ true → HavesAlike p) → HasKept (pointed h k s i p cycle)
     unfolding pointed
@@ -163,10 +155,9 @@ module _ (h : Header) (rings : List Ring) (over : (ℕ → RingView) → ℕ →
 
     change_has : (c : Command) (k : Known) (change : Change) → HasKept k → ChangeAlike k change → HasKept (changed_by h c k change)
     unfolding changed_by disabled in_state
-    change_has c k (Disables s which) kept may = λ t n x at.
-        cond_both (t == s && which n) None (k.ring_of t n) (λ q. q ≡ Some x → Kept x) (λ here is. absurd (none-some x is)) (λ apart is. kept t n x is) at
-    change_has c k (Places s i p cycle state) kept may = pointed_has k s i p cycle kept may
-    change_has c k (Stops s i) kept may = λ t n x at. kept t n x (ap (λ f. f t n) (sym (held_has (in_state h k s i Stopped) (k.ring_of s i))) ∙ at)
+    change_has c k (Disables s which) kept may = search (rules, k.ring_of, none-some)
+    change_has c k (Places s i p cycle state) kept may = search (rules, pointed_has)
+    change_has c k (Stops s i) kept may = search (rules, held_has, in_state, k.ring_of)
     change_has c k _ kept may = kept
 
     pub changes_alike : (c : Command) (changes : List Change) (k : Known) → HasKept k → ChangesAlike c k changes →

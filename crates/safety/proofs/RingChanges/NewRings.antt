@@ -47,9 +47,6 @@ view_keeps k r coming shows =
       kept_link = λ q i due g at. absurd (false≢true g);
       not_yet_link = λ q due g.
           let is_due = crossing_due_is shape (Data 0) q due in
-          let some = crossing_positive shape q is_due.crossing in
-          let first : q ≤ place_count shape = elim is_due.within [ inl below ↦ omega arith | inr end ↦ omega arith ] in
-          let pos = place_count_pos shape is in
           let found = crossed_link shape q is_due.crossing in
           let at = link_address_is shape q found.0 found.1 in
           let link = (crosses shape q found.0 found.1).link in
@@ -92,11 +89,8 @@ module _ (h : Header) (is : IsHeader h) (k : Known) (d : DriverKeeps h k) (r : R
   unfolding shape_of
   shape_same s other = ap (λ o. shape_or Xfer o) (ring_same s other)
 
-  ring_here : ring_with g r.id ≡ Some r
-  ring_here = found_new (λ q. q.id == r.id) h.rings r no_ring (eq-eqb r.id r.id refl)
-
   shape_here : shape_of g r.id ≡ r.shape
-  shape_here = shape_is g r.id r ring_here
+  shape_here = shape_is g r.id r (found_new (λ q. q.id == r.id) h.rings r no_ring (eq-eqb r.id r.id refl))
 
   driver_before : (s : ℕ) → s ≢ r.id → IsDriverRing g s → IsDriverRing h s
   driver_before s other ring = record { ring = ring.ring; found = sym (ring_same s other) ∙ ring.found; kind = ring.kind }
@@ -107,17 +101,13 @@ module _ (h : Header) (is : IsHeader h) (k : Known) (d : DriverKeeps h k) (r : R
   transfer_still : (s : ℕ) → IsTransferRing h s → IsAsBefore h (h.rings ++ r ∷ []) k k.ring s
   transfer_still s ring = search (rules, found_still, shape_same, another)
 
-  command_ring_same : command_ring g ≡ command_ring h
-  unfolding command_ring
-  command_ring_same = found_before (λ q. is_command_kind q.shape.kind) h.rings r (ap (λ n. is_command_kind n) coming.kind)
-
   pub event_ring_same : event_ring g ≡ event_ring h
   unfolding event_ring
   event_ring_same = found_before (λ q. is_event_kind q.shape.kind) h.rings r (ap (λ n. is_event_kind n) coming.kind)
 
   pub command_same : command_id g ≡ command_id h
-  unfolding command_id
-  command_same = ap id_or_none command_ring_same
+  unfolding command_id command_ring
+  command_same = ap id_or_none (found_before (λ q. is_command_kind q.shape.kind) h.rings r (ap (λ n. is_command_kind n) coming.kind))
 
   pub events_same : event_shape g ≡ event_shape h
   unfolding event_shape

@@ -226,8 +226,7 @@ module _ (h : Header) (rings : List Ring) (k : Known) (views : ℕ → RingView)
 
     moves_still : (c : Command) → MovesIf h k c → MovesIf g l c
     unfolding is_bad_move
-    moves_still (SetTrDequeue s i p cycle) good =
-        ap (λ b. not (is_at_rest (k.endpoint_state s i)) || b) (dequeue_still (k.ring_of s i) p cycle (λ r at. o.had s i r at)) ∙ good
+    moves_still (SetTrDequeue s i p cycle) good = search (rules, not, is_at_rest, k.endpoint_state, dequeue_still, k.ring_of, o.had)
     moves_still (AddressDevice s bsr n) good = tt
     moves_still _ good = refl
 
@@ -316,13 +315,7 @@ module _ (h : Header) (rings : List Ring) (k : Known) (views : ℕ → RingView)
 
       events_stand_still : (unread : List Block) → EventsStand h w unread → EventsStand g v unread
       unfolding event_at
-      events_stand_still unread e = record {
-        order = subst (λ n. AreInOrder n (record { posted = w.posted; reads = w.reads; dequeue = w.dequeue })) (sym o.size) e.order;
-        count = e.count;
-        places = λ i b at. ap (λ shape. block_at w.memory (address_of shape (w.reads + i))) o.events ∙ e.places i b at;
-        started = e.started;
-        ring = λ some. subst (λ n. 0 < n) (sym o.size) (e.ring some);
-      }
+      events_stand_still unread e = search (rules, block_at, w.memory, address_of, e.places, e.ring)
 
       ring_still : (r : ℕ) → r ≢ command_id h → EndpointRing h k w r → EndpointRing g l v r
       ring_still r other (inl bound) =
@@ -336,13 +329,10 @@ module _ (h : Header) (rings : List Ring) (k : Known) (views : ℕ → RingView)
       unfolding next_command
       next_same = ap (λ (y : RingView). floor_number y) o.command_view
 
-      taken_still : (u : UnderWay) → TakenCommand h k u → TakenCommand g l u
-      unfolding next_command command_at
-      taken_still u t = search (rules, g, l, slice_get, option_and_then, stop_seen_same)
-
       under_way_still : (t : Spot) (u : Option UnderWay) → UnderWayMatches h k t u → UnderWayMatches g l t u
+      unfolding next_command command_at
       under_way_still t None m = (m.0 ∙ sym next_same, m.1)
-      under_way_still t (Some u) m = (m.0 ∙ ap (λ n. n + 1) (sym next_same), taken_still u m.1)
+      under_way_still t (Some u) m = (m.0 ∙ ap (λ n. n + 1) (sym next_same), search (rules, g, l, slice_get, option_and_then, stop_seen_same))
 
       unchanged_still : (at : ℕ) (c : Option ℕ) → IsUnchanged h w at c → IsUnchanged g v at c
       unchanged_still at None same = tt
@@ -390,8 +380,7 @@ module _ (h : Header) (rings : List Ring) (k : Known) (id : ℕ) (shapes : (s : 
   there f x s same = ap (λ n. put f id x n) same ∙ put_at f id x
 
   state_apart : (s : ℕ) → s ≢ id → state_of forgets s ≡ state_of w s
-  state_apart s other =
-      λ j. record { pointer = w.pointer_of s; cycle = w.cycle_state s; active = w.is_active s; events = put_off w.events id [] s other j; reported = put_off w.reported id 0 s other j }
+  state_apart s other = search (rules, put_off)
 
   free_still : (s : ℕ) → FreeRing (shape_of h s) k.ring_of (k.ring s) (state_of w s) s → FreeRing (shape_of (record h { rings = rings }) s) k.ring_of (views_left s) (state_of forgets s) s
   free_still s free = elim (cases_eq s id) [

@@ -49,21 +49,15 @@ module _ (v w : RingView) (q : Quiet v w) where
   pub quiet_alike : RingAlike v w
   quiet_alike = search (rules, quiet_floor, held_same, quiet_held, quiet_gives, quiet_crosses)
 
-  quiet_back : RingAlike w v
-  quiet_back = search (rules, quiet_floor, held_same, quiet_held, quiet_gives, quiet_crosses)
-
   gives_more : GivesMore v w
   gives_more = quiet_alike.more
 
   module _ (shape : Shape) where
-    ceiling_up : ceiling shape v ≤ ceiling shape w
-    ceiling_up = ceiling_more shape v w quiet_alike
-
     ceiling_down : ceiling shape w ≤ ceiling shape v
-    ceiling_down = ceiling_more shape w v quiet_back
+    ceiling_down = ceiling_more shape w v (search (rules, quiet_floor, held_same, quiet_held, quiet_gives, quiet_crosses))
 
     pub quiet_goes_on : RingGoesOn shape v w
-    quiet_goes_on = search (rules, quiet_floor, ceiling_up, gives_more, quiet_held)
+    quiet_goes_on = search (rules, quiet_floor, ceiling_more, quiet_alike, gives_more, quiet_held)
 
     pub quiet_standing : Standing shape v w
     quiet_standing = search (rules, quiet_floor, move_more, gives_more, quiet_gives)
@@ -176,9 +170,7 @@ module _ (h : Header) (r : ℕ) (change : RingChange) (quiet : IsQuiet change) (
   same = command_same h r change quiet other k
 
   before : (p : ℕ) (f : Command) → IsUnfinished h l p f → IsUnfinished h k p f
-  before =
-      unfinished_view h k l (subst (λ v. SameGiven (k.ring (command_id h)) v) (sym same) (record { queue = refl; lengths = refl; given = refl; crossed = refl; withdrawn = refl; free = refl }))
-      (ap (λ (v : RingView). v.floor) same)
+  before = search (rules, unfinished_view, k.ring, command_id, same)
 
   module _ (d : DriverKeeps h k) where
     floor_is : (q : ℕ) → (l.ring q).floor ≡ (k.ring q).floor

@@ -68,9 +68,8 @@ module _ (h : Header) (rings : List Ring) (over : (ℕ → RingView) → ℕ →
   finish_alike : (k : Known) (b : Block) (q : Option Command) → can_finish (l k) b q ≡ can_finish k b q
   unfolding can_finish
   finish_alike k b None = refl
-  finish_alike k b (Some c) = λ j.
-      may_answer_slot (Some c) (slot b)
-      && (if code b == 1 then can_succeed k.slot_state k.endpoint_state (register_or_zero k.register Config) (slot b) c else not (stop_seen_same h rings k (over k.ring) c j))
+  finish_alike k b (Some c) =
+      search (rules, may_answer_slot, slot, code, can_succeed, k.slot_state, k.endpoint_state, register_or_zero, k.register, not, stop_seen_same)
 
   completion_possible : (k : Known) (b : Block) → is_impossible_completion g (l k) b ≡ is_impossible_completion h k b
   unfolding is_impossible_completion

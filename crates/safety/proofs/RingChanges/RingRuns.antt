@@ -138,12 +138,8 @@ module _ (h : Header) (is : IsHeader h) (id : ℕ) where
         good = next.good;
       }
 
-  stopped_still : (k : Known) → (forgotten k id).stopped ≡ k.stopped
-  unfolding forgotten
-  stopped_still k = refl
-
   pub goes_runs : (k : Known) (w : World) → DriverKeeps h k → is_bad_free h k id ≡ false → Runs h k w → Runs (without_ring h id) (forgotten k id) (counted h (emptied w id))
-  unfolding counted
+  unfolding counted forgotten
   goes_runs k w d good run =
       let c : Gone k run.unread = gone run.unread k d good run.possible run.on in
       let later : Known = all_read h k run.unread in
@@ -151,7 +147,7 @@ module _ (h : Header) (is : IsHeader h) (id : ℕ) where
         unread = run.unread;
         possible = c.possible;
         blocks = run.blocks;
-        on = stopped_still k ∙ run.on;
+        on = refl ∙ run.on;
         agrees = subst (λ x. Agrees (without_ring h id) x run.unread (counted (without_ring h id) (emptied w id))) (sym c.same)
             (agrees_once_counted (without_ring h id) (forgotten later id) run.unread (emptied w id) (gone_ring_agrees h is later c.keeps id c.good w run.unread run.agrees));
       }

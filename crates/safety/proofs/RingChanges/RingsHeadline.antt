@@ -51,12 +51,11 @@ module _ (h : Header) (is : IsHeader h) where
       let p = now_keeps past (All-tail FitsFields (Withdraws r q) past are) kept.0 kept.1.0 in
       record { headed = p.headed; keeps = withdraw_keeps (header_now h past) r q p.headed (known_now h past) p.keeps kept.1.1 }
   now_keeps (Comes b ∷ past) are kept on =
-      let r = b in
       let p = now_keeps past (All-tail FitsFields (Comes b) past are) kept.0 kept.1.0 in
       let coming = All-head FitsFields (Comes b) past are in
       record {
-        headed = comes_header (header_now h past) p.headed r coming (known_now h past) p.keeps kept.1.1;
-        keeps = comes_keeps (header_now h past) p.headed r coming (known_now h past) p.keeps kept.1.1;
+        headed = comes_header (header_now h past) p.headed b coming (known_now h past) p.keeps kept.1.1;
+        keeps = comes_keeps (header_now h past) p.headed b coming (known_now h past) p.keeps kept.1.1;
       }
   now_keeps (Goes id ∷ past) are kept on =
       let p = now_keeps past (All-tail FitsFields (Goes id) past are) kept.0 kept.1.0 in
@@ -118,19 +117,7 @@ module _ (h : Header) (is : IsHeader h) where
 
   stays : (past : List TraceRow) (x y : Scene) (s : Step) → IsStep s → (s ≡ NextRow → ⊥) → CameTo past x →
       option_map (λ w. let z : Scene = record { header = header_now h past; rows = x.rows; world = steps.counted (header_now h past) w } in z) (steps.made (header_now h past) x.world s) ≡ Some y → CameTo past y
-  stays past x y s is_step other c at =
-      let there = mapped (λ w. let z : Scene = record { header = header_now h past; rows = x.rows; world = steps.counted (header_now h past) w } in z) (steps.made (header_now h past) x.world s) y at in
-      subst (CameTo past) there.2
-      (record {
-        made = c.made;
-        left = c.left;
-        kept = c.kept;
-        header = refl;
-        holds = elim c.holds [
-          | inl run ↦ let p = here past x c run in inl (step_goes (header_now h past) p.headed (known_now h past) p.keeps x.world there.0 s is_step there.1 other run)
-          | inr over ↦ absurd (false≢true (sym (runs_on (header_now h past) x.world there.0 s there.1 other) ∙ over.also))
-        ];
-      })
+  stays past x y s is_step other c at = search (rules, mapped, header_now, x.world, here, step_goes, known_now, false≢true, runs_on)
 
   step : (past : List TraceRow) (x y : Scene) (s : Step) → IsStep s → CameTo past x → step_made x s ≡ Some y → (now : List TraceRow) × CameTo now y
   step past x y s is_step c at = by s is_step (ap (λ z. step_made z s) (sym same) ∙ at)

@@ -67,6 +67,4 @@ module _ (h : Header) (k : Known) where
     -- it touches no range that it doesn't overlap with a segment
     pub touches_none : (from len : ℕ) → ((s : Segment) → IsIn s shape.segments → overlap s.base (16 * s.count) from len ≡ false) → touches shape from len ≡ false
     touches_none from len apart =
-        false_from_ne_true (touches shape from len) (λ t.
-        let s = some_of (λ s. overlap from len s.base (16 * s.count)) shape.segments (and_parts (nat_lt 0 len) _ t).1 in
-        false≢true (sym (overlap_turned s.0.base (16 * s.0.count) from len (apart s.0 s.1)) ∙ s.2))
+        search (rules, false_from_ne_true, touches, some_of, overlap, shape.segments, and_parts, nat_lt, false≢true, overlap_turned)
