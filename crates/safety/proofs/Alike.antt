@@ -26,10 +26,7 @@ pub held_same : (o p : Option ℕ) → p ≡ o → IsHeldMore o p
 held_same o p same = subst (λ x. IsHeldMore o x) (sym same) (same_held o)
 
 held_ceiling : (a b : ℕ) (o p : Option ℕ) → a ≤ b → IsHeldMore o p → unwrap_or o a ≤ unwrap_or p b
-held_ceiling a b None None less more = less
-held_ceiling a b (Some m) (Some n) less more = more
-held_ceiling a b None (Some n) less more = absurd more
-held_ceiling a b (Some m) None less more = absurd more
+held_ceiling a b o x less more = grind arith
 
 module _ (shape : Shape) (v w : RingView) (a : RingAlike v w) where
   pub count_more : given_count shape v ≤ given_count shape w
@@ -45,8 +42,7 @@ module _ (shape : Shape) (v w : RingView) (a : RingAlike v w) where
 
   pub below_more : (t : Spot) → is_data_below (ceiling shape v) t ≡ true → is_data_below (ceiling shape w) t ≡ true
   unfolding is_data_below
-  below_more (Data p) below = lt-ltb p (ceiling shape w) (omega (arith, ltb-true p (ceiling shape v) below, ceiling_more))
-  below_more (Link q) below = below
+  below_more o below = grind (arith, lt-ltb, ceiling, ltb-true, ceiling_more)
 
   pub stop_more : (t : Spot) → is_stop_spot shape v t ≡ true → is_stop_spot shape w t ≡ true
   unfolding is_stop_spot is_way_given
@@ -55,8 +51,7 @@ module _ (shape : Shape) (v w : RingView) (a : RingAlike v w) where
 
   pub stopped_more : (t : Spot) → stopped_number shape v t ≤ stopped_number shape w t
   unfolding stopped_number
-  stopped_more (Data p) = omega (arith, count_more)
-  stopped_more (Link q) = omega arith
+  stopped_more o = grind (arith, count_more)
 
   -- the pointer reaches a spot, or the ring is held
   pub reaches_alike : (t : Spot) → RingAlike (changed shape v (Reaches t)) (changed shape w (Reaches t))

@@ -25,13 +25,11 @@ module _ (h : Header) (P : ℕ → Type 0) (k l : Known) (a : Alike P k l) where
 
   seen_alike : (c : Command) → was_stop_seen l c ≡ was_stop_seen k c
   unfolding was_stop_seen
-  seen_alike (StopEndpoint s i) = ap (λ f. f s i) a.stop_seen
-  seen_alike _ = refl
+  seen_alike o = grind arith
 
   stop_alike : (m n : Known) → Alike P m n → (c : Command) → Alike P (stop_ended h m c) (stop_ended h n c)
   unfolding stop_ended
-  stop_alike m n b (StopEndpoint s i) = seen_put P m n s i false b
-  stop_alike m n b _ = b
+  stop_alike m n b o = grind (arith, seen_put, false)
 
   module _ (same : CommandAlike h k l) where
     pub stopping_alike : (s i : ℕ) → is_stopping_now h k s i ≡ true → is_stopping_now h l s i ≡ true

@@ -68,8 +68,7 @@ module _ (h : Header) (P : ℕ → Type 0) (k l : Known) (a : Alike P k l) where
     module _ (names : (s i r p : ℕ) (t : Spot) → k.ring_of s i ≡ Some r → named (shape_of h r) (k.ring r) p ≡ Some t → named (shape_of h r) (l.ring r) p ≡ Some t) where
       spot_alike : (s i p : ℕ) (o : Option ℕ) → k.ring_of s i ≡ o → (at : RingSpot) → spot_on h k p o ≡ Some at → spot_on h l p o ≡ Some at
       unfolding spot_on
-      spot_alike s i p None has at e = search rules
-      spot_alike s i p (Some r) has at e = search (rules, none-some, cases_option)
+      spot_alike s i p o has at e = grind (arith, none-some)
 
       event_alike : (b : Block) (at : RingSpot) → event_at h k b ≡ Some at → event_at h l b ≡ Some at
       unfolding event_at

@@ -30,10 +30,6 @@ pub record Crossable (shape : Shape) (memory : ℕ → ℕ) (v : RingView) (q : 
 cycle_at : (memory : ℕ → ℕ) (a : ℕ) → cycle (block_at memory a) ≡ memory (a + 12) % 2
 cycle_at memory a = omega arith
 
-way_from : (shape : Shape) (v : RingView) (q : ℕ) → v.given q ≡ true → is_way_given shape v q ≡ true → is_step_given shape v q ≡ true
-unfolding is_step_given
-way_from shape v q given way = and_from (v.given q) (is_way_given shape v q) given way
-
 module _ (shape : Shape) (is : IsShape shape) (memory : ℕ → ℕ) (v : RingView) (k : RingKeeps shape memory v) where
   near : (t : Spot) → MayStand shape v t → (floor_number v ≤ number t) × (number t < floor_number v + place_count shape)
   near t at =
@@ -43,6 +39,7 @@ module _ (shape : Shape) (is : IsShape shape) (memory : ℕ → ℕ) (v : RingVi
       (omega (arith, at.reached), omega (arith, at.below))
 
   pub takeable : (q : ℕ) → MayStand shape v (Data q) → v.given q ≡ true → v.free q ≡ false → Takeable shape memory v q
+  unfolding is_step_given
   takeable q at given kept =
       let n = near (Data q) at in
       let none : Block = record { w = [] } in
@@ -62,7 +59,7 @@ module _ (shape : Shape) (is : IsShape shape) (memory : ℕ → ℕ) (v : RingVi
           | inl below ↦ omega arith
           | inr top ↦
               absurd (false≢true (sym (given_count_stops shape v (given_count_near shape is memory v k)) ∙ ap (λ n. is_step_given shape v n) (omega (arith, at.below))
-              ∙ way_from shape v q given (at.way q refl)))
+              ∙ (and_from (v.given q) (is_way_given shape v q) given (at.way q refl))))
         ];
       }
 

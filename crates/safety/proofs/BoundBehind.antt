@@ -1,5 +1,5 @@
 -- A ring that waits for a binding behind an event waited for it before
-use Rattle.safety.proofs.Words.{[], ◌≡◌, if◌then◌else◌, ◌∷◌, ◌∙◌, ℕ, Bool, true, false, map, refl, sym, ap, inl, inr, list_any, and_parts, and_from, false≢true, cases_option, cases_Bool, Block, Command, AddressDevice, ConfigureEndpoint, is_off, is_open, added_endpoints, Header, Read, IsHeader, is_ring, Known, unfinished, learned, lenient, Binding, binding_in, binds, ring_bound, binds_ring, is_being_bound, awaits_binding, some_of, any_of, IsUnfinished, DriverKeeps, List, Option, None, Some, rules, cond_both, none-some, BlockKind, TransferEvent, CommandCompletion, kind, Spot, number, after, Reaches, Holds, ceiling, stopped_number, target, StopEndpoint, Stopped, Change, Places, Stops, shape_of, command_id, ring_having, RingSpot, on_ring, event_at, command_at, next_command, passed, broken_off, stopped_at, transferred, transferred_at, transfer_read, set_to, bound_to, moved_to, moved, pointed, disabled, in_state, held_at_ceiling, changed_by, changed_by_all, succeeded, stop_ended, finished, completed, event_read}
+use Rattle.safety.proofs.Words.{[], ◌≡◌, if◌then◌else◌, ◌∷◌, ◌∙◌, ℕ, Bool, true, false, map, refl, sym, ap, inl, inr, list_any, and_parts, and_from, false≢true, cases_option, cases_Bool, Block, Command, AddressDevice, ConfigureEndpoint, is_off, is_open, added_endpoints, Header, Read, IsHeader, is_ring, Known, unfinished, learned, lenient, Binding, binding_in, binds, ring_bound, binds_ring, is_being_bound, awaits_binding, some_of, any_of, IsUnfinished, DriverKeeps, List, Option, None, Some, rules, cond_both, none-some, BlockKind, TransferEvent, CommandCompletion, kind, Spot, number, after, Reaches, Holds, ceiling, stopped_number, target, StopEndpoint, Stopped, Change, Places, Stops, shape_of, command_id, ring_having, RingSpot, on_ring, event_at, command_at, next_command, passed, broken_off, stopped_at, transferred, transferred_at, transfer_read, set_to, bound_to, moved_to, moved, pointed, disabled, in_state, held_at_ceiling, changed_by, changed_by_all, succeeded, stop_ended, finished, completed, event_read, arith}
 use Rattle.safety.proofs.LowerLaws.{clean_tests, off_is, view_after, open_held, held_open}
 use Rattle.safety.proofs.DriverHistories.{kept_driver}
 use Rattle.safety.proofs.MiddleLaws.{read_on, Behind, event_behind, listed_unfinished, listed_before, rings_behind}
@@ -32,25 +32,21 @@ module _ (h : Header) where
 
   at_opens : (k : Known) (b : Block) (o : Option RingSpot) → OpensNone k (transferred_at h k b o)
   unfolding transferred_at transferred broken_off passed
-  at_opens k b None = same_opens k
-  at_opens k b (Some at) = search (rules, reach_opens, both_open, hold_opens, stopped_opens, same_opens)
+  at_opens k b o = grind (arith, same_opens, reach_opens, both_open, hold_opens, stopped_opens)
 
   -- ---- a completion
 
   target_opens : (k : Known) (r : ℕ) (o : Option Spot) → OpensNone k (moved_to h k r o)
   unfolding moved_to set_to
-  target_opens k r None = same_opens k
-  target_opens k r (Some t) = let l : Known = on_ring h k r (Reaches t) in both_open k l (on_ring h l r (Holds (number t))) (reach_opens k r t) (hold_opens l r (number t))
+  target_opens k r o = grind (arith, same_opens, on_ring, both_open, number, reach_opens, hold_opens)
 
   moved_opens : (k : Known) (o : Option ℕ) (p : ℕ) (cycle : Bool) → OpensNone k (moved h k o p cycle)
   unfolding moved
-  moved_opens k None p cycle = same_opens k
-  moved_opens k (Some r) p cycle = target_opens k r (target (shape_of h r) (k.ring r) p cycle)
+  moved_opens k o p cycle = grind (arith, same_opens, target_opens, target, shape_of, k.ring)
 
   bound_opens : (k : Known) (s i : ℕ) (o : Option ℕ) (p : ℕ) (cycle : Bool) → OpensNone k (bound_to h k s i o p cycle)
   unfolding bound_to
-  bound_opens k s i None p cycle = same_opens k
-  bound_opens k s i (Some r) p cycle = moved_opens k (Some r) p cycle
+  bound_opens k s i o p cycle = grind (arith, same_opens, moved_opens)
 
   pointed_opens : (k : Known) (s i p : ℕ) (cycle : Bool) → OpensNone k (pointed h k s i p cycle)
   unfolding pointed
@@ -58,14 +54,11 @@ module _ (h : Header) where
 
   held_opens : (k : Known) (o : Option ℕ) → OpensNone k (held_at_ceiling h k o)
   unfolding held_at_ceiling
-  held_opens k None = same_opens k
-  held_opens k (Some r) = hold_opens k r (ceiling (shape_of h r) (k.ring r))
+  held_opens k o = grind (arith, same_opens, hold_opens, ceiling, shape_of, k.ring)
 
   change_opens : (c : Command) (k : Known) (change : Change) → OpensNone k (changed_by h c k change)
   unfolding changed_by disabled in_state
-  change_opens c k (Places s i p cycle state) = pointed_opens k s i p cycle
-  change_opens c k (Stops s i) = held_opens (in_state h k s i Stopped) (k.ring_of s i)
-  change_opens c k _ = λ r none. none
+  change_opens c k o = grind (arith, pointed_opens, held_opens, in_state, k.ring_of)
 
   changes_open : (c : Command) (k : Known) (all : List Change) → OpensNone k (changed_by_all h c k all)
   unfolding changed_by_all
@@ -75,35 +68,26 @@ module _ (h : Header) where
 
   stop_opens : (k : Known) (c : Command) → OpensNone k (stop_ended h k c)
   unfolding stop_ended
-  stop_opens k (StopEndpoint s i) = λ r none. none
-  stop_opens k _ = same_opens k
+  stop_opens k o = grind (arith, same_opens)
 
   finish_opens : (k : Known) (b : Block) (o : Option Command) → OpensNone k (finished h k b o)
   unfolding finished succeeded
-  finish_opens k b None = search (rules, same_opens)
-  finish_opens k b (Some c) = search (rules, same_opens, both_open, changes_open, stop_opens)
+  finish_opens k b o = grind (arith, same_opens, both_open, changes_open, stop_opens)
 
   completion_opens : (k : Known) (b : Block) → OpensNone k (completed h k b)
   unfolding completed
   completion_opens k b =
-      let l : Known = finished h k b (command_at h k (next_command h k)) in
-      both_open k l (on_ring h l (command_id h) (Reaches (after (shape_of h (command_id h)) (next_command h k)))) (finish_opens k b (command_at h k (next_command h k)))
-      (reach_opens l (command_id h) (after (shape_of h (command_id h)) (next_command h k)))
+      search (rules, finished, command_at, next_command, both_open, on_ring, command_id, after, shape_of, finish_opens, reach_opens)
 
   -- ---- any event
 
   kind_opens : (k : Known) (b : Block) (n : BlockKind) → OpensNone k (event_read h k n b)
   unfolding event_read transfer_read
-  kind_opens k b TransferEvent = at_opens k b (event_at h k b)
-  kind_opens k b CommandCompletion = completion_opens k b
-  kind_opens k b _ = same_opens k
-
-  read_opens : (k : Known) (b : Block) → OpensNone k (learned h k (Read b))
-  unfolding learned
-  read_opens k b = kind_opens k b (kind b)
+  kind_opens k b o = grind (arith, at_opens, event_at, completion_opens, same_opens)
 
   pub opened_before : (k : Known) (b : Block) (r : ℕ) → is_open ((learned h k (Read b)).ring r) ≡ true → is_open (k.ring r) ≡ true
-  opened_before k b r opened = held_open (k.ring r) (read_opens k b r (open_held ((learned h k (Read b)).ring r) opened))
+  unfolding learned
+  opened_before k b r opened = held_open (k.ring r) ((kind_opens k b (kind b)) r (open_held ((learned h k (Read b)).ring r) opened))
 
 module _ (h : Header) (is : IsHeader h) (k : Known) (d : DriverKeeps h k) (e : Block) (may : lenient h k (Read e) ≡ []) where
   abbrev l : Known

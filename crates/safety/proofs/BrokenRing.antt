@@ -1,7 +1,7 @@
 -- A take with which an endpoint halts or goes to Error: what the event names, and the ring behind it
 use Rattle.safety.proofs.Words.{[], ◌≡◌, ◌+◌, ◌-◌, ◌<◌, ◌≤◌, ◌∷◌, ◌∙◌, ℕ, true, false, List, length, drop, map, Some, arith, refl, sym, ap, get_or, length-drop, eqb-true, drop-drop, range_with_len, false≢true, get_or-map-range_with_len, Spot, Data, Shape, address_of, number, after, IsShape, RingView, floor_number, is_way_given, named, RingKeeps, Header, takes_of, is_last, RingState, RingMatches, Unreported}
 use Rattle.safety.proofs.NoWait.{ceiling_held}
-use Rattle.safety.proofs.RingGoesOn.{newest_still}
+use Rattle.safety.proofs.RingGoesOn.{held_from}
 use Rattle.safety.proofs.LookedRing.{number_after}
 use Rattle.safety.proofs.ReportedRing.{open_takes, drop_range, low, count, named_near, floor_before}
 
@@ -19,10 +19,6 @@ last_is h a (b ∷ xs) at = (length xs, omega arith, last_at h a b xs at)
 -- held behind position p
 abbrev pub broken_at : Shape → RingView → ℕ → RingView
 broken_at shape v p = record v { floor = after shape p; held = Some (p + 1) }
-
-ways_still : (shape : Shape) (v : RingView) (p q : ℕ) → is_way_given shape (broken_at shape v p) q ≡ is_way_given shape v q
-unfolding is_way_given
-ways_still shape v p q = refl
 
 module _ (shape : Shape) (is : IsShape shape) (memory : ℕ → ℕ) (v : RingView) (k : RingKeeps shape memory v) (s : RingState) (t : Spot) (m : RingMatches shape v s t) (u : Unreported shape v s t) where
   -- the last take, unreported yet
@@ -47,19 +43,9 @@ module _ (shape : Shape) (is : IsShape shape) (memory : ℕ → ℕ) (v : RingVi
       }
 
   pub broken_matches : (a c : ℕ) (l : LastTake a) → RingMatches shape (broken_at shape v l.position) (record s { active = false; reported = c }) t
-  broken_matches a c l = record {
-    is_spot = m.is_spot;
-    pointer = m.pointer;
-    cycle = m.cycle;
-    reached = floor_before shape is memory v k s t m u l.position (omega (arith, l.last));
-    below = omega (arith, l.last, ceiling_held shape (broken_at shape v l.position) (l.position + 1) refl);
-    way = λ q e. ways_still shape v l.position q ∙ m.way q e;
-    opened = λ on. absurd (false≢true on);
-    next = m.next;
-    newest = newest_still shape v (after shape l.position) (Some (l.position + 1)) (number t) s.events m.newest;
-    in_order = m.in_order;
-    as_declared = m.as_declared;
-  }
+  broken_matches a c l =
+      held_from shape v s t (after shape l.position) (Some (l.position + 1)) false c m (floor_before shape is memory v k s t m u l.position (omega (arith, l.last)))
+      (omega (arith, l.last, ceiling_held shape (broken_at shape v l.position) (l.position + 1) refl)) (λ on. absurd (false≢true on))
 
   pub broken_unreported : (a : ℕ) (l : LastTake a) → Unreported shape (broken_at shape v l.position) (record s { active = false; reported = s.reported + length (open_takes s) }) t
   broken_unreported a l =

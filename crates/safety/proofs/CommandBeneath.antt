@@ -19,37 +19,30 @@ module _ (h : Header) where
 
   at_left : (k : Known) (b : Block) (o : Option RingSpot) → DevicesLeft k (transferred_at h k b o)
   unfolding transferred_at transferred passed broken_off stopped_at on_ring
-  at_left k b None = none_left k
-  at_left k b (Some at) = search rules
+  at_left k b o = grind (arith, none_left)
 
   -- ---- a completion
 
   target_left : (k : Known) (r : ℕ) (o : Option Spot) → DevicesLeft k (moved_to h k r o)
   unfolding moved_to set_to on_ring
-  target_left k r None = none_left k
-  target_left k r (Some t) = λ s x at. at
+  target_left k r o = grind (arith, none_left)
 
   moved_left : (k : Known) (o : Option ℕ) (p : ℕ) (cycle : Bool) → DevicesLeft k (moved h k o p cycle)
   unfolding moved
-  moved_left k None p cycle = none_left k
-  moved_left k (Some r) p cycle = target_left k r (target (shape_of h r) (k.ring r) p cycle)
+  moved_left k o p cycle = grind (arith, none_left, target_left, target, shape_of, k.ring)
 
   bound_left : (k : Known) (s i : ℕ) (o : Option ℕ) (p : ℕ) (cycle : Bool) → DevicesLeft k (bound_to h k s i o p cycle)
   unfolding bound_to
-  bound_left k s i None p cycle = none_left k
-  bound_left k s i (Some r) p cycle = moved_left k (Some r) p cycle
+  bound_left k s i o p cycle = grind (arith, none_left, moved_left)
 
   held_left : (k : Known) (o : Option ℕ) → DevicesLeft k (held_at_ceiling h k o)
   unfolding held_at_ceiling on_ring
-  held_left k None = none_left k
-  held_left k (Some r) = λ s x at. at
+  held_left k o = grind (arith, none_left)
 
   change_left : (c : Command) (k : Known) (change : Change) → DevicesLeft k (changed_by h c k change)
   unfolding changed_by disabled in_state pointed
-  change_left c k (DeviceLeft s) = λ t x at. fewer (t == s) (k.device t) x at
-  change_left c k (Places s i p cycle state) = search (rules, cond_both, is_off, bound_to, ring_having, moved, bound_left, moved_left)
-  change_left c k (Stops s i) = held_left (in_state h k s i Stopped) (k.ring_of s i)
-  change_left c k _ = none_left k
+  change_left c k o =
+      grind (arith, fewer, k.device, is_off, bound_to, ring_having, moved, bound_left, moved_left, held_left, in_state, k.ring_of, none_left)
 
   changes_left : (c : Command) (k : Known) (all : List Change) → DevicesLeft k (changed_by_all h c k all)
   unfolding changed_by_all
@@ -58,21 +51,17 @@ module _ (h : Header) where
 
   stop_left : (k : Known) (c : Command) → DevicesLeft k (stop_ended h k c)
   unfolding stop_ended
-  stop_left k (StopEndpoint s i) = none_left k
-  stop_left k _ = none_left k
+  stop_left k o = grind (arith, none_left)
 
   finish_left : (k : Known) (b : Block) (o : Option Command) → DevicesLeft k (finished h k b o)
   unfolding finished succeeded
-  finish_left k b None = search (rules, none_left)
-  finish_left k b (Some c) = search (rules, none_left, changes_left, stop_left)
+  finish_left k b o = grind (arith, none_left, changes_left, stop_left)
 
   -- ---- any event
 
   kind_left : (k : Known) (b : Block) (n : BlockKind) → DevicesLeft k (event_read h k n b)
   unfolding event_read transfer_read completed on_ring
-  kind_left k b TransferEvent = at_left k b (event_at h k b)
-  kind_left k b CommandCompletion = finish_left k b (command_at h k (next_command h k))
-  kind_left k b _ = none_left k
+  kind_left k b o = grind (arith, at_left, event_at, finish_left, command_at, next_command, none_left)
 
   pub devices_left : (k : Known) (e : Block) → DevicesLeft k (learned h k (Read e))
   unfolding learned
@@ -196,10 +185,7 @@ module _ (h : Header) (is : IsHeader h) (k : Known) (d : DriverKeeps h k) (a w :
 
     device_same : (s x y : ℕ) (o u : Option ℕ) → ((o ≡ None) × (u ≡ None)) ⊎ ((o ≢ None) × (u ≢ None)) → x ≡ y → no_device u s x ≡ no_device o s y
     unfolding no_device
-    device_same s x y None None both same = ap (λ z. Some (s, z)) same
-    device_same s x y (Some p) (Some q) both same = refl
-    device_same s x y None (Some q) both same = elim both [ inl none ↦ absurd (none-some q (sym none.1)) | inr some ↦ absurd (some.0 refl) ]
-    device_same s x y (Some p) None both same = elim both [ inl none ↦ absurd (none-some p (sym none.0)) | inr some ↦ absurd (some.1 refl) ]
+    device_same s x y o z both same = grind (arith, none-some)
 
     pub names_same : (s : ℕ) → device_named l s ≡ device_named k s
     unfolding device_named
@@ -230,8 +216,7 @@ module _ (h : Header) (is : IsHeader h) (k : Known) (d : DriverKeeps h k) (a w :
     states_by : (o : Option (ℕ × ℕ)) (x : Known) → ((t : ℕ) → x.device t ≡ (with_device h (with_word h l a w) o).device t) → SameStates l (record x { device = l.device }) →
         SameStates (with_device h (with_word h l a w) o) x
     unfolding with_device with_word
-    states_by None x device s = search (rules, l)
-    states_by (Some f) x device s = search (rules, l)
+    states_by o x device s = grind arith
 
     held_is : (x : Known) (r : ℕ) → x.ring ≡ (with_word h l a w).ring → (x.ring r).held ≡ (l.ring r).held
     unfolding with_word

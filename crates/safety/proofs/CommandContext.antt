@@ -1,6 +1,5 @@
 -- Behind an event that is read before it, a command that a write gives has the same input context, and may move the same rings
-use Rattle.std.proofs.Common.{rules}
-use Rattle.safety.proofs.Words.{[], ◌≡◌, ◌∙◌, ℕ, false, Bool, Option, Some, None, refl, ap, subst, MayCome, or_parts, or_from, Block, Command, SetTrDequeue, input_context_bytes, Header, Write, Read, IsHeader, Known, command_given, learned, is_bad_area, is_soiled, covers, device_ranges, is_bad_dequeue, is_bad_move, lenient, DriverKeeps, MovesIf, has_bad_context}
+use Rattle.safety.proofs.Words.{[], ◌≡◌, ◌∙◌, ℕ, false, Bool, Option, Some, None, refl, ap, subst, MayCome, or_parts, or_from, Block, Command, SetTrDequeue, input_context_bytes, Header, Write, Read, IsHeader, Known, command_given, learned, is_bad_area, is_soiled, covers, device_ranges, is_bad_dequeue, is_bad_move, lenient, DriverKeeps, MovesIf, has_bad_context, rules, arith}
 use Rattle.safety.proofs.AreaFacts.{AreaParts, area_parts, area_from, clean_same}
 use Rattle.safety.proofs.MiddleLaws.{context_parts, context_from, Behind, devices_fewer, none_fewer, event_behind}
 use Rattle.safety.proofs.GivenBehind.{between, own_between}
@@ -32,8 +31,7 @@ module _ (h : Header) (is : IsHeader h) (k : Known) (d : DriverKeeps h k) (e : B
 
     dequeue_same : (o : Option ℕ) (p : ℕ) (cycle : Bool) → is_bad_dequeue h l o p cycle ≡ is_bad_dequeue h x o p cycle
     unfolding is_bad_dequeue
-    dequeue_same None p cycle = refl
-    dequeue_same (Some r) p cycle = refl
+    dequeue_same o p cycle = grind arith
 
     set_by : (s i p : ℕ) (cycle : Bool) → is_bad_move h x (SetTrDequeue s i p cycle) ≡ false → is_bad_move h l (SetTrDequeue s i p cycle) ≡ false
     unfolding is_bad_move

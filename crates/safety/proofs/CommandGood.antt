@@ -1,6 +1,6 @@
 -- Behind an event that is read before it, a command that a write gives names a slot and an endpoint that are there, and its contexts lie and
 -- say what they may
-use Rattle.safety.proofs.Words.{[], ◌≡◌, ◌==◌, ◌&&◌, ◌||◌, ◌∙◌, ℕ, not, false, Option, None, Some, refl, MayCome, or_parts, or_from, Block, input_add_flag, Command, AddressDevice, ConfigureEndpoint, named_slot, named_endpoint, named_context, Header, Write, Read, IsHeader, Known, command_given, learned, lenient, DriverKeeps, has_bad_content, has_bad_context, is_bad_added, is_bad_command, names_disabled_endpoint, names_disabled_slot, takes_bad_device, type_in}
+use Rattle.safety.proofs.Words.{[], ◌≡◌, ◌==◌, ◌&&◌, ◌||◌, ◌∙◌, ℕ, not, false, Option, None, Some, refl, MayCome, or_parts, or_from, Block, input_add_flag, Command, AddressDevice, ConfigureEndpoint, named_slot, named_endpoint, named_context, Header, Write, Read, IsHeader, Known, command_given, learned, lenient, DriverKeeps, has_bad_content, has_bad_context, is_bad_added, is_bad_command, names_disabled_endpoint, names_disabled_slot, takes_bad_device, type_in, arith}
 use Rattle.safety.proofs.GivenBehind.{between, own_between, facts}
 use Rattle.safety.proofs.CommandContext.{context_behind}
 use Rattle.safety.proofs.DeviceBehind.{device_behind}
@@ -16,28 +16,20 @@ module _ (h : Header) (is : IsHeader h) (k : Known) (d : DriverKeeps h k) (a w :
   -- states of slots and endpoints are the same between and behind the event
   slot_same : (o : Option ℕ) → names_disabled_slot l o ≡ names_disabled_slot x o
   unfolding names_disabled_slot
-  slot_same None = refl
-  slot_same (Some s) = refl
+  slot_same o = grind arith
 
   endpoint_same : (o : Option (ℕ × ℕ)) → names_disabled_endpoint l o ≡ names_disabled_endpoint x o
   unfolding names_disabled_endpoint
-  endpoint_same None = refl
-  endpoint_same (Some f) = refl
+  endpoint_same o = grind arith
 
   context_of : (o : Option ℕ) → has_bad_context h k o ≡ false → has_bad_context h l o ≡ false
   unfolding has_bad_context
-  context_of None good = refl
-  context_of (Some n) good = context_behind h is k d e may n good
+  context_of o good = grind (arith, context_behind)
 
   -- so are the words of the input context; where a device context may lie is tested of what is leased, hence told apart
   content_of : (f : Command) → c ≡ f → has_bad_content h x f ≡ false → has_bad_content h k f ≡ false → has_bad_content h l f ≡ false
   unfolding has_bad_content is_bad_added type_in
-  content_of (AddressDevice s bsr n) at there before =
-      let read = or_parts (not (input_add_flag l.memory n 0 && input_add_flag l.memory n 1) || type_in h l n 1 == 0) (takes_bad_device h x s n) there in
-      let takes = or_parts (not (input_add_flag k.memory n 0 && input_add_flag k.memory n 1) || type_in h k n 1 == 0) (takes_bad_device h k s n) before in
-      or_from (not (input_add_flag l.memory n 0 && input_add_flag l.memory n 1) || type_in h l n 1 == 0) (takes_bad_device h l s n) read.0 (device_behind h is k d e may a w clean c given s n bsr at takes.1)
-  content_of (ConfigureEndpoint s false n) at there before = there
-  content_of _ at there before = refl
+  content_of o at there before = grind (arith, or_parts, not, input_add_flag, type_in, takes_bad_device, k.memory, or_from, device_behind, false)
 
   -- the command breaks BadCommand behind the event no more than before it
   pub good_behind : is_bad_command h l c ≡ false

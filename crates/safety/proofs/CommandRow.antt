@@ -1,5 +1,5 @@
 -- Behind an event that is read before it, a write that gives a command breaks no rule: what is tested of its bindings and its slot
-use Rattle.safety.proofs.Words.{[], ◌≡◌, ◌||◌, ◌∷◌, ◌∙◌, ℕ, not, true, false, List, map, All, Some, refl, sym, ap, subst, inl, inr, eq-eqb, Option, None, rules, MayCome, list_any, or_from, not_from_true, false≢true, false_from_ne_true, All-head, All-tail, cases_option, Block, Command, NoOp, EnableSlot, DisableSlot, AddressDevice, ConfigureEndpoint, EvaluateContext, ResetEndpoint, StopEndpoint, SetTrDequeue, ResetDevice, Header, Write, Read, IsHeader, command_id, is_ring, Known, unfinished, command_given, learned, Binding, binding_in, binds, ring_bound, binds_ring, has_repeats, drops, is_kept, is_taken, is_placed, is_bad_place, is_being_bound, is_bad_binding, lenient, IsIn, some_of, any_of, IsUnfinished, CommandKeeps, DriverKeeps, exclude, adds_streams, is_busy, streams_in}
+use Rattle.safety.proofs.Words.{[], ◌≡◌, ◌||◌, ◌∷◌, ◌∙◌, ℕ, not, true, false, List, map, All, Some, refl, sym, ap, subst, inl, inr, eq-eqb, Option, None, rules, MayCome, list_any, or_from, not_from_true, false≢true, false_from_ne_true, All-head, All-tail, cases_option, Block, Command, NoOp, EnableSlot, DisableSlot, AddressDevice, ConfigureEndpoint, EvaluateContext, ResetEndpoint, StopEndpoint, SetTrDequeue, ResetDevice, Header, Write, Read, IsHeader, command_id, is_ring, Known, unfinished, command_given, learned, Binding, binding_in, binds, ring_bound, binds_ring, has_repeats, drops, is_kept, is_taken, is_placed, is_bad_place, is_being_bound, is_bad_binding, lenient, IsIn, some_of, any_of, IsUnfinished, CommandKeeps, DriverKeeps, exclude, adds_streams, is_busy, streams_in, arith}
 use Rattle.safety.proofs.MiddleLaws.{none_fewer, beside_old, command_same, listed_unfinished, listed_before}
 use Rattle.safety.proofs.RingsKept.{none_kept}
 use Rattle.safety.proofs.CommandsBeside.{binds_ring_beside}
@@ -46,8 +46,7 @@ module _ (h : Header) (is : IsHeader h) (k : Known) (d : DriverKeeps h k) (a w :
   -- what is bound is read neither of device contexts nor of soiled words
   binds_same : (f : Command) → binds h l f ≡ binds h x f
   unfolding binds binding_in
-  binds_same (AddressDevice s bsr n) = refl
-  binds_same _ = refl
+  binds_same o = grind arith
 
   -- no other command that is unfinished names a ring that this one binds
   unnamed : (r : ℕ) → binds_ring h x r c ≡ true → list_any (binds_ring h l r) (unfinished h l) ≡ false
@@ -67,8 +66,7 @@ module _ (h : Header) (is : IsHeader h) (k : Known) (d : DriverKeeps h k) (a w :
 
   drops_same : (f : Command) (s i : ℕ) → drops l f s i ≡ drops x f s i
   unfolding drops
-  drops_same (ConfigureEndpoint s false n) t i = refl
-  drops_same _ t i = refl
+  drops_same o t i = grind (arith, false)
 
   -- nor has an endpoint one of them that isn't dropped
   unkept_behind : (r : ℕ) → binds_ring h x r c ≡ true → is_kept h l c r ≡ false
@@ -76,8 +74,7 @@ module _ (h : Header) (is : IsHeader h) (k : Known) (d : DriverKeeps h k) (a w :
 
   placed_same : (o : Option ℕ) (b : Binding) → is_placed h l o b ≡ is_placed h x o b
   unfolding is_placed
-  placed_same None b = refl
-  placed_same (Some r) b = refl
+  placed_same o b = grind arith
 
   place_behind : (b : Binding) → IsIn b (binds h x c) → is_bad_place h l c b ≡ false
   unfolding is_bad_place binds_ring is_taken is_being_bound

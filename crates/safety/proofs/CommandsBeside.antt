@@ -4,8 +4,7 @@ use Rattle.safety.proofs.Concerned.{Concerns}
 use Rattle.safety.proofs.ContextReads.{AgreeIn, any_same, map_same, added_indices, added_same, add_flag_same, drop_flag_same, type_same, streams_same, pointer_same, cycle_same}
 
 none_is : (o : Option ℕ) → o ≢ None → is_none o ≡ false
-none_is None some = absurd (some refl)
-none_is (Some d) some = refl
+none_is o some = grind arith
 
 module _ (h : Header) where
   -- what is known at l is, as far as the command reads it, what was known at k
@@ -60,15 +59,11 @@ module _ (h : Header) where
 
     pub drops_beside : (c : Command) → Beside k l c → (s i : ℕ) → drops l c s i ≡ drops k c s i
     unfolding drops
-    drops_beside (ConfigureEndpoint t false n) b s i = ap (λ x. s == t && (nat_le 2 i && x)) (drop_flag_same h.context_size k.memory l.memory n (b.memory n refl) i)
-    drops_beside _ b s i = refl
+    drops_beside o b s i = grind (arith, false, nat_le, drop_flag_same, h.context_size, k.memory, l.memory, b.memory)
 
     endpoint_beside : (c : Command) → Beside k l c → names_disabled_endpoint l (named_endpoint c) ≡ names_disabled_endpoint k (named_endpoint c)
     unfolding names_disabled_endpoint
-    endpoint_beside (ResetEndpoint s i) b = ap (λ t. i == 0 || t) (b.off s i (refl, (refl, refl)))
-    endpoint_beside (StopEndpoint s i) b = ap (λ t. i == 0 || t) (b.off s i (refl, (refl, refl)))
-    endpoint_beside (SetTrDequeue s i p cycle) b = ap (λ t. i == 0 || t) (b.off s i (refl, (refl, refl)))
-    endpoint_beside _ b = refl
+    endpoint_beside o b = grind (arith, b.off)
 
     -- a device context that is under lease isn't taken again
     pub leased_device : (s n : ℕ) → l.device s ≢ None → takes_bad_device h l s n ≡ false

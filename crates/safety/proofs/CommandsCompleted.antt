@@ -1,14 +1,12 @@
 -- A completion keeps what is kept of the commands that stay unfinished
-use Rattle.std.proofs.Common.{rules}
-use Rattle.safety.proofs.Words.{◌≡◌, ◌≢◌, ◌==◌, if◌then◌else◌, ◌∙◌, ℕ, not, true, false, nat_lt, Option, None, Some, is_some, arith, refl, sym, ap, subst, inl, inr, ltb-true, cases_Bool, cond-true, cond-false, or_parts, and_parts, not-false, false≢true, Block, code, slot, Spot, after, Reaches, ceiling, Command, NoOp, EnableSlot, DisableSlot, AddressDevice, ConfigureEndpoint, EvaluateContext, ResetEndpoint, StopEndpoint, SetTrDequeue, ResetDevice, exclude, SlotState, Disabled, named_slot, may_answer_slot, is_disabled, can_succeed, slot_success, Header, Config, IsHeader, shape_of, command_id, register_or_zero, Known, command_at, next_command, on_ring, succeeded, stop_ended, finished, completed, may_be_taken, can_finish, was_stop_seen, is_impossible_completion, IsDriverRing, IsUnfinished, DriverKeeps, CommandsKeep, names_disabled_slot}
+use Rattle.safety.proofs.Words.{◌≡◌, ◌≢◌, ◌==◌, if◌then◌else◌, ◌∙◌, ℕ, not, true, false, nat_lt, Option, None, Some, is_some, arith, refl, sym, ap, subst, inl, inr, ltb-true, cases_Bool, cond-true, cond-false, or_parts, and_parts, not-false, false≢true, Block, code, slot, Spot, after, Reaches, ceiling, Command, NoOp, EnableSlot, DisableSlot, AddressDevice, ConfigureEndpoint, EvaluateContext, ResetEndpoint, StopEndpoint, SetTrDequeue, ResetDevice, exclude, SlotState, Disabled, named_slot, may_answer_slot, is_disabled, can_succeed, slot_success, Header, Config, IsHeader, shape_of, command_id, register_or_zero, Known, command_at, next_command, on_ring, succeeded, stop_ended, finished, completed, may_be_taken, can_finish, was_stop_seen, is_impossible_completion, IsDriverRing, IsUnfinished, DriverKeeps, CommandsKeep, names_disabled_slot, rules}
 use Rattle.safety.proofs.LowerLaws.{ring_shape, ceiling_given, AtFloor, at_floor, command_is_ring, completion_same, IsPart, OtherSlots, same_others, both_others, on_others, Concerns, not_both, own_keeps, pair_keeps, commands_stay}
 use Rattle.safety.proofs.TakenDevices.{slot_above, slot_named}
 use Rattle.safety.proofs.SlotCommands.{changed_slot, changed_part, OfCommand, Commands, of_slot, success_others}
 use Rattle.safety.proofs.CommandsFinished.{beside_finished, rings_finished, unfinished_before}
 
 enabled_before : (s : SlotState) → is_some (slot_success EnableSlot s) ≡ true → is_disabled s ≡ true
-enabled_before Disabled can = refl
-enabled_before _ can = absurd (false≢true can)
+enabled_before o can = grind (arith, false≢true)
 
 -- an Enable Slot succeeds with a slot that was Disabled
 enabled_slot : (k : Known) (n : ℕ) → can_succeed k.slot_state k.endpoint_state (register_or_zero k.register Config) n EnableSlot ≡ true → is_disabled (k.slot_state n) ≡ true
@@ -114,8 +112,7 @@ module _ (h : Header) (is : IsHeader h) (k : Known) (d : DriverKeeps h k) (b : B
   pub may_answer : (o : Option Command) → can_finish k b o ≡ true → (e : Command) × (o ≡ Some e)
       × ((if code b == 1 then can_succeed k.slot_state k.endpoint_state (register_or_zero k.register Config) (slot b) e else not (was_stop_seen k e)) ≡ true)
   unfolding can_finish
-  may_answer None can = absurd (false≢true can)
-  may_answer (Some e) can = (e, refl, (and_parts (may_answer_slot (Some e) (slot b)) _ can).1)
+  may_answer o can = grind (arith, false≢true, and_parts, may_answer_slot, slot)
 
   -- the command that ends
   record Ending : Type 0 where

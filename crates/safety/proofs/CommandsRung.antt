@@ -1,5 +1,5 @@
 -- A doorbell keeps what is kept of unfinished commands: none of them touches the endpoint
-use Rattle.safety.proofs.Words.{[], ◌≡◌, ◌≢◌, ◌==◌, ◌&&◌, if◌then◌else◌, ◌∙◌, ℕ, not, Bool, true, false, Option, None, Some, refl, sym, ap, subst, eq-eqb, rules, cond_both, cond-false, or_parts, or_left, and_from, false≢true, put_pair, Opens, number, Command, ConfigureEndpoint, SetTrDequeue, EndpointState, Off, Running, is_off, is_stopped, is_at_rest, changes, Header, Bell, IsHeader, shape_of, command_id, Known, on_ring, endpoint_rung, rung, touches_endpoint, is_touched, is_bad_bell, is_bad_doorbell, doorbell_tests, lenient_tests, lenient, IsUnfinished, CommandKeeps, DriverKeeps, drops, is_dropped}
+use Rattle.safety.proofs.Words.{[], ◌≡◌, ◌≢◌, ◌==◌, ◌&&◌, if◌then◌else◌, ◌∙◌, ℕ, not, Bool, true, false, Option, None, Some, refl, sym, ap, subst, eq-eqb, rules, cond_both, cond-false, or_parts, or_left, and_from, false≢true, put_pair, Opens, number, Command, ConfigureEndpoint, SetTrDequeue, EndpointState, Off, Running, is_off, is_stopped, is_at_rest, changes, Header, Bell, IsHeader, shape_of, command_id, Known, on_ring, endpoint_rung, rung, touches_endpoint, is_touched, is_bad_bell, is_bad_doorbell, doorbell_tests, lenient_tests, lenient, IsUnfinished, CommandKeeps, DriverKeeps, drops, is_dropped, arith}
 use Rattle.safety.proofs.TestsPassed.{tests_fail}
 use Rattle.safety.proofs.DriverRows.{ring_here, ring_elsewhere}
 use Rattle.safety.proofs.Headers.{transfer_not_command}
@@ -15,8 +15,7 @@ use Rattle.safety.proofs.CommandsStay.{PlacesStay, MovesAhead, still_restored}
 use Rattle.safety.proofs.CommandsSame.{SameStates, RingsStay, ring_stays, same_stay}
 
 stopped_on : (e : EndpointState) → is_stopped e ≡ true → false ≡ is_off e
-stopped_on Off stopped = absurd (false≢true stopped)
-stopped_on _ stopped = refl
+stopped_on o stopped = grind (arith, false≢true)
 
 opened_states : (h : Header) (k : Known) (r : ℕ) → SameStates k (on_ring h k r Opens)
 unfolding on_ring
@@ -51,8 +50,7 @@ module _ (h : Header) (is : IsHeader h) (k : Known) (d : DriverKeeps h k) where
   -- nor one that an unfinished command drops
   drops_touches : (s t : ℕ) (c : Command) → drops k c s t ≡ true → touches_endpoint h k s t c ≡ true
   unfolding drops touches_endpoint changes
-  drops_touches s t (ConfigureEndpoint q false n) drops_it = or_left (s == q && is_dropped k.memory n t) _ drops_it
-  drops_touches s t _ drops_it = absurd (false≢true drops_it)
+  drops_touches s t o drops_it = grind (arith, false, or_left, is_dropped, k.memory, false≢true)
 
   none_drops : (s t u : ℕ) (c : Command) → is_touched h k s t ≡ false → IsUnfinished h k u c → drops k c s t ≡ true → ⊥
   unfolding is_touched

@@ -16,9 +16,7 @@ use Rattle.safety.proofs.CommandsSame.{SameStates, RingsStay, same_stay}
 use Rattle.safety.proofs.StatesParts.{stop_is}
 
 pub rest_not_running : (e : EndpointState) → is_at_rest e ≡ true → is_running e ≡ false
-rest_not_running Stopped rests = refl
-rest_not_running Error rests = refl
-rest_not_running _ rests = absurd (false≢true rests)
+rest_not_running o rests = grind (arith, false≢true)
 
 module _ (h : Header) (is : IsHeader h) (k : Known) (d : DriverKeeps h k) where
   -- the command that stops an endpoint now is unfinished
@@ -67,9 +65,8 @@ module _ (h : Header) (is : IsHeader h) (k : Known) (d : DriverKeeps h k) where
 
     bound_none_below : is_data_below (ceiling (shape_of h r) (k.ring r)) t ≡ true → ⊥
     bound_none_below below =
-        let low = below_is (ceiling (shape_of h r) (k.ring r)) t below in
         let still = bound_still h k u e (d.unfinished u e unfinished_at) r bound in
-        absurd (omega (arith, low, still, ahead.from))
+        absurd (omega (arith, (below_is (ceiling (shape_of h r) (k.ring r)) t below), still, ahead.from))
 
     bound_none_stops : is_stopping_now h k s i ≡ true → ⊥
     bound_none_stops stopping =
@@ -108,9 +105,8 @@ module _ (h : Header) (is : IsHeader h) (k : Known) (d : DriverKeeps h k) where
           elim (cases_eq x r) [
             | inl same ↦
                 let one = d.states.one_endpoint q 1 s i r (there ∙ ap (λ n. Some n) same) has in
-                let mine : k.ring_of s 1 ≡ Some r = ap (λ b. k.ring_of s b) one.1 ∙ has in
                 let here = subst (λ a. IsUnfinished h k u (AddressDevice a bsr n)) one.0 (subst (λ y. IsUnfinished h k u y) at unfinished_at) in
-                absurd (no_report u s n r bsr here mine t ahead c (ap (λ b. can_report h k c s b r t) one.1 ∙ can))
+                absurd (no_report u s n r bsr here (ap (λ b. k.ring_of s b) one.1 ∙ has) t ahead c (ap (λ b. can_report h k c s b r t) one.1 ∙ can))
             | inr other ↦ subst (λ v. Standing (shape_of h x) (k.ring x) v) (sym (leaves.others x other)) (record { here = λ a b moves. moves; nothing = λ none. none })
           ];
       still = λ x bound.

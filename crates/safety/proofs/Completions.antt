@@ -83,8 +83,7 @@ module _ (h : Header) (is : IsHeader h) (first : Known) where
 
   stop_keeps : (k : Known) (c : Command) → RingsKept h first k → RingsKept h first (stop_ended h k c)
   unfolding stop_ended
-  stop_keeps k (StopEndpoint s i) keeps = same_keeps h first k (stop_ended h k (StopEndpoint s i)) refl refl keeps
-  stop_keeps k _ keeps = keeps
+  stop_keeps k o keeps = grind (arith, same_keeps, stop_ended)
 
   finish_keeps : (k : Known) (b : Block) (o : Option Command) → RingsKept h first k →
       ((c : Command) → o ≡ Some c → code b ≡ 1 → MayChangeAll h c k (changes h.context_size k.memory (slot b) c)) → RingsKept h first (finished h k b o)

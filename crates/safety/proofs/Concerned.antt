@@ -1,6 +1,5 @@
 -- The endpoints that a command concerns: two commands that don't exclude each other concern none both
-use Rattle.std.proofs.Common.{rules}
-use Rattle.safety.proofs.Words.{◌≡◌, ◌==◌, ◌&&◌, ◌∙◌, ℕ, not, Bool, true, false, Option, None, Some, refl, sym, ap, eq-eqb, eqb-true, and_from, not_from_true, false_from_ne_true, false≢true, same_Some, Command, ResetEndpoint, StopEndpoint, SetTrDequeue, named_slot, named_endpoint, same_slot, other_endpoint, exclude}
+use Rattle.safety.proofs.Words.{◌≡◌, ◌==◌, ◌&&◌, ◌∙◌, ℕ, not, Bool, true, false, Option, None, Some, refl, sym, ap, eq-eqb, eqb-true, and_from, not_from_true, false_from_ne_true, false≢true, same_Some, Command, ResetEndpoint, StopEndpoint, SetTrDequeue, named_slot, named_endpoint, same_slot, other_endpoint, exclude, rules, arith}
 
 abbrev pub IsEndpoint : Option (ℕ × ℕ) → ℕ → ℕ → Type 0
 IsEndpoint None s i = Unit {0}
@@ -18,9 +17,7 @@ some_concerned (SetTrDequeue t i p cycle) s named = (i, (named, (same_Some t s n
 some_concerned _ s named = (0, (named, tt))
 
 one_endpoint : (a b : Option (ℕ × ℕ)) (s i : ℕ) → IsEndpoint a s i → IsEndpoint b s i → other_endpoint a b ≡ false
-one_endpoint None b s i here there = refl
-one_endpoint (Some e) None s i here there = refl
-one_endpoint (Some e) (Some f) s i here there = search (rules, not_from_true, and_from, eq-eqb, e.0, f.0, e.1, f.1)
+one_endpoint o b s i here there = grind (arith, not_from_true, and_from, eq-eqb)
 
 pub not_both : (c d : Command) (s i : ℕ) → exclude c d ≡ false → Concerns c s i → Concerns d s i → ⊥
 not_both c d s i apart here there =
@@ -32,16 +29,10 @@ eqb_turned : (s t : ℕ) → (s == t) ≡ (t == s)
 eqb_turned s t = search (rules, true, eq-eqb, eqb-true, false, false_from_ne_true, false≢true)
 
 slots_turned : (x y : Option ℕ) → same_slot x y ≡ same_slot y x
-slots_turned None None = refl
-slots_turned None (Some t) = refl
-slots_turned (Some s) None = refl
-slots_turned (Some s) (Some t) = eqb_turned s t
+slots_turned o x = grind (arith, eqb_turned)
 
 endpoints_turned : (a b : Option (ℕ × ℕ)) → other_endpoint a b ≡ other_endpoint b a
-endpoints_turned None None = refl
-endpoints_turned None (Some f) = refl
-endpoints_turned (Some e) None = refl
-endpoints_turned (Some e) (Some f) = ap (λ b. not (b && e.1 == f.1)) (eqb_turned e.0 f.0) ∙ ap (λ b. not (f.0 == e.0 && b)) (eqb_turned e.1 f.1)
+endpoints_turned o x = grind (arith, not, eqb_turned)
 
 pub excludes_turned : (c d : Command) → exclude c d ≡ exclude d c
 excludes_turned c d = search (rules, not, other_endpoint, named_endpoint, slots_turned, named_slot, same_slot, endpoints_turned)

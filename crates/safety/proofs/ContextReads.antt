@@ -27,12 +27,10 @@ map_same f g (i ∷ rest) below same = ap (λ x. x ∷ map f rest) (same i below
 
 -- the words of an endpoint's context lie in the input context
 inside : (size : ContextSize) (n i j : ℕ) → i < 32 → j < 32 → (n ≤ input_endpoint size n i + j) × (input_endpoint size n i + j < n + input_context_bytes size)
-inside Bytes32 n i j low short = (omega arith, omega arith)
-inside Bytes64 n i j low short = (omega arith, omega arith)
+inside o n i j low short = grind arith
 
 begins : (size : ContextSize) (n j : ℕ) → j < 32 → n + j < n + input_context_bytes size
-begins Bytes32 n j short = omega arith
-begins Bytes64 n j short = omega arith
+begins o n j short = grind arith
 
 -- two memories with the same words in an input context
 abbrev pub AgreeIn : ContextSize → (ℕ → ℕ) → (ℕ → ℕ) → ℕ → Type 0
@@ -42,15 +40,12 @@ module _ (size : ContextSize) (m l : ℕ → ℕ) (n : ℕ) (same : AgreeIn size
   word_of : (i j : ℕ) → i < 32 → j < 32 → l (input_endpoint size n i + j) ≡ m (input_endpoint size n i + j)
   word_of i j low short = let at = inside size n i j low short in same (input_endpoint size n i + j) at.0 at.1
 
-  second : l (n + 4) ≡ m (n + 4)
-  second = same (n + 4) (omega arith) (begins size n 4 (omega arith))
-
   pub added_same : added_endpoints l n ≡ added_endpoints m n
   unfolding added_endpoints
-  added_same = ap (λ w. filter (λ i. has_flag w i) (range_with_len 2 30)) second
+  added_same = ap (λ w. filter (λ i. has_flag w i) (range_with_len 2 30)) (same (n + 4) (omega arith) (begins size n 4 (omega arith)))
 
   pub add_flag_same : (i : ℕ) → input_add_flag l n i ≡ input_add_flag m n i
-  add_flag_same i = ap (λ w. has_flag w i) second
+  add_flag_same i = ap (λ w. has_flag w i) (same (n + 4) (omega arith) (begins size n 4 (omega arith)))
 
   pub drop_flag_same : (i : ℕ) → input_drop_flag l n i ≡ input_drop_flag m n i
   drop_flag_same i = ap (λ w. has_flag w i) (same n (omega arith) (omega (arith, begins size n 0 (omega arith))))

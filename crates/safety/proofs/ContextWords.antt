@@ -1,5 +1,5 @@
 -- The input context of a command that is given stands in the world as the driver wrote it: its success does what is known
-use Rattle.safety.proofs.Words.{◌≡◌, ◌+◌, ◌*◌, ◌/◌, ◌^◌, ◌<◌, ◌≤◌, ◌&&◌, ◌∷◌, ◌∙◌, ℕ, suc, zero, Bool, false, List, [], map, filter, nat_le, All, arith, refl, sym, ap, inl, inr, range_with_len, cases_eq, All-nil, All-cons, All-head, All-tail, All-filter, AddressDevice, ConfigureEndpoint, Running, SlotGoesOn, Disables, Places, changes, placed_by_context, ContextSize, Bytes32, Bytes64, input_context_bytes, has_flag, input_add_flag, input_endpoint, added_endpoints, is_dropped, Header, IsHeader, event_size, touches_ring, World, Known, Stands, touches_events}
+use Rattle.safety.proofs.Words.{◌≡◌, ◌+◌, ◌*◌, ◌/◌, ◌^◌, ◌<◌, ◌≤◌, ◌&&◌, ◌∷◌, ◌∙◌, ℕ, suc, zero, Bool, false, List, [], map, filter, nat_le, All, arith, refl, sym, ap, inl, inr, range_with_len, cases_eq, All-nil, All-cons, All-head, All-tail, All-filter, AddressDevice, ConfigureEndpoint, Running, SlotGoesOn, Disables, Places, changes, placed_by_context, ContextSize, Bytes32, Bytes64, input_context_bytes, has_flag, input_add_flag, input_endpoint, added_endpoints, is_dropped, Header, IsHeader, event_size, touches_ring, World, Known, Stands, touches_events, rules}
 use Rattle.segments.specs.Places.{touches}
 use Rattle.safety.proofs.Headers.{EventRing, event_ring_is, no_events}
 use Rattle.safety.proofs.Areas.{ContextLies, clean_word, part_apart, ring_untouched}
@@ -20,13 +20,11 @@ abbrev pub SameContext : ContextSize → (ℕ → ℕ) → (ℕ → ℕ) → ℕ
 SameContext size f g n = (i : ℕ) → i < input_context_bytes size / 4 → f (n + 4 * i) ≡ g (n + 4 * i)
 
 size_bytes : (size : ContextSize) (i : ℕ) → i < input_context_bytes size / 4 → 4 * i + 4 ≤ input_context_bytes size
-size_bytes Bytes32 i l = omega arith
-size_bytes Bytes64 i l = omega arith
+size_bytes o i l = grind arith
 
 pub same_context : (h : Header) → IsHeader h → (k : Known) (w : World) (n : ℕ) → Stands h k w → ContextLies h k n → SameContext h.context_size w.memory k.memory n
 same_context h is k w n s lies i l =
-    let high = size_bytes h.context_size i l in
-    s.quiet (n + 4 * i) (clean_word k n (input_context_bytes h.context_size) i lies.clean l) (untouched h is n (input_context_bytes h.context_size) (n + 4 * i) lies.rings (omega arith) (omega arith))
+    search (rules, size_bytes, h.context_size, s.quiet, clean_word, input_context_bytes, lies.clean, untouched, lies.rings)
 
 -- ---- what the context says
 

@@ -11,12 +11,9 @@ pub ceiling_declares : (shape : Shape) (v : RingView) (blocks : List Block) → 
 unfolding ceiling
 ceiling_declares shape v blocks = ap (λ n. unwrap_or v.held n) (sym (given_count-declares shape v blocks))
 
-placed_declares : (shape : Shape) (v : RingView) (blocks : List Block) (p : ℕ) (cycle : Bool) → is_placement shape v p cycle ≡ true → is_placement shape (changed shape v (Declares blocks)) p cycle ≡ true
-unfolding is_placement
-placed_declares shape v blocks p cycle placed = search (rules, move-declares, ceiling, floor_number, changed, ceiling_declares)
-
 pub moves_declares : (shape : Shape) (v : RingView) (blocks : List Block) → MovesStay shape v (changed shape v (Declares blocks))
-moves_declares shape v blocks = search (rules, move-declares, placed_declares, ceiling_declares, length-append)
+unfolding is_placement
+moves_declares shape v blocks = search (rules, move-declares, ceiling, floor_number, changed, ceiling_declares, length-append)
 
 pub moves_stand : (shape : Shape) (v : RingView) → MovesStay shape v v
 moves_stand shape v = record { standing = λ p cycle moves. moves; placed = λ p cycle placed. placed; ahead = λ p cycle moves. moves }

@@ -35,19 +35,15 @@ find_any p q (x ∷ rest) some =
     ]
 
 module _ (shape : Shape) (v w : RingView) (floor : w.floor ≡ v.floor) (more : declared v ≤ declared w) where
-  target_more : (address : ℕ) (cycle : Bool) (t : Spot) → target shape v address cycle ≡ Some t → target shape w address cycle ≡ Some t
-  unfolding target spots_between
-  target_more address cycle t found = search (rules, floor_number, find, is_target, flat_map, range_with_len, number, declared, found_longer)
-
   -- the target of a move
   pub target_still : (address : ℕ) (cycle : Bool) (least most : ℕ) → floor_number v ≤ least → most ≤ declared v → is_move shape v address cycle least most ≡ true →
       target shape w address cycle ≡ target shape v address cycle
-  unfolding target is_move
+  unfolding target is_move spots_between
   target_still address cycle least most low high moves =
       let wider : is_move shape v address cycle (floor_number v) (declared v) ≡ true =
       move_more shape v v (record { given = λ p yes. yes; crossed = λ q yes. yes }) (λ q yes. yes) address cycle least most (floor_number v) (declared v) low high moves in
       let found = find_any (is_target shape address cycle) (may_move_to shape v) (spots_between (floor_number v) (declared v)) wider in
-      target_more address cycle found.0 found.1 ∙ sym found.1
+      (search (rules, floor_number, find, is_target, flat_map, range_with_len, number, declared, found_longer)) ∙ sym found.1
 
   -- a spot that an event names
   pub named_still : (address : ℕ) (t : Spot) → IsSpot shape v.floor → named shape v address ≡ Some t → named shape w address ≡ Some t

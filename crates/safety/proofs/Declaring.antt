@@ -4,12 +4,10 @@ use Rattle.trb.specs.declared.kind.BlockKind.TheVariants.{Link}
 use Rattle.safety.proofs.TestsPassed.{AllFail, tests_fail, each_fails}
 
 command_no_link : (k : BlockKind) → (not (is_command k) && not (is_left_out_command k)) ≡ false → is_link k ≡ false
-command_no_link Link h = absurd (false≢true (sym h))
-command_no_link _ h = refl
+command_no_link o h = grind (arith, false≢true)
 
 transfer_no_link : (k : BlockKind) → not (is_transfer k) ≡ false → is_link k ≡ false
-transfer_no_link Link h = absurd (false≢true (sym h))
-transfer_no_link _ h = refl
+transfer_no_link o h = grind (arith, false≢true)
 
 -- an empty list is no chain
 some_blocks : (blocks : List Block) → is_badly_formed blocks ≡ false → 0 < length blocks

@@ -11,26 +11,7 @@ Untaken o t = (f : ℕ × ℕ) → o ≡ Some f → t ≢ f.0
 module _ (h : Header) (x : Known) where
   taken_alike : (o : Option (ℕ × ℕ)) → Alike (Untaken o) x (with_device h x o)
   unfolding with_device
-  taken_alike None = record {
-    rings = λ r. record { floor = refl; held = held_same (x.ring r).held (x.ring r).held refl; more = record { given = λ p g. g; crossed = λ q g. g } };
-    was_bound = refl;
-    slot_state = refl;
-    endpoint_state = refl;
-    ring_of = refl;
-    must_move = refl;
-    stop_seen = refl;
-    device = λ t apart. refl;
-  }
-  taken_alike (Some f) = record {
-    rings = λ r. record { floor = refl; held = held_same (x.ring r).held (x.ring r).held refl; more = record { given = λ p g. g; crossed = λ q g. g } };
-    was_bound = refl;
-    slot_state = refl;
-    endpoint_state = refl;
-    ring_of = refl;
-    must_move = refl;
-    stop_seen = refl;
-    device = λ t apart. at_number (λ (v : Option ℕ). v ≡ x.device t) x.device f.0 (Some f.1) t (λ same. absurd (apart f refl same)) (λ other. refl);
-  }
+  taken_alike o = grind (arith, held_same, x.ring, at_number, x.device)
 
   -- what a device context leaves as it was
   pub record Beyond (y : Known) : Type 0 where
@@ -44,8 +25,7 @@ module _ (h : Header) (x : Known) where
 
   pub beyond : (o : Option (ℕ × ℕ)) → Beyond (with_device h x o)
   unfolding with_device
-  beyond None = record { started = refl; stopped = refl; register = refl; memory = refl; reads = refl; dequeue = refl; ring = refl }
-  beyond (Some f) = record { started = refl; stopped = refl; register = refl; memory = refl; reads = refl; dequeue = refl; ring = refl }
+  beyond o = grind arith
 
   events : (P : ℕ → Type 0) (y : Known) → Alike P x y → Beyond y → EventAlike h x y
   events P y a b = record {
@@ -68,12 +48,10 @@ module _ (h : Header) (x : Known) where
   -- what the driver did is the same with it as it was without
   pub device_driver : (y : Known) (o : Option (ℕ × ℕ)) → SameDriver x (counted h y) → SameDriver (with_device h x o) (counted h (with_device h y o))
   unfolding with_device
-  device_driver y None s = search rules
-  device_driver y (Some f) s = search (rules, counted)
+  device_driver y o s = grind (arith, counted)
 
   -- slot by slot
   pub devices_same : (o : Option (ℕ × ℕ)) (now : ℕ → Option ℕ) → ((t : ℕ) → Untaken o t → now t ≡ x.device t) → ((f : ℕ × ℕ) → o ≡ Some f → now f.0 ≡ Some f.1) →
       (t : ℕ) → now t ≡ (with_device h x o).device t
   unfolding with_device
-  devices_same None now others there t = search (rules, none-some, at_number, x.device, same_Some)
-  devices_same (Some f) now others there t = search (rules, none-some, at_number, x.device, same_Some)
+  devices_same o now others there t = grind (arith, none-some, at_number, same_Some)

@@ -9,8 +9,7 @@ is_ring_of : (r : ℕ) (o : Option ℕ) → o ≡ Some r → is_ring r o ≡ tru
 is_ring_of r o at = ap (λ x. is_ring r x) at ∙ eq-eqb r r refl
 
 no_ring_of : (r : ℕ) (o : Option ℕ) → (o ≡ Some r → ⊥) → is_ring r o ≡ false
-no_ring_of r None other = refl
-no_ring_of r (Some q) other = ne_eqb q r (λ same. other (ap (λ x. Some x) same))
+no_ring_of r o other = grind (arith, ne_eqb)
 
 module _ (h : Header) (c : Command) (k : Known) (w : World) (m : StatesMatch h k w) (s : ℕ) (which : ℕ → Bool) where
   -- the change names the endpoint

@@ -1,5 +1,5 @@
 -- Declarations, writes, register writes and doorbells keep what the rules keep of each ring
-use Rattle.safety.proofs.Words.{[], ◌≡◌, ◌≢◌, ◌==◌, ◌∙◌, ℕ, List, Option, None, Some, option_and_then, refl, sym, ap, subst, inl, inr, eq-eqb, ne_eqb, rules, cases_eq, cond-true, cond-false, cond_both, Block, RingView, RingChange, Declares, Opens, Writes, EndpointRestored, IsRestored, MayCome, RingKept, RingsKept, changed, new_ring_keeps, declares_keeps, writes_keeps, opens_keeps, Header, Register, Erdp, Usbcmd, Sub, Write, IsHeader, shape_of, command_id, Known, nothing, on_ring, with_device, with_word, written, command_given, taken_device, run_or_stop, valued, register_written, endpoint_rung, rung, lenient, RingsKeep}
+use Rattle.safety.proofs.Words.{[], ◌≡◌, ◌≢◌, ◌==◌, ◌∙◌, ℕ, List, Option, None, Some, option_and_then, refl, sym, ap, subst, inl, inr, eq-eqb, ne_eqb, rules, cases_eq, cond-true, cond-false, cond_both, Block, RingView, RingChange, Declares, Opens, Writes, EndpointRestored, IsRestored, MayCome, RingKept, RingsKept, changed, new_ring_keeps, declares_keeps, writes_keeps, opens_keeps, Header, Register, Erdp, Usbcmd, Sub, Write, IsHeader, shape_of, command_id, Known, nothing, on_ring, with_device, with_word, written, command_given, taken_device, run_or_stop, valued, register_written, endpoint_rung, rung, lenient, RingsKeep, arith}
 use Rattle.safety.specs.RingsKeep.{IsDriverRing}
 use Rattle.safety.proofs.RingsOfHeader.{shape_allowed}
 use Rattle.safety.proofs.Declaring.{may_declare}
@@ -31,8 +31,7 @@ module _ (h : Header) (first : Known) where
   goes_on : (k : Known) (r : ℕ) → IsDriverRing h r → (w : RingView) → RingsKept h first k → (IsDriverRing h r → RingKept (shape_of h r) k.memory (k.ring r) w) →
       RingKept (shape_of h r) k.memory (first.ring r) w
   goes_on k r driver w keeps here =
-      let next = here driver in
-      record { rules = next.rules; passes = passes_both (shape_of h r) (first.ring r) (k.ring r) w (keeps r driver).passes next.passes }
+      record { rules = (here driver).rules; passes = passes_both (shape_of h r) (first.ring r) (k.ring r) w (keeps r driver).passes (here driver).passes }
 
   -- what happens on one ring changes no other
   pub on_ring_keeps : (k : Known) (r : ℕ) (change : RingChange) → RingsKept h first k →
@@ -91,8 +90,7 @@ module _ (h : Header) (k : Known) (keeps : RingsKeep h k) where
 
   device_keeps : (l : Known) (taken : Option (ℕ × ℕ)) → RingsKept h k l → RingsKept h k (with_device h l taken)
   unfolding with_device
-  device_keeps l None kept = kept
-  device_keeps l (Some e) kept = same_keeps h k l (with_device h l (Some e)) refl refl kept
+  device_keeps l o kept = grind (arith, same_keeps, with_device)
 
   pub written_keeps : (a w : ℕ) → MayCome h k (Write a w) → RingsKept h k (written h k a w)
   unfolding written

@@ -9,20 +9,13 @@ module _ (h : Header) (k : Known) (s t r : ℕ) (has : k.ring_of s t ≡ Some r)
   abbrev woken : Known
   woken = endpoint_rung h k s t (Some r)
 
-  rung_here : woken.endpoint_state s t ≡ Running
-  unfolding endpoint_rung
-  rung_here = search (rules, woken, at_pair, or_cases, running_is, false≢true)
-
-  rung_elsewhere : (u j : ℕ) → one_of s t u j ≡ false → woken.endpoint_state u j ≡ k.endpoint_state u j
-  unfolding endpoint_rung
-  rung_elsewhere u j other = search (rules, is_stopped, k.endpoint_state, put_pair, cond-false)
-
   rung_awake : (u j : ℕ) → one_of s t u j ≡ true → woken.endpoint_state u j ≡ Running
-  rung_awake u j same = search (rules, and_parts, eqb-true, rung_here)
+  unfolding endpoint_rung
+  rung_awake u j same = search (rules, and_parts, eqb-true, woken, at_pair, or_cases, running_is, false≢true)
 
   pub rung_woken : Woken h r (one_of s t) k woken
   unfolding endpoint_rung on_ring
-  rung_woken = search (rules, ring_here, ring_elsewhere, rung_awake, rung_elsewhere)
+  rung_woken = search (rules, ring_here, ring_elsewhere, rung_awake, is_stopped, k.endpoint_state, put_pair, cond-false)
 
   pub rung_driver : SameDriver k woken
   unfolding endpoint_rung

@@ -1,5 +1,5 @@
 -- Any history keeps endpoints on transfer rings
-use Rattle.safety.proofs.Words.{[], ◌≡◌, ◌≢◌, ◌==◌, ◌&&◌, if◌then◌else◌, ◌∷◌, ◌∙◌, ℕ, Bool, true, false, List, Option, None, Some, refl, sym, ap, subst, rules, cond_both, none-some, same_Some, Spot, number, Reaches, Holds, ceiling, target, Command, Stopped, is_off, Change, SlotGoesOn, DeviceLeft, Disables, Places, Stops, Resets, Header, IsHeader, shape_of, ring_having, Known, on_ring, set_to, bound_to, moved_to, moved, pointed, disabled, in_state, held_at_ceiling, changed_by, changed_by_all, EndpointsKeep}
+use Rattle.safety.proofs.Words.{[], ◌≡◌, ◌≢◌, ◌==◌, ◌&&◌, if◌then◌else◌, ◌∷◌, ◌∙◌, ℕ, Bool, true, false, List, Option, None, Some, refl, sym, ap, subst, rules, cond_both, none-some, same_Some, Spot, number, Reaches, Holds, ceiling, target, Command, Stopped, is_off, Change, SlotGoesOn, DeviceLeft, Disables, Places, Stops, Resets, Header, IsHeader, shape_of, ring_having, Known, on_ring, set_to, bound_to, moved_to, moved, pointed, disabled, in_state, held_at_ceiling, changed_by, changed_by_all, EndpointsKeep, arith}
 use Rattle.safety.specs.EndpointsKeep.{IsTransferRing}
 use Rattle.safety.proofs.RingIds.{having_transfer}
 use Rattle.safety.proofs.DriverRows.{ring_elsewhere}
@@ -19,13 +19,11 @@ module _ (h : Header) where
 
   pub moved_rings : (k : Known) (o : Option ℕ) (p : ℕ) (cycle : Bool) → (moved h k o p cycle).ring_of ≡ k.ring_of
   unfolding moved moved_to set_to on_ring
-  moved_rings k None p cycle = search rules
-  moved_rings k (Some r) p cycle = search rules
+  moved_rings k o p cycle = grind arith
 
   pub held_rings : (k : Known) (o : Option ℕ) → (held_at_ceiling h k o).ring_of ≡ k.ring_of
   unfolding held_at_ceiling on_ring
-  held_rings k None = refl
-  held_rings k (Some r) = refl
+  held_rings k o = grind arith
 
   -- ---- a binding
 
@@ -35,8 +33,7 @@ module _ (h : Header) where
 
   bound_keeps : (k : Known) → EndpointsKeep h k → (s i : ℕ) (o : Option ℕ) (p : ℕ) (cycle : Bool) → ((r : ℕ) → o ≡ Some r → IsTransferRing h r) → EndpointsKeep h (bound_to h k s i o p cycle)
   unfolding bound_to
-  bound_keeps k keeps s i None p cycle transfers = search rules
-  bound_keeps k keeps s i (Some r) p cycle transfers = search (rules, same_Some)
+  bound_keeps k keeps s i o p cycle transfers = grind (arith, same_Some)
 
   pointed_keeps : IsHeader h → (k : Known) → EndpointsKeep h k → (s i p : ℕ) (cycle : Bool) → EndpointsKeep h (pointed h k s i p cycle)
   unfolding pointed
@@ -69,8 +66,7 @@ module _ (h : Header) where
 
     moved_elsewhere : (k : Known) → EndpointsKeep h k → (s i p : ℕ) (cycle : Bool) (o : Option ℕ) → k.ring_of s i ≡ o → (moved h k o p cycle).ring q ≡ k.ring q
     unfolding moved moved_to
-    moved_elsewhere k keeps s i p cycle None at = search rules
-    moved_elsewhere k keeps s i p cycle (Some r) at = search (rules, set_elsewhere, other_ring)
+    moved_elsewhere k keeps s i p cycle o at = grind (arith, set_elsewhere, other_ring)
 
     bound_elsewhere : (k : Known) (s i : ℕ) (o : Option ℕ) (p : ℕ) (cycle : Bool) → ((r : ℕ) → o ≡ Some r → q ≢ r) → (bound_to h k s i o p cycle).ring q ≡ k.ring q
     unfolding bound_to moved moved_to
@@ -90,8 +86,7 @@ module _ (h : Header) where
 
     held_elsewhere : (k : Known) → EndpointsKeep h k → (s i : ℕ) (o : Option ℕ) → k.ring_of s i ≡ o → (held_at_ceiling h k o).ring q ≡ k.ring q
     unfolding held_at_ceiling
-    held_elsewhere k keeps s i None at = refl
-    held_elsewhere k keeps s i (Some r) at = ring_elsewhere h k r q (Holds (ceiling (shape_of h r) (k.ring r))) (other_ring k keeps s i r at)
+    held_elsewhere k keeps s i o at = grind (arith, ring_elsewhere, ceiling, shape_of, k.ring, other_ring)
 
     change_elsewhere : (c : Command) (k : Known) (change : Change) → EndpointsKeep h k → (changed_by h c k change).ring q ≡ k.ring q
     unfolding changed_by disabled in_state

@@ -44,13 +44,9 @@ module _ (h : Header) where
     unfolding passed
     passed_on = floors_reached k r (after (shape_of h r) (number t)) driver (omega (arith, on, number-after (shape_of h r) (number t)))
 
-    stopped_on : (s i : ℕ) → FloorsOn k (stopped_at h k s i r t)
-    unfolding stopped_at
-    stopped_on s i = search (rules, floors_both, floors_held, floors_reached, ring_here)
-
     transferred_on : (c s i : ℕ) → FloorsOn k (transferred h k c s i r t)
-    unfolding transferred broken_off
-    transferred_on c s i = search (rules, passed_on, floors_both, passed, on_ring, number, floors_held, stopped_on, floors_same)
+    unfolding transferred broken_off stopped_at
+    transferred_on c s i = search (rules, passed_on, floors_both, passed, on_ring, number, floors_held, floors_reached, ring_here, floors_same)
 
   transfer_is_driver : (r : ℕ) → IsTransferRing h r → IsDriverRing h r
   transfer_is_driver r t = driver_test h r (transfer_driver h r (transfer_ring h r t))
@@ -74,8 +70,7 @@ module _ (h : Header) where
   module _ (is : IsHeader h) where
     target_on : (k : Known) (r : ℕ) (o : Option Spot) → IsDriverRing h r → ((t : Spot) → o ≡ Some t → floor_number (k.ring r) ≤ number t) → FloorsOn k (moved_to h k r o)
     unfolding moved_to set_to
-    target_on k r None driver on = floors_same k k refl
-    target_on k r (Some t) driver on = search (rules, on_ring, floors_both, number, floors_reached, floors_held)
+    target_on k r o driver on = grind (arith, floors_same, on_ring, floors_both, number, floors_reached, floors_held)
 
     bound_on : (k : Known) (s i p : ℕ) (cycle : Bool) (o : Option ℕ) → ring_having h p ≡ o → FloorsOn k (bound_to h k s i o p cycle)
     unfolding bound_to moved
@@ -98,8 +93,7 @@ module _ (h : Header) where
 
     ceiling_on : (k : Known) → EndpointsKeep h k → (s i : ℕ) (o : Option ℕ) → k.ring_of s i ≡ o → FloorsOn k (held_at_ceiling h k o)
     unfolding held_at_ceiling
-    ceiling_on k endpoints s i None at = floors_same k k refl
-    ceiling_on k endpoints s i (Some r) at = floors_held k r (ceiling (shape_of h r) (k.ring r)) (transfer_is_driver r (endpoints.transfer s i r at))
+    ceiling_on k endpoints s i o at = grind (arith, floors_same, floors_held, ceiling, shape_of, k.ring, transfer_is_driver, endpoints.transfer)
 
     change_on : (c : Command) (k : Known) (change : Change) → EndpointsKeep h k → MayChange h k change → FloorsOn k (changed_by h c k change)
     unfolding changed_by disabled in_state
@@ -120,8 +114,7 @@ module _ (h : Header) where
 
     ended_on : (k m : Known) (c : Command) → FloorsOn k m → FloorsOn k (stop_ended h m c)
     unfolding stop_ended
-    ended_on k m (StopEndpoint s i) on = on
-    ended_on k m _ on = on
+    ended_on k m o on = grind arith
 
     finish_on : (k : Known) (b : Block) (o : Option Command) → EndpointsKeep h k → ((c : Command) → o ≡ Some c → code b ≡ 1 → MayChangeAll h c k (changes h.context_size k.memory (slot b) c)) →
         FloorsOn k (finished h k b o)
@@ -154,8 +147,7 @@ module _ (h : Header) where
 
   ended_fewer : (k m : Known) (c : Command) → FewerDevices k m → FewerDevices k (stop_ended h m c)
   unfolding stop_ended
-  ended_fewer k m (StopEndpoint s i) fewer = fewer
-  ended_fewer k m _ fewer = fewer
+  ended_fewer k m o fewer = grind arith
 
   finish_fewer : (k : Known) (b : Block) (o : Option Command) → FewerDevices k (finished h k b o)
   unfolding finished succeeded

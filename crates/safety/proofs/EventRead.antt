@@ -1,6 +1,5 @@
 -- When a posted event is possible where it will be read, and what reading it adds
-use Rattle.std.proofs.Common.{rules}
-use Rattle.safety.proofs.Words.{[], ◌≡◌, ◌+◌, ◌-◌, ◌≤◌, ◌==◌, ◌&&◌, ◌∷◌, ◌++◌, ◌∙◌, Bool, true, false, not, List, All, arith, refl, sym, ap, le-ltb, ltb-false, eq-eqb, cond-false, or_from, not_from_true, Block, All-append, All-cons, All-nil, IsBlock, cycle, kind, is_event, is_transfer_event, cycle_of, Header, Read, event_shape, event_size, World, Known, event_read, learned, broken_of, AfterStop, ImpossibleEvent, NotInProfile, lenient, is_in_profile, is_impossible_by_kind, is_past_room, is_impossible, Stands, ArePossible, all_read, lenient_tests, event_tests}
+use Rattle.safety.proofs.Words.{[], ◌≡◌, ◌+◌, ◌-◌, ◌≤◌, ◌==◌, ◌&&◌, ◌∷◌, ◌++◌, ◌∙◌, Bool, true, false, not, List, All, arith, refl, sym, ap, le-ltb, ltb-false, eq-eqb, cond-false, or_from, not_from_true, Block, All-append, All-cons, All-nil, IsBlock, cycle, kind, is_event, is_transfer_event, cycle_of, Header, Read, event_shape, event_size, World, Known, event_read, learned, broken_of, AfterStop, ImpossibleEvent, NotInProfile, lenient, is_in_profile, is_impossible_by_kind, is_past_room, is_impossible, Stands, ArePossible, all_read, lenient_tests, event_tests, rules}
 use Rattle.safety.proofs.TestsPassed.{clean_tests}
 use Rattle.safety.proofs.CleanRows.{EventFacts, event_facts}
 use Rattle.safety.proofs.Posting.{CanPost}
@@ -10,23 +9,16 @@ pub learned_read : (h : Header) (k : Known) (b : Block) → learned h k (Read b)
 unfolding learned
 learned_read h k b = refl
 
-none_broken : (x y : Bool) → x ≡ false → y ≡ false → broken_of ((ImpossibleEvent, x) ∷ (NotInProfile, y) ∷ []) ≡ []
-none_broken x y hx hy = rw (hx, hy) refl
-
-room_is : (h : Header) (k : Known) → k.reads + 2 ≤ k.dequeue + event_size h → is_past_room h k ≡ false
-unfolding is_past_room
-room_is h k room = le-ltb (event_size h - 2) (k.reads - k.dequeue) (omega arith)
-
 not_impossible : (h : Header) (k : Known) (b : Block) → k.started ≡ true → k.reads + 2 ≤ k.dequeue + event_size h → cycle b ≡ cycle_of (event_shape h) k.reads →
     is_event (kind b) ≡ true → is_impossible_by_kind h k (kind b) b ≡ false → is_impossible h k b ≡ false
-unfolding is_impossible
+unfolding is_impossible is_past_room
 not_impossible h k b on room same event possible =
-    search (rules, or_from, not_from_true, k.started, room_is, cycle, cycle_of, event_shape, eq-eqb, is_event, kind)
+    search (rules, or_from, not_from_true, k.started, le-ltb, event_size, cycle, cycle_of, event_shape, eq-eqb, is_event, kind)
 
 pub event_broken : (h : Header) (k : Known) (b : Block) → k.stopped ≡ false → is_impossible h k b ≡ false → (is_transfer_event (kind b) && not (is_in_profile b)) ≡ false → lenient h k (Read b) ≡ []
 unfolding lenient lenient_tests event_tests
 event_broken h k b on possible in_profile =
-    search (rules, cond-false, k.stopped, broken_of, is_impossible, is_transfer_event, kind, not, is_in_profile, none_broken)
+    search (rules, cond-false, k.stopped, broken_of, is_impossible, is_transfer_event, kind, not, is_in_profile)
 
 -- an event of a possible kind that breaks no rule breaks none where what it reads is the same and the dequeue pointer has gone on
 pub event_still : (h : Header) (k l : Known) (b : Block) → l.started ≡ k.started → l.stopped ≡ k.stopped → l.reads ≡ k.reads → k.dequeue ≤ l.dequeue → lenient h k (Read b) ≡ [] →

@@ -7,7 +7,7 @@ use Rattle.safety.proofs.ContextWords.{same_context, address_same}
 use Rattle.safety.proofs.KeptRings.{command_holds}
 use Rattle.safety.proofs.PlaceKeeps.{MayBind, MayMove, bind_keeps, move_keeps}
 use Rattle.safety.proofs.FinishSuccess.{EffectKeeps}
-use Rattle.safety.proofs.FinishGiven.{ListKeeps, nothing_keeps, change_then, finish_given_runs}
+use Rattle.safety.proofs.FinishGiven.{ListKeeps, nothing_keeps, change_then}
 
 -- ---- a ring on which nothing from the floor on is given
 
@@ -97,13 +97,3 @@ module _ (h : Header) (is : IsHeader h) (k : Known) (d : DriverKeeps h k) (s n :
       address_same h.context_size w.memory k.memory m s n bsr (same_context h is k w n stands (bad_context_parts h k n (bad_command_context h k c given.good))) ∙ address_changes m in
       subst (λ list. ChangeKeeps h k (changed_by_all h c k list) w x) (sym (address_changes m))
       (list_keeps w states low x (ap (λ list. bindings.changed_by_all h c w list) (sym world_list) ∙ at))
-
--- the run goes on behind the success of an Address Device
-pub finish_address_runs : (h : Header) → IsHeader h → (now : Known) (w v : World) (b : Block) → IsBlock b → w.stopped ≡ false → (run : Runs h now w) →
-    DriverKeeps h (all_read h now run.unread) → (u : UnderWay) → w.under_way ≡ Some u →
-    (s n : ℕ) (bsr : Bool) → command_of u.block ≡ Some (AddressDevice s bsr n) → (code b == 1) ≡ true →
-    finishes.finished h w b ≡ Some v → Runs h now (counted h v)
-finish_address_runs h is now w v b block running run d u at_u s n bsr is_u one at =
-    let k : Known = all_read h now run.unread in
-    finish_given_runs h is now w v b block running run d u at_u (AddressDevice s bsr n) is_u one
-    (λ given. address_keeps h is k d s n bsr given w (slot b) run.agrees.stands (states_match h is k w d (d.numbered) run.agrees.matches) (command_numbered u.block (AddressDevice s bsr n) is_u)) at

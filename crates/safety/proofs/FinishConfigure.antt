@@ -8,32 +8,26 @@ use Rattle.safety.proofs.DisableChange.{disable_keeps}
 use Rattle.safety.proofs.KeptRings.{command_holds}
 use Rattle.safety.proofs.PlaceEach.{each_keeps}
 use Rattle.safety.proofs.FinishSuccess.{EffectKeeps}
-use Rattle.safety.proofs.FinishGiven.{ListKeeps, change_then, finish_given_runs}
+use Rattle.safety.proofs.FinishGiven.{ListKeeps, change_then}
 
 module _ (h : Header) (is : IsHeader h) (k : Known) (d : DriverKeeps h k) (s a : ℕ) (given : CommandKeeps h k (next_command h k) (ConfigureEndpoint s false a)) where
   abbrev pub c : Command
   c = ConfigureEndpoint s false a
 
-  still : StillHolds h k c
-  still = command_holds h k (next_command h k) c given
-
   -- behind the drops
   abbrev pub l : Known
   l = dropped h is c k s a
 
-  dropped_ring : (z j : ℕ) → l.ring_of z j ≡ (if z == s && is_dropped k.memory a j then None else k.ring_of z j)
-  unfolding changed_by disabled
-  dropped_ring z j = refl
-
   -- what is added was dropped or off, so it has no ring
   none_left : (i : ℕ) → (is_off (k.endpoint_state s i) || is_dropped k.memory a i) ≡ true → l.ring_of s i ≡ None
-  none_left i free = search (rules, l, dropped_ring, cond-true, and_from, eq-eqb, cond-false, and_right, off_none, false≢true)
+  unfolding changed_by disabled
+  none_left i free = search (rules, l, cond-true, and_from, eq-eqb, cond-false, and_right, off_none, false≢true)
 
   pub may_add : All (ReadyAt h is l k.memory s a) (added_endpoints k.memory a)
-  may_add = all_ready h is k (rings_of h k d) s a still
+  may_add = all_ready h is k (rings_of h k d) s a (command_holds h k (next_command h k) c given)
 
   pub have_none : All (λ i. l.ring_of s i ≡ None) (added_endpoints k.memory a)
-  have_none x e inside = none_left (get_or (added_endpoints k.memory a) x e) (still.free x e inside)
+  have_none x e inside = none_left (get_or (added_endpoints k.memory a) x e) ((command_holds h k (next_command h k) c given).free x e inside)
 
   pub numbered : All (λ i. (0 < i) × (i < 32)) (added_endpoints k.memory a)
   numbered x e inside =
@@ -66,10 +60,3 @@ module _ (h : Header) (is : IsHeader h) (k : Known) (d : DriverKeeps h k) (s a :
       let world_list : changes h.context_size w.memory n c ≡ all = configure_same h.context_size w.memory k.memory n s a (same_context h is k w a stands lies) ∙ configure_changes n in
       subst (λ list. ChangeKeeps h k (changed_by_all h c k list) w x) (sym (configure_changes n))
       (list_keeps w states low x (ap (λ list. bindings.changed_by_all h c w list) (sym world_list) ∙ at))
-
--- the run goes on behind the success of a Configure Endpoint; of one that deconfigures the law of commands that place nothing says it
-pub finish_configure_runs : (h : Header) → IsHeader h → (now : Known) (w v : World) (b : Block) → IsBlock b → w.stopped ≡ false → (run : Runs h now w) →
-    DriverKeeps h (all_read h now run.unread) → (u : UnderWay) → w.under_way ≡ Some u →
-    (s a : ℕ) → command_of u.block ≡ Some (ConfigureEndpoint s false a) → (code b == 1) ≡ true →
-    finishes.finished h w b ≡ Some v → Runs h now (counted h v)
-finish_configure_runs h is now w v b block running run d u at_u s a is_u one at = search (rules, finish_given_runs, configure_keeps, states_match, command_numbered)

@@ -1,12 +1,11 @@
 -- The controller finishes a Set TR Dequeue with success: the run goes on
-use Rattle.std.proofs.Common.{rules}
-use Rattle.safety.proofs.Words.{[], ◌≡◌, ◌==◌, ℕ, not, Bool, true, false, Option, Some, None, arith, refl, sym, or_parts, not-false, false≢true, Block, IsBlock, code, slot, ceiling, is_move, ceiling_within, Command, SetTrDequeue, EndpointState, Off, Stopped, command_of, Places, changes, is_off, is_at_rest, Header, IsHeader, shape_of, World, UnderWay, counted, Known, next_command, is_bad_dequeue, is_bad_move, DriverKeeps, CommandKeeps, Runs, all_read, effect, changed_by, succeeded, declared}
+use Rattle.safety.proofs.Words.{[], ◌≡◌, ◌==◌, ℕ, not, Bool, true, false, Option, Some, None, arith, refl, sym, or_parts, not-false, false≢true, Block, IsBlock, code, slot, ceiling, is_move, ceiling_within, Command, SetTrDequeue, EndpointState, Off, Stopped, command_of, Places, changes, is_off, is_at_rest, Header, IsHeader, shape_of, World, UnderWay, counted, Known, next_command, is_bad_dequeue, is_bad_move, DriverKeeps, CommandKeeps, Runs, all_read, effect, changed_by, succeeded, declared, rules}
 use Rattle.controller_model.specs.Finishes as finishes
 use Rattle.safety.proofs.Headers.{ring_shape, transfer_driver}
 use Rattle.safety.proofs.PlaceKeeps.{MayMove, move_keeps}
 use Rattle.safety.proofs.FinishChanges.{StatesMatch, states_match}
 use Rattle.safety.proofs.FinishSuccess.{EffectKeeps}
-use Rattle.safety.proofs.FinishGiven.{nothing_keeps, change_then, finish_given_runs}
+use Rattle.safety.proofs.FinishGiven.{nothing_keeps, change_then}
 
 rest_on : (state : EndpointState) → is_at_rest state ≡ true → is_off state ≡ false
 rest_on Off rest = absurd (false≢true rest)
@@ -45,13 +44,3 @@ module _ (h : Header) (is : IsHeader h) (k : Known) (d : DriverKeeps h k) (s i p
       let may : MayMove h k s i p cycle = may_move given.moves_on in
       change_then h c k w (Places s i p cycle Stopped) [] (λ v at. move_keeps h is c k w v s i p cycle Stopped m (m.within s i may.ring may.had) at may)
       (λ v at states. nothing_keeps h c (changed_by h c k (Places s i p cycle Stopped)) v states)
-
--- the run goes on behind the success of a Set TR Dequeue
-pub finish_dequeue_runs : (h : Header) → IsHeader h → (now : Known) (w v : World) (b : Block) → IsBlock b → w.stopped ≡ false → (run : Runs h now w) →
-    DriverKeeps h (all_read h now run.unread) → (u : UnderWay) → w.under_way ≡ Some u →
-    (s i p : ℕ) (cycle : Bool) → command_of u.block ≡ Some (SetTrDequeue s i p cycle) → (code b == 1) ≡ true →
-    finishes.finished h w b ≡ Some v → Runs h now (counted h v)
-finish_dequeue_runs h is now w v b block running run d u at_u s i p cycle is_u one at =
-    let k : Known = all_read h now run.unread in
-    finish_given_runs h is now w v b block running run d u at_u (SetTrDequeue s i p cycle) is_u one
-    (dequeue_keeps h is k d s i p cycle w (slot b) (states_match h is k w d (d.numbered) run.agrees.matches)) at

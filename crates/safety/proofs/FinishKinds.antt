@@ -1,5 +1,5 @@
 -- What a finish is, and what is known behind the completion of a command that had no effect
-use Rattle.safety.proofs.Words.{◌≡◌, ◌==◌, ◌∙◌, ℕ, Bool, true, false, Option, Some, None, refl, sym, ap, eqb-true, rules, false≢true, and_parts, cond-false, not-true, false_from_ne_true, none-some, same_Some, put, put_pair, Block, BlockKind, code, kind, pointer, slot, is_command_completion, after, Reaches, Command, StopEndpoint, command_of, is_stop_of, may_answer_slot, Header, shape_of, command_id, World, UnderWay, can_post, posted, Known, event_read, command_at, next_command, on_ring, is_stopping_now, may_be_taken, was_stop_seen, DriverKeeps, CommandCompletion, completed, finished, stop_ended}
+use Rattle.safety.proofs.Words.{◌≡◌, ◌==◌, ◌∙◌, ℕ, Bool, true, false, Option, Some, None, refl, sym, ap, eqb-true, rules, false≢true, and_parts, cond-false, not-true, false_from_ne_true, none-some, same_Some, put, put_pair, Block, BlockKind, code, kind, pointer, slot, is_command_completion, after, Reaches, Command, StopEndpoint, command_of, is_stop_of, may_answer_slot, Header, shape_of, command_id, World, UnderWay, can_post, posted, Known, event_read, command_at, next_command, on_ring, is_stopping_now, may_be_taken, was_stop_seen, DriverKeeps, CommandCompletion, completed, finished, stop_ended, arith}
 use Rattle.controller_model.specs.Finishes as finishes
 use Rattle.safety.proofs.WithReads.{with_reads}
 use Rattle.safety.proofs.LookKinds.{cond_is}
@@ -36,8 +36,7 @@ unfolding finishes.ended_with finishes.ended
 failure_is h w v b u fails at = search (rules, cond_is, cond-false, none-some, same_Some)
 
 pub completion_kind : (t : BlockKind) → is_command_completion t ≡ true → t ≡ CommandCompletion
-completion_kind CommandCompletion h = refl
-completion_kind _ h = absurd (false≢true h)
+completion_kind o h = grind (arith, false≢true)
 
 -- ---- what is known behind it
 
@@ -51,8 +50,7 @@ next_known h k seen n = record k { ring = put k.ring (command_id h) (floor_behin
 
 pub stop_ended_is : (h : Header) (k : Known) (c : Command) → stop_ended h k c ≡ (let m : Known = record k { stop_seen = seen_after k c } in m)
 unfolding stop_ended
-stop_ended_is h k (StopEndpoint s i) = refl
-stop_ended_is h k _ = refl
+stop_ended_is h k o = grind arith
 
 pub reached_is : (h : Header) (k : Known) (seen : ℕ → ℕ → Bool) (n : ℕ) →
     with_reads (on_ring h (let m : Known = record k { stop_seen = seen } in m) (command_id h) (Reaches (after (shape_of h (command_id h)) (next_command h k)))) n ≡ next_known h k seen n
@@ -73,8 +71,7 @@ failed_read h k b c n completion at fails =
 
 stop_of_is : (k : Known) (s i : ℕ) (c : Command) → is_stop_of s i (Some c) ≡ true → was_stop_seen k c ≡ k.stop_seen s i
 unfolding was_stop_seen
-stop_of_is k s i (StopEndpoint t j) at = search (rules, and_parts, k.stop_seen, eqb-true, false≢true)
-stop_of_is k s i _ at = absurd (false≢true at)
+stop_of_is k s i o at = grind (arith, and_parts, eqb-true, false≢true)
 
 pub stopping_of : (h : Header) (k : Known) (s i : ℕ) → is_stopping_now h k s i ≡ true → is_stop_of s i (command_at h k (next_command h k)) ≡ true
 unfolding is_stopping_now

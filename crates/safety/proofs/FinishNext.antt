@@ -39,8 +39,7 @@ module _ (h : Header) (is : IsHeader h) (k : Known) (d : DriverKeeps h k) (on : 
     command_kept p = ap (λ l. option_and_then command_of (slice_get l p)) (sym (queue_same (command_id h)))
 
     other_ring : (u : World) (q : ℕ) → q ≢ command_id h → EndpointRing h k u q → EndpointRing h (next_known h k seen n) (let_go u) q
-    other_ring u q other (inl bound) = inl (subst (λ v. BoundRing (shape_of h q) k.ring_of v (state_of u q) q) (sym (ring_same q other)) bound)
-    other_ring u q other (inr free) = inr (subst (λ v. FreeRing (shape_of h q) k.ring_of v (state_of u q) q) (sym (ring_same q other)) free)
+    other_ring u q other o = grind (arith, shape_of, k.ring_of, state_of, ring_same)
 
     pub matches_next : (u : World) → Matches h k u → (t : Spot) → RingMatches (shape_of h (command_id h)) (k.ring (command_id h)) (state_of u (command_id h)) t →
         number t ≡ next_command h k + 1 → ((s i : ℕ) → seen s i ≡ false) → Matches h (next_known h k seen n) (let_go u)

@@ -1,14 +1,16 @@
 -- However the controller finishes the command under way, the run goes on
-use Rattle.std.proofs.Common.{rules}
-use Rattle.std.proofs.Common.{◌≡◌, ◌==◌, ◌∙◌, true, false, Option, None, Some, option_map, refl, sym, ap, inl, inr}
-use Rattle.safety.proofs.Words.{cases_Bool, cond-true, none-some, Block, IsBlock, code, slot, Command, NoOp, EnableSlot, DisableSlot, AddressDevice, ConfigureEndpoint, EvaluateContext, ResetEndpoint, StopEndpoint, SetTrDequeue, ResetDevice, command_of, Header, IsHeader, World, UnderWay, counted, DriverKeeps, Runs, all_read, Known}
+use Rattle.std.proofs.Common.{◌≡◌, ◌==◌, ◌∙◌, true, false, Option, None, Some, option_map, refl, sym, ap, inl, inr, rules}
+use Rattle.safety.proofs.Words.{cases_Bool, cond-true, none-some, Block, IsBlock, code, slot, Command, NoOp, EnableSlot, DisableSlot, AddressDevice, ConfigureEndpoint, EvaluateContext, ResetEndpoint, StopEndpoint, SetTrDequeue, ResetDevice, command_of, Header, IsHeader, World, UnderWay, counted, DriverKeeps, CommandKeeps, IsUnfinished, next_command, Runs, all_read, Known}
 use Rattle.controller_model.specs.Finishes as finishes
 use Rattle.safety.proofs.FinishKinds.{IsFinish, finish_is}
-use Rattle.safety.proofs.FinishFails.{finish_failure_runs}
-use Rattle.safety.proofs.FinishSlots.{finish_slots_runs}
-use Rattle.safety.proofs.FinishDequeue.{finish_dequeue_runs}
-use Rattle.safety.proofs.FinishAddress.{finish_address_runs}
-use Rattle.safety.proofs.FinishConfigure.{finish_configure_runs}
+use Rattle.safety.proofs.LowerLaws.{StatesMatch, states_match, command_numbered}
+use Rattle.safety.proofs.ReportSuccess.{runs_more}
+use Rattle.safety.proofs.FinishSuccess.{EffectKeeps, success_keeps}
+use Rattle.safety.proofs.FinishFails.{finish_failure_runs, floor, of_block, here_is}
+use Rattle.safety.proofs.FinishSlots.{effect_keeps}
+use Rattle.safety.proofs.FinishDequeue.{dequeue_keeps}
+use Rattle.safety.proofs.FinishAddress.{address_keeps}
+use Rattle.safety.proofs.FinishConfigure.{configure_keeps}
 
 -- a block that is no command of the profile never succeeds
 no_success : (h : Header) (w v : World) (b : Block) (u : UnderWay) → command_of u.block ≡ None → (code b == 1) ≡ true → finishes.ended_with h w b u ≡ Some v → ⊥
@@ -17,22 +19,27 @@ no_success h w v b u none one at = search (rules, none-some, option_map, slot, c
 
 module _ (h : Header) (is : IsHeader h) (now : Known) (w v : World) (b : Block) (block : IsBlock b) (running : w.stopped ≡ false) (run : Runs h now w)
     (d : DriverKeeps h (all_read h now run.unread)) (one : (code b == 1) ≡ true) (at : finishes.finished h w b ≡ Some v) where
-  success_runs : (u : UnderWay) → w.under_way ≡ Some u → (e : Command) → command_of u.block ≡ Some e → Runs h now (counted h v)
-  success_runs u at_u NoOp is_u = finish_slots_runs h is now w v b block running run d u at_u NoOp is_u tt one at
-  success_runs u at_u EnableSlot is_u = finish_slots_runs h is now w v b block running run d u at_u EnableSlot is_u tt one at
-  success_runs u at_u (DisableSlot s) is_u = finish_slots_runs h is now w v b block running run d u at_u (DisableSlot s) is_u tt one at
-  success_runs u at_u (AddressDevice s bsr n) is_u = finish_address_runs h is now w v b block running run d u at_u s n bsr is_u one at
-  success_runs u at_u (ConfigureEndpoint s false n) is_u = finish_configure_runs h is now w v b block running run d u at_u s n is_u one at
-  success_runs u at_u (ConfigureEndpoint s true n) is_u = finish_slots_runs h is now w v b block running run d u at_u (ConfigureEndpoint s true n) is_u tt one at
-  success_runs u at_u (EvaluateContext s n) is_u = finish_slots_runs h is now w v b block running run d u at_u (EvaluateContext s n) is_u tt one at
-  success_runs u at_u (ResetEndpoint s i) is_u = finish_slots_runs h is now w v b block running run d u at_u (ResetEndpoint s i) is_u tt one at
-  success_runs u at_u (StopEndpoint s i) is_u = finish_slots_runs h is now w v b block running run d u at_u (StopEndpoint s i) is_u tt one at
-  success_runs u at_u (SetTrDequeue s i p cycle) is_u = finish_dequeue_runs h is now w v b block running run d u at_u s i p cycle is_u one at
-  success_runs u at_u (ResetDevice s) is_u = finish_slots_runs h is now w v b block running run d u at_u (ResetDevice s) is_u tt one at
+  abbrev k : Known
+  k = all_read h now run.unread
+
+  states : StatesMatch h k w
+  states = states_match h is k w d d.numbered run.agrees.matches
+
+  -- what a command does keeps that states agree
+  effect : (e : Command) (x : Block) → command_of x ≡ Some e → CommandKeeps h k (next_command h k) e → EffectKeeps h k w (slot b) e
+  effect (AddressDevice s bsr n) x is_e given = address_keeps h is k d s n bsr given w (slot b) run.agrees.stands states (command_numbered x (AddressDevice s bsr n) is_e)
+  effect (ConfigureEndpoint s false a) x is_e given = configure_keeps h is k d s a given w (slot b) run.agrees.stands states (command_numbered x (ConfigureEndpoint s false a) is_e)
+  effect (SetTrDequeue s i p cycle) x is_e given = dequeue_keeps h is k d s i p cycle w (slot b) states given
+  effect e x is_e given = effect_keeps h k w (slot b) e tt states
 
   taken_runs : (f : IsFinish h w v b) (o : Option Command) → command_of f.taken.block ≡ o → Runs h now (counted h v)
   taken_runs f None none = absurd (no_success h w v b f.taken none one f.ends)
-  taken_runs f (Some e) is_e = success_runs f.taken f.under_way e is_e
+  taken_runs f (Some e) is_e =
+      let here = floor h is k run.unread w v b block running d run.agrees f in
+      let is_here : command_of here.block ≡ Some e = sym (of_block h is k run.unread w v b block running d run.agrees f) ∙ is_e in
+      let given : IsUnfinished h k (next_command h k) e = record { due = here.due; given = here.given; command = here_is h is k run.unread w v b block running d run.agrees f e is_here } in
+      runs_more h now w v b block run
+      (success_keeps h is k run.unread w v b block running d run.agrees f one e is_here (effect e f.taken.block is_e (d.unfinished (next_command h k) e given)))
 
   any_success_runs : Runs h now (counted h v)
   any_success_runs = let f = finish_is h w v b at in taken_runs f (command_of f.taken.block) refl

@@ -1,9 +1,9 @@
 -- The controller finishes with success a command that places no endpoint on a ring: the run goes on
-use Rattle.safety.proofs.Words.{[], ◌≡◌, ◌==◌, ◌∷◌, ◌∙◌, ℕ, true, false, List, Option, Some, None, option_and_then, refl, ap, subst, none-some, same_Some, Block, IsBlock, code, slot, Command, NoOp, EnableSlot, DisableSlot, AddressDevice, ConfigureEndpoint, EvaluateContext, ResetEndpoint, StopEndpoint, SetTrDequeue, ResetDevice, command_of, Change, SlotGoesOn, DeviceLeft, Disables, Places, Stops, Resets, changes, ContextSize, Header, IsHeader, World, UnderWay, counted, Known, DriverKeeps, Runs, all_read, changed_by, changed_by_all, succeeded}
+use Rattle.safety.proofs.Words.{[], ◌≡◌, ◌==◌, ◌∷◌, ◌∙◌, ℕ, true, false, List, Option, Some, None, option_and_then, refl, ap, subst, none-some, same_Some, Block, IsBlock, code, slot, Command, NoOp, EnableSlot, DisableSlot, AddressDevice, ConfigureEndpoint, EvaluateContext, ResetEndpoint, StopEndpoint, SetTrDequeue, ResetDevice, command_of, Change, SlotGoesOn, DeviceLeft, Disables, Places, Stops, Resets, changes, ContextSize, Header, IsHeader, World, UnderWay, counted, Known, DriverKeeps, Runs, all_read, changed_by, changed_by_all, succeeded, arith}
 use Rattle.controller_model.specs.Bindings as bindings
 use Rattle.controller_model.specs.Finishes as finishes
 use Rattle.safety.proofs.FinishChanges.{StatesMatch, ChangeKeeps, none_keeps, both_keep, states_match}
-use Rattle.safety.proofs.FinishSuccess.{EffectKeeps, finish_success_runs}
+use Rattle.safety.proofs.FinishSuccess.{EffectKeeps}
 use Rattle.safety.proofs.SlotChanges.{slot_keeps, device_keeps, reset_keeps}
 use Rattle.safety.proofs.StopChange.{stop_keeps}
 use Rattle.safety.proofs.DisableChange.{disable_keeps}
@@ -19,8 +19,7 @@ AreNoPlacings [] = Unit {0}
 AreNoPlacings (change ∷ rest) = IsNoPlacing change × AreNoPlacings rest
 
 pub some_then : {A B : Type 0} (f : A → Option B) (o : Option A) (y : B) → option_and_then f o ≡ Some y → (x : A) × (o ≡ Some x) × (f x ≡ Some y)
-some_then f None y at = absurd (none-some y at)
-some_then f (Some x) y at = (x, refl, at)
+some_then f o y at = grind (arith, none-some)
 
 module _ (h : Header) (c : Command) where
   pub change_keeps : (change : Change) → IsNoPlacing change → (k : Known) (w v : World) → StatesMatch h k w → bindings.changed_by h c w change ≡ Some v → ChangeKeeps h k (changed_by h c k change) w v
@@ -50,40 +49,16 @@ PlacesNone _ = Unit {0}
 
 no_placings : (size : ContextSize) (memory : ℕ → ℕ) (n : ℕ) (e : Command) → PlacesNone e → AreNoPlacings (changes size memory n e)
 unfolding changes
-no_placings size memory n NoOp none = tt
-no_placings size memory n EnableSlot none = (tt, tt)
-no_placings size memory n (DisableSlot s) none = (tt, (tt, (tt, tt)))
-no_placings size memory n (ConfigureEndpoint s true c) none = (tt, (tt, tt))
-no_placings size memory n (EvaluateContext s c) none = tt
-no_placings size memory n (ResetEndpoint s i) none = (tt, tt)
-no_placings size memory n (StopEndpoint s i) none = (tt, tt)
-no_placings size memory n (ResetDevice s) none = (tt, (tt, tt))
-no_placings size memory n _ none = absurd none
+no_placings size memory n o none = grind (arith, true)
 
 -- it reads no memory
 same_changes : (size : ContextSize) (f g : ℕ → ℕ) (n : ℕ) (e : Command) → PlacesNone e → changes size f n e ≡ changes size g n e
 unfolding changes
-same_changes size f g n NoOp none = refl
-same_changes size f g n EnableSlot none = refl
-same_changes size f g n (DisableSlot s) none = refl
-same_changes size f g n (ConfigureEndpoint s true c) none = refl
-same_changes size f g n (EvaluateContext s c) none = refl
-same_changes size f g n (ResetEndpoint s i) none = refl
-same_changes size f g n (StopEndpoint s i) none = refl
-same_changes size f g n (ResetDevice s) none = refl
-same_changes size f g n _ none = absurd none
+same_changes size f g n o none = grind (arith, true)
 
-effect_keeps : (h : Header) (k : Known) (w : World) (n : ℕ) (e : Command) → PlacesNone e → StatesMatch h k w → EffectKeeps h k w n e
+-- it keeps that states agree: No Op, Enable Slot, Disable Slot, Evaluate Context, Reset Endpoint, Stop Endpoint, Reset Device, and a Configure Endpoint that deconfigures
+pub effect_keeps : (h : Header) (k : Known) (w : World) (n : ℕ) (e : Command) → PlacesNone e → StatesMatch h k w → EffectKeeps h k w n e
 unfolding bindings.effect succeeded
 effect_keeps h k w n e none m x at =
     changes_keep h e (changes h.context_size k.memory n e) (no_placings h.context_size k.memory n e none) k w x m
     (ap (λ l. bindings.changed_by_all h e w l) (same_changes h.context_size k.memory w.memory n e none) ∙ at)
-
--- the run goes on behind the success of such a command: No Op, Enable Slot, Disable Slot, Evaluate Context, Reset Endpoint, Stop
--- Endpoint, Reset Device, and a Configure Endpoint that deconfigures
-pub finish_slots_runs : (h : Header) → IsHeader h → (now : Known) (w v : World) (b : Block) → IsBlock b → w.stopped ≡ false → (run : Runs h now w) →
-    DriverKeeps h (all_read h now run.unread) → (u : UnderWay) → w.under_way ≡ Some u → (e : Command) → command_of u.block ≡ Some e → PlacesNone e → (code b == 1) ≡ true →
-    finishes.finished h w b ≡ Some v → Runs h now (counted h v)
-finish_slots_runs h is now w v b block running run d u at_u e is_u none one at =
-    let k : Known = all_read h now run.unread in
-    finish_success_runs h is now w v b block running run d u at_u e is_u one (effect_keeps h k w (slot b) e none (states_match h is k w d (d.numbered) run.agrees.matches)) at

@@ -33,25 +33,18 @@ module _ (h : Header) (k m : Known) (w v : World) (c : ChangeKeeps h k m w v) (s
   ring_same : (q : ℕ) → q ≢ command_id h → later.ring q ≡ m.ring q
   ring_same q other = put_off m.ring (command_id h) _ q other
 
-  lengths_before : (q : ℕ) → (before.ring q).lengths ≡ (later.ring q).lengths
-  lengths_before q = search (rules, before, later, command_ring, put_off, ring_same)
-
   pub stands_changed : (u : World) → Stands h before (let_go u) → Stands h later (let_go (world_changed u v))
-  stands_changed u s = search (rules, before, let_go, later, world_changed, command_ring, put_off, ring_same, lengths_before)
+  stands_changed u s = search (rules, before, let_go, later, world_changed, command_ring, put_off, ring_same)
 
   pub events_changed : (u : World) (unread : List Block) → EventsStand h (let_go u) unread → EventsStand h (let_go (world_changed u v)) unread
   unfolding of_world.event_at
   events_changed u unread e = record { order = e.order; count = e.count; places = e.places; started = e.started; ring = e.ring }
 
-  unfinished_before : (p : ℕ) (e : Command) → IsUnfinished h later p e → IsUnfinished h before p e
-  unfolding command_at
-  unfinished_before p e u = search (rules, later, before, command_ring, option_and_then, command_of, slice_get)
-
   endpoint_ring : (u : World) (q : ℕ) → q ≢ command_id h → EndpointRing h m v q → EndpointRing h later (let_go (world_changed u v)) q
-  endpoint_ring u q other (inl bound) = inl (subst (λ x. BoundRing (shape_of h q) m.ring_of x (state_of v q) q) (sym (ring_same q other)) bound)
-  endpoint_ring u q other (inr free) = inr (subst (λ x. FreeRing (shape_of h q) m.ring_of x (state_of v q) q) (sym (ring_same q other)) free)
+  endpoint_ring u q other o = grind (arith, shape_of, m.ring_of, state_of, ring_same)
 
   pub matches_changed : (u : World) → k.started ≡ true → state_of u (command_id h) ≡ state_of w (command_id h) → Matches h before (let_go u) → Matches h later (let_go (world_changed u v))
+  unfolding command_at
   matches_changed u on same y = record {
     slots = c.states.slots;
     endpoints = c.states.endpoints;
@@ -65,7 +58,7 @@ module _ (h : Header) (k m : Known) (w v : World) (c : ChangeKeeps h k m w v) (s
       under_way = (x.under_way.0 ∙ next_is h before ∙ ap (λ r. floor_number r) (sym command_ring) ∙ sym (next_is h later), x.under_way.1);
     };
     scribbles = c.states.scribbles;
-    contexts = λ p e f. y.contexts p e (unfinished_before p e f);
+    contexts = λ p e f. y.contexts p e (search (rules, later, before, command_ring, option_and_then, command_of, slice_get));
     inside = y.inside;
   }
 
@@ -83,10 +76,6 @@ unfolding finishes.ended_with finishes.ended finishes.succeeded
 success_is h w v b u e is one at =
     search (rules, mapped, succeeded, slot, option_map, cond-true, code, cond_is, named_context, not, can_succeed, register_or_zero, none-some, or_parts, not-false)
 
-posted_changed : (h : Header) (w x : World) (b : Block) → posted h (world_changed w x) b ≡ world_changed (posted h w b) x
-unfolding posted stored_block stored
-posted_changed h w x b = refl
-
 posted_ring : (h : Header) (w : World) (b : Block) (r : ℕ) → state_of (posted h w b) r ≡ state_of w r
 unfolding posted stored_block stored
 posted_ring h w b r = refl
@@ -94,8 +83,7 @@ posted_ring h w b r = refl
 -- ---- in what is known
 
 same_seen : (k m : Known) (e : Command) → seen_after (known_changed k m) e ≡ seen_after k e
-same_seen k m (StopEndpoint s i) = refl
-same_seen k m _ = refl
+same_seen k m o = grind arith
 
 success_read : (h : Header) (k : Known) (w x : World) (b : Block) (e : Command) (n : ℕ) → is_command_completion (kind b) ≡ true → command_at h k (next_command h k) ≡ Some e → (code b == 1) ≡ true →
     LeavesRest h k (succeeded h k (slot b) e) w x →
@@ -115,8 +103,7 @@ success_read h k w x b e n completion at one rest =
 
 unseen : (k : Known) (e : Command) → (was_stop_seen k e ≡ false) ⊎ ((t : ℕ) × (j : ℕ) × (e ≡ StopEndpoint t j))
 unfolding was_stop_seen
-unseen k (StopEndpoint t j) = inr (t, j, refl)
-unseen k _ = inl refl
+unseen k o = grind arith
 
 none_left_of_stop : (h : Header) (k : Known) (d : DriverKeeps h k) (t j : ℕ) → command_at h k (next_command h k) ≡ Some (StopEndpoint t j) → (s i : ℕ) → seen_after k (StopEndpoint t j) s i ≡ false
 none_left_of_stop h k d t j at s i =
@@ -136,8 +123,7 @@ none_left h k d e at =
 -- ---- what it succeeds in is known
 
 pub same_meant : (f g : ℕ → ℕ → EndpointState) (o : Option (ℕ × ℕ)) → ((s i : ℕ) → f s i ≡ g s i) → endpoint_meant f o ≡ endpoint_meant g o
-same_meant f g None same = refl
-same_meant f g (Some at) same = same at.0 at.1
+same_meant f g o same = grind arith
 
 same_success : (k : Known) (w : World) (n x y : ℕ) (e : Command) → ((s : ℕ) → w.slot_state s ≡ k.slot_state s) → ((s i : ℕ) → w.endpoint_state s i ≡ k.endpoint_state s i) → x ≡ y →
     can_succeed w.slot_state w.endpoint_state x n e ≡ can_succeed k.slot_state k.endpoint_state y n e
@@ -150,7 +136,8 @@ EffectKeeps h k w n e = (x : World) → bindings.effect h w n e ≡ Some x → C
 
 module _ (h : Header) (is : IsHeader h) (k : Known) (unread : List Block) (w v : World) (b : Block) (block : IsBlock b) (running : w.stopped ≡ false) (d : DriverKeeps h k) (g : Agrees h k unread w)
     (f : IsFinish h w v b) (one : (code b == 1) ≡ true) (e : Command) (is_e : command_of (floor h is k unread w v b block running d g f).block ≡ Some e) where
-  success_keeps : EffectKeeps h k w (slot b) e → ReportKeeps h k unread w v b
+  pub success_keeps : EffectKeeps h k w (slot b) e → ReportKeeps h k unread w v b
+  unfolding posted stored_block stored
   success_keeps keeps =
       let p = post_keeps h is k unread w b block d g f.can in
       let on : k.started ≡ true = sym g.stands.started ∙ p.can.started in
@@ -172,7 +159,7 @@ module _ (h : Header) (is : IsHeader h) (k : Known) (unread : List Block) (w v :
       (events_changed h k m w s.made c seen n u (unread ++ b ∷ []) (events_next h is k d on seen n u (unread ++ b ∷ []) p.events))
       (matches_changed h k m w s.made c seen n u on (posted_ring h w b (command_id h)) next) p.posted_is p.late in
       let learned_is : learned h k (Read b) ≡ l = learned_read h k b ∙ success_read h k w s.made b e n f.completion here one c.rest in
-      let ends : y ≡ v = ap let_go (sym (ap (λ z. posted h z b) c.rest.world ∙ posted_changed h w s.made b)) ∙ s.ends in
+      let ends : y ≡ v = ap let_go (sym (ap (λ z. posted h z b) c.rest.world ∙ refl)) ∙ s.ends in
       let may = sym (same_success k w (slot b) (register_or_zero w.register Config) (register_or_zero k.register Config) e g.matches.slots g.matches.endpoints (ap (λ o. unwrap_or o 0) (g.stands.registers Config))) ∙ s.can in
       record {
         clean = event_clean h k w b g.stands g.read running p.can p.room
@@ -182,13 +169,3 @@ module _ (h : Header) (is : IsHeader h) (k : Known) (unread : List Block) (w v :
             (and_left (is_transfer_event (kind b)) (not (is_in_profile b)) (no_transfer (kind b) f.completion));
         agrees = subst (λ z. Agrees h z (unread ++ b ∷ []) (counted h v)) (sym learned_is) (subst (λ z. Agrees h l (unread ++ b ∷ []) (counted h z)) ends after_post);
       }
-
--- the run goes on behind the success of such a command
-pub finish_success_runs : (h : Header) → IsHeader h → (now : Known) (w v : World) (b : Block) → IsBlock b → w.stopped ≡ false → (run : Runs h now w) →
-    DriverKeeps h (all_read h now run.unread) → (u : UnderWay) → w.under_way ≡ Some u → (e : Command) → command_of u.block ≡ Some e → (code b == 1) ≡ true →
-    EffectKeeps h (all_read h now run.unread) w (slot b) e → finishes.finished h w b ≡ Some v → Runs h now (counted h v)
-finish_success_runs h is now w v b block running run d u at_u e is_u one effect at =
-    let k : Known = all_read h now run.unread in
-    let f = finish_is h w v b at in
-    let is_e = sym (of_block h is k run.unread w v b block running d run.agrees f) ∙ ap (λ (x : UnderWay). command_of x.block) (same_Some f.taken u (sym f.under_way ∙ at_u)) ∙ is_u in
-    runs_more h now w v b block run (success_keeps h is k run.unread w v b block running d run.agrees f one e is_e effect)

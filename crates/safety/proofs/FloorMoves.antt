@@ -7,7 +7,7 @@ use Rattle.safety.proofs.LookedRing.{number_after}
 abbrev pub floor_behind : Shape → RingView → ℕ → RingView
 floor_behind shape v p = record v { floor = after shape p }
 
-ceiling_grows : (shape : Shape) (v : RingView) (p : ℕ) → floor_number v ≤ p → ceiling shape v ≤ ceiling shape (floor_behind shape v p)
+pub ceiling_grows : (shape : Shape) (v : RingView) (p : ℕ) → floor_number v ≤ p → ceiling shape v ≤ ceiling shape (floor_behind shape v p)
 unfolding is_step_given is_way_given
 ceiling_grows shape v p from = search (rules, cases_option, ceiling_open, given_count_grows, number_after, ceiling_held)
 

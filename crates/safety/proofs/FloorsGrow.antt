@@ -31,10 +31,6 @@ module _ (h : Header) where
     unfolding passed
     passed_grows = reach_grows k r (after (shape_of h r) (number t)) (omega (arith, number-after (shape_of h r) (number t)))
 
-    broken_grows : (s i : ℕ) (state : EndpointState) → FloorsGrow k (broken_off h k s i r t state)
-    unfolding broken_off
-    broken_grows s i state = grow_twice k (passed h k r t) (on_ring h (passed h k r t) r (Holds (number t + 1))) passed_grows (hold_grows (passed h k r t) r (number t + 1))
-
     stopped_grows : (s i : ℕ) → FloorsGrow k (stopped_at h k s i r t)
     unfolding stopped_at
     stopped_grows s i =
@@ -45,14 +41,13 @@ module _ (h : Header) where
         (view_after h (λ v. floor_number v ≤ number t) k r (Holds n) r (λ _. ahead) (λ other. absurd (other refl))))
 
     transferred_grows : (c s i : ℕ) → FloorsGrow k (transferred h k c s i r t)
-    unfolding transferred
-    transferred_grows c s i = search (rules, passed_grows, broken_grows, stopped_grows, grow_none)
+    unfolding transferred broken_off
+    transferred_grows c s i = search (rules, passed_grows, grow_twice, passed, on_ring, number, hold_grows, stopped_grows, grow_none)
 
   -- the spot that an event names lies on the ring of its endpoint
   found_on : (k : Known) (p : ℕ) (o : Option ℕ) (at : RingSpot) → spot_on h k p o ≡ Some at → (o ≡ Some at.ring) × (named (shape_of h at.ring) (k.ring at.ring) p ≡ Some at.spot)
   unfolding spot_on
-  found_on k p None at e = search (rules, none-some, cases_option, same_Some)
-  found_on k p (Some r) at e = search (rules, none-some, cases_option, same_Some)
+  found_on k p o at e = grind (arith, none-some, same_Some)
 
   at_grows : (k : Known) (d : DriverKeeps h k) (b : Block) (o : Option RingSpot) → event_at h k b ≡ o → FloorsGrow k (transferred_at h k b o)
   unfolding transferred_at event_at
@@ -71,8 +66,7 @@ module _ (h : Header) where
 
   target_grows : (k : Known) (r : ℕ) (o : Option Spot) → ((t : Spot) → o ≡ Some t → floor_number (k.ring r) ≤ number t) → FloorsGrow k (moved_to h k r o)
   unfolding moved_to
-  target_grows k r None ahead = grow_none k
-  target_grows k r (Some t) ahead = set_grows k r t (ahead t refl)
+  target_grows k r o ahead = grind (arith, grow_none, set_grows)
 
   moved_grows : (k : Known) (o : Option ℕ) (p : ℕ) (cycle : Bool) → FloorsGrow k (moved h k o p cycle)
   unfolding moved
@@ -92,8 +86,7 @@ module _ (h : Header) where
 
   held_grows : (k : Known) (o : Option ℕ) → FloorsGrow k (held_at_ceiling h k o)
   unfolding held_at_ceiling
-  held_grows k None = grow_none k
-  held_grows k (Some r) = hold_grows k r (ceiling (shape_of h r) (k.ring r))
+  held_grows k o = grind (arith, grow_none, hold_grows, ceiling, shape_of, k.ring)
 
   change_grows : (c : Command) (k : Known) (change : Change) → MayChange h k change → FloorsGrow k (changed_by h c k change)
   unfolding changed_by disabled in_state
@@ -109,8 +102,7 @@ module _ (h : Header) where
 
   stop_grows : (k : Known) (c : Command) → FloorsGrow k (stop_ended h k c)
   unfolding stop_ended
-  stop_grows k (StopEndpoint s i) = λ r. omega arith
-  stop_grows k _ = grow_none k
+  stop_grows k o = grind (arith, grow_none)
 
   finish_grows : (k : Known) (b : Block) (o : Option Command) →
       ((c : Command) → o ≡ Some c → code b ≡ 1 → MayChangeAll h c k (changes h.context_size k.memory (slot b) c)) → FloorsGrow k (finished h k b o)

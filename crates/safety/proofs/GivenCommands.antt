@@ -47,10 +47,7 @@ module _ (h : Header) (k : Known) where
 
   pub are_free : (c : Command) → has_bad_content h k c ≡ false → AreFree h k c
   unfolding has_bad_content
-  are_free (ConfigureEndpoint s false n) good =
-      let each = each_fails (is_bad_added h k s n) (added_endpoints k.memory n) good in
-      λ x d inside. free_by s n (get_or (added_endpoints k.memory n) x d) (each x d inside) (added_above k.memory n x d inside)
-  are_free _ good = tt
+  are_free o good = grind (arith, false, each_fails, is_bad_added, added_endpoints, k.memory, free_by, get_or, added_above)
 
   -- where the pointer stands
   pub stays : (b : Binding) (o : Option ℕ) (r : ℕ) → is_bad_stay h k o b ≡ false → o ≡ Some r →

@@ -1,6 +1,5 @@
 -- What the rules say of a command that a write gives
-use Rattle.std.proofs.Common.{rules}
-use Rattle.safety.proofs.Words.{[], ◌≡◌, ◌==◌, ◌||◌, ◌∙◌, ℕ, not, Bool, true, false, Some, arith, refl, sym, ap, inl, inr, eqb-true, ◌≢◌, ◌<◌, and_cases, or_parts, not-false, false_from_ne_true, declared, floor_number, is_move, Command, AddressDevice, is_off, Header, Write, IsHeader, shape_of, Known, command_given, binding_in, binds_ring, drops, is_being_bound, is_bad_binding, is_bad_stay, is_bad_move, some_command, write_tests, lenient_tests, lenient, StaysIf, MovesIf, DriverKeeps, none-some, adds_streams, has_bad_content, is_bad_command, is_busy}
+use Rattle.safety.proofs.Words.{[], ◌≡◌, ◌==◌, ◌||◌, ◌∙◌, ℕ, not, Bool, true, false, Some, arith, refl, sym, ap, inl, inr, eqb-true, ◌≢◌, ◌<◌, and_cases, or_parts, not-false, false_from_ne_true, declared, floor_number, is_move, Command, AddressDevice, is_off, Header, Write, IsHeader, shape_of, Known, command_given, binding_in, binds_ring, drops, is_being_bound, is_bad_binding, is_bad_stay, is_bad_move, some_command, write_tests, lenient_tests, lenient, StaysIf, MovesIf, DriverKeeps, none-some, adds_streams, has_bad_content, is_bad_command, is_busy, rules}
 use Rattle.safety.proofs.TestsPassed.{AllFail, tests_fail}
 use Rattle.safety.proofs.Headers.{transfer_driver}
 use Rattle.safety.proofs.GivenCommands.{GoodBindings, good_bindings, bound_free, content_good, stays, fails_of}
@@ -18,8 +17,7 @@ module _ (h : Header) (k : Known) where
     pub nothing_left : (s n r : ℕ) (bsr : Bool) → c ≡ AddressDevice s bsr n → k.ring_of s 1 ≡ Some r → declared (k.ring r) ≡ floor_number (k.ring r)
 
   moves_if : (c : Command) → is_bad_move h k c ≡ false → MovesIf h k c
-  moves_if (AddressDevice s bsr n) good = tt
-  moves_if _ good = good
+  moves_if o good = grind arith
 
   module _ (is : IsHeader h) (d : DriverKeeps h k) where
     -- an endpoint that has a ring which the command binds is dropped

@@ -43,16 +43,13 @@ pub clash_apart : (r q : Ring) (x : ℕ) → clash r q ≡ false → is_inside r
 clash_apart r q x none a b = search (rules, or_parts, rings_apart)
 
 kinds_apart : (kind : RingKind) → is_transfer_kind kind ≡ true → is_command_kind kind ≡ true → ⊥
-kinds_apart Xfer a b = false≢true b
-kinds_apart _ a b = false≢true a
+kinds_apart o a b = grind (arith, false≢true)
 
 driver_not_event : (kind : RingKind) → is_driver_kind kind ≡ true → kind ≡ Evt → ⊥
-driver_not_event Evt h e = false≢true h
-driver_not_event _ h e = cc
+driver_not_event o h e = grind (arith, false≢true)
 
 transfer_is_driver : (kind : RingKind) → is_transfer_kind kind ≡ true → is_driver_kind kind ≡ true
-transfer_is_driver Evt h = absurd (false≢true h)
-transfer_is_driver _ h = refl
+transfer_is_driver o h = grind (arith, false≢true)
 
 -- the event ring of a header that has one
 pub record EventRing (h : Header) : Type 0 where
@@ -109,9 +106,6 @@ module _ (h : Header) where
               record { ring = e; at = at.0; shape = shape; is = subst (λ s. IsShape s) (sym shape) (ring_allowed e at.0) }
         ]
 
-    both_kinds : (r e : Ring) → is_driver_kind r.shape.kind ≡ true → is_event_kind e.shape.kind ≡ true → r ≡ e → ⊥
-    both_kinds r e a b same = false≢true (sym (not_from_true (is_event_kind e.shape.kind) b) ∙ sym (ap (λ x. is_driver_kind x.shape.kind) same) ∙ a)
-
     -- no word of a ring belongs to the event ring
     pub ring_not_event : (r a : ℕ) → IsDriverRing h r → a % 4 ≡ 0 → is_inside (shape_of h r) a ≡ true → touches (event_shape h) a 4 ≡ false
     ring_not_event r a d word inside =
@@ -125,7 +119,7 @@ module _ (h : Header) where
               ∙ touches-word e.shape (ring_allowed e found.0) a word
               ∙ false_from_ne_true (is_inside e.shape a) (λ there.
               elim (together h.rings d.ring e header_parts.1 (found_in (λ q. q.id == r) h.rings d.ring d.found).0 found.0) [
-                | inl same ↦ both_kinds d.ring e d.kind found.1 same
+                | inl same ↦ false≢true (sym (not_from_true (is_event_kind e.shape.kind) found.1) ∙ sym (ap (λ x. is_driver_kind x.shape.kind) same) ∙ d.kind)
                 | inr apart ↦ elim apart [
                   | inl one ↦ clash_apart d.ring e a one here there
                   | inr other ↦ clash_apart e d.ring a other there here
@@ -160,9 +154,6 @@ module _ (h : Header) where
     unfolding command_id
     command_named o at = ap id_or_none at
 
-    not_both : (r c : Ring) → is_transfer_kind r.shape.kind ≡ true → is_command_kind c.shape.kind ≡ true → r ≡ c → ⊥
-    not_both r c a b same = kinds_apart c.shape.kind (ap (λ x. is_transfer_kind x.shape.kind) (sym same) ∙ a) b
-
     ids_apart : (r c : Ring) → clash r c ≡ false → r.id ≡ c.id → ⊥
     ids_apart r c none same = search (rules, or_parts, false≢true, eq-eqb)
 
@@ -181,7 +172,7 @@ module _ (h : Header) where
               let found = command_found c some.1 in
               let both : t.ring.id ≡ c.id = id ∙ same ∙ command_named (Some c) some.1 in
               elim (together h.rings t.ring c header_parts.1 mine.0 found.0) [
-                | inl one ↦ not_both t.ring c t.kind found.1 one
+                | inl one ↦ kinds_apart c.shape.kind (ap (λ x. is_transfer_kind x.shape.kind) (sym one) ∙ t.kind) found.1
                 | inr apart ↦ elim apart [
                   | inl first ↦ ids_apart t.ring c first both
                   | inr second ↦ ids_apart c t.ring second (sym both)

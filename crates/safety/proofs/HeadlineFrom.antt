@@ -1,5 +1,5 @@
 -- The headline, from a law for the driver's rows: each world of a run beside clean rows is safe
-use Rattle.safety.proofs.Words.{[], ◌≡◌, ◌∷◌, ◌++◌, ◌∙◌, false, List, Option, Some, All, reverse, refl, sym, ap, subst, inl, inr, append_assoc, append-nil, rules, cases_Bool, cond-false, cond-true, false≢true, reverse-append, All-head, All-tail, none-some, same_Some, Block, Header, Row, Sub, Write, Reg, Bell, Read, Step, NextRow, Look, Report, Finish, Other, Scribble, IsHeader, IsRow, IsStep, World, opening, IsSafe, Known, learned, known, MayCome, IsLenient, IsHarmless, DriverKeeps, IsDriverRow, Agrees, Runs, all_read, ◌||◌, if◌then◌else◌, ℕ, Bool, true, not, kind, Register, Usbcmd, run_bit, reset_bit, counted, Ended, harm_of, harms, has_changed_context, is_changed_since, is_context_changed, waits, register_written, run_or_stop, valued}
+use Rattle.safety.proofs.Words.{[], ◌≡◌, ◌∷◌, ◌++◌, ◌∙◌, false, List, Option, Some, All, reverse, refl, sym, ap, subst, inl, inr, append_assoc, append-nil, rules, cases_Bool, cond-false, cond-true, false≢true, reverse-append, All-head, All-tail, none-some, same_Some, Block, Header, Row, Sub, Write, Reg, Bell, Read, Step, NextRow, Look, Report, Finish, Other, Scribble, IsHeader, IsRow, IsStep, World, opening, IsSafe, Known, learned, known, MayCome, IsLenient, IsHarmless, DriverKeeps, IsDriverRow, Agrees, Runs, all_read, ◌||◌, if◌then◌else◌, ℕ, Bool, true, not, kind, Register, Usbcmd, run_bit, reset_bit, counted, Ended, harm_of, harms, has_changed_context, is_changed_since, is_context_changed, waits, register_written, run_or_stop, valued, arith}
 use Rattle.world_state.specs.World as of_world
 use Rattle.controller_model.specs.DriverRows as driver
 use Rattle.controller_model.specs.Steps as steps
@@ -31,11 +31,6 @@ module _ (h : Header) where
   unfolding driver.row_done driver.register_row driver.run_or_stop driver.valued stopped_world
   world_stops w v x on stop at = search rules
 
-  -- nothing that harms are told of changes
-  safe_stopped : (w : World) (x : ℕ) → IsSafe h w → IsSafe h (counted h (stopped_world w x))
-  unfolding harm_of harms waits has_changed_context is_context_changed is_changed_since counted driver.valued stopped_world
-  safe_stopped w x is = is
-
   neither : (b : Bool) (p q : Known) → p.stopped ≡ false → q.stopped ≡ false → (if b then p else q).stopped ≡ false
   neither true p q one two = one
   neither false p q one two = two
@@ -46,16 +41,11 @@ module _ (h : Header) where
 
   register_stop : (k : Known) (r : Register) (x : ℕ) → k.stopped ≡ false → (register_written h k r x).stopped ≡ true → IsStopRow k (Reg r x)
   unfolding register_written valued
-  register_stop k Usbcmd x on stopped = let s = run_stops k x on stopped in record { value = x; row_is = refl; started = s.0; stop = s.1 }
-  register_stop k _ x on stopped = absurd (false≢true (sym on ∙ stopped))
+  register_stop k o x on stopped = grind (arith, run_stops, false≢true)
 
   stop_row : (k : Known) (row : Row) → k.stopped ≡ false → (learned h k row).stopped ≡ true → IsStopRow k row
   unfolding learned
-  stop_row k (Sub r blocks) on stopped = absurd (false≢true (sym ((declaration_leaves h k r blocks).registers.stopped ∙ on) ∙ stopped))
-  stop_row k (Write a x) on stopped = absurd (false≢true (sym ((write_leaves h k a x).registers.stopped ∙ on) ∙ stopped))
-  stop_row k (Bell s t) on stopped = absurd (false≢true (sym ((bell_leaves h k s t).registers.stopped ∙ on) ∙ stopped))
-  stop_row k (Read e) on stopped = absurd (false≢true (sym (read_on h k e on) ∙ stopped))
-  stop_row k (Reg r x) on stopped = register_stop k r x on stopped
+  stop_row k o on stopped = grind (arith, false≢true, declaration_leaves, write_leaves, bell_leaves, read_on, register_stop)
 
   -- reading events starts nothing
   read_started : (unread : List Block) (k : Known) → (all_read h k unread).started ≡ k.started
@@ -72,7 +62,7 @@ module _ (h : Header) where
   -- the run has ended behind the row that stops the controller
   pub stop_ends : IsHeader h → (now : Known) (row : Row) (w v : World) → (run : Runs h now w) → DriverKeeps h (all_read h now run.unread) → (learned h now row).stopped ≡ true →
       driver.row_done h w row ≡ Some v → Ended h (learned h now row) (counted h v)
-  unfolding counted
+  unfolding counted harm_of harms waits has_changed_context is_context_changed is_changed_since driver.valued stopped_world
   stop_ends is now row w v run d stopped at =
       let s = stop_row now row run.on stopped in
       let on : w.started ≡ true = run.agrees.stands.started ∙ read_started run.unread now ∙ s.started in
@@ -80,7 +70,7 @@ module _ (h : Header) where
       record {
         stopped = stopped;
         also = sym (ap (λ x. x.stopped) world) ∙ stops w s.value;
-        safe = subst (λ x. IsSafe h (counted h x)) world (safe_stopped w s.value (safe h is now w run d));
+        safe = subst (λ x. IsSafe h (counted h x)) world ((safe h is now w run d));
       }
 
 -- ---- what is owed
@@ -121,8 +111,7 @@ module _ (h : Header) where
   -- a step of the controller is made before a stop alone
   pub runs_on : (w u : World) (s : Step) → steps.made h w s ≡ Some u → (s ≡ NextRow → ⊥) → w.stopped ≡ false
   unfolding steps.made
-  runs_on w u NextRow at other = absurd (other refl)
-  runs_on w u s at other = (running_is w u _ at).0
+  runs_on w u s at other = grind (arith, running_is)
 
   -- and the run goes on
   pub step_goes : IsHeader h → (k : Known) → DriverKeeps h k → (w u : World) (s : Step) → IsStep s → steps.made h w s ≡ Some u → (s ≡ NextRow → ⊥) → Runs h k w → Runs h k (steps.counted h u)

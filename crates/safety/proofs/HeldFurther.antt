@@ -16,14 +16,11 @@ pub record SameStates (k l : Known) : Type 0 where
   pub stop_seen : l.stop_seen ≡ k.stop_seen
   pub device : l.device ≡ k.device
 
-known_is : (k l : Known) → k.ring ≡ l.ring → SameDriver k l → SameStates k l → k ≡ l
-known_is k l ring d s = search rules
-
 pub flip_driver : (k l : Known) → SameDriver k l → SameDriver l k
 flip_driver k l d = search rules
 
 pub held_more : (k l : Known) → SameDriver k l → SameStates k l → ((r : ℕ) → (l.ring r).floor ≡ (k.ring r).floor) → ((r : ℕ) → IsHeldMore (k.ring r).held (l.ring r).held) → HeldMore k l
-held_more k l d s floor held = search (rules, known_is)
+held_more k l d s floor held = search (rules)
 
 -- every device context is alike
 abbrev pub EverySlot : ℕ → Type 0
@@ -57,8 +54,7 @@ module _ (h : Header) where
 
   module _ (P : ℕ → Type 0) where
     target_is : (k l : Known) → Alike P k l → ((r : ℕ) → (l.ring r).queue ≡ (k.ring r).queue) → (change : Change) → TargetIs h k l change
-    target_is k l a queues (Places s i p cycle state) = search (rules, target_same)
-    target_is k l a queues _ = search rules
+    target_is k l a queues o = grind (arith, target_same)
 
     pub targets_are : (c : Command) (k l : Known) → Alike P k l → ((r : ℕ) → (l.ring r).queue ≡ (k.ring r).queue) → (all : List Change) → TargetsAre h c k l all
     targets_are c k l a queues [] = tt
@@ -88,16 +84,13 @@ module _ (h : Header) where
     };
   }
 
-  more_driver : (k m : Known) → HeldMore k m → SameDriver k m
-  more_driver k m more = search rules
-
   more_alike : (k m : Known) → HeldMore k m → Alike EverySlot k m
   more_alike k m more = search rules
 
   pub more_law : MoreLaw h
   more_law k m e keeps keeps_more more clean =
       let a : Alike EverySlot k m = more_alike k m more in
-      let d : SameDriver k m = more_driver k m more in
+      let d : SameDriver k m = search rules in
       let read : ReadAlike h EverySlot k m e = read_alike h EverySlot k m a (queues_alike EverySlot k m a d) e clean in (
         read.possible,
         held_more (learned h k (Read e)) (learned h m (Read e)) (read_both k m e d) (states_from (learned h k (Read e)) (learned h m (Read e)) read.after)

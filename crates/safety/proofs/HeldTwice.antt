@@ -2,16 +2,10 @@
 use Rattle.safety.proofs.Words.{ℕ, Option, None, Some, arith, refl, RingView, Known, IsHeldMore, RingHeldMore, HeldMore, rules}
 
 pub held_same : (o : Option ℕ) → IsHeldMore o o
-held_same None = tt
-held_same (Some m) = omega arith
+held_same o = grind arith
 
 pub held_twice : (a b c : Option ℕ) → IsHeldMore a b → IsHeldMore b c → IsHeldMore a c
-held_twice None None None x y = tt
-held_twice (Some l) (Some m) (Some n) x y = omega (arith, x, y)
-held_twice None None (Some n) x y = absurd y
-held_twice (Some l) (Some m) None x y = absurd y
-held_twice None (Some m) c x y = absurd x
-held_twice (Some l) None c x y = absurd x
+held_twice o z c x y = grind arith
 
 pub held_more_same : (k : Known) → HeldMore k k
 held_more_same k = record { rest = refl; rings = λ r. record { rest = refl; held = held_same (k.ring r).held } }

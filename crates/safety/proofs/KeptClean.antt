@@ -1,5 +1,5 @@
 -- No word of a ring is soiled, behind each row
-use Rattle.safety.proofs.Words.{[], ◌≡◌, ◌+◌, ◌%◌, ◌==◌, ◌&&◌, ◌∙◌, ℕ, not, Bool, true, false, Option, None, Some, is_none, option_and_then, refl, sym, ap, leb-true, ltb-true, rules, and_parts, and_left, or_from, or_parts, and_cases, false_from_ne_true, false≢true, none-some, same_Some, Block, kind, is_in, is_inside, Command, AddressDevice, device_context_bytes, Header, Sub, Write, Reg, Bell, Read, shape_of, touches_ring, Known, device_named, no_device, taken_device, command_given, with_device, with_word, written, learned, is_bad_area, some_command, write_tests, lenient_tests, lenient, IsDriverRing, KeptByRows, has_bad_content, is_bad_command, is_bad_device, takes_bad_device}
+use Rattle.safety.proofs.Words.{[], ◌≡◌, ◌+◌, ◌%◌, ◌==◌, ◌&&◌, ◌∙◌, ℕ, not, Bool, true, false, Option, None, Some, is_none, option_and_then, refl, sym, ap, leb-true, ltb-true, rules, and_parts, and_left, or_from, or_parts, and_cases, false_from_ne_true, false≢true, none-some, same_Some, Block, kind, is_in, is_inside, Command, AddressDevice, device_context_bytes, Header, Sub, Write, Reg, Bell, Read, shape_of, touches_ring, Known, device_named, no_device, taken_device, command_given, with_device, with_word, written, learned, is_bad_area, some_command, write_tests, lenient_tests, lenient, IsDriverRing, KeptByRows, has_bad_content, is_bad_command, is_bad_device, takes_bad_device, arith}
 use Rattle.safety.proofs.Headers.{found_in, shape_is}
 use Rattle.safety.proofs.TestsPassed.{tests_fail}
 use Rattle.safety.proofs.GivenCommands.{content_good, fails_of}
@@ -17,17 +17,14 @@ pub record TakesDevice (k : Known) (s d : ℕ) (c : Command) : Type 0 where
 
 none_before : (o : Option ℕ) (s x : ℕ) (e : ℕ × ℕ) → no_device o s x ≡ Some e → (o ≡ None) × (s ≡ e.0) × (x ≡ e.1)
 unfolding no_device
-none_before None s x e at = let same = same_Some (s, x) e at in (refl, ap (λ (p : ℕ × ℕ). p.0) same, ap (λ (p : ℕ × ℕ). p.1) same)
-none_before (Some y) s x e at = absurd (none-some e at)
+none_before o s x e at = grind (arith, same_Some, none-some)
 
 takes_is : (k : Known) (c : Command) (e : ℕ × ℕ) → taken_device k c ≡ Some e → TakesDevice k e.0 e.1 c
 unfolding taken_device
-takes_is k (AddressDevice s bsr n) e at = search (rules, none_before, k.device, device_named, none-some)
-takes_is k _ e at = absurd (none-some e at)
+takes_is k o e at = grind (arith, none_before, device_named, none-some)
 
 given_some : (k : Known) (o : Option Command) (e : ℕ × ℕ) → option_and_then (taken_device k) o ≡ Some e → (c : Command) × (o ≡ Some c) × (taken_device k c ≡ Some e)
-given_some k None e at = absurd (none-some e at)
-given_some k (Some c) e at = (c, refl, at)
+given_some k o e at = grind (arith, none-some)
 
 -- what a write that breaks no rule takes under lease
 pub record CleanTaking (h : Header) (k : Known) (a w s d : ℕ) : Type 0 where
@@ -69,8 +66,7 @@ module _ (h : Header) where
   soiled_by : (k : Known) (a w x : ℕ) (o : Option (ℕ × ℕ)) → ((e : ℕ × ℕ) → o ≡ Some e → is_in x e.1 (device_context_bytes h.context_size) ≡ false) → k.soiled x ≡ false →
       (with_device h (with_word h k a w) o).soiled x ≡ false
   unfolding with_device with_word
-  soiled_by k a w x None apart clean = search (rules, and_left, k.soiled, not, or_from, is_in, device_context_bytes)
-  soiled_by k a w x (Some e) apart clean = search (rules, and_left, k.soiled, not, or_from, is_in, e.1, device_context_bytes)
+  soiled_by k a w x o apart clean = grind (arith, and_left, not, or_from, is_in, device_context_bytes)
 
   clean_written : (k : Known) (a w x : ℕ) → ((e : ℕ × ℕ) → option_and_then (taken_device k) (command_given h k a w) ≡ Some e → is_in x e.1 (device_context_bytes h.context_size) ≡ false) →
       k.soiled x ≡ false → (learned h k (Write a w)).soiled x ≡ false

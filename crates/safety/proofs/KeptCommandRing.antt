@@ -1,6 +1,5 @@
 -- What CRCR and ERSTSZ say is kept by each row
-use Rattle.std.proofs.Common.{rules}
-use Rattle.safety.proofs.Words.{◌≡◌, ◌<◌, ◌==◌, ◌||◌, ◌∙◌, ℕ, not, true, false, Option, None, Some, is_some, is_none, arith, refl, sym, ap, inl, inr, eqb-true, or_parts, not-false, false≢true, same_Some, Block, kind, Shape, address_of, Header, Ring, Register, Crcr, Erstsz, Sub, Write, Reg, Bell, Read, IsHeader, is_command_kind, ring_with, shape_of, command_ring, command_id, event_ring, event_size, with_register, base_address, ring_cycle_state, command_stop, command_abort, Known, learned, is_no_first_block, is_bad_crcr, is_bad_register, IsDriverRing, CommandRingNamed, KeptByRows, lenient, Row, []}
+use Rattle.safety.proofs.Words.{◌≡◌, ◌<◌, ◌==◌, ◌||◌, ◌∙◌, ℕ, not, true, false, Option, None, Some, is_some, is_none, arith, refl, sym, ap, inl, inr, eqb-true, or_parts, not-false, false≢true, same_Some, Block, kind, Shape, address_of, Header, Ring, Register, Crcr, Erstsz, Sub, Write, Reg, Bell, Read, IsHeader, is_command_kind, ring_with, shape_of, command_ring, command_id, event_ring, event_size, with_register, base_address, ring_cycle_state, command_stop, command_abort, Known, learned, is_no_first_block, is_bad_crcr, is_bad_register, IsDriverRing, CommandRingNamed, KeptByRows, lenient, Row, [], rules}
 use Rattle.safety.proofs.Headers.{shape_is, command_found, command_named, event_ring_size}
 use Rattle.safety.proofs.RingIds.{found_again, together}
 use Rattle.safety.proofs.SameDriver.{event_same}
@@ -24,9 +23,8 @@ module _ (h : Header) where
 
     first_block : (v : ℕ) (o : Option Ring) → command_ring h ≡ o → is_no_first_block v o ≡ false → (IsDriverRing h (command_id h)) × (base_address v ≡ address_of (shape_of h (command_id h)) 0)
     unfolding is_no_first_block
-    first_block v None at first = absurd (false≢true (sym first))
-    first_block v (Some c) at first =
-        search (rules, false≢true, command_driver, eqb-true, base_address, address_of, c.shape, not-false, shape_is, command_id, command_with)
+    first_block v o at first =
+        grind (arith, false≢true, command_driver, eqb-true, base_address, address_of, not-false, shape_is, command_id, command_with)
 
     named_by : (v : ℕ) → is_bad_crcr h v ≡ false → CommandRingNamed h v
     unfolding is_bad_crcr
@@ -44,14 +42,12 @@ module _ (h : Header) where
     crcr_by k r v named good x at = named x at
 
     some_ring : (o : Option Ring) → event_ring h ≡ o → is_none o ≡ false → 0 < event_size h
-    some_ring None at some = absurd (false≢true (sym some))
-    some_ring (Some e) at some = omega (arith, event_ring_size h is e at)
+    some_ring o at some = grind (arith, false≢true, event_ring_size)
 
     sized_by : (k : Known) (r : Register) (v : ℕ) → (is_some (k.register Erstsz) ≡ true → 0 < event_size h) → is_bad_register h k r v ≡ false →
         is_some (with_register k.register r v Erstsz) ≡ true → 0 < event_size h
     unfolding is_bad_register
-    sized_by k Erstsz v sized good at = some_ring (event_ring h) refl (or_parts k.started (is_none (event_ring h)) good).1
-    sized_by k r v sized good at = sized at
+    sized_by k r v sized good at = grind (arith, some_ring, event_ring, or_parts, k.started, is_none)
 
   -- CRCR names the command ring
   pub kept_crcr : KeptByRows h (λ k. (v : ℕ) → k.register Crcr ≡ Some v → CommandRingNamed h v)

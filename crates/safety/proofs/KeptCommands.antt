@@ -19,25 +19,14 @@ use Rattle.safety.proofs.CleanRows.{event_facts}
 -- ---- the blocks of a declaration
 
 read_by_kind : (t : BlockKind) (b : Block) → is_command t ≡ true → is_some (command_by_kind t b) ≡ true
-read_by_kind kinds.EnableSlot b h = refl
-read_by_kind kinds.DisableSlot b h = refl
-read_by_kind kinds.AddressDevice b h = refl
-read_by_kind kinds.ConfigureEndpoint b h = refl
-read_by_kind kinds.EvaluateContext b h = refl
-read_by_kind kinds.ResetEndpoint b h = refl
-read_by_kind kinds.StopEndpoint b h = refl
-read_by_kind kinds.SetTrDequeue b h = refl
-read_by_kind kinds.ResetDevice b h = refl
-read_by_kind kinds.NoOpCommand b h = refl
-read_by_kind _ b h = absurd (false≢true h)
+read_by_kind o b h = grind (arith, false≢true)
 
 is_read : (b : Block) → is_no_command b ≡ false → is_command_left_out b ≡ false → is_some (command_of b) ≡ true
 is_read b good inside = search (rules, is_some, or_parts, and_cases, not-false, false≢true, cond-false, read_by_kind)
 
 command_blocks : (t : RingKind) (blocks : List Block) → t ≡ Cmd → is_bad_descriptor t blocks ≡ false → is_left_out t blocks ≡ false →
     (length blocks ≡ 1) × All (λ b. is_some (command_of b) ≡ true) blocks
-command_blocks Cmd blocks is good inside = search (rules, length, is_some, or_parts, each_fails, eqb-true, not-false, is_read, get_or, false≢true)
-command_blocks _ blocks is good inside = search (rules, length, is_some, or_parts, each_fails, eqb-true, not-false, is_read, get_or, false≢true)
+command_blocks o blocks is good inside = grind (arith, length, is_some, or_parts, each_fails, eqb-true, not-false, is_read, get_or, false≢true)
 
 -- what is declared then is what was declared, or is declared now
 declared_then : (P : Block → Type 0) (xs ys : List Block) (p : ℕ) (d : Block) → ((p : ℕ) (d : Block) → slice_get xs p ≡ Some d → P d) → All P ys → slice_get (xs ++ ys) p ≡ Some d → P d
@@ -66,8 +55,7 @@ view_declares shape v blocks good keeps = record {
 }
 
 command_is : (t : RingKind) → is_command_kind t ≡ true → t ≡ Cmd
-command_is Cmd h = refl
-command_is _ h = absurd (false≢true h)
+command_is o h = grind (arith, false≢true)
 
 module _ (h : Header) where
   pub view_of : (k : Known) → CommandRingKeeps h k → ViewOfCommands (k.ring (command_id h))
@@ -108,17 +96,13 @@ module _ (h : Header) where
 
   -- ---- a doorbell
 
-  opened_view : (k : Known) → ViewOfCommands (k.ring (command_id h)) → ViewOfCommands ((on_ring h k (command_id h) Opens).ring (command_id h))
-  opened_view k keeps = search (rules, ring_here, command_id)
-
   endpoint_view : IsHeader h → (k : Known) → EndpointsKeep h k → (s t : ℕ) (o : Option ℕ) → k.ring_of s t ≡ o → (endpoint_rung h k s t o).ring (command_id h) ≡ k.ring (command_id h)
   unfolding endpoint_rung
-  endpoint_view is k keeps s t None at = refl
-  endpoint_view is k keeps s t (Some r) at = search (rules, ring_elsewhere, command_id, command_not_transfer, keeps.transfer)
+  endpoint_view is k keeps s t o at = grind (arith, ring_elsewhere, command_id, command_not_transfer)
 
   rung_view : IsHeader h → (k : Known) → EndpointsKeep h k → (s t : ℕ) → ViewOfCommands (k.ring (command_id h)) → ViewOfCommands ((learned h k (Bell s t)).ring (command_id h))
   unfolding learned rung
-  rung_view is k keeps s t view = search (rules, on_ring, command_id, endpoint_rung, k.ring_of, opened_view, endpoint_view)
+  rung_view is k keeps s t view = search (rules, on_ring, command_id, endpoint_rung, k.ring_of, ring_here, endpoint_view)
 
   -- ---- an event
 
@@ -135,9 +119,7 @@ module _ (h : Header) where
   held_after : IsHeader h → (k : Known) → EndpointsKeep h k → (b : Block) (t : BlockKind) → ViewOfCommands (k.ring (command_id h)) →
       (is_command_completion t ≡ true → (k.ring (command_id h)).held ≡ None) → ViewOfCommands ((event_read h k t b).ring (command_id h))
   unfolding event_read
-  held_after is k keeps b kinds.TransferEvent view opened = search (rules, transfer_command, completed_view)
-  held_after is k keeps b kinds.CommandCompletion view opened = search (rules, transfer_command, completed_view)
-  held_after is k keeps b _ view opened = view
+  held_after is k keeps b o view opened = grind (arith, transfer_command, completed_view)
 
   read_view : (k : Known) (b : Block) → (learned h k (Read b)).ring ≡ (event_read h k (kind b) b).ring
   unfolding learned

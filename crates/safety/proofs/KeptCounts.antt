@@ -21,8 +21,7 @@ module _ (h : Header) where
 
   dequeues_by : (k : Known) (r : Register) (x : ℕ) → is_bad_erdp h k r x ≡ false → Dequeues k (register_written h k r x)
   unfolding register_written valued
-  dequeues_by k Usbcmd x good = search (rules, run_counts, erdp_within)
-  dequeues_by k r x good = search (rules, run_counts, erdp_within)
+  dequeues_by k r x good = grind (arith, run_counts, erdp_within)
 
   pub dequeues : (k : Known) (r : Register) (x : ℕ) → is_bad_erdp h k r x ≡ false → Dequeues k (learned h k (Reg r x))
   unfolding learned

@@ -1,5 +1,5 @@
 -- What is kept of device contexts under lease is kept by each row
-use Rattle.safety.proofs.Words.{◌≡◌, ◌∙◌, ℕ, true, false, Some, refl, sym, ap, subst, inl, inr, cases_Bool, or_parts, false≢true, none-some, Block, BlockKind, TransferEvent, CommandCompletion, kind, Header, Register, Dcbaap, Erstba, Sub, Write, Reg, Bell, Read, IsHeader, with_register, Known, event_read, learned, completed, is_impossible_by_kind, is_bad_register, DriverKeeps, DevicesKeep, KeptByRows, rules}
+use Rattle.safety.proofs.Words.{◌≡◌, ◌∙◌, ℕ, true, false, Some, refl, sym, ap, subst, inl, inr, cases_Bool, or_parts, false≢true, none-some, Block, BlockKind, TransferEvent, CommandCompletion, kind, Header, Register, Dcbaap, Erstba, Sub, Write, Reg, Bell, Read, IsHeader, with_register, Known, event_read, learned, completed, is_impossible_by_kind, is_bad_register, DriverKeeps, DevicesKeep, KeptByRows, rules, arith}
 use Rattle.safety.proofs.LowerLaws.{learned_read, with_reads, EventFacts, event_facts, register_facts, registered, SameDriver, transfer_same, completion_same, transfer_slots, devices_same}
 use Rattle.safety.proofs.RowFrames.{SameRegisters, SameMemory, declaration_leaves, register_leaves, bell_leaves}
 use Rattle.safety.proofs.CommandsCompleted.{completion_devices}
@@ -11,9 +11,7 @@ module _ (h : Header) where
   base_stands : (k : Known) (r : Register) (x : ℕ) → k.started ≡ true → is_bad_register h k r x ≡ false →
       (with_register k.register r x Dcbaap ≡ k.register Dcbaap) × (with_register k.register r x Erstba ≡ k.register Erstba)
   unfolding is_bad_register
-  base_stands k Dcbaap x on good = absurd (false≢true (sym good ∙ on))
-  base_stands k Erstba x on good = absurd (false≢true (sym (or_parts k.started _ (or_parts _ _ (or_parts _ _ (or_parts _ _ good).0).0).0).0 ∙ on))
-  base_stands k _ x on good = (refl, refl)
+  base_stands k o x on good = grind (arith, false≢true, or_parts, k.started)
 
   register_devices : (k : Known) (r : Register) (x : ℕ) → DriverKeeps h k → is_bad_register h k r x ≡ false → DevicesKeep h (learned h k (Reg r x))
   register_devices k r x d good s c at =

@@ -1,22 +1,19 @@
 -- Which registers were written, and with what, is kept by each row
-use Rattle.safety.proofs.Words.{◌≡◌, ◌&&◌, ◌⊎◌, ◌∙◌, ℕ, not, true, false, Option, None, Some, is_some, is_none, refl, sym, ap, inl, inr, rules, cond_both, cond-true, cond-false, or_parts, and_cases, not_from_false, false≢true, RingKind, Cmd, Header, Register, Usbcmd, Crcr, Erstsz, Reg, is_command_kind, is_driver_kind, with_register, same_register, run_bit, reset_bit, Known, run_or_stop, valued, register_written, learned, is_unwritten, is_early_start, is_bad_register}
+use Rattle.safety.proofs.Words.{◌≡◌, ◌&&◌, ◌⊎◌, ◌∙◌, ℕ, not, true, false, Option, None, Some, is_some, is_none, refl, sym, ap, inl, inr, rules, cond_both, cond-true, cond-false, or_parts, and_cases, not_from_false, false≢true, RingKind, Cmd, Header, Register, Usbcmd, Crcr, Erstsz, Reg, is_command_kind, is_driver_kind, with_register, same_register, run_bit, reset_bit, Known, run_or_stop, valued, register_written, learned, is_unwritten, is_early_start, is_bad_register, arith}
 
 pub command_drives : (kind : RingKind) → is_command_kind kind ≡ true → is_driver_kind kind ≡ true
-command_drives Cmd is = refl
-command_drives _ is = absurd (false≢true is)
+command_drives o is = grind (arith, false≢true)
 
 pub written_stays : (values : Register → Option ℕ) (r : Register) (v : ℕ) (q : Register) → is_some (values q) ≡ true → is_some (with_register values r v q) ≡ true
 written_stays values r v q is = cond_both (same_register q r) (Some v) (values q) (λ o. is_some o ≡ true) (λ _. refl) (λ _. is)
 
 pub some_is : (o : Option ℕ) → is_none o ≡ false → is_some o ≡ true
-some_is None e = absurd (false≢true (sym e))
-some_is (Some x) e = refl
+some_is o e = grind (arith, false≢true)
 
 module _ (h : Header) where
   registered_by : (k : Known) (r : Register) (v : ℕ) → (register_written h k r v).register ≡ with_register k.register r v
   unfolding register_written valued run_or_stop
-  registered_by k Usbcmd v = search rules
-  registered_by k r v = refl
+  registered_by k r v = grind arith
 
   -- the last value of each register
   pub registered : (k : Known) (r : Register) (v : ℕ) → (learned h k (Reg r v)).register ≡ with_register k.register r v
@@ -35,8 +32,7 @@ module _ (h : Header) where
 
   starts_by : (k : Known) (r : Register) (v : ℕ) → (register_written h k r v).started ≡ true → (k.started ≡ true) ⊎ Starts k r v
   unfolding register_written valued
-  starts_by k Usbcmd v on = search (rules, run_starts, valued)
-  starts_by k r v on = search (rules, run_starts, valued)
+  starts_by k r v on = grind (arith, run_starts, valued)
 
   pub register_starts : (k : Known) (r : Register) (v : ℕ) → (learned h k (Reg r v)).started ≡ true → (k.started ≡ true) ⊎ Starts k r v
   unfolding learned

@@ -37,9 +37,7 @@ module _ (h : Header) where
     next_unfinished started below c at = let floor = next_at_floor started below in record { due = floor.due; given = floor.given; command = at }
 
   moves_still : (k : Known) (c : Command) → MovesIf h k c → StaysIf h k c → MovesOn h k c
-  moves_still k (SetTrDequeue s i p cycle) moves stays = moves
-  moves_still k (AddressDevice s bsr n) moves stays = λ on r at. (stays r at).here
-  moves_still k _ moves stays = tt
+  moves_still k o moves stays = grind arith
 
   -- so what was tested of an unfinished command holds still
   pub command_holds : (k : Known) (p : ℕ) (c : Command) → CommandKeeps h k p c → StillHolds h k c

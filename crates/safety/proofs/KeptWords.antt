@@ -31,14 +31,10 @@ pub put_same : (memory : ℕ → ℕ) (a w : ℕ) → memory a ≡ w → put mem
 put_same memory a w same = search (rules, put_here, put_elsewhere)
 
 module _ (shape : Shape) (memory : ℕ → ℕ) (v : RingView) (k : RingKeeps shape memory v) (a w : ℕ) (same : memory a ≡ w) where
-  -- what is given shows its cycle, also where it is free and may be passed
-  shown_cycle : IsShape shape → (p : ℕ) → floor_number v ≤ p → v.given p ≡ true → (v.free p ≡ true → p < ceiling shape v) → memory (address_of shape p + 12) % 2 ≡ cycle_of shape p
-  shown_cycle is p low given below = search (rules, v.free, k.free_shows, kept_cycle)
-
   pub same_keeps_cycles : IsShape shape → KeepsCycles shape v a w
   same_keeps_cycles is =
       record {
-        blocks = λ p due given below at. ap (λ x. x % 2) (sym same ∙ ap memory at) ∙ shown_cycle is p (due_is shape v.floor p due).0 given below;
+        blocks = λ p due given below at. ap (λ x. x % 2) (sym same ∙ ap memory at) ∙ (search (rules, v.free, k.free_shows, kept_cycle));
         links = λ q due given at.
             let link = crossed_link shape q (crossing_due_is shape v.floor q due).crossing in
             ap (λ x. x % 2) (sym same ∙ ap memory at) ∙ (k.kept_link q link.0 due given link.1).1;

@@ -1,5 +1,5 @@
 -- One ring about which more is known, and which has changed in the world: all else that is said of both stays
-use Rattle.safety.proofs.Words.{◌≡◌, ◌≢◌, ◌+◌, ◌∙◌, ℕ, Option, Some, None, option_and_then, slice_get, refl, sym, ap, subst, inl, inr, rules, cases_eq, none-some, Spot, address_of, RingView, floor_number, Command, StopEndpoint, command_of, named_context, Header, shape_of, command_id, World, UnderWay, Known, command_at, next_command, was_stop_seen, DriverKeeps, IsUnfinished, Stands, RingState, state_of, RingMatches, BoundRing, EndpointRing, UnderWayMatches, TakenCommand, Matches}
+use Rattle.safety.proofs.Words.{◌≡◌, ◌≢◌, ◌+◌, ◌∙◌, ℕ, Option, Some, None, option_and_then, slice_get, refl, sym, ap, subst, inl, inr, rules, cases_eq, none-some, Spot, address_of, RingView, floor_number, Command, StopEndpoint, command_of, named_context, Header, shape_of, command_id, World, UnderWay, Known, command_at, next_command, was_stop_seen, DriverKeeps, IsUnfinished, Stands, RingState, state_of, RingMatches, BoundRing, EndpointRing, UnderWayMatches, TakenCommand, Matches, arith}
 use Rattle.safety.proofs.OnlyRing.{OnlyRing, unchanged_only}
 
 pub record LearnsRing (k m : Known) (r : ℕ) (x : RingView) : Type 0 where
@@ -33,8 +33,7 @@ module _ (h : Header) (k m : Known) (ring : m.ring (command_id h) ≡ k.ring (co
 
   seen_same : (c : Command) → was_stop_seen m c ≡ was_stop_seen k c
   unfolding was_stop_seen
-  seen_same (StopEndpoint s i) = ap (λ f. f s i) stop_seen
-  seen_same _ = refl
+  seen_same o = grind arith
 
   pub under_way_same : (t : Spot) (o : Option UnderWay) → UnderWayMatches h k t o → UnderWayMatches h m t o
   under_way_same t None under = (under.0 ∙ sym next_same, λ s i. ap (λ f. f s i) stop_seen ∙ under.1 s i)

@@ -28,10 +28,6 @@ taken_rest h w r b = record { under_way = refl; scribbles = refl; outside = refl
 abbrev pub declared_then : Header → World → ℕ → Option DeclaredBlock
 declared_then h w r = declared_at (w.queue r) (w.lengths r) (next_take (shape_of h r) (w.events r))
 
-taken_elsewhere : (h : Header) (w : World) (r : ℕ) (b : Block) → r ≢ command_id h → taken h (seen_by_look h w r) r b ≡ taken_on h (seen_by_look h w r) r b
-unfolding taken
-taken_elsewhere h w r b other = cond-false (r == command_id h) _ _ (ne_eqb r (command_id h) other)
-
 module _ (h : Header) (is : IsHeader h) (k : Known) (unread : List Block) (w : World) (d : DriverKeeps h k) (g : Agrees h k unread w) (r : ℕ) where
   -- the look is inside
   pub inside_still : IsDriverRing h r → (t : Spot) → RingMatches (shape_of h r) (k.ring r) (state_of w r) t → (w.looked_outside || not (is_inside (shape_of h r) (w.pointer_of r))) ≡ false
@@ -86,33 +82,27 @@ module _ (h : Header) (is : IsHeader h) (k : Known) (unread : List Block) (w : W
         rest.under_way rest.scribbles (rest.outside ∙ inside_still its_ring b.spot b.matches))
 
     pub transfer_looks : (v : World) → LookEnds h w v r → Agrees h k unread (counted h v)
+    unfolding taken
     transfer_looks v (inl waits) = subst (λ u. Agrees h k unread (counted h u)) waits.is transfer_waits
     transfer_looks v (inr (inl link)) =
         subst (λ u. Agrees h k unread (counted h u)) link.is (transfer_crosses (cross_done h is k w d g.stands r its_ring b.spot b.matches on link.cycle_is link.link))
     transfer_looks v (inr (inr block)) =
-        subst (λ u. Agrees h k unread (counted h u)) (sym (taken_elsewhere h w r (seen w r) other) ∙ block.is)
+        subst (λ u. Agrees h k unread (counted h u)) (sym (cond-false (r == command_id h) _ _ (ne_eqb r (command_id h) other)) ∙ block.is)
         (transfer_takes (take_done h is k w d g.stands r its_ring b.spot b.matches on block.cycle_is block.link))
 
 -- The controller looks at the command ring: it waits, follows a Link, or takes the next command
 same_spot_number : (h : Header) (k : Known) (n : ℕ) (o : Option UnderWay) → UnderWayMatches h k (Link n) o → UnderWayMatches h k (Data n) o
-same_spot_number h k n None u = u
-same_spot_number h k n (Some x) u = u
+same_spot_number h k n o u = grind arith
 
 not_seen : (k : Known) (c : Command) → ((s i : ℕ) → k.stop_seen s i ≡ false) → was_stop_seen k c ≡ false
 unfolding was_stop_seen
-not_seen k (StopEndpoint s i) none = none s i
-not_seen k _ none = refl
+not_seen k o none = grind arith
 
 -- a command that is taken lets the controller write the device context of an Address Device's slot
 scribbles_more : (h : Header) (w : World) (o : Option Command) (q : ℕ) → may_scribble h o w q ≡ true →
     (w.scribbles q ≡ true) ⊎ ((n : ℕ) × (bsr : Bool) × (o ≡ Some (AddressDevice q bsr n)))
 unfolding may_scribble
-scribbles_more h w (Some (AddressDevice s bsr c)) q on =
-    elim (or_cases (w.scribbles q) (q == s) on) [
-      | inl old ↦ inl old
-      | inr new ↦ inr (c, bsr, ap (λ x. Some (AddressDevice x bsr c)) (sym (eqb-true q s new)))
-    ]
-scribbles_more h w _ q on = inl on
+scribbles_more h w o q on = grind (arith, or_cases, w.scribbles, eqb-true)
 
 -- the world behind a command that is taken
 begun : Header → World → World
@@ -120,8 +110,7 @@ begun h w = command_begun h (taken_on h (seen_by_look h w (command_id h)) (comma
 
 scribble_same : (h : Header) (w u : World) (o : Option Command) (q : ℕ) → u.scribbles ≡ w.scribbles → may_scribble h o u q ≡ may_scribble h o w q
 unfolding may_scribble
-scribble_same h w u (Some (AddressDevice s bsr c)) q same = ap (λ f. f q || q == s) same
-scribble_same h w u _ q same = ap (λ f. f q) same
+scribble_same h w u o q same = grind arith
 
 taken_scribbles : (h : Header) (w : World) (r : ℕ) (b : Block) → (taken_on h (seen_by_look h w r) r b).scribbles ≡ w.scribbles
 unfolding seen_by_look taken_on
@@ -130,10 +119,6 @@ taken_scribbles h w r b = refl
 begun_scribbles : (h : Header) (w : World) (q : ℕ) → (begun h w).scribbles q ≡ may_scribble h (command_of (seen w (command_id h))) w q
 unfolding begun command_begun
 begun_scribbles h w q = scribble_same h w (taken_on h (seen_by_look h w (command_id h)) (command_id h) (seen w (command_id h))) (command_of (seen w (command_id h))) q (taken_scribbles h w (command_id h) (seen w (command_id h)))
-
-begun_under_way : (h : Header) (w : World) → (begun h w).under_way ≡ Some (record { address = w.pointer_of (command_id h); block = seen w (command_id h); has_stopped = false })
-unfolding begun command_begun
-begun_under_way h w = refl
 
 begun_outside : (h : Header) (w : World) → (begun h w).looked_outside ≡ (w.looked_outside || not (is_inside (shape_of h (command_id h)) (w.pointer_of (command_id h))))
 unfolding begun command_begun seen_by_look taken_on
@@ -152,8 +137,7 @@ unfolding begun
 only_begins h w = search (rules, only_begun, only_taken)
 
 no_one : (o : Option UnderWay) (c : ℕ) → (c == c && is_some o) ≡ false → o ≡ None
-no_one None c free = search rules
-no_one (Some u) c free = search (rules, is_some, and_cases, false≢true, eq-eqb)
+no_one o c free = grind (arith, is_some, and_cases, false≢true, eq-eqb)
 
 module _ (h : Header) (is : IsHeader h) (k : Known) (unread : List Block) (w : World) (d : DriverKeeps h k) (g : Agrees h k unread w) (on : k.started ≡ true) where
   ring : IsDriverRing h (command_id h)
@@ -161,9 +145,6 @@ module _ (h : Header) (is : IsHeader h) (k : Known) (unread : List Block) (w : W
 
   c : CommandMatches h k w
   c = g.matches.command on
-
-  outside_still : (w.looked_outside || not (is_inside (shape_of h (command_id h)) (w.pointer_of (command_id h)))) ≡ false
-  outside_still = inside_still h is k unread w d g (command_id h) ring c.spot c.ring
 
   -- the command ring at another spot, and which command is under way
   command_now : (v : World) (s : RingState) (t : Spot) → OnlyRing w v (command_id h) s → RingMatches (shape_of h (command_id h)) (k.ring (command_id h)) s t →
@@ -173,7 +154,7 @@ module _ (h : Header) (is : IsHeader h) (k : Known) (unread : List Block) (w : W
       agrees_only h is k unread w d g (command_id h) v s o
       (matches_command h k w v (command_id h) s o g.matches refl on
       (record { spot = t; ring = subst (λ x. RingMatches (shape_of h (command_id h)) (k.ring (command_id h)) x t) (sym o.here) m; under_way = u })
-      scribbles (outside ∙ outside_still))
+      scribbles (outside ∙ (inside_still h is k unread w d g (command_id h) ring c.spot c.ring)))
 
   command_waits : Agrees h k unread (counted h (seen_by_look h w (command_id h)))
   command_waits =
@@ -191,14 +172,11 @@ module _ (h : Header) (is : IsHeader h) (k : Known) (unread : List Block) (w : W
 
   -- the command that is taken
   module _ (x : TakeDone h is k w d g.stands (command_id h) ring c.spot) (free : w.under_way ≡ None) where
-    none_before : UnderWayMatches h k (Data x.number) None
-    none_before = subst (λ o. UnderWayMatches h k (Data x.number) o) free (subst (λ t. UnderWayMatches h k t w.under_way) x.was c.under_way)
-
     here : x.number ≡ next_command h k
-    here = none_before.0
+    here = (subst (λ o. UnderWayMatches h k (Data x.number) o) free (subst (λ t. UnderWayMatches h k t w.under_way) x.was c.under_way)).0
 
     taken_command : TakenCommand h k (record { address = w.pointer_of (command_id h); block = seen w (command_id h); has_stopped = false })
-    taken_command = search (rules, seen, shape_of, command_id, state_of, c, here, same_Some, slice_get, ring, not_seen, none_before)
+    taken_command = search (rules, seen, shape_of, command_id, state_of, c, here, same_Some, slice_get, ring, not_seen)
 
     -- it is unfinished, so what its giving asked for still holds
     floor : AtFloor h k
@@ -217,7 +195,8 @@ module _ (h : Header) (is : IsHeader h) (k : Known) (unread : List Block) (w : W
         ]
 
     command_takes : Agrees h k unread (counted h (begun h w))
-    command_takes = search (rules, command_now, only_begins, begun_under_way, number_after, here, taken_command, may_still, begun_outside)
+    unfolding begun command_begun
+    command_takes = search (rules, command_now, only_begins, number_after, here, taken_command, may_still, begun_outside)
 
   pub command_looks : (v : World) → w.is_active (command_id h) ≡ true → LookEnds h w v (command_id h) → Agrees h k unread (counted h v)
   command_looks v active (inl waits) = search (rules, command_waits, command_crosses, cross_done, ring, c, begun_is, command_takes, take_done, no_one)

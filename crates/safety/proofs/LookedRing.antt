@@ -27,9 +27,6 @@ way_crossed shape v q given = or_right (not (is_crossing shape q)) (v.crossed q)
 same_number : (p q : ℕ) → Data p ≡ Data q → p ≡ q
 same_number p q e = cc
 
-link_not_data : (p q : ℕ) → Link p ≡ Data q → ⊥
-link_not_data p q e = cc
-
 module _ (shape : Shape) (is : IsShape shape) (memory : ℕ → ℕ) (v : RingView) (s : RingState) (q : ℕ) where
   -- the pointer has followed the Link on the way to position q
   pub crossed_matches : RingMatches shape v s (Link q) → (c : Crossable shape memory v q) (p n : ℕ) → p ≡ link_target shape c.link →
@@ -45,12 +42,11 @@ pub number_after : (shape : Shape) (p : ℕ) → number (after shape p) ≡ p + 
 number_after shape p = search (rules, cond-true, cond-false)
 
 way_after : (shape : Shape) (v : RingView) (p q : ℕ) → after shape p ≡ Data q → is_way_given shape v q ≡ true
-way_after shape v p q e = search (rules, is_crossing, link_not_data, cond-true, same_number, cond-false, is_way_given, way_without)
+way_after shape v p q e = search (rules, is_crossing, cond-true, same_number, cond-false, is_way_given, way_without)
 
 placed_begins : (shape : Shape) (v : RingView) (n : ℕ) (events : List RingEvent) → Newest shape v n events → was_placed events ≡ true → is_border v.lengths 0 n ≡ true
 unfolding was_placed
-placed_begins shape v n (Took a b d ∷ older) newest placed = absurd (false≢true placed)
-placed_begins shape v n _ newest placed = newest
+placed_begins shape v n o newest placed = grind (arith, false≢true)
 
 next_behind : (shape : Shape) (a : ℕ) (b : Block) (d : Option DeclaredBlock) (older : List RingEvent) → next_take shape (Took a b d ∷ older) ≡ next_take shape older + 1
 unfolding next_take

@@ -46,7 +46,7 @@ pub use Rattle.safety.proofs.RingChanges.EventsAlike.{ChangesAlike, HasKept, Hav
 pub use Rattle.safety.proofs.RingChanges.ListedRings.{all_kept, all_more, none_found, none_kept, overlaps_none, together_kept, together_more}
 pub use Rattle.safety.proofs.RingChanges.OtherRings.{forgetting_agrees, BindsAsBefore, IsAsBefore, OtherRings, other_rings_keep, stop_seen_same, OtherTakes, free_new, other_worlds_agree}
 pub use Rattle.safety.proofs.RingChanges.Segments.{IsGood, block_shows, each_good, segment_some, touches_none, words_clean}
-pub use Rattle.safety.proofs.RingGoesOn.{RingGoesOn, bound_on, newest_still}
+pub use Rattle.safety.proofs.RingGoesOn.{RingGoesOn, bound_on, held_from, newest_still}
 pub use Rattle.safety.proofs.RingIds.{command_not_transfer, having_transfer, other_ids}
 pub use Rattle.safety.proofs.RingMemory.{same_block_at, spot_lies}
 pub use Rattle.safety.proofs.RingsOfHeader.{HasRing, has_ring, none_of_ring, shape_allowed}

@@ -10,8 +10,7 @@ module _ (h : Header) (k m : Known) (floor : (m.ring (command_id h)).floor ≡ (
 
   seen_same : (c : Command) → was_stop_seen m c ≡ was_stop_seen k c
   unfolding was_stop_seen
-  seen_same (StopEndpoint s i) = ap (λ f. f s i) stop_seen
-  seen_same _ = refl
+  seen_same o = grind arith
 
   -- what is declared at the floor
   abbrev pub NextStays : Type 0
@@ -51,8 +50,7 @@ same_controller w = record { slot_state = refl; endpoint_state = refl; ring_of =
 
 module _ (h : Header) (k m : Known) (w v : World) (g : KnownGoesOn h k m) (c : SameController w v) where
   endpoint_ring : (r : ℕ) → EndpointRing h k w r → EndpointRing h m v r
-  endpoint_ring r (inl bound) = search (rules, shape_of, m.ring, state_of, k.ring_of, c.states, bound_on, k.ring, g.rings, number)
-  endpoint_ring r (inr free) = search (rules, shape_of, m.ring, state_of, k.ring_of, c.states, bound_on, k.ring, g.rings, number)
+  endpoint_ring r o = grind (arith, shape_of, state_of, bound_on, number)
 
   command_matches : ((u : UnderWay) → w.under_way ≡ Some u → NextStays h k m (g.rings (command_id h)).floor g.stop_seen) → CommandMatches h k w → CommandMatches h m v
   command_matches next y = record {

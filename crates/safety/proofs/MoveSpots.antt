@@ -56,11 +56,6 @@ way_reached : (shape : Shape) (v : RingView) (t : Spot) → IsSpot shape t → f
 way_reached shape v t is later reached q e = search (rules, is_spot, rank, way_crossed, move_reached, way_without)
 
 module _ (shape : Shape) (is : IsShape shape) (memory : ℕ → ℕ) (v : RingView) (k : RingKeeps shape memory v) where
-  -- two spots at one address from the floor's number up to what is declared are one
-  one_at : (s t : Spot) → IsSpot shape s → IsSpot shape t → floor_number v ≤ number s → floor_number v ≤ number t → number s ≤ declared v → number t ≤ declared v →
-      spot_address shape s ≡ spot_address shape t → s ≡ t
-  one_at s t a b from_s from_t to_s to_t same = search (rules, cases_lt, same_spot, rank_least, rank_most)
-
   -- the spot that passes is the one that is found
   module _ (address : ℕ) (cycle : Bool) (u : Spot) (here : IsTarget shape address cycle u) (from : floor_number v ≤ number u) (to : number u ≤ declared v) where
     found_spot : (t : Spot) → target shape v address cycle ≡ Some t → t ≡ u
@@ -69,15 +64,12 @@ module _ (shape : Shape) (is : IsShape shape) (memory : ℕ → ℕ) (v : RingVi
         let also = found_is (is_target shape address cycle) (λ x. (floor_number v ≤ number x) × (number x ≤ declared v)) (spots_between (floor_number v) (declared v)) t at
         (between (floor_number v) (declared v)) in
         let there : IsTarget shape address cycle t = target_is shape address cycle t also.0 in
-        one_at t u there.spot here.spot also.1.0 from also.1.1 to (there.at ∙ sym here.at)
-
-    some_spot : is_target shape address cycle u ≡ true → (t : Spot) × (target shape v address cycle ≡ Some t)
-    unfolding target spots_between
-    some_spot passes = found_between (is_target shape address cycle) (floor_number v) (declared v + 1 - floor_number v) u from (omega arith) passes
+        search (rules, cases_lt, same_spot, rank_least, rank_most)
 
     named_spot : is_target shape address cycle u ≡ true → target shape v address cycle ≡ Some u
+    unfolding target spots_between
     named_spot passes =
-        let found = some_spot passes in
+        let found = found_between (is_target shape address cycle) (floor_number v) (declared v + 1 - floor_number v) u from (omega arith) passes in
         found.1 ∙ ap (λ x. Some x) (found_spot found.0 found.1)
 
   -- where a move passes its test, its spot is the one that is named

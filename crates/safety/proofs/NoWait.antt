@@ -28,8 +28,7 @@ end_is d = refl
 -- where the last take doesn't end its descriptor, the next step is given
 pub inside_given : (shape : Shape) (v : RingView) (n : ℕ) (events : List RingEvent) → Newest shape v n events → is_inside_descriptor events ≡ true → is_step_given shape v n ≡ true
 unfolding is_inside_descriptor
-inside_given shape v n (Took a b d ∷ older) newest inside = newest (not-true (is_end d) inside)
-inside_given shape v n _ newest inside = absurd (false≢true inside)
+inside_given shape v n o newest inside = grind (arith, not-true, is_end, false≢true)
 
 module _ (shape : Shape) (is : IsShape shape) (memory : ℕ → ℕ) (v : RingView) (k : RingKeeps shape memory v) where
   pub ceiling_given : ceiling shape v ≤ given_count shape v

@@ -1,5 +1,5 @@
 -- No row of a trace makes anything free: so nothing is free behind any history of rows, and each row restores what it has to
-use Rattle.safety.proofs.Words.{[], ◌≡◌, ◌==◌, ◌∷◌, ◌∙◌, ℕ, List, Option, None, Some, option_and_then, refl, sym, ap, rules, cond_both, no_flips, Block, Declares, Opens, IsRestored, Header, Register, Usbcmd, Row, Sub, Write, Reg, Bell, Read, IsHeader, shape_of, command_id, Known, nothing, on_ring, with_device, with_word, written, command_given, taken_device, run_or_stop, valued, register_written, endpoint_rung, rung, learned, known, lenient, MayCome, AreRestored, IsRestoring, EndpointsKeep, kind}
+use Rattle.safety.proofs.Words.{[], ◌≡◌, ◌==◌, ◌∷◌, ◌∙◌, ℕ, List, Option, None, Some, option_and_then, refl, sym, ap, rules, cond_both, no_flips, Block, Declares, Opens, IsRestored, Header, Register, Usbcmd, Row, Sub, Write, Reg, Bell, Read, IsHeader, shape_of, command_id, Known, nothing, on_ring, with_device, with_word, written, command_given, taken_device, run_or_stop, valued, register_written, endpoint_rung, rung, learned, known, lenient, MayCome, AreRestored, IsRestoring, EndpointsKeep, kind, arith}
 use Rattle.safety.proofs.RingIds.{transfer_driver}
 use Rattle.safety.proofs.EndpointHistories.{keeps_endpoints}
 use Rattle.safety.proofs.SameDriver.{view_after, on_ring_same, event_same}
@@ -16,8 +16,7 @@ module _ (h : Header) where
 
   device_free : (k : Known) (taken : Option (ℕ × ℕ)) → SameFree k (with_device h k taken)
   unfolding with_device
-  device_free k None r = refl
-  device_free k (Some e) r = refl
+  device_free k o r = grind arith
 
   written_free : (k : Known) (a w : ℕ) → SameFree k (written h k a w)
   unfolding written with_word
@@ -29,13 +28,11 @@ module _ (h : Header) where
 
   register_free : (k : Known) (q : Register) (x : ℕ) → SameFree k (register_written h k q x)
   unfolding register_written valued
-  register_free k Usbcmd x r = run_free (valued k Usbcmd x) x r
-  register_free k _ x r = refl
+  register_free k o x r = grind (arith, run_free, valued)
 
   endpoint_free : (k : Known) (s t : ℕ) (o : Option ℕ) → SameFree k (endpoint_rung h k s t o)
   unfolding endpoint_rung
-  endpoint_free k s t None r = refl
-  endpoint_free k s t (Some q) r = opened_free k q r
+  endpoint_free k s t o r = grind (arith, opened_free)
 
   rung_free : (k : Known) (s t : ℕ) → SameFree k (rung h k s t)
   unfolding rung
@@ -44,11 +41,7 @@ module _ (h : Header) where
   -- what is free stays so, and nothing more is
   pub free_same : (k : Known) (row : Row) → SameFree k (learned h k row)
   unfolding learned
-  free_same k (Sub r blocks) = declared_free k r blocks
-  free_same k (Write a w) = written_free k a w
-  free_same k (Reg r x) = register_free k r x
-  free_same k (Bell s t) = rung_free k s t
-  free_same k (Read b) = λ r. ((event_same h k (kind b) b).rings r).free
+  free_same k o = grind (arith, declared_free, written_free, register_free, rung_free, event_same, kind)
 
   pub nothing_free : (past : List Row) (r : ℕ) → IsRestored ((known h past).ring r)
   unfolding known nothing
@@ -57,9 +50,7 @@ module _ (h : Header) where
 
   -- where nothing is free each row restores what it has to
   pub restoring_where_restored : IsHeader h → (k : Known) (row : Row) → EndpointsKeep h k → AreRestored h k → IsRestoring h k row
-  restoring_where_restored is k (Write a w) endpoints restored = search (rules, no_flips, shape_of, k.ring, transfer_driver, endpoints.transfer)
-  restoring_where_restored is k (Bell s t) endpoints restored = search (rules, no_flips, shape_of, k.ring, transfer_driver, endpoints.transfer)
-  restoring_where_restored is k _ endpoints restored = tt
+  restoring_where_restored is k o endpoints restored = grind (arith, no_flips, shape_of, transfer_driver)
 
   -- so a row of a trace may come where it breaks no rule
   pub may_come : IsHeader h → (past : List Row) (row : Row) → lenient h (known h past) row ≡ [] → MayCome h (known h past) row

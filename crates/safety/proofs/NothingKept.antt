@@ -4,15 +4,11 @@ use Rattle.safety.proofs.LowerLaws.{nothing_keeps, driver_test, from_parts}
 use Rattle.safety.proofs.EndpointHistories.{keeps_endpoints}
 
 module _ (h : Header) where
-  states_at_start : IsHeader h → StatesKeep h nothing
-  unfolding nothing known
-  states_at_start is = search (rules, none-some, false≢true, from_parts, keeps_endpoints)
-
   unstarted_at_start : Unstarted h nothing
   unfolding nothing
   unstarted_at_start = search rules
 
   -- nothing is known
   pub nothing_kept : IsHeader h → DriverKeeps h nothing
-  unfolding nothing
-  nothing_kept is = search (rules, nothing_keeps, driver_test, slice_get_past, states_at_start, none-some, unstarted_at_start, false≢true)
+  unfolding nothing known
+  nothing_kept is = search (rules, nothing_keeps, driver_test, slice_get_past, from_parts, keeps_endpoints, none-some, unstarted_at_start, false≢true)

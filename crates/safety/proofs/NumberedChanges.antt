@@ -1,6 +1,5 @@
 -- The endpoints that a command names have numbers of slots and endpoints, and so has each endpoint that a success gives a ring
-use Rattle.std.proofs.Common.{rules}
-use Rattle.safety.proofs.Words.{[], ◌≡◌, ◌+◌, ◌<◌, ◌≤◌, ◌==◌, ◌&&◌, if◌then◌else◌, ◌∷◌, ◌∙◌, ℕ, suc, zero, Bool, true, false, List, map, filter, Option, None, Some, arith, refl, sym, ap, subst, inl, inr, eqb-true, range_with_len, cond_both, and_parts, none-some, same_Some, Block, BlockKind, kind, endpoint, is_command_left_out, Command, NoOp, DisableSlot, AddressDevice, ConfigureEndpoint, EvaluateContext, SetTrDequeue, ResetDevice, Stopped, is_off, command_by_kind, command_of, Change, SlotGoesOn, DeviceLeft, Disables, Places, Stops, Resets, changes, placed_by_context, ContextSize, input_add_flag, added_endpoints, Header, ring_having, Known, bound_to, moved, pointed, disabled, in_state, held_at_ceiling, changed_by, changed_by_all}
+use Rattle.safety.proofs.Words.{[], ◌≡◌, ◌+◌, ◌<◌, ◌≤◌, ◌==◌, ◌&&◌, if◌then◌else◌, ◌∷◌, ◌∙◌, ℕ, suc, zero, Bool, true, false, List, map, filter, Option, None, Some, arith, refl, sym, ap, subst, inl, inr, eqb-true, range_with_len, cond_both, and_parts, none-some, same_Some, Block, BlockKind, kind, endpoint, is_command_left_out, Command, NoOp, DisableSlot, AddressDevice, ConfigureEndpoint, EvaluateContext, SetTrDequeue, ResetDevice, Stopped, is_off, command_by_kind, command_of, Change, SlotGoesOn, DeviceLeft, Disables, Places, Stops, Resets, changes, placed_by_context, ContextSize, input_add_flag, added_endpoints, Header, ring_having, Known, bound_to, moved, pointed, disabled, in_state, held_at_ceiling, changed_by, changed_by_all, rules}
 use Rattle.trb.specs.declared.kind.BlockKind.TheVariants as kinds
 use Rattle.safety.proofs.LookKinds.{cond_is}
 use Rattle.safety.proofs.Endpoints.{moved_rings, held_rings}
@@ -16,17 +15,7 @@ IsNumbered (SetTrDequeue s i p cycle) = (s < 256) × (i < 32)
 IsNumbered _ = Unit {0}
 
 by_kind_numbered : (t : BlockKind) (b : Block) (c : Command) → command_by_kind t b ≡ Some c → IsNumbered c
-by_kind_numbered kinds.NoOpCommand b c at = subst IsNumbered (same_Some _ c at) tt
-by_kind_numbered kinds.EnableSlot b c at = subst IsNumbered (same_Some _ c at) tt
-by_kind_numbered kinds.DisableSlot b c at = subst IsNumbered (same_Some _ c at) tt
-by_kind_numbered kinds.AddressDevice b c at = subst IsNumbered (same_Some _ c at) (slot_low b)
-by_kind_numbered kinds.ConfigureEndpoint b c at = subst IsNumbered (same_Some _ c at) (slot_low b)
-by_kind_numbered kinds.EvaluateContext b c at = subst IsNumbered (same_Some _ c at) tt
-by_kind_numbered kinds.ResetEndpoint b c at = subst IsNumbered (same_Some _ c at) tt
-by_kind_numbered kinds.StopEndpoint b c at = subst IsNumbered (same_Some _ c at) tt
-by_kind_numbered kinds.SetTrDequeue b c at = subst IsNumbered (same_Some _ c at) (slot_low b, omega arith)
-by_kind_numbered kinds.ResetDevice b c at = subst IsNumbered (same_Some _ c at) tt
-by_kind_numbered _ b c at = absurd (none-some c at)
+by_kind_numbered o b c at = grind (arith, same_Some, slot_low, none-some)
 
 pub command_numbered : (b : Block) (c : Command) → command_of b ≡ Some c → IsNumbered c
 command_numbered b c at = search (rules, cond_is, is_command_left_out, command_by_kind, kind, none-some, by_kind_numbered)
@@ -70,22 +59,16 @@ module _ (h : Header) where
 
   bound_numbered : (k : Known) → AreNumbered k → (s i : ℕ) (o : Option ℕ) (p : ℕ) (cycle : Bool) → (s < 256) × (i < 32) → AreNumbered (bound_to h k s i o p cycle)
   unfolding bound_to
-  bound_numbered k all s i None p cycle fits = all
-  bound_numbered k all s i (Some r) p cycle fits = search (rules, cond_is, k.ring_of, and_parts, eqb-true)
+  bound_numbered k all s i o p cycle fits = grind (arith, cond_is, and_parts, eqb-true)
 
   pointed_numbered : (k : Known) → AreNumbered k → (s i p : ℕ) (cycle : Bool) → (s < 256) × (i < 32) → AreNumbered (pointed h k s i p cycle)
   unfolding pointed
-  pointed_numbered k all s i p cycle fits =
-      search (rules, is_off, k.endpoint_state, bound_to, ring_having, moved, k.ring_of, bound_numbered, same_numbered, moved_rings)
+  pointed_numbered k all s i p cycle fits = search (rules, is_off, bound_to, ring_having, moved, bound_numbered, same_numbered, moved_rings)
 
   change_numbered : (c : Command) (k : Known) (change : Change) → AreNumbered k → PlacesNumbered change → AreNumbered (changed_by h c k change)
   unfolding changed_by disabled in_state
-  change_numbered c k (SlotGoesOn s) all fits = search (rules, same_numbered, changed_by)
-  change_numbered c k (DeviceLeft s) all fits = search (rules, same_numbered, changed_by)
-  change_numbered c k (Disables s which) all fits = search (rules, cond_is, k.ring_of, none-some)
-  change_numbered c k (Places s i p cycle state) all fits = search (rules, same_numbered, pointed, changed_by, pointed_numbered)
-  change_numbered c k (Stops s i) all fits = search (rules, in_state, same_numbered, held_at_ceiling, k.ring_of, held_rings)
-  change_numbered c k (Resets s i) all fits = search (rules, same_numbered, in_state)
+  change_numbered c k o all fits =
+      grind (arith, same_numbered, changed_by, cond_is, none-some, pointed, pointed_numbered, in_state, held_at_ceiling, held_rings)
 
   pub all_numbered : (c : Command) (k : Known) (l : List Change) → AreNumbered k → AllNumbered l → AreNumbered (changed_by_all h c k l)
   unfolding changed_by_all

@@ -1,6 +1,5 @@
 -- An event of the controller itself is posted: the run goes on
-use Rattle.std.proofs.Common.{rules}
-use Rattle.safety.proofs.Words.{[], ◌≡◌, ◌+◌, ◌&&◌, ◌||◌, ◌∷◌, ◌++◌, ◌∙◌, true, false, not, List, Some, sym, ap, subst, refl, false≢true, and_parts, and_left, or_right, cond_some, Block, BlockKind, IsBlock, kind, is_transfer_event, is_command_completion, is_other_event, Header, Read, IsHeader, World, can_post, posted, other_posted, counted, Known, event_read, learned, is_in_profile, is_impossible_by_kind, DriverKeeps, Agrees, Runs, all_read, BandwidthRequest, DeviceNotification, Doorbell, HostController, MfindexWrap, PortStatusChange}
+use Rattle.safety.proofs.Words.{[], ◌≡◌, ◌+◌, ◌&&◌, ◌||◌, ◌∷◌, ◌++◌, ◌∙◌, true, false, not, List, Some, sym, ap, subst, refl, false≢true, and_parts, and_left, or_right, cond_some, Block, BlockKind, IsBlock, kind, is_transfer_event, is_command_completion, is_other_event, Header, Read, IsHeader, World, can_post, posted, other_posted, counted, Known, event_read, learned, is_in_profile, is_impossible_by_kind, DriverKeeps, Agrees, Runs, all_read, BandwidthRequest, DeviceNotification, Doorbell, HostController, MfindexWrap, PortStatusChange, rules, arith}
 use Rattle.safety.proofs.LowerLaws.{agrees_counted, with_reads, stands_with_reads, matches_with_reads, post_keeps, learned_read, event_clean}
 use Rattle.safety.proofs.ReportSuccess.{runs_more}
 
@@ -12,13 +11,7 @@ pub record SaysNothing (h : Header) (k : Known) (b : Block) (t : BlockKind) : Ty
 
 pub says_nothing : (h : Header) (k : Known) (b : Block) (t : BlockKind) → is_other_event t ≡ true → SaysNothing h k b t
 unfolding event_read is_impossible_by_kind
-says_nothing h k b PortStatusChange other = record { read = refl; possible = refl; no_transfer = refl }
-says_nothing h k b BandwidthRequest other = record { read = refl; possible = refl; no_transfer = refl }
-says_nothing h k b Doorbell other = record { read = refl; possible = refl; no_transfer = refl }
-says_nothing h k b HostController other = record { read = refl; possible = refl; no_transfer = refl }
-says_nothing h k b DeviceNotification other = record { read = refl; possible = refl; no_transfer = refl }
-says_nothing h k b MfindexWrap other = record { read = refl; possible = refl; no_transfer = refl }
-says_nothing h k b _ other = absurd (false≢true other)
+says_nothing h k b o other = grind (arith, false≢true)
 
 posted_is : (h : Header) (w v : World) (b : Block) → other_posted h w b ≡ Some v → (can_post h w b ≡ true) × (is_other_event (kind b) ≡ true) × (posted h w b ≡ v)
 unfolding other_posted

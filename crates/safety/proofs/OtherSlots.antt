@@ -1,5 +1,5 @@
 -- The success of a command leaves other slots, and the rings that it doesn't name; one of an endpoint leaves the slot's other endpoints too
-use Rattle.safety.proofs.Words.{[], ◌≡◌, ◌∷◌, ℕ, Bool, true, false, List, Option, None, Some, refl, sym, subst, ne_eqb, cond_both, cond-false, and_left, none-some, put_pair, Spot, number, RingChange, Reaches, Holds, ceiling, target, Command, EndpointState, Stopped, is_off, Change, SlotGoesOn, DeviceLeft, Disables, Places, Stops, Resets, Header, shape_of, ring_having, Known, on_ring, set_to, bound_to, moved_to, moved, pointed, disabled, in_state, held_at_ceiling, changed_by, changed_by_all, rules}
+use Rattle.safety.proofs.Words.{[], ◌≡◌, ◌∷◌, ℕ, Bool, true, false, List, Option, None, Some, refl, sym, subst, ne_eqb, cond_both, cond-false, and_left, none-some, put_pair, Spot, number, RingChange, Reaches, Holds, ceiling, target, Command, EndpointState, Stopped, is_off, Change, SlotGoesOn, DeviceLeft, Disables, Places, Stops, Resets, Header, shape_of, ring_having, Known, on_ring, set_to, bound_to, moved_to, moved, pointed, disabled, in_state, held_at_ceiling, changed_by, changed_by_all, rules, arith}
 use Rattle.safety.proofs.DriverRows.{ring_elsewhere}
 use Rattle.safety.proofs.EndpointPut.{at_pair, at_number}
 
@@ -38,20 +38,15 @@ module _ (s : ℕ) (part : Option ℕ) (B : ℕ → Type 0) where
     unfolding on_ring
     on_others k within r change named = search (rules, ring_elsewhere)
 
-    on_within : (k : Known) → Within k → (r : ℕ) (change : RingChange) → Within (on_ring h k r change)
-    unfolding on_ring
-    on_within k within r change = within
-
     set_others : (k : Known) → Within k → (r : ℕ) (t : Spot) → B r → OtherSlots k (set_to h k r t) s part B
-    unfolding set_to
+    unfolding set_to on_ring
     set_others k within r t named =
         both_others k (on_ring h k r (Reaches t)) (on_ring h (on_ring h k r (Reaches t)) r (Holds (number t))) (on_others k within r (Reaches t) named)
-        (on_others (on_ring h k r (Reaches t)) (on_within k within r (Reaches t)) r (Holds (number t)) named)
+        (on_others (on_ring h k r (Reaches t)) (within) r (Holds (number t)) named)
 
     target_others : (k : Known) → Within k → (r : ℕ) (o : Option Spot) → B r → OtherSlots k (moved_to h k r o) s part B
     unfolding moved_to
-    target_others k within r None named = same_others k within
-    target_others k within r (Some t) named = set_others k within r t named
+    target_others k within r o named = grind (arith, same_others, set_others)
 
     bound_others : (k : Known) → Within k → (i : ℕ) → IsPart part i → (o : Option ℕ) (p : ℕ) (cycle : Bool) → ((r : ℕ) → o ≡ Some r → B r) → OtherSlots k (bound_to h k s i o p cycle) s part B
     unfolding bound_to moved
@@ -62,8 +57,7 @@ module _ (s : ℕ) (part : Option ℕ) (B : ℕ → Type 0) where
 
     moved_others : (k : Known) → Within k → (i p : ℕ) → IsPart part i → (cycle : Bool) (o : Option ℕ) → k.ring_of s i ≡ o → OtherSlots k (moved h k o p cycle) s part B
     unfolding moved
-    moved_others k within i p mine cycle None at = same_others k within
-    moved_others k within i p mine cycle (Some r) at = target_others k within r (target (shape_of h r) (k.ring r) p cycle) (within i r mine at)
+    moved_others k within i p mine cycle o at = grind (arith, same_others, target_others, target, shape_of, k.ring)
 
     pointed_others : (k : Known) → Within k → (i p : ℕ) → IsPart part i → (cycle : Bool) → (is_off (k.endpoint_state s i) ≡ true → (r : ℕ) → ring_having h p ≡ Some r → B r) →
         OtherSlots k (pointed h k s i p cycle) s part B
@@ -78,8 +72,7 @@ module _ (s : ℕ) (part : Option ℕ) (B : ℕ → Type 0) where
 
     held_others : (k : Known) → Within k → (i : ℕ) → IsPart part i → (o : Option ℕ) → k.ring_of s i ≡ o → OtherSlots k (held_at_ceiling h k o) s part B
     unfolding held_at_ceiling
-    held_others k within i mine None at = same_others k within
-    held_others k within i mine (Some r) at = on_others k within r (Holds (ceiling (shape_of h r) (k.ring r))) (within i r mine at)
+    held_others k within i mine o at = grind (arith, same_others, on_others, ceiling, shape_of, k.ring)
 
     must_others : (k l : Known) (f : ℕ → ℕ → Bool) → OtherSlots k l s part B → OtherSlots k (let m : Known = record l { must_move = f } in m) s part B
     must_others k l f o = search rules
@@ -113,16 +106,12 @@ module _ (s : ℕ) (part : Option ℕ) (B : ℕ → Type 0) where
         let pointing : OtherSlots k (pointed h k s i p cycle) s part B = pointed_others k within i p mine cycle named in
         must_others k (in_state h l s i state) (put_pair k.must_move s i false) (both_others k l (in_state h l s i state) pointing (state_others l pointing.within i mine state))
 
-    ring_same : (k : Known) (i : ℕ) → (in_state h k s i Stopped).ring_of s i ≡ k.ring_of s i
-    unfolding in_state
-    ring_same k i = refl
-
     stops : (c : Command) (k : Known) (i : ℕ) → Within k → IsPart part i → OtherSlots k (changed_by h c k (Stops s i)) s part B
-    unfolding changed_by
+    unfolding changed_by in_state
     stops c k i within mine =
         let l : Known = in_state h k s i Stopped in
         let stopped : OtherSlots k (in_state h k s i Stopped) s part B = state_others k within i mine Stopped in
-        both_others k l (held_at_ceiling h l (k.ring_of s i)) stopped (held_others l stopped.within i mine (k.ring_of s i) (ring_same k i))
+        both_others k l (held_at_ceiling h l (k.ring_of s i)) stopped (held_others l stopped.within i mine (k.ring_of s i) (refl))
 
     resets : (c : Command) (k : Known) (i : ℕ) → Within k → IsPart part i → OtherSlots k (changed_by h c k (Resets s i)) s part B
     unfolding changed_by

@@ -1,6 +1,5 @@
 -- What is free of a ring, and how far the controller may pass it, from one change to the next
-use Rattle.std.proofs.Common.{rules}
-use Rattle.safety.proofs.Words.{◌≡◌, ◌<◌, ◌∙◌, ℕ, true, Option, None, Some, arith, sym, ap, false≢true, floor_number, ceiling, ceiling_held, ceiling_within, IsRestored, IsShownTo, Shape, IsShape, RingView, RingKeeps, PassesNoMore}
+use Rattle.safety.proofs.Words.{◌≡◌, ◌<◌, ◌∙◌, ℕ, true, Option, None, Some, arith, sym, ap, false≢true, floor_number, ceiling, ceiling_held, ceiling_within, IsRestored, IsShownTo, Shape, IsShape, RingView, RingKeeps, PassesNoMore, rules}
 
 pub passes_same : (shape : Shape) (v : RingView) → PassesNoMore shape v v
 passes_same shape v p free = (free, λ below. below)

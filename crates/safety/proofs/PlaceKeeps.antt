@@ -1,6 +1,5 @@
 -- A command's success places the ring of an endpoint, in the world as in what is known
-use Rattle.std.proofs.Common.{rules}
-use Rattle.safety.proofs.Words.{◌≡◌, ◌≢◌, ◌<◌, ◌≤◌, if◌then◌else◌, ◌∙◌, ℕ, Bool, true, false, Some, None, arith, refl, sym, ap, subst, inl, inr, none-some, same_Some, Spot, IsSpot, spot_address, spot_cycle, IsShape, declared, floor_number, ceiling, is_move, is_placement, ceiling_within, floor_given, given_count_declared, RingKeeps, place_count_pos, rank_least, rank_most, Command, EndpointState, Places, is_off, Header, IsHeader, shape_of, command_id, ring_having, World, Known, IsTransferRing, state_of, RingMatches, BoundRing, FreeRing, changed_by}
+use Rattle.safety.proofs.Words.{◌≡◌, ◌≢◌, ◌<◌, ◌≤◌, if◌then◌else◌, ◌∙◌, ℕ, Bool, true, false, Some, None, arith, refl, sym, ap, subst, inl, inr, none-some, same_Some, Spot, IsSpot, spot_address, spot_cycle, IsShape, declared, floor_number, ceiling, is_move, is_placement, ceiling_within, floor_given, given_count_declared, RingKeeps, place_count_pos, rank_least, rank_most, Command, EndpointState, Places, is_off, Header, IsHeader, shape_of, command_id, ring_having, World, Known, IsTransferRing, state_of, RingMatches, BoundRing, FreeRing, changed_by, rules}
 use Rattle.controller_model.specs.Bindings as bindings
 use Rattle.safety.proofs.Headers.{ring_shape, transfer_driver, transfer_not_command}
 use Rattle.safety.proofs.RingIds.{having_transfer}
@@ -53,10 +52,6 @@ module _ (h : Header) (is : IsHeader h) (c : Command) (k : Known) (w v : World) 
   unfolding bindings.changed_by
   x = placed_is w v s i p cycle state (ring_having h p) at
 
-  -- with the ring by its ID
-  world_is : (r : ℕ) → x.ring ≡ r → placed_world w s i r p cycle state (rest_active w (w.ring_of s i)) ≡ v
-  world_is r same = search (rules, placed_world_is, w.ring_of, x)
-
   module _ (r : ℕ) (same : x.ring ≡ r) (allowed : IsShape (shape_of h r)) (t : Spot) (is_spot : IsSpot (shape_of h r) t) (not_command : r ≢ command_id h) (had : (q : ℕ) → k.ring_of s i ≡ Some q → q ≡ r)
       (only : (z j : ℕ) → k.ring_of z j ≡ Some r → (z ≡ s) × (j ≡ i)) (l : Known) (to : PlacedTo k l s i r t state)
       (address : spot_address (shape_of h r) t ≡ p) (turn : spot_cycle (shape_of h r) t ≡ (if cycle then 1 else 0)) where
@@ -66,7 +61,7 @@ module _ (h : Header) (is : IsHeader h) (c : Command) (k : Known) (w v : World) 
         subst (λ n. RingMatches (shape_of h r) (set_view (k.ring r) t) (placed_state (state_of w r) p n) t) turn
         (subst (λ a. RingMatches (shape_of h r) (set_view (k.ring r) t) (placed_state (state_of w r) a (spot_cycle (shape_of h r) t)) t) address m) in
         let still : (q : ℕ) → q ≢ r → rest_active w (w.ring_of s i) q ≡ w.is_active q = λ q other. rest_still w (w.ring_of s i) r q (λ q e. had q (sym (y.ring_of s i) ∙ e)) other in
-        subst (λ u. ChangeKeeps h k l w u) (world_is r same)
+        subst (λ u. ChangeKeeps h k l w u) (search (rules, placed_world_is, w.ring_of, x))
         (placed_keeps h k l w s i r p cycle state (rest_active w (w.ring_of s i)) t to not_command had still only numbered here
         (placed_unreported (shape_of h r) allowed t is_spot (k.ring r) (state_of w r) p (if cycle then 1 else 0)) y)
 

@@ -14,8 +14,7 @@ placed_state s a c = record { pointer = a; cycle = c; active = false; events = P
 
 place_at_spot : (shape : Shape) (t : Spot) → IsSpot shape t → is_place shape (spot_address shape t) (number t) ≡ true
 unfolding is_place
-place_at_spot shape (Data q) is = search (rules, or_left, address_of, is_crossing, link_address, eq-eqb, or_right, and_from)
-place_at_spot shape (Link q) is = search (rules, or_left, address_of, is_crossing, link_address, eq-eqb, or_right, and_from)
+place_at_spot shape o is = grind (arith, or_left, address_of, is_crossing, link_address, eq-eqb, or_right, and_from)
 
 module _ (shape : Shape) (is : IsShape shape) (t : Spot) (is_spot : IsSpot shape t) where
   no_place_before : (p : ℕ) → p < number t → number t < p + place_count shape → is_place shape (spot_address shape t) p ≡ true → ⊥

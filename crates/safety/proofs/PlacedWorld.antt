@@ -1,6 +1,5 @@
 -- An endpoint whose ring is placed at an address: what changes in the world
-use Rattle.std.proofs.Common.{rules}
-use Rattle.safety.proofs.Words.{◌≡◌, ◌≢◌, if◌then◌else◌, ◌∷◌, ◌∙◌, ℕ, Bool, false, List, length, Option, Some, None, refl, ap, inl, inr, none-some, same_Some, put, put_pair, EndpointState, World, RingEvent, Placed, takes_of, is_had_by_another, inactive, placed, placed_on, RingState, state_of}
+use Rattle.safety.proofs.Words.{◌≡◌, ◌≢◌, if◌then◌else◌, ◌∷◌, ◌∙◌, ℕ, Bool, false, List, length, Option, Some, None, refl, ap, inl, inr, none-some, same_Some, put, put_pair, EndpointState, World, RingEvent, Placed, takes_of, is_had_by_another, inactive, placed, placed_on, RingState, state_of, rules, arith}
 use Rattle.safety.proofs.LookKinds.{cond_is, put_at, put_off}
 use Rattle.safety.proofs.PlacedRing.{placed_state}
 
@@ -13,8 +12,7 @@ pub record IsPlaced (w v : World) (s i a : ℕ) (c : Bool) (state : EndpointStat
 
 pub placed_is : (w v : World) (s i a : ℕ) (c : Bool) (state : EndpointState) (o : Option ℕ) → placed_on w s i a c state o ≡ Some v → IsPlaced w v s i a c state o
 unfolding placed_on
-placed_is w v s i a c state None at = absurd (none-some v at)
-placed_is w v s i a c state (Some r) at = search (rules, none-some, cond_is, is_had_by_another, placed, same_Some)
+placed_is w v s i a c state o at = grind (arith, none-some, cond_is, is_had_by_another, placed, same_Some)
 
 -- which rings are active once the endpoint's isn't
 abbrev pub rest_active : World → Option ℕ → ℕ → Bool
@@ -34,39 +32,18 @@ placed_world w s i r a c state active = record w {
 
 pub placed_world_is : (w : World) (s i r a : ℕ) (c : Bool) (state : EndpointState) (o : Option ℕ) → w.ring_of s i ≡ o → placed w s i r a c state ≡ placed_world w s i r a c state (rest_active w o)
 unfolding placed inactive
-placed_world_is w s i r a c state None at =
-    ap (λ x. let v : World = record (inactive (inactive w x) (Some r)) {
-      endpoint_state = put_pair w.endpoint_state s i state;
-      ring_of = put_pair w.ring_of s i (Some r);
-      pointer_of = put w.pointer_of r a;
-      cycle_state = put w.cycle_state r (if c then 1 else 0);
-      events = put w.events r (Placed a ∷ w.events r);
-      reported = put w.reported r (length (takes_of (w.events r)));
-    } in v) at
-placed_world_is w s i r a c state (Some q) at =
-    ap (λ x. let v : World = record (inactive (inactive w x) (Some r)) {
-      endpoint_state = put_pair w.endpoint_state s i state;
-      ring_of = put_pair w.ring_of s i (Some r);
-      pointer_of = put w.pointer_of r a;
-      cycle_state = put w.cycle_state r (if c then 1 else 0);
-      events = put w.events r (Placed a ∷ w.events r);
-      reported = put w.reported r (length (takes_of (w.events r)));
-    } in v) at
+placed_world_is w s i r a c state o at =
+    grind (arith, inactive, put_pair, w.endpoint_state, w.ring_of, put, w.pointer_of, w.cycle_state, w.events, w.reported, length, takes_of)
 
 -- ---- ring by ring
 
-same_state : (p q c d : ℕ) (a b : Bool) (e f : List RingEvent) (m n : ℕ) → p ≡ q → c ≡ d → a ≡ b → e ≡ f → m ≡ n →
-    ◌≡◌ {A = RingState} (record { pointer = p; cycle = c; active = a; events = e; reported = m }) (record { pointer = q; cycle = d; active = b; events = f; reported = n })
-same_state p q c d a b e f m n x y z u v = cc
-
 module _ (w : World) (s i r a : ℕ) (c : Bool) (state : EndpointState) (active : ℕ → Bool) where
   pub placed_here : state_of (placed_world w s i r a c state active) r ≡ placed_state (state_of w r) a (if c then 1 else 0)
-  placed_here = search (rules, same_state, put_at, w.pointer_of, w.cycle_state, false, w.events, w.reported, length, takes_of)
+  placed_here = search (rules, put_at, w.pointer_of, w.cycle_state, false, w.events, w.reported, length, takes_of)
 
   pub placed_elsewhere : (q : ℕ) → q ≢ r → active q ≡ w.is_active q → state_of (placed_world w s i r a c state active) q ≡ state_of w q
-  placed_elsewhere q other still = search (rules, same_state, put_off, w.pointer_of, w.cycle_state, false, w.events, w.reported, length, takes_of)
+  placed_elsewhere q other still = search (rules, put_off, w.pointer_of, w.cycle_state, false, w.events, w.reported, length, takes_of)
 
 -- the endpoint had no ring, or this one: no other ring's activity changes
 pub rest_still : (w : World) (o : Option ℕ) (r q : ℕ) → ((p : ℕ) → o ≡ Some p → p ≡ r) → q ≢ r → rest_active w o q ≡ w.is_active q
-rest_still w None r q had other = refl
-rest_still w (Some p) r q had other = put_off w.is_active p false q (λ same. other (same ∙ had p refl))
+rest_still w o r q had other = grind (arith, put_off, w.is_active, false)

@@ -56,11 +56,8 @@ module _ (h : Header) (k l : Known) (w : World) (s i r a : ℕ) (c : Bool) (stat
             ]
       ]
 
-  lengths_still : (q : ℕ) → (l.ring q).lengths ≡ (k.ring q).lengths
-  lengths_still q = search rules
-
   leaves_rest : LeavesRest h k l w v
-  leaves_rest = search (rules, v, lengths_still, placed_elsewhere)
+  leaves_rest = search (rules, v, placed_elsewhere)
 
   pub placed_keeps : RingMatches (shape_of h r) (set_view (k.ring r) t) (placed_state (state_of w r) a (if c then 1 else 0)) t →
       Unreported (shape_of h r) (set_view (k.ring r) t) (placed_state (state_of w r) a (if c then 1 else 0)) t → StatesMatch h k w → ChangeKeeps h k l w v

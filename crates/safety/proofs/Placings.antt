@@ -8,8 +8,7 @@ use Rattle.safety.proofs.DriverRows.{ring_elsewhere}
 use Rattle.safety.proofs.StandingTargets.{target_here, target_placed}
 
 pub at_rest_on : (state : EndpointState) → is_at_rest state ≡ true → is_off state ≡ true → ⊥
-at_rest_on Off rest off = false≢true rest
-at_rest_on _ rest off = false≢true off
+at_rest_on o rest off = grind (arith, false≢true)
 
 -- an endpoint is off, and the ring that it gets is free and stands still where it is placed
 pub record Ready (h : Header) (l : Known) (memory : ℕ → ℕ) (s i p : ℕ) (cycle : Bool) : Type 0 where
@@ -155,15 +154,11 @@ module _ (h : Header) (is : IsHeader h) where
   unfolding pointed
   pointed_is l s i p r cycle off at = search (rules, cond-true, is_off, bound_to, ring_having, moved)
 
-  bound_there : (c : Command) (l : Known) (s i p r : ℕ) (cycle : Bool) → BoundThere l (let m : Known = bound_to h l s i (Some r) p cycle in in_state h m s i Running) s i r
-  unfolding bound_to moved moved_to in_state set_to on_ring
-  bound_there c l s i p r cycle = search (rules, ring_elsewhere, on_ring, number)
-
   pub placed_there : (c : Command) (l : Known) (s i p r : ℕ) (cycle : Bool) → is_off (l.endpoint_state s i) ≡ true → ring_having h p ≡ Some r → BoundThere l (changed_by h c l (Places s i p cycle Running)) s i r
-  unfolding changed_by
+  unfolding changed_by bound_to moved moved_to in_state set_to on_ring
   placed_there c l s i p r cycle off at =
       let there : BoundThere l (in_state h (pointed h l s i p cycle) s i Running) s i r =
-      subst (λ m. BoundThere l (in_state h m s i Running) s i r) (sym (pointed_is l s i p r cycle off at)) (bound_there c l s i p r cycle) in
+      subst (λ m. BoundThere l (in_state h m s i Running) s i r) (sym (pointed_is l s i p r cycle off at)) (search (rules, ring_elsewhere, on_ring, number)) in
       record { states = there.states; ring_of = there.ring_of; rings = there.rings }
 
   -- another index stays ready

@@ -3,7 +3,7 @@ use Rattle.safety.proofs.Words.{[], ◌≡◌, ◌∙◌, false, List, Some, sym
 use Rattle.safety.proofs.ReportSuccess.{IsReport, ReportKeeps, report_is, runs_more, success_keeps, where_bound, spot_named, in_profile_is}
 use Rattle.safety.proofs.ReportError.{halted_keeps, erred_keeps, ended_ring, only_ended, works}
 use Rattle.safety.proofs.StopRead.{StopCode, stop_transfer_code, stop_read, stop_possible}
-use Rattle.safety.proofs.LowerLaws.{transfer_driver, transfer_not_command, ring_shape, command_of-with_cycle, ceiling_given, ceiling_held, at_floor, command_is_ring, command_at_is, agrees_counted, with_reads, PostKeeps, post_keeps, learned_read, event_clean, stands_only, events_only, next_same, command_same, stands_learns, matches_learns, LearnsRing, open_takes, low, count, drop_range, last_is, last_take, cond_is, put_at, put_off, newest_still}
+use Rattle.safety.proofs.LowerLaws.{transfer_driver, transfer_not_command, ring_shape, command_of-with_cycle, ceiling_given, ceiling_held, at_floor, command_is_ring, command_at_is, agrees_counted, with_reads, PostKeeps, post_keeps, learned_read, event_clean, stands_only, events_only, next_same, command_same, stands_learns, matches_learns, LearnsRing, open_takes, low, count, drop_range, last_is, last_take, cond_is, put_at, put_off, held_from}
 use Rattle.safety.proofs.FinishFails.{taken_now, posted_under_way}
 use Rattle.world_state.specs.World as of_world
 
@@ -12,10 +12,6 @@ use Rattle.world_state.specs.World as of_world
 -- stopped with the floor at a spot, and held at a number
 abbrev pub stopped_view : RingView → Spot → ℕ → RingView
 stopped_view v f n = record v { floor = f; held = Some n }
-
-ways_still : (shape : Shape) (v : RingView) (f : Spot) (n q : ℕ) → is_way_given shape (stopped_view v f n) q ≡ is_way_given shape v q
-unfolding is_way_given
-ways_still shape v f n q = refl
 
 stopped_data : (shape : Shape) (v : RingView) (p : ℕ) → stopped_number shape v (Data p) ≡ min (p + 1) (given_count shape v)
 unfolding stopped_number
@@ -45,19 +41,7 @@ module _ (shape : Shape) (is : IsShape shape) (memory : ℕ → ℕ) (v : RingVi
   stopped_high (Link p) c at (inr last) = absurd (cc)
 
   pub stopped_matches : (f : Spot) (c n : ℕ) → rank f ≤ rank t → number t ≤ n → RingMatches shape (stopped_view v f n) (record s { active = false; reported = c }) t
-  stopped_matches f c n reached below = record {
-    is_spot = m.is_spot;
-    pointer = m.pointer;
-    cycle = m.cycle;
-    reached = reached;
-    below = omega (arith, ceiling_held shape (stopped_view v f n) n refl);
-    way = λ q e. ways_still shape v f n q ∙ m.way q e;
-    opened = λ on. absurd (false≢true on);
-    next = m.next;
-    newest = newest_still shape v f (Some n) (number t) s.events m.newest;
-    in_order = m.in_order;
-    as_declared = m.as_declared;
-  }
+  stopped_matches f c n reached below = held_from shape v s t f (Some n) false c m reached (omega (arith, ceiling_held shape (stopped_view v f n) n refl)) (λ on. absurd (false≢true on))
 
   -- the takes before the floor's number are reported
   pub stopped_unreported : (f : Spot) (n e : ℕ) → floor_number v + e ≡ number f → number f ≤ number t → Unreported shape (stopped_view v f n) (record s { active = false; reported = s.reported + e }) t
@@ -114,16 +98,14 @@ unfolding is_stop_spot
 stop_link shape v p = refl
 
 pub may_stop_at : (shape : Shape) (v : RingView) (t : Spot) → number t ≤ given_count shape v → ((q : ℕ) → t ≡ Data q → is_way_given shape v q ≡ true) → is_stop_spot shape v t ≡ true
-may_stop_at shape v (Link p) below way = search (rules, stop_link, le-leb, cases_lt, stop_data, or_left, lt-ltb, or_right, and_from, eq-eqb)
-may_stop_at shape v (Data p) below way = search (rules, stop_link, le-leb, cases_lt, stop_data, or_left, lt-ltb, or_right, and_from, eq-eqb)
+may_stop_at shape v o below way = grind (arith, stop_link, le-leb, stop_data, or_left, lt-ltb, or_right, and_from, eq-eqb)
 
 -- ---- the Stop Endpoint under way
 
 stop_seen_is : (k : Known) (s i : ℕ) (c : Command) (seen : ℕ → ℕ → Bool) → seen s i ≡ true → is_stop_of s i (Some c) ≡ true →
     was_stop_seen (let m : Known = record k { stop_seen = seen } in m) c ≡ true
 unfolding was_stop_seen
-stop_seen_is k s i (StopEndpoint t j) seen may at = search (rules, and_parts, eqb-true, false≢true)
-stop_seen_is k s i _ seen may at = search rules
+stop_seen_is k s i o seen may at = grind (arith, and_parts, eqb-true, false≢true)
 
 module _ (h : Header) (k : Known) (seen : ℕ → ℕ → Bool) (s i : ℕ) (may : seen s i ≡ true) where
   abbrev pub with_seen : Known
@@ -157,8 +139,7 @@ code_stops h u v c s i r a stop at = search rules
 
 under_way_is : (h : Header) (s i : ℕ) (o : Option UnderWay) → is_stop_under_way h s i o ≡ true → (x : UnderWay) × (o ≡ Some x) × (is_stop_of s i (command_of x.block) ≡ true)
 unfolding is_stop_under_way
-under_way_is h s i None at = absurd (false≢true at)
-under_way_is h s i (Some x) at = (x, refl, at)
+under_way_is h s i o at = grind (arith, false≢true)
 
 with_stopped_some : (h : Header) (x : UnderWay) → with_stopped h (Some x) ≡ Some (let y : UnderWay = record x { has_stopped = true } in y)
 unfolding with_stopped

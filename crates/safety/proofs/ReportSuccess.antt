@@ -13,12 +13,10 @@ use Rattle.safety.proofs.ReportedRing.{open_takes, reported_is, reported_matches
 use Rattle.safety.proofs.StatesPlaced.{on_is}
 
 pub transfer_kind : (t : BlockKind) → is_transfer_event t ≡ true → t ≡ TransferEvent
-transfer_kind TransferEvent h = refl
-transfer_kind _ h = absurd (false≢true h)
+transfer_kind o h = grind (arith, false≢true)
 
 pub mapped : {A B : Type 0} (f : A → B) (o : Option A) (y : B) → option_map f o ≡ Some y → (x : A) × (o ≡ Some x) × (f x ≡ y)
-mapped f None y at = absurd (none-some y at)
-mapped f (Some x) y at = (x, refl, same_Some (f x) y at)
+mapped f o y at = grind (arith, none-some, same_Some)
 
 pub record IsReport (h : Header) (w v : World) (b : Block) : Type 0 where
   pub can : can_post h w b ≡ true
@@ -30,8 +28,7 @@ pub record IsReport (h : Header) (w v : World) (b : Block) : Type 0 where
 
 on_ring_is : (h : Header) (w v : World) (b : Block) (o : Option ℕ) → reported_on h w b o ≡ Some v → (r : ℕ) × (o ≡ Some r) × (report_code h (posted h w b) (code b) (slot b) (endpoint b) r (pointer b) ≡ Some v)
 unfolding reported_on
-on_ring_is h w v b None at = absurd (none-some v at)
-on_ring_is h w v b (Some r) at = (r, refl, at)
+on_ring_is h w v b o at = grind (arith, none-some)
 
 pub report_is : (h : Header) (w v : World) (b : Block) → reported h w b ≡ Some v → IsReport h w v b
 unfolding reported

@@ -2,7 +2,8 @@
 use Rattle.safety.proofs.Words.{◌≡◌, ◌+◌, ◌-◌, ◌<◌, ◌≤◌, ◌==◌, ◌∙◌, ℕ, suc, zero, true, List, length, drop, map, Some, position, arith, refl, sym, ap, inl, inr, get_or, length-drop, eqb-true, drop-drop, range_with_len, position-Some, length-map-range_with_len, get_or-map-range_with_len, Spot, Data, Shape, address_of, rank, number, after, IsShape, RingView, declared, floor_number, ceiling, is_way_given, is_step_given, named, RingKeeps, cases_option, rank_least, rank_most, next_least, named_spot-near, given_count_grows, given_count_declared, given_count_near, takes_of, RingState, RingMatches, Unreported}
 use Rattle.safety.proofs.NoWait.{ceiling_given, ceiling_open, ceiling_held}
 use Rattle.safety.proofs.LookedRing.{number_after}
-use Rattle.safety.proofs.RingGoesOn.{newest_still}
+use Rattle.safety.proofs.RingGoesOn.{held_from}
+use Rattle.safety.proofs.FloorMoves.{ceiling_grows}
 
 -- ---- places in a list of addresses
 
@@ -72,45 +73,13 @@ module _ (shape : Shape) (is : IsShape shape) (memory : ℕ → ℕ) (v : RingVi
   abbrev pub moved_to : ℕ → RingView
   moved_to p = record v { floor = after shape p }
 
-  steps_still : (p q : ℕ) → is_step_given shape v q ≡ true → is_step_given shape (moved_to p) q ≡ true
-  unfolding is_step_given is_way_given
-  steps_still p q given = given
-
-  ways_still : (p q : ℕ) → is_way_given shape (moved_to p) q ≡ is_way_given shape v q
-  unfolding is_way_given
-  ways_still p q = refl
-
-  ceiling_grows : (p : ℕ) → floor_number v ≤ p → ceiling shape v ≤ ceiling shape (moved_to p)
-  ceiling_grows p from =
-      elim (cases_option v.held) [
-        | inl none ↦ omega (
-          arith,
-          ceiling_open shape v none,
-          ceiling_open shape (moved_to p) none,
-          given_count_grows shape v (moved_to p) (omega (arith, number_after shape p)) (steps_still p),
-        )
-        | inr held ↦ omega (arith, ceiling_held shape v held.0 held.1, ceiling_held shape (moved_to p) held.0 held.1)
-      ]
-
   pub floor_before : (p : ℕ) → p < number t → rank (after shape p) ≤ rank t
   floor_before p below = let high = rank_least t in next_least shape (Data p) t m.is_spot (omega arith)
 
   pub reported_matches : (a n c : ℕ) → Reported a n → RingMatches shape (moved_to (floor_number v + n)) (record s { reported = c }) t
   reported_matches a n c r =
-      let p : ℕ = floor_number v + n in
-      record {
-        is_spot = m.is_spot;
-        pointer = m.pointer;
-        cycle = m.cycle;
-        reached = floor_before p r.within;
-        below = omega (arith, m.below, ceiling_grows p (omega arith));
-        way = λ q e. ways_still p q ∙ m.way q e;
-        opened = m.opened;
-        next = m.next;
-        newest = newest_still shape v (after shape p) v.held (number t) s.events m.newest;
-        in_order = m.in_order;
-        as_declared = m.as_declared;
-      }
+      held_from shape v s t (after shape (floor_number v + n)) v.held s.active c m (floor_before (floor_number v + n) r.within)
+      (omega (arith, m.below, ceiling_grows shape v (floor_number v + n) (omega arith))) m.opened
 
   pub reported_unreported : (a n : ℕ) → Reported a n → Unreported shape (moved_to (floor_number v + n)) (record s { reported = s.reported + n + 1 }) t
   reported_unreported a n r =

@@ -1,5 +1,5 @@
 -- A ring of which more is known while its pointer stays: what is said of it in the world stays
-use Rattle.safety.proofs.Words.{[], ◌≡◌, ◌≤◌, ◌∷◌, ℕ, true, List, map, Option, None, Some, arith, refl, ap, rules, range_with_len, Shape, Spot, address_of, number, rank, is_border, RingView, floor_number, ceiling, is_way_given, is_step_given, given_count_same, RingEvent, Took, Newest, RingState, RingMatches, Unreported, BoundRing, IsHeldMore, GivesMore, step_more}
+use Rattle.safety.proofs.Words.{Bool, [], ◌≡◌, ◌≤◌, ◌∷◌, ℕ, true, List, map, Option, None, Some, arith, refl, ap, rules, range_with_len, Shape, Spot, address_of, number, rank, is_border, RingView, floor_number, ceiling, is_way_given, is_step_given, given_count_same, RingEvent, Took, Newest, RingState, RingMatches, Unreported, BoundRing, IsHeldMore, GivesMore, step_more}
 use Rattle.safety.proofs.NoWait.{ceiling_open, ceiling_held}
 
 -- the floor is the same, no less is given, and where descriptors begin, they still do
@@ -11,29 +11,30 @@ pub record RingGoesOn (shape : Shape) (v x : RingView) : Type 0 where
   pub held : v.held ≡ None → x.held ≡ None
 
 newest_on : (shape : Shape) (v x : RingView) → RingGoesOn shape v x → (n : ℕ) (events : List RingEvent) → Newest shape v n events → Newest shape x n events
-newest_on shape v x g n (Took a b d ∷ older) y = λ on. step_more shape v x g.more n (y on)
-newest_on shape v x g n _ y = g.borders n y
+newest_on shape v x g n o y = grind (arith, step_more, g.more, g.borders)
 
 -- wherever the floor is, and wherever the ring is held
 pub newest_still : (shape : Shape) (v : RingView) (f : Spot) (o : Option ℕ) (n : ℕ) (events : List RingEvent) →
     Newest shape v n events → Newest shape (record v { floor = f; held = o }) n events
 unfolding is_step_given is_way_given
-newest_still shape v f o n [] y = y
-newest_still shape v f o n _ y = y
+newest_still shape v f o n x y = grind arith
 
-way_stays : (shape : Shape) (v x : RingView) → ((q : ℕ) → v.crossed q ≡ true → x.crossed q ≡ true) → (q : ℕ) → is_way_given shape v q ≡ true → is_way_given shape x q ≡ true
+-- a ring with another floor and another hold, below which the pointer stands as it did
+pub held_from : (shape : Shape) (v : RingView) (s : RingState) (t f : Spot) (o : Option ℕ) (a : Bool) (c : ℕ) → RingMatches shape v s t → rank f ≤ rank t →
+    number t ≤ ceiling shape (record v { floor = f; held = o }) → (a ≡ true → o ≡ None) → RingMatches shape (record v { floor = f; held = o }) (record s { active = a; reported = c }) t
 unfolding is_way_given
-way_stays shape v x crossed q way = search rules
+held_from shape v s t f o a c m reached below opened = assumption (m, newest_still shape v f o (number t) s.events m.newest)
 
 module _ (shape : Shape) (v x : RingView) (g : RingGoesOn shape v x) (s : RingState) where
   pub matches_on : (t : Spot) → RingMatches shape v s t → RingMatches shape x s t
+  unfolding is_way_given
   matches_on t m = record {
     is_spot = m.is_spot;
     pointer = m.pointer;
     cycle = m.cycle;
     reached = omega (arith, m.reached, ap rank g.floor);
     below = omega (arith, m.below, g.ceiling);
-    way = λ q at. way_stays shape v x g.more.crossed q (m.way q at);
+    way = λ q at. (search rules);
     opened = λ on. g.held (m.opened on);
     next = m.next;
     newest = newest_on shape v x g (number t) s.events m.newest;
@@ -41,11 +42,8 @@ module _ (shape : Shape) (v x : RingView) (g : RingGoesOn shape v x) (s : RingSt
     as_declared = m.as_declared;
   }
 
-  pub unreported_on : (t : Spot) → Unreported shape v s t → Unreported shape x s t
-  unreported_on t u = search (rules, map, address_of, range_with_len, floor_number, number)
-
   pub bound_on : (ring_of : ℕ → ℕ → Option ℕ) (r : ℕ) → BoundRing shape ring_of v s r → BoundRing shape ring_of x s r
-  bound_on ring_of r b = search (rules, matches_on, unreported_on)
+  bound_on ring_of r b = search (rules, matches_on, map, address_of, range_with_len, floor_number, number)
 
 -- held at a greater number
 steps_same : (shape : Shape) (v : RingView) (o : Option ℕ) (q : ℕ) → is_step_given shape v q ≡ is_step_given shape (record v { held = o }) q
@@ -53,15 +51,10 @@ unfolding is_step_given is_way_given
 steps_same shape v o q = refl
 
 held_ceiling : (shape : Shape) (v : RingView) (a o : Option ℕ) → v.held ≡ a → IsHeldMore a o → ceiling shape v ≤ ceiling shape (record v { held = o })
-held_ceiling shape v None None at more =
-    omega (arith, ceiling_open shape v at, ceiling_open shape (record v { held = None }) refl, given_count_same shape v (record v { held = None }) refl (steps_same shape v None))
-held_ceiling shape v (Some m) (Some n) at more = omega (arith, more, ceiling_held shape v m at, ceiling_held shape (record v { held = Some n }) n refl)
-held_ceiling shape v None (Some n) at more = absurd more
-held_ceiling shape v (Some m) None at more = absurd more
+held_ceiling shape v o x at more = grind (arith, ceiling_open, given_count_same, steps_same, ceiling_held)
 
 still_open : (o : Option ℕ) → IsHeldMore None o → o ≡ None
-still_open None more = refl
-still_open (Some n) more = absurd more
+still_open o more = grind arith
 
 pub held_goes_on : (shape : Shape) (v : RingView) (o : Option ℕ) → IsHeldMore v.held o → RingGoesOn shape v (record v { held = o })
 held_goes_on shape v o more = search (rules, held_ceiling, still_open)

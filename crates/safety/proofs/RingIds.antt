@@ -1,5 +1,5 @@
 -- No two rings of a header have one ID, so each is found by its own
-use Rattle.safety.proofs.Words.{[], ◌≡◌, ◌==◌, ◌&&◌, ◌∷◌, ◌∙◌, ℕ, not, Bool, true, false, List, nat_lt, Option, Some, None, find, refl, sym, ap, subst, inl, inr, eq-eqb, eqb-true, ltb-true, rules, list_any, list_all, cases_Bool, cond-true, cond-false, false≢true, and_parts, or_parts, not-true, none-some, same_Some, RingKind, Cmd, is_inside, is_shape, Header, Ring, IsHeader, clash, may_stand_together, is_command_kind, is_transfer_kind, ring_with, id_of, id_or_none, command_ring, command_id, ring_having, is_driver_ring, is_transfer_ring}
+use Rattle.safety.proofs.Words.{[], ◌≡◌, ◌==◌, ◌&&◌, ◌∷◌, ◌∙◌, ℕ, not, Bool, true, false, List, nat_lt, Option, Some, None, find, refl, sym, ap, subst, inl, inr, eq-eqb, eqb-true, ltb-true, rules, list_any, list_all, cases_Bool, cond-true, cond-false, false≢true, and_parts, or_parts, not-true, none-some, same_Some, RingKind, Cmd, is_inside, is_shape, Header, Ring, IsHeader, clash, may_stand_together, is_command_kind, is_transfer_kind, ring_with, id_of, id_or_none, command_ring, command_id, ring_having, is_driver_ring, is_transfer_ring, arith}
 use Rattle.safety.specs.RingsKeep.{IsDriverRing}
 use Rattle.safety.specs.EndpointsKeep.{IsTransferRing}
 use Rattle.safety.proofs.RingsOfHeader.{found_passes, found_allowed}
@@ -50,16 +50,14 @@ module _ (h : Header) (is : IsHeader h) where
       (λ q passes. (and_parts (is_transfer_kind q.shape.kind) (is_inside q.shape p) passes).0) e
 
   two_kinds : (kind : RingKind) → is_command_kind kind ≡ true → is_transfer_kind kind ≡ true → ⊥
-  two_kinds Cmd c t = false≢true t
-  two_kinds _ c t = false≢true c
+  two_kinds o c t = grind (arith, false≢true)
 
   -- no ring has the ID of none
   pub none_has_256 : (q : Ring) → ring_with h 256 ≡ Some q → ⊥
   none_has_256 q found = search (rules, eqb-true, found_passes, ltb-true, and_parts, nat_lt, found_allowed, list_all, is_shape, may_stand_together)
 
   no_ring : (o : Option Ring) → ring_with h 256 ≡ o → is_transfer_ring o ≡ true → ⊥
-  no_ring None found transfer = false≢true transfer
-  no_ring (Some q) found transfer = none_has_256 q found
+  no_ring o found transfer = grind (arith, false≢true, none_has_256)
 
   not_transfer : (o : Option Ring) → find (λ q. is_command_kind q.shape.kind) h.rings ≡ o → IsTransferRing h (id_or_none o) → ⊥
   not_transfer None found transfer = no_ring (ring_with h 256) refl transfer
@@ -75,8 +73,7 @@ module _ (h : Header) (is : IsHeader h) where
 -- a transfer ring is one of the driver's
 transfer_is_driver : (o : Option Ring) → is_transfer_ring o ≡ true → is_driver_ring o ≡ true
 unfolding is_driver_ring
-transfer_is_driver None t = search rules
-transfer_is_driver (Some q) t = search (rules, false≢true)
+transfer_is_driver o t = grind (arith, false≢true)
 
 pub transfer_driver : (h : Header) (r : ℕ) → IsTransferRing h r → IsDriverRing h r
 transfer_driver h r t = transfer_is_driver (ring_with h r) t

@@ -1,5 +1,5 @@
 -- The command and transfer rings of a header, each found by its ID
-use Rattle.safety.proofs.Words.{[], ◌≡◌, ◌==◌, ◌&&◌, ◌++◌, ◌∷◌, ◌∙◌, ℕ, Bool, true, false, List, nat_lt, Option, Some, None, find, filter, refl, sym, ap, inl, inr, eqb-true, rules, list_any, list_all, flat_map, cases_Bool, cond-true, cond-false, false≢true, and_parts, or_parts, none-some, same_Some, list_any-append, IsShape, is_shape, Xfer, Header, Ring, IsHeader, may_stand_together, is_driver_kind, ring_with, shape_of, shape_or, driver_rings, is_driver_ring}
+use Rattle.safety.proofs.Words.{[], ◌≡◌, ◌==◌, ◌&&◌, ◌++◌, ◌∷◌, ◌∙◌, ℕ, Bool, true, false, List, nat_lt, Option, Some, None, find, filter, refl, sym, ap, inl, inr, eqb-true, rules, list_any, list_all, flat_map, cases_Bool, cond-true, cond-false, false≢true, and_parts, or_parts, none-some, same_Some, list_any-append, IsShape, is_shape, Xfer, Header, Ring, IsHeader, may_stand_together, is_driver_kind, ring_with, shape_of, shape_or, driver_rings, is_driver_ring, arith}
 use Rattle.safety.specs.RingsKeep.{IsDriverRing}
 
 -- what is found passes the test, and whatever each ring passes
@@ -54,17 +54,13 @@ pub record HasRing (h : Header) (r : ℕ) : Type 0 where
   pub shape : shape_of h r ≡ ring.shape
   pub driver : is_driver_kind ring.shape.kind ≡ true
 
-shape_found : (h : Header) (r : ℕ) (ring : Ring) → ring_with h r ≡ Some ring → shape_of h r ≡ ring.shape
-unfolding shape_of
-shape_found h r ring found = ap (λ o. shape_or Xfer o) found
-
 pub driver_is : (o : Option Ring) → is_driver_ring o ≡ true → (ring : Ring) × (o ≡ Some ring) × (is_driver_kind ring.shape.kind ≡ true)
 unfolding is_driver_ring
-driver_is None h = absurd (false≢true h)
-driver_is (Some ring) h = (ring, refl, h)
+driver_is o h = grind (arith, false≢true)
 
 pub has_ring : (h : Header) (r : ℕ) → IsDriverRing h r → HasRing h r
-has_ring h r driver = search (rules, driver_is, eqb-true, found_passes, shape_found)
+unfolding shape_of
+has_ring h r driver = search (rules, driver_is, eqb-true, found_passes, shape_or)
 
 pub none_of_ring : {X : Type 0} (h : Header) (r : ℕ) (has : HasRing h r) (passes : X → Bool) (f : Ring → List X) →
     list_any passes (flat_map f (driver_rings h)) ≡ false → list_any passes (f has.ring) ≡ false

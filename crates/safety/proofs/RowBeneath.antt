@@ -72,8 +72,7 @@ module _ (h : Header) (is : IsHeader h) (k : Known) (unread : List Block) (w : W
 
   unchanged : (at : ℕ) (c : Option ℕ) → IsUnchanged h w at c → IsUnchanged h v at c
   unfolding v driver.declared
-  unchanged at None same = tt
-  unchanged at (Some c) same = same
+  unchanged at o same = grind arith
 
   matches : Matches h m v
   matches =

@@ -1,5 +1,5 @@
 -- What each row of the driver leaves as it is
-use Rattle.safety.proofs.Words.{◌≡◌, ◌==◌, ℕ, List, Option, None, Some, option_and_then, refl, rules, cond_both, Block, RingView, Opens, Writes, changed, Header, Register, Erdp, Usbcmd, Sub, Write, Reg, Bell, shape_of, command_id, Known, on_ring, with_device, with_word, written, command_given, taken_device, run_or_stop, valued, register_written, endpoint_rung, rung, learned}
+use Rattle.safety.proofs.Words.{◌≡◌, ◌==◌, ℕ, List, Option, None, Some, option_and_then, refl, rules, cond_both, Block, RingView, Opens, Writes, changed, Header, Register, Erdp, Usbcmd, Sub, Write, Reg, Bell, shape_of, command_id, Known, on_ring, with_device, with_word, written, command_given, taken_device, run_or_stop, valued, register_written, endpoint_rung, rung, learned, arith}
 use Rattle.safety.proofs.SameDriver.{view_after}
 
 pub record SameRegisters (k l : Known) : Type 0 where
@@ -61,8 +61,7 @@ module _ (h : Header) where
 
   device_leaves : (k l : Known) (taken : Option (ℕ × ℕ)) → WriteLeaves k l → WriteLeaves k (with_device h l taken)
   unfolding with_device
-  device_leaves k l None leaves = search rules
-  device_leaves k l (Some e) leaves = search rules
+  device_leaves k l o leaves = grind arith
 
   pub write_leaves : (k : Known) (a w : ℕ) → WriteLeaves k (learned h k (Write a w))
   unfolding learned written with_word
@@ -70,8 +69,7 @@ module _ (h : Header) where
 
   view_by : (k : Known) (a w : ℕ) (taken : Option (ℕ × ℕ)) (r : ℕ) → (with_device h (with_word h k a w) taken).ring r ≡ changed (shape_of h r) (k.ring r) (Writes a w)
   unfolding with_device with_word
-  view_by k a w None r = refl
-  view_by k a w (Some e) r = refl
+  view_by k a w o r = grind arith
 
   -- what it changes of a ring
   pub written_view : (k : Known) (a w r : ℕ) → (learned h k (Write a w)).ring r ≡ changed (shape_of h r) (k.ring r) (Writes a w)
@@ -88,23 +86,16 @@ module _ (h : Header) where
 
   register_leaves_by : (k : Known) (r : Register) (x : ℕ) → RegisterLeaves k (register_written h k r x)
   unfolding register_written valued
-  register_leaves_by k Usbcmd x = search (rules, run_leaves, value_leaves)
-  register_leaves_by k Erdp x = search (rules, run_leaves, value_leaves)
-  register_leaves_by k r x = search (rules, value_leaves)
+  register_leaves_by k r x = grind (arith, run_leaves, value_leaves)
 
   pub register_leaves : (k : Known) (r : Register) (x : ℕ) → RegisterLeaves k (learned h k (Reg r x))
   unfolding learned
   register_leaves k r x = register_leaves_by k r x
 
-  open_leaves : (k : Known) (r : ℕ) → BellLeaves k (on_ring h k r Opens)
-  unfolding on_ring
-  open_leaves k r = search rules
-
   rung_leaves : (k : Known) (s t : ℕ) (o : Option ℕ) → BellLeaves k (endpoint_rung h k s t o)
   unfolding endpoint_rung on_ring
-  rung_leaves k s t None = search rules
-  rung_leaves k s t (Some r) = search rules
+  rung_leaves k s t o = grind arith
 
   pub bell_leaves : (k : Known) (s t : ℕ) → BellLeaves k (learned h k (Bell s t))
-  unfolding learned rung
-  bell_leaves k s t = search (rules, on_ring, command_id, endpoint_rung, k.ring_of, open_leaves, rung_leaves)
+  unfolding learned rung on_ring
+  bell_leaves k s t = search (rules, on_ring, command_id, endpoint_rung, k.ring_of, rung_leaves)

@@ -1,14 +1,10 @@
 -- The doorbell of a ring that is open: nothing is learned, and where all events are read the world agrees with what is known as before
-use Rattle.safety.proofs.Words.{[], ◌≡◌, ◌==◌, ◌||◌, ◌∙◌, ℕ, not, nat_lt, true, false, List, Option, None, Some, refl, sym, ap, subst, inl, inr, rules, cond-true, cond-false, or_parts, not-false, false≢true, put, put_pair, Block, RingView, Opens, changed, is_open, EndpointState, Off, Running, Halted, Error, is_running, is_stopped, Header, Bell, IsHeader, shape_of, command_id, World, counted, Known, learned, on_ring, endpoint_rung, rung, is_bad_bell, is_touched, lenient, DriverKeeps, Agrees, is_open_if, is_idle, MayRing, activated, bell_row, endpoint_bell}
+use Rattle.safety.proofs.Words.{[], ◌≡◌, ◌==◌, ◌||◌, ◌∙◌, ℕ, not, nat_lt, true, false, List, Option, None, Some, refl, sym, ap, subst, inl, inr, rules, cond-true, cond-false, or_parts, not-false, false≢true, put, put_pair, Block, RingView, Opens, changed, is_open, EndpointState, Off, Running, Halted, Error, is_running, is_stopped, Header, Bell, IsHeader, shape_of, command_id, World, counted, Known, learned, on_ring, endpoint_rung, rung, is_bad_bell, is_touched, lenient, DriverKeeps, Agrees, is_open_if, is_idle, MayRing, activated, bell_row, endpoint_bell, arith}
 use Rattle.safety.proofs.LowerLaws.{bell_facts, agrees_once_counted, put_at, put_off, open_held}
 use Rattle.safety.proofs.RowRings.{endpoint_agrees, command_agrees}
 
--- opening an open ring
-same_view : (v : RingView) (o : Option ℕ) → v.held ≡ o → ◌≡◌ {A = RingView} (record v { held = o }) v
-same_view v o same = search rules
-
 rings_same : (h : Header) (k : Known) (r : ℕ) → (k.ring r).held ≡ None → (q : ℕ) → put k.ring r (changed (shape_of h r) (k.ring r) Opens) q ≡ k.ring q
-rings_same h k r none q = search (rules, put_at, same_view, put_off)
+rings_same h k r none q = search (rules, put_at, put_off)
 
 pub opens_same : (h : Header) (k : Known) (r : ℕ) → (k.ring r).held ≡ None → on_ring h k r Opens ≡ k
 unfolding on_ring
@@ -35,8 +31,7 @@ module _ (h : Header) (k : Known) (d : DriverKeeps h k) (s t : ℕ) where
   -- nothing is learned
   endpoint_idle : (o : Option ℕ) → k.ring_of s t ≡ o → is_open_if k o ≡ true → endpoint_rung h k s t o ≡ k
   unfolding endpoint_rung
-  endpoint_idle None at is = refl
-  endpoint_idle (Some r) at is = let none = open_held (k.ring r) is in rung_same h k s t r none (d.states.open_runs s t r at none)
+  endpoint_idle o at is = grind (arith, open_held, k.ring, rung_same, d.states.open_runs)
 
   pub idle : is_idle h k (Bell s t) ≡ true → learned h k (Bell s t) ≡ k
   unfolding learned rung
@@ -52,10 +47,8 @@ module _ (h : Header) (k : Known) (d : DriverKeeps h k) (s t : ℕ) where
 
   -- the endpoint may be rung, and works
   may_ring_by : (o : Option ℕ) → k.ring_of s t ≡ o → is_open_if k o ≡ true → is_bad_bell h k s t ≡ false → MayRing h k s t
-  may_ring_by None at is good = absurd (false≢true (sym (subst (λ x. AtRest x) (sym (d.states.off s t at)) (record { waits = refl })).waits ∙ bell_state good))
-  may_ring_by (Some r) at is good =
-      let none = open_held (k.ring r) is in
-      record { untouched = bell_untouched good; state = inl (d.states.open_runs s t r at none, λ q has. ring_open (k.ring_of s t) q has (ap (λ o. is_open_if k o) at ∙ is)) }
+  may_ring_by o at is good =
+      grind (arith, false≢true, d.states.off, bell_state, open_held, k.ring, bell_untouched, d.states.open_runs, ring_open, k.ring_of, is_open_if)
 
   pub rings : is_idle h k (Bell s t) ≡ true → lenient h k (Bell s t) ≡ [] → (s == 0) ≡ false → MayRing h k s t
   rings is clean endpoint =

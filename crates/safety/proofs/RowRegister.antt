@@ -27,8 +27,7 @@ module _ (h : Header) (k m : Known) (w v : World) (s : SameRings k m) (c : SameC
   same_before p d u = search (rules, option_and_then, slice_get)
 
   still_unchanged : v.changed ≡ w.changed → v.written ≡ w.written → (at : ℕ) (o : Option ℕ) → IsUnchanged h w at o → IsUnchanged h v at o
-  still_unchanged changed written at None same = tt
-  still_unchanged changed written at (Some n) same = λ i l. let low = same i l in omega (arith, ap (λ f. f (n + 4 * i)) changed, ap (λ f. f (at + 12)) written)
+  still_unchanged changed written at o same = grind arith
 
   pub same_matches : v.changed ≡ w.changed → v.written ≡ w.written → Matches h k w → Matches h m v
   same_matches changed written y =
@@ -41,13 +40,9 @@ module _ (h : Header) (k : Known) (unread : List Block) (w : World) (g : Agrees 
   with_same : (r q : Register) (x : ℕ) → with_register w.register r x q ≡ with_register k.register r x q
   with_same r q x = ap (λ o. if same_register q r then Some x else o) (g.stands.registers q)
 
-  valued_matches : (r : Register) (x : ℕ) → Matches h (valued k r x) (driver.valued w r x)
-  unfolding valued driver.valued
-  valued_matches r x = search (rules, same_matches, valued)
-
   pub valued_agrees : (r : Register) (x : ℕ) → Agrees h (valued k r x) unread (driver.valued w r x)
   unfolding valued driver.valued of_world.event_at
-  valued_agrees r x = search (rules, with_same, valued_matches)
+  valued_agrees r x = search (rules, with_same, same_matches, valued)
 
 -- ---- ERDP
 
@@ -71,13 +66,9 @@ module _ (h : Header) (k : Known) (unread : List Block) (w : World) (g : Agrees 
   order : AreInOrder (event_size h) (record { posted = w.posted; reads = w.reads; dequeue = position_from (event_shape h) w.dequeue a })
   order = search (rules, position_within, event_shape, w.dequeue, may.more, may.reached, g.events.order.room)
 
-  moved_matches : Matches h moved_known moved_world
-  unfolding moved_known moved_world
-  moved_matches = search (rules, same_matches, moved_known, moved_world)
-
   moved_agrees : Agrees h moved_known unread moved_world
   unfolding moved_known moved_world of_world.event_at
-  moved_agrees = search (rules, moved_known, moved_world, order, moved_matches)
+  moved_agrees = search (rules, moved_known, moved_world, order, same_matches)
 
   pub erdp_agrees : Agrees h (record k { dequeue = position_from (event_shape h) k.dequeue a }) unread (driver.with_dequeue h w a)
   unfolding moved_known moved_world driver.with_dequeue

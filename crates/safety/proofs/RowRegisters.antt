@@ -1,5 +1,5 @@
 -- A write of any register, but one that stops the controller, where all events are read: what is known agrees with the world
-use Rattle.safety.proofs.Words.{[], ◌≡◌, ◌&&◌, ◌||◌, ◌⊎◌, if◌then◌else◌, ◌∙◌, ℕ, not, true, false, List, Option, None, Some, is_some, refl, sym, ap, subst, inl, inr, cases_Bool, cond-true, cond-false, not_from_false, not_from_true, false≢true, Block, erdp_address, is_event_place, event_shape, Header, Register, Usbcmd, Crcr, Erdp, Reg, IsHeader, run_bit, reset_bit, World, counted, Known, learned, is_bad_register, lenient, Unstarted, CommandRingNamed, DriverKeeps, Agrees, ◌≢◌, ◌∷◌, Bool, rules, Shape, Data, address_of, cycle_of, number, is_border, RingView, is_way_given, place_count_pos, cycle_of-first, Command, shape_of, command_id, register_or_zero, base_address, ring_cycle_state, RingEvent, IsUnfinished, Newest, RingState, state_of, RingMatches, BoundRing, FreeRing, EndpointRing, UnderWayMatches, CommandMatches, NotStarted, Matches, register_written, run_or_stop, valued, next_take, has_other_words, is_out_of_order, command_at, next_command}
+use Rattle.safety.proofs.Words.{[], ◌≡◌, ◌&&◌, ◌||◌, ◌⊎◌, if◌then◌else◌, ◌∙◌, ℕ, not, true, false, List, Option, None, Some, is_some, refl, sym, ap, subst, inl, inr, cases_Bool, cond-true, cond-false, not_from_false, not_from_true, false≢true, Block, erdp_address, is_event_place, event_shape, Header, Register, Usbcmd, Crcr, Erdp, Reg, IsHeader, run_bit, reset_bit, World, counted, Known, learned, is_bad_register, lenient, Unstarted, CommandRingNamed, DriverKeeps, Agrees, ◌≢◌, ◌∷◌, Bool, rules, Shape, Data, address_of, cycle_of, number, is_border, RingView, is_way_given, place_count_pos, cycle_of-first, Command, shape_of, command_id, register_or_zero, base_address, ring_cycle_state, RingEvent, IsUnfinished, Newest, RingState, state_of, RingMatches, BoundRing, FreeRing, EndpointRing, UnderWayMatches, CommandMatches, NotStarted, Matches, register_written, run_or_stop, valued, next_take, has_other_words, is_out_of_order, command_at, next_command, arith}
 use Rattle.controller_model.specs.DriverRows as driver
 use Rattle.safety.proofs.LowerLaws.{register_facts, starts_written, ErdpReached, agrees_once_counted, valued_agrees, erdp_agrees, erdp_stays, ring_shape, put_at, put_off}
 use Rattle.world_state.specs.World as of_world
@@ -78,8 +78,7 @@ module _ (h : Header) (is : IsHeader h) (k : Known) (unread : List Block) (w : W
   command = record { spot = Data 0; ring = first; under_way = subst (λ o. UnderWayMatches h m (Data 0) o) (sym none) (sym next_zero, seen) }
 
   endpoint_ring : (r : ℕ) → r ≢ command_id h → EndpointRing h k w r → EndpointRing h k v r
-  endpoint_ring r other (inl bound) = inl (subst (λ s. BoundRing (shape_of h r) k.ring_of (k.ring r) s r) (sym (others r other)) bound)
-  endpoint_ring r other (inr free) = inr (subst (λ s. FreeRing (shape_of h r) k.ring_of (k.ring r) s r) (sym (others r other)) free)
+  endpoint_ring r other o = grind (arith, shape_of, k.ring_of, k.ring, others)
 
   given_before : (p : ℕ) (c : Command) → IsUnfinished h m p c → IsUnfinished h k p c
   unfolding m command_at
@@ -106,8 +105,7 @@ module _ (h : Header) (is : IsHeader h) (k : Known) (unread : List Block) (w : W
   start_agrees = search (rules, matches)
 
 some_value : (o : Option ℕ) → is_some o ≡ true → (x : ℕ) × (o ≡ Some x)
-some_value None is = absurd (false≢true is)
-some_value (Some x) is = (x, refl)
+some_value o is = grind (arith, false≢true)
 
 -- what a start finds
 record MayStart (h : Header) (k : Known) : Type 0 where

@@ -1,5 +1,5 @@
 -- Behind a row of the driver the run goes on, whatever is unread
-use Rattle.safety.proofs.Words.{[], ◌≡◌, ◌==◌, ◌&&◌, if◌then◌else◌, ◌∷◌, ◌∙◌, ℕ, not, true, false, List, Some, refl, sym, subst, inl, inr, rules, cases_Bool, cond-true, and_from, not-false, same_Some, Block, is_open, Header, Row, Sub, Write, Reg, Bell, Read, IsHeader, MayCome, command_id, IsRow, World, counted, Known, learned, is_bad_bell, lenient, DriverKeeps, KeptByRestoring, IsDriverRow, Agrees, ArePossible, Runs, all_read, is_idle, is_open_if, MayRing, SquareLaw, MoreLaw, None, ap, BlockKind, TransferEvent, CommandCompletion, kind, event_read, EndpointsKeep, activated, bell_row, endpoint_bell, row_done}
+use Rattle.safety.proofs.Words.{[], ◌≡◌, ◌==◌, ◌&&◌, if◌then◌else◌, ◌∷◌, ◌∙◌, ℕ, not, true, false, List, Some, refl, sym, subst, inl, inr, rules, cases_Bool, cond-true, and_from, not-false, same_Some, Block, is_open, Header, Row, Sub, Write, Reg, Bell, Read, IsHeader, MayCome, command_id, IsRow, World, counted, Known, learned, is_bad_bell, lenient, DriverKeeps, KeptByRestoring, IsDriverRow, Agrees, ArePossible, Runs, all_read, is_idle, is_open_if, MayRing, SquareLaw, MoreLaw, None, ap, BlockKind, TransferEvent, CommandCompletion, kind, event_read, EndpointsKeep, activated, bell_row, endpoint_bell, row_done, arith}
 use Rattle.safety.proofs.LowerLaws.{BellFacts, bell_facts, endpoints_of, transfer_command, open_held, held_open}
 use Rattle.safety.proofs.MiddleLaws.{read_counts, awake_runs, read_on, idle, rings, rung_agrees, command_rung, completed_view}
 
@@ -7,9 +7,7 @@ use Rattle.safety.proofs.MiddleLaws.{read_counts, awake_runs, read_on, idle, rin
 module _ (h : Header) (is : IsHeader h) (k : Known) (keeps : EndpointsKeep h k) (b : Block) where
   event_held : (t : BlockKind) → (k.ring (command_id h)).held ≡ None → ((event_read h k t b).ring (command_id h)).held ≡ None
   unfolding event_read
-  event_held TransferEvent none = ap (λ v. v.held) (transfer_command h is k keeps b) ∙ none
-  event_held CommandCompletion none = ap (λ v. v.held) (completed_view h is k keeps b) ∙ none
-  event_held _ none = none
+  event_held o none = grind (arith, transfer_command, completed_view)
 
   read_held : (k.ring (command_id h)).held ≡ None → ((learned h k (Read b)).ring (command_id h)).held ≡ None
   unfolding learned
@@ -39,9 +37,6 @@ module _ (h : Header) where
       later : Known
       later = all_read h now run.unread
 
-      nothing_more : now ≡ learned h now (Bell s t)
-      nothing_more = sym (idle h now now_keeps s t idles)
-
       command_agrees : (s == 0) ≡ true → Agrees h later run.unread (counted h (bell_row h w s t))
       unfolding later bell_row
       command_agrees command =
@@ -67,7 +62,7 @@ module _ (h : Header) where
 
       pub idle_runs : row_done h w (Bell s t) ≡ Some v → Runs h (learned h now (Bell s t)) (counted h v)
       unfolding later row_done
-      idle_runs at = search (rules, later, nothing_more, same_Some, agrees_still)
+      idle_runs at = search (rules, later, idle, same_Some, agrees_still)
 
     -- any row of the driver that doesn't stop the controller
     module _ (square : SquareLaw h) (more : MoreLaw h) where

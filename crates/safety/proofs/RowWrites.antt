@@ -8,8 +8,7 @@ use Rattle.safety.proofs.RowFrames.{WriteLeaves, write_leaves}
 
 device_rings : (h : Header) (l : Known) (taken : Option (ℕ × ℕ)) → (with_device h l taken).ring ≡ l.ring
 unfolding with_device
-device_rings h l None = refl
-device_rings h l (Some e) = refl
+device_rings h l o = grind arith
 
 written_rings : (h : Header) (k : Known) (a x r : ℕ) → (learned h k (Write a x)).ring r ≡ changed (shape_of h r) (k.ring r) (Writes a x)
 unfolding learned written with_word
@@ -17,8 +16,7 @@ written_rings h k a x r = ap (λ f. f r) (device_rings h (with_word h k a x) (op
 
 device_memory : (h : Header) (l : Known) (taken : Option (ℕ × ℕ)) → (with_device h l taken).memory ≡ l.memory
 unfolding with_device
-device_memory h l None = refl
-device_memory h l (Some e) = refl
+device_memory h l o = grind arith
 
 written_memory : (h : Header) (k : Known) (a x b : ℕ) → (learned h k (Write a x)).memory b ≡ put k.memory a x b
 unfolding learned written with_word
@@ -26,8 +24,7 @@ written_memory h k a x b = ap (λ f. f b) (device_memory h (with_word h k a x) (
 
 device_soiled : (h : Header) (l : Known) (taken : Option (ℕ × ℕ)) (b : ℕ) → (with_device h l taken).soiled b ≡ false → l.soiled b ≡ false
 unfolding with_device
-device_soiled h l None b none = none
-device_soiled h l (Some e) b none = (or_parts (is_in b e.1 (device_context_bytes h.context_size)) (l.soiled b) none).1
+device_soiled h l o b none = grind (arith, or_parts, is_in, device_context_bytes, l.soiled)
 
 -- a word that isn't soiled then is the one that is written, or wasn't soiled
 written_soiled : (h : Header) (k : Known) (a x b : ℕ) → (learned h k (Write a x)).soiled b ≡ false → b ≢ a → k.soiled b ≡ false
@@ -36,8 +33,7 @@ written_soiled h k a x b none other = search (rules, ne_eqb, device_soiled, opti
 
 device_kept : (h : Header) (l : Known) (taken : Option (ℕ × ℕ)) (s : ℕ) → l.device s ≢ None → (with_device h l taken).device s ≢ None
 unfolding with_device
-device_kept h l None s some = some
-device_kept h l (Some e) s some = at_number (λ o. o ≢ None) l.device e.0 (Some e.1) s (λ here none. cc) (λ there. some)
+device_kept h l o s some = grind (arith, at_number, l.device)
 
 module _ (h : Header) (is : IsHeader h) (k : Known) (unread : List Block) (w : World) (a x : ℕ) (d : DriverKeeps h k) (g : Agrees h k unread w) (clean : lenient h k (Write a x) ≡ []) where
   m : Known
@@ -89,7 +85,6 @@ module _ (h : Header) (is : IsHeader h) (k : Known) (unread : List Block) (w : W
   events : EventsStand h v unread
   unfolding v stored
   events =
-      let e = g.events in
       search (rules, event_stays, event_ring_is, some_posted)
 
   -- ---- what is known
@@ -106,10 +101,6 @@ module _ (h : Header) (is : IsHeader h) (k : Known) (unread : List Block) (w : W
   unfolding m
   queue_same r = ap (λ y. y.queue) (written_rings h k a x r)
 
-  lengths_same : (r : ℕ) → (m.ring r).lengths ≡ (k.ring r).lengths
-  unfolding m
-  lengths_same r = ap (λ y. y.lengths) (written_rings h k a x r)
-
   -- a command that is unfinished then was so before, or is given by this write
   was_or_now : (p : ℕ) (c : Command) → IsUnfinished h m p c → IsUnfinished h k p c ⊎ (a ≡ address_of (shape_of h (command_id h)) p + 12)
   unfolding command_at m
@@ -118,8 +109,7 @@ module _ (h : Header) (is : IsHeader h) (k : Known) (unread : List Block) (w : W
   -- what is given now was changed before now
   given_now : (at : ℕ) (o : Option ℕ) → a ≡ at + 12 → IsUnchanged h v at o
   unfolding v stored
-  given_now at None same = search rules
-  given_now at (Some n) same = search (rules, v, late_stored, late, put_here)
+  given_now at o same = grind (arith, v, late_stored, late, put_here)
 
   contexts : (p : ℕ) (c : Command) → IsUnfinished h m p c → IsUnchanged h v (address_of (shape_of h (command_id h)) p) (named_context c)
   unfolding v
@@ -140,7 +130,7 @@ module _ (h : Header) (is : IsHeader h) (k : Known) (unread : List Block) (w : W
 
   stands : Stands h m v
   unfolding m v stored
-  stands = search (rules, g.stands, m, write_leaves, queue_same, lengths_same, quiet)
+  stands = search (rules, g.stands, m, write_leaves, queue_same, written_rings, quiet)
 
   read : v.posted ≡ m.reads
   unfolding m v stored

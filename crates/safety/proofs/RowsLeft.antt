@@ -1,5 +1,5 @@
 -- The rows still to come are those that no row was made of: no step of the controller touches them, and a row takes the first
-use Rattle.std.proofs.Common.{[], ◌≡◌, ◌+◌, ◌==◌, ◌&&◌, if◌then◌else◌, ◌∷◌, ◌||◌, ◌∙◌, ℕ, Bool, true, false, not, List, Option, Some, None, option_map, option_and_then, position, refl, sym, ap, rules}
+use Rattle.std.proofs.Common.{[], ◌≡◌, ◌+◌, ◌==◌, ◌&&◌, if◌then◌else◌, ◌∷◌, ◌||◌, ◌∙◌, ℕ, Bool, true, false, not, List, Option, Some, None, option_map, option_and_then, position, refl, sym, ap, rules, arith}
 use Rattle.safety.proofs.Words.{list_any, range_with_len, none-some, same_Some, Block, is_set, block_at, code, cycle, endpoint, kind, pointer, slot, word, is_command_completion, is_other_event, is_transfer_event, put_pair, Command, EndpointState, Running, named_context, can_succeed, is_running, is_stopped, Change, Places, Stops, changes, Header, Row, Reg, Bell, Read, Register, Usbcmd, Config, Erdp, command_id, register_or_zero, World, UnderWay, unreported, stored, stored_block, command_begun, crossed, looked, looked_at, seen_by_look, taken, taken_on, can_post, other_posted, posted, report_code, report_error, report_stop, report_success, reported, reported_on, stopped_with, with_reported, is_scribbled, scribbled}
 use Rattle.controller_model.specs.DriverRows as driver
 use Rattle.controller_model.specs.Finishes as finishes
@@ -31,23 +31,16 @@ kept : (w v : World) → v.rows ≡ w.rows → SameRows w v
 kept w v same = record { same = same }
 
 behind : (w : World) (f : World → Option World) (o : Option World) → RowsLeft w o → ((v : World) → v.rows ≡ w.rows → RowsLeft w (f v)) → RowsLeft w (option_and_then f o)
-behind w f None left next = nowhere w
-behind w f (Some v) left next = next v (left.left v refl)
+behind w f o left next = grind (arith, nowhere, left.left)
 
 over : {A : Type 0} (w : World) (f : A → World) (o : Option A) → ((x : A) → (f x).rows ≡ w.rows) → RowsLeft w (option_map f o)
-over w f None next = nowhere w
-over w f (Some x) next = to w (f x) (next x)
+over w f o next = grind (arith, nowhere, to)
 
 after : (w : World) (f : World → World) (o : Option World) → RowsLeft w o → ((v : World) → (f v).rows ≡ v.rows) → RowsLeft w (option_map f o)
-after w f None left next = nowhere w
-after w f (Some v) left next = to w (f v) (next v ∙ left.left v refl)
+after w f o left next = grind (arith, nowhere, to, left.left)
 
 from_start : (u w : World) (o : Option World) → u.rows ≡ w.rows → RowsLeft u o → RowsLeft w o
 from_start u w o same left = record { left = λ v at. left.left v at ∙ same }
-
--- by a test, to one world or another, or nowhere
-to_if : (w : World) (b : Bool) (u : World) (o : Option World) → u.rows ≡ w.rows → RowsLeft w o → RowsLeft w (if b then Some u else o)
-to_if w b u o same left = either w b (Some u) o (to w u same) left
 
 only_if : (w : World) (b : Bool) (o : Option World) → RowsLeft w o → RowsLeft w (if b then o else None)
 only_if w b o left = either w b o None left (nowhere w)
@@ -59,7 +52,7 @@ module _ (h : Header) where
 
   pub looked_left : (w : World) (r : ℕ) → RowsLeft w (looked h w r)
   unfolding looked looked_at seen_by_look crossed
-  looked_left w r = only_if w (w.is_active r) (looked_at h w r (block_at w.memory (w.pointer_of r))) (search (rules, to_if, either, nowhere, to, taken_left))
+  looked_left w r = only_if w (w.is_active r) (looked_at h w r (block_at w.memory (w.pointer_of r))) (search (rules, either, nowhere, to, taken_left))
 
   posted_left : (w : World) (b : Block) → (posted h w b).rows ≡ w.rows
   unfolding posted stored stored_block
@@ -69,17 +62,13 @@ module _ (h : Header) where
   unfolding other_posted
   other_left w b = only_if w (can_post h w b && is_other_event (kind b)) (Some (posted h w b)) (to w (posted h w b) (posted_left w b))
 
-  error_left : (w : World) (s i r a : ℕ) (state : EndpointState) → RowsLeft w (report_error h w s i r a state)
-  unfolding report_error with_reported
-  error_left w s i r a state = search (rules, only_if, to)
-
   stop_left : (w : World) (s i r a : ℕ) → RowsLeft w (report_stop h w s i r a)
   unfolding report_stop stopped_with with_reported
-  stop_left w s i r a = search (rules, either, nowhere, to_if, only_if, to)
+  stop_left w s i r a = search (rules, either, nowhere, only_if, to)
 
   report_left : (w : World) (c s i r a : ℕ) → RowsLeft w (report_code h w c s i r a)
-  unfolding report_code report_success with_reported
-  report_left w c s i r a = search (rules, either, over, with_reported, position, unreported, error_left, only_if, stop_left)
+  unfolding report_code report_success with_reported report_error
+  report_left w c s i r a = search (rules, either, over, with_reported, position, unreported, to, only_if, stop_left)
 
   reported_on_left : (w : World) (b : Block) (o : Option ℕ) → RowsLeft w (reported_on h w b o)
   unfolding reported_on
@@ -96,19 +85,15 @@ module _ (h : Header) where
 
   inactive_left : (w : World) (o : Option ℕ) → (bindings.inactive w o).rows ≡ w.rows
   unfolding bindings.inactive
-  inactive_left w None = refl
-  inactive_left w (Some r) = refl
+  inactive_left w o = grind arith
 
   placed_left : (w : World) (s i a : ℕ) (cycle : Bool) (state : EndpointState) (o : Option ℕ) → RowsLeft w (bindings.placed_on w s i a cycle state o)
   unfolding bindings.placed_on bindings.placed
-  placed_left w s i a cycle state None = search (rules, nowhere, either, to, inactive_left, w.ring_of)
-  placed_left w s i a cycle state (Some r) = search (rules, nowhere, either, to, inactive_left, w.ring_of)
+  placed_left w s i a cycle state o = grind (arith, nowhere, either, to, inactive_left)
 
   changed_left : (c : Command) (w : World) (change : Change) → RowsLeft w (bindings.changed_by h c w change)
   unfolding bindings.changed_by bindings.disabled bindings.in_state
-  changed_left c w (Places s i p cycle state) = search (rules, placed_left)
-  changed_left c w (Stops s i) = search (rules, to, inactive_left)
-  changed_left c w _ = search (rules, to)
+  changed_left c w o = grind (arith, cycle, placed_left, to, inactive_left)
 
   all_left : (c : Command) (l : List Change) (w : World) → RowsLeft w (bindings.changed_by_all h c w l)
   unfolding bindings.changed_by_all
@@ -126,8 +111,7 @@ module _ (h : Header) where
 
   finished_as_left : (w : World) (b : Block) (o : Option UnderWay) → RowsLeft w (finishes.finished_as h w b o)
   unfolding finishes.finished_as finishes.ended_with finishes.ended
-  finished_as_left w b None = search (rules, nowhere)
-  finished_as_left w b (Some u) = search (rules, nowhere, only_if, either, after, succeeded_left, posted_left, to)
+  finished_as_left w b o = grind (arith, nowhere, only_if, either, after, succeeded_left, posted_left, to)
 
   pub finished_left : (w : World) (b : Block) → RowsLeft w (finishes.finished h w b)
   unfolding finishes.finished
@@ -146,18 +130,12 @@ module _ (h : Header) where
 
   register_left : (w : World) (r : Register) (v : ℕ) → (driver.register_row h w r v).rows ≡ w.rows
   unfolding driver.register_row driver.with_dequeue driver.valued
-  register_left w Usbcmd v = search (rules, run_left)
-  register_left w Erdp v = search (rules, run_left, one_of, kept)
-  register_left w _ v = search rules
+  register_left w o v = grind (arith, run_left, one_of, kept)
 
   bell_on_left : (w : World) (s t : ℕ) (o : Option ℕ) → (driver.endpoint_bell h w s t o).rows ≡ w.rows
   unfolding driver.endpoint_bell driver.activated
-  bell_on_left w s t None = refl
-  bell_on_left w s t (Some r) = search (rules, put_pair, w.endpoint_state, one_of, is_running, is_stopped, kept)
+  bell_on_left w s t o = grind (arith, put_pair, one_of, is_running, is_stopped, kept)
 
   pub row_left : (w : World) (row : Row) → RowsLeft w (driver.row_done h w row)
   unfolding driver.row_done driver.declared stored driver.event_read driver.bell_row driver.activated
-  row_left w (Reg r v) = search (rules, to, register_left)
-  row_left w (Bell s t) = search (rules, to, one_of, kept, bell_on_left)
-  row_left w (Read e) = search (rules, to, only_if)
-  row_left w _ = search (rules, to)
+  row_left w o = grind (arith, to, register_left, one_of, kept, bell_on_left, only_if)

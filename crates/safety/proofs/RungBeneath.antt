@@ -1,5 +1,5 @@
 -- The doorbell of an endpoint whose ring is held beneath an event that isn't read yet: the two may change places
-use Rattle.safety.proofs.Words.{[], ◌≡◌, ◌==◌, ◌||◌, ◌∙◌, ℕ, true, false, not, Option, None, Some, refl, sym, ap, subst, MayCome, cond-false, false≢true, Block, Opens, is_open, is_running, is_stopped, Header, Bell, Read, IsHeader, command_id, Known, on_ring, endpoint_rung, rung, learned, is_touched, is_bad_bell, lenient, DriverKeeps, HeldMore, is_open_if, is_idle, Square, ◌≢◌, ◌&&◌, nat_lt, slice_get, option_and_then, rules, or_parts, or_from, not-false, BlockKind, TransferEvent, CommandCompletion, kind, code, slot, is_transfer_event, Command, changes, Config, register_or_zero, command_at, next_command, completed, event_read, touches_endpoint, is_in_profile, may_be_taken, can_finish, is_impossible_completion, is_impossible_by_kind, CommandKeeps, if◌then◌else◌, List, is_some, list_any, and_parts, and_from, cond-true, after, RingView, Reaches, floor_number, ResetEndpoint, StopEndpoint, SetTrDequeue, command_of, named_endpoint, can_succeed, endpoint_meant, endpoint_success, Change, touches, shape_of, changed_by_all, succeeded, stop_ended, finished, was_stop_seen}
+use Rattle.safety.proofs.Words.{[], ◌≡◌, ◌==◌, ◌||◌, ◌∙◌, ℕ, true, false, not, Option, None, Some, refl, sym, ap, subst, MayCome, cond-false, false≢true, Block, Opens, is_open, is_running, is_stopped, Header, Bell, Read, IsHeader, command_id, Known, on_ring, endpoint_rung, rung, learned, is_touched, is_bad_bell, lenient, DriverKeeps, HeldMore, is_open_if, is_idle, Square, ◌≢◌, ◌&&◌, nat_lt, slice_get, option_and_then, rules, or_parts, or_from, not-false, BlockKind, TransferEvent, CommandCompletion, kind, code, slot, is_transfer_event, Command, changes, Config, register_or_zero, command_at, next_command, completed, event_read, touches_endpoint, is_in_profile, may_be_taken, can_finish, is_impossible_completion, is_impossible_by_kind, CommandKeeps, if◌then◌else◌, List, is_some, list_any, and_parts, and_from, cond-true, after, RingView, Reaches, floor_number, ResetEndpoint, StopEndpoint, SetTrDequeue, command_of, named_endpoint, can_succeed, endpoint_meant, endpoint_success, Change, touches, shape_of, changed_by_all, succeeded, stop_ended, finished, was_stop_seen, arith}
 use Rattle.safety.proofs.LowerLaws.{clean_tests, EventFacts, event_facts, bell_facts, SameDriver, both_drivers, endpoints_of, rings_of, endpoints_part, unfinished_fails, Woken, woken_reach, woken_seen}
 use Rattle.safety.proofs.MiddleLaws.{counted, read_same, read_both, flip_driver, woken_more, EndpointHolds, bell_untouched, bell_state, free_same, CompletionFacts, by_completion, next_unfinished, command_holds, can_be, success_fits}
 use Rattle.safety.proofs.WokenChanges.{one_of, Owns, flipped, changes_woken}
@@ -20,15 +20,11 @@ module _ (h : Header) (r s i : ℕ) (k l : Known) (w : Woken h r (one_of s i) k 
   endpoint_same : (c : Command) → touches_endpoint h k s i c ≡ false → is_some (endpoint_success c (endpoint_meant k.endpoint_state (named_endpoint c))) ≡ true →
       is_some (endpoint_success c (endpoint_meant l.endpoint_state (named_endpoint c))) ≡ true
   unfolding touches_endpoint changes
-  endpoint_same (ResetEndpoint t j) apart may = search (rules, is_some, flipped, or_parts)
-  endpoint_same (StopEndpoint t j) apart may = search (rules, is_some, flipped, or_parts)
-  endpoint_same (SetTrDequeue t j p cycle) apart may = search (rules, is_some, flipped, or_parts)
-  endpoint_same _ apart may = search rules
+  endpoint_same o apart may = grind (arith, is_some, flipped, or_parts)
 
   seen_same : (c : Command) → was_stop_seen l c ≡ was_stop_seen k c
   unfolding was_stop_seen
-  seen_same (StopEndpoint t j) = ap (λ f. f t j) w.stop_seen
-  seen_same _ = refl
+  seen_same o = grind arith
 
   pub finish_same : (b : Block) (c : Command) → touches_endpoint h k s i c ≡ false → can_finish k b (Some c) ≡ true → can_finish l b (Some c) ≡ true
   unfolding can_finish can_succeed
@@ -36,8 +32,7 @@ module _ (h : Header) (r s i : ℕ) (k l : Known) (w : Woken h r (one_of s i) k 
 
   stop_woken : (m n : Known) → Woken h r (one_of s i) m n → (c : Command) → Woken h r (one_of s i) (stop_ended h m c) (stop_ended h n c)
   unfolding stop_ended
-  stop_woken m n x (StopEndpoint t j) = woken_seen h r (one_of s i) m n t j false x
-  stop_woken m n x _ = x
+  stop_woken m n x o = grind (arith, woken_seen, one_of, false)
 
   module _ (is : IsHeader h) (o : Owns h r s i k) (b : Block) (c : Command) (apart : touches_endpoint h k s i c ≡ false)
       (fits : (code b == 1) ≡ true → FitAll h c k (changes h.context_size k.memory (slot b) c)) where
@@ -125,8 +120,7 @@ module _ (h : Header) (s t : ℕ) (endpoint : (s == 0) ≡ false) where
   -- ---- a doorbell that isn't idle has a ring, and it is held
 
   ring_held : (k : Known) (o : Option ℕ) → k.ring_of s t ≡ o → is_open_if k o ≡ false → (r : ℕ) × (k.ring_of s t ≡ Some r) × (is_open (k.ring r) ≡ false)
-  ring_held k None has held = absurd (false≢true (sym held))
-  ring_held k (Some r) has held = (r, has, held)
+  ring_held k o has held = grind (arith, false≢true)
 
   pub rung_ring : (k : Known) → is_idle h k (Bell s t) ≡ false → (r : ℕ) × (k.ring_of s t ≡ Some r) × (is_open (k.ring r) ≡ false)
   rung_ring k awake = ring_held k (k.ring_of s t) refl (sym (cond-false (s == 0) (is_open (k.ring (command_id h))) (is_open_if k (k.ring_of s t)) endpoint) ∙ awake)

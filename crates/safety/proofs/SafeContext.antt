@@ -20,10 +20,7 @@ command_at_is h k p d at = rw at refl
 
 unchanged_test : (h : Header) (w : World) (at : ℕ) (c : Option ℕ) → IsUnchanged h w at c → is_context_changed h w (w.written (at + 12)) c ≡ false
 unfolding is_context_changed is_changed_since
-unchanged_test h w at None same = refl
-unchanged_test h w at (Some c) same =
-    none_in_range (λ i. nat_lt (w.written (at + 12)) (w.changed (c + 4 * i))) 0 (input_context_bytes h.context_size / 4)
-    (λ i low high. le-ltb (w.written (at + 12)) (w.changed (c + 4 * i)) (same i (omega arith)))
+unchanged_test h w at o same = grind (arith, none_in_range, nat_lt, w.written, w.changed, input_context_bytes, le-ltb)
 
 pub changed_none : (h : Header) (w : World) → has_changed_context h w None ≡ false
 unfolding has_changed_context
@@ -33,10 +30,6 @@ changed_some : (h : Header) (w : World) (u : UnderWay) (o : Option Command) → 
     has_changed_context h w (Some u) ≡ is_context_changed h w (w.written (u.address + 12)) (option_and_then named_context o)
 unfolding has_changed_context
 changed_some h w u o is = ap (λ x. is_context_changed h w (w.written (u.address + 12)) (option_and_then named_context x)) is
-
-no_context : (h : Header) (w : World) (step : ℕ) → is_context_changed h w step None ≡ false
-unfolding is_context_changed
-no_context h w step = refl
 
 -- the command ring is declared once the controller is started
 pub command_is_ring : (h : Header) (k : Known) → DriverKeeps h k → k.started ≡ true → IsDriverRing h (command_id h)
@@ -72,8 +65,9 @@ module _ (h : Header) (is : IsHeader h) (k : Known) (d : DriverKeeps h k) where
 
   unchanged_of : (w : World) → Matches h k w → (u : UnderWay) (t : Spot) (f : AtFloor h k) → UnderWayMatches h k t (Some u) → (o : Option Command) → command_of f.block ≡ o →
       has_changed_context h w (Some u) ≡ false
-  unchanged_of w m u t f under None none = search (rules, changed_some, command_of-with_cycle, cycle_of_bit, no_context, unchanged_test, command_at_is)
-  unchanged_of w m u t f under (Some c) some = search (rules, changed_some, command_of-with_cycle, cycle_of_bit, no_context, unchanged_test, command_at_is)
+  unfolding is_context_changed
+  unchanged_of w m u t f under None none = search (rules, changed_some, command_of-with_cycle, cycle_of_bit, unchanged_test, command_at_is)
+  unchanged_of w m u t f under (Some c) some = search (rules, changed_some, command_of-with_cycle, cycle_of_bit, unchanged_test, command_at_is)
 
   -- the input context of the command under way wasn't changed
   pub under_way_unchanged : (w : World) → Matches h k w → (t : Spot) → IsDriverRing h (command_id h) → RingMatches (shape_of h (command_id h)) (k.ring (command_id h)) (state_of w (command_id h)) t →

@@ -1,5 +1,5 @@
 -- What events leave as it is: registers, memory, and what is declared and given of each ring
-use Rattle.safety.proofs.Words.{[], ◌≡◌, ◌≢◌, ◌∷◌, ◌∙◌, ℕ, Bool, List, Option, None, Some, refl, sym, subst, rules, cond_both, Block, BlockKind, TransferEvent, CommandCompletion, code, slot, endpoint, Spot, number, after, RingView, RingChange, Reaches, Opens, Holds, changed, ceiling, target, Command, StopEndpoint, EndpointState, is_off, Change, Resets, Header, shape_of, command_id, ring_having, Known, RingSpot, on_ring, event_at, command_at, next_command, passed, broken_off, stopped_at, transferred, transferred_at, transfer_read, set_to, bound_to, moved_to, moved, pointed, disabled, in_state, held_at_ceiling, changed_by, changed_by_all, succeeded, stop_ended, finished, completed, event_read}
+use Rattle.safety.proofs.Words.{[], ◌≡◌, ◌≢◌, ◌∷◌, ◌∙◌, ℕ, Bool, List, Option, None, Some, refl, sym, subst, rules, cond_both, Block, BlockKind, TransferEvent, CommandCompletion, code, slot, endpoint, Spot, number, after, RingView, RingChange, Reaches, Opens, Holds, changed, ceiling, target, Command, StopEndpoint, EndpointState, is_off, Change, Resets, Header, shape_of, command_id, ring_having, Known, RingSpot, on_ring, event_at, command_at, next_command, passed, broken_off, stopped_at, transferred, transferred_at, transfer_read, set_to, bound_to, moved_to, moved, pointed, disabled, in_state, held_at_ceiling, changed_by, changed_by_all, succeeded, stop_ended, finished, completed, event_read, arith}
 use Rattle.safety.proofs.DriverRows.{ring_here, ring_elsewhere}
 
 -- what is declared and given of a ring
@@ -44,10 +44,7 @@ module _ (h : Header) where
   view_after P k r change q here there = search (rules, ring_here, ring_elsewhere)
 
   pointer_same : (r : ℕ) (v : RingView) (change : RingChange) → IsPointerChange change → SameGiven v (changed (shape_of h r) v change)
-  pointer_same r v (Reaches t) is = record { queue = refl; lengths = refl; given = refl; crossed = refl; withdrawn = refl; free = refl }
-  pointer_same r v Opens is = record { queue = refl; lengths = refl; given = refl; crossed = refl; withdrawn = refl; free = refl }
-  pointer_same r v (Holds n) is = record { queue = refl; lengths = refl; given = refl; crossed = refl; withdrawn = refl; free = refl }
-  pointer_same r v _ is = absurd is
+  pointer_same r v o is = grind arith
 
   on_rings : (k : Known) (r : ℕ) (change : RingChange) → IsPointerChange change → (q : ℕ) → SameGiven (k.ring q) ((on_ring h k r change).ring q)
   on_rings k r change is q =
@@ -65,22 +62,17 @@ module _ (h : Header) where
   unfolding passed
   passed_same k r t = on_ring_same k r (Reaches (after (shape_of h r) (number t))) tt
 
-  broken_same : (k : Known) (s i r : ℕ) (t : Spot) (state : EndpointState) → SameDriver k (broken_off h k s i r t state)
-  unfolding broken_off
-  broken_same k s i r t state = search (rules, both_drivers, passed_same, on_ring_same, same_given)
-
   stopped_same : (k : Known) (s i r : ℕ) (t : Spot) → SameDriver k (stopped_at h k s i r t)
   unfolding stopped_at
   stopped_same k s i r t = search (rules, both_drivers, on_ring_same, same_given)
 
   transferred_same : (k : Known) (c s i r : ℕ) (t : Spot) → SameDriver k (transferred h k c s i r t)
-  unfolding transferred
-  transferred_same k c s i r t = search (rules, passed_same, both_drivers, broken_same, same_given, stopped_same, same_driver)
+  unfolding transferred broken_off
+  transferred_same k c s i r t = search (rules, passed_same, both_drivers, on_ring_same, same_given, stopped_same, same_driver)
 
   at_same : (k : Known) (b : Block) (o : Option RingSpot) → SameDriver k (transferred_at h k b o)
   unfolding transferred_at
-  at_same k b None = same_driver k
-  at_same k b (Some at) = transferred_same k (code b) (slot b) (endpoint b) at.ring at.spot
+  at_same k b o = grind (arith, same_driver, transferred_same, code, slot, endpoint)
 
   pub transfer_same : (k : Known) (b : Block) → SameDriver k (transfer_read h k b)
   unfolding transfer_read
@@ -96,18 +88,15 @@ module _ (h : Header) where
 
   target_same : (k : Known) (r : ℕ) (o : Option Spot) → SameDriver k (moved_to h k r o)
   unfolding moved_to
-  target_same k r None = same_driver k
-  target_same k r (Some t) = set_same k r t
+  target_same k r o = grind (arith, same_driver, set_same)
 
   moved_same : (k : Known) (o : Option ℕ) (p : ℕ) (cycle : Bool) → SameDriver k (moved h k o p cycle)
   unfolding moved
-  moved_same k None p cycle = same_driver k
-  moved_same k (Some r) p cycle = target_same k r (target (shape_of h r) (k.ring r) p cycle)
+  moved_same k o p cycle = grind (arith, same_driver, target_same, target, shape_of, k.ring)
 
   bound_same : (k : Known) (s i : ℕ) (o : Option ℕ) (p : ℕ) (cycle : Bool) → SameDriver k (bound_to h k s i o p cycle)
   unfolding bound_to
-  bound_same k s i None p cycle = search (rules, same_driver)
-  bound_same k s i (Some r) p cycle = search (rules, same_driver, both_drivers, moved_same, same_given)
+  bound_same k s i o p cycle = grind (arith, same_driver, both_drivers, moved_same, same_given)
 
   pointed_same : (k : Known) (s i p : ℕ) (cycle : Bool) → SameDriver k (pointed h k s i p cycle)
   unfolding pointed
@@ -121,13 +110,11 @@ module _ (h : Header) where
 
   held_same : (k : Known) (o : Option ℕ) → SameDriver k (held_at_ceiling h k o)
   unfolding held_at_ceiling
-  held_same k None = same_driver k
-  held_same k (Some r) = on_ring_same k r (Holds (ceiling (shape_of h r) (k.ring r))) tt
+  held_same k o = grind (arith, same_driver, on_ring_same, ceiling, shape_of, k.ring)
 
   pub change_same : (c : Command) (k : Known) (change : Change) → SameDriver k (changed_by h c k change)
   unfolding changed_by disabled in_state
-  change_same c k (Resets s i) = search (rules, state_same)
-  change_same c k _ = search (rules, same_given, both_drivers, pointed_same, state_same, held_same)
+  change_same c k o = grind (arith, state_same, same_given, both_drivers, pointed_same, held_same)
 
   pub changes_same : (c : Command) (k : Known) (all : List Change) → SameDriver k (changed_by_all h c k all)
   unfolding changed_by_all
@@ -138,13 +125,11 @@ module _ (h : Header) where
 
   pub stop_same : (k : Known) (c : Command) → SameDriver k (stop_ended h k c)
   unfolding stop_ended
-  stop_same k (StopEndpoint s i) = search (rules, same_given, k.ring, same_driver)
-  stop_same k _ = search (rules, same_given, k.ring, same_driver)
+  stop_same k o = grind (arith, same_given, same_driver)
 
   finish_same : (k : Known) (b : Block) (o : Option Command) → SameDriver k (finished h k b o)
   unfolding finished succeeded
-  finish_same k b None = search (rules, same_driver)
-  finish_same k b (Some c) = search (rules, same_driver, both_drivers, changes_same, stop_same)
+  finish_same k b o = grind (arith, same_driver, both_drivers, changes_same, stop_same)
 
   pub completion_same : (k : Known) (b : Block) → SameDriver k (completed h k b)
   unfolding completed
@@ -157,6 +142,4 @@ module _ (h : Header) where
 
   pub event_same : (k : Known) (n : BlockKind) (b : Block) → SameDriver k (event_read h k n b)
   unfolding event_read
-  event_same k TransferEvent b = transfer_same k b
-  event_same k CommandCompletion b = completion_same k b
-  event_same k _ b = same_driver k
+  event_same k o b = grind (arith, transfer_same, completion_same, same_driver)

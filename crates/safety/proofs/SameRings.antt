@@ -1,5 +1,5 @@
 -- Rows that give no endpoint another ring than it had
-use Rattle.safety.proofs.Words.{◌≡◌, ◌==◌, if◌then◌else◌, ℕ, Bool, Option, None, Some, option_and_then, refl, rules, cond_both, Block, Spot, Opens, Command, StopEndpoint, Header, Register, Usbcmd, command_id, Known, on_ring, with_device, with_word, written, command_given, taken_device, run_or_stop, valued, register_written, endpoint_rung, rung, passed, broken_off, stopped_at, transferred, transferred_at, transfer_read, stop_ended}
+use Rattle.safety.proofs.Words.{◌≡◌, ◌==◌, if◌then◌else◌, ℕ, Bool, Option, None, Some, option_and_then, refl, rules, cond_both, Block, Spot, Opens, Command, StopEndpoint, Header, Register, Usbcmd, command_id, Known, on_ring, with_device, with_word, written, command_given, taken_device, run_or_stop, valued, register_written, endpoint_rung, rung, passed, broken_off, stopped_at, transferred, transferred_at, transfer_read, stop_ended, arith}
 
 -- the same endpoints have rings, and the same ones
 abbrev pub SameRings : Known → Known → Type 0
@@ -11,8 +11,7 @@ either_same k b l m one other = cond_both b l m (SameRings k) (λ x. one) (λ x.
 module _ (h : Header) where
   device_same : (k : Known) (taken : Option (ℕ × ℕ)) → SameRings k (with_device h k taken)
   unfolding with_device
-  device_same k None = refl
-  device_same k (Some e) = refl
+  device_same k o = grind arith
 
   pub written_same : (k : Known) (a w : ℕ) → SameRings k (written h k a w)
   unfolding written with_word
@@ -20,13 +19,11 @@ module _ (h : Header) where
 
   pub register_same : (k : Known) (r : Register) (x : ℕ) → SameRings k (register_written h k r x)
   unfolding register_written valued run_or_stop
-  register_same k Usbcmd x = search (rules, either_same)
-  register_same k r x = refl
+  register_same k r x = grind (arith, either_same)
 
   endpoint_same : (k : Known) (s t : ℕ) (o : Option ℕ) → SameRings k (endpoint_rung h k s t o)
   unfolding endpoint_rung on_ring
-  endpoint_same k s t None = refl
-  endpoint_same k s t (Some r) = refl
+  endpoint_same k s t o = grind arith
 
   pub rung_same : (k : Known) (s t : ℕ) → SameRings k (rung h k s t)
   unfolding rung on_ring
@@ -38,5 +35,4 @@ module _ (h : Header) where
 
   pub stop_same : (k : Known) (c : Command) → SameRings k (stop_ended h k c)
   unfolding stop_ended
-  stop_same k (StopEndpoint s i) = refl
-  stop_same k _ = refl
+  stop_same k o = grind arith

@@ -1,5 +1,5 @@
 -- The controller writes a word of a device context that it may write: the run goes on
-use Rattle.safety.proofs.Words.{◌≡◌, ◌≢◌, ◌+◌, ◌*◌, ◌<◌, ◌≤◌, ◌∙◌, ℕ, true, false, List, nat_lt, nat_le, Option, Some, None, slice_get, unwrap_or, arith, refl, sym, ap, subst, inl, inr, add-zero, leb-true, ltb-true, list_any, range_with_len, cases_lt, and_parts, cond_some, slice_get_within, Block, address_of, is_in, is_inside, address_inside, device_context, device_context_bytes, slot_entry, Header, Dcbaap, IsHeader, event_shape, event_size, touches_ring, register_or_zero, World, stored, is_scribbled, scribbled, counted, Known, device_named, entry_of, some_of, DeviceKeeps, DriverKeeps, EventsStand, touches_events, Agrees, Runs, all_read}
+use Rattle.safety.proofs.Words.{◌≡◌, ◌≢◌, ◌+◌, ◌*◌, ◌<◌, ◌≤◌, ◌∙◌, ℕ, true, false, List, nat_lt, nat_le, Option, Some, None, slice_get, unwrap_or, arith, refl, sym, ap, subst, inl, inr, add-zero, leb-true, ltb-true, list_any, range_with_len, cases_lt, and_parts, cond_some, slice_get_within, Block, address_of, is_in, is_inside, address_inside, device_context, device_context_bytes, slot_entry, Header, Dcbaap, IsHeader, event_shape, event_size, touches_ring, register_or_zero, World, stored, is_scribbled, scribbled, counted, Known, device_named, entry_of, some_of, DeviceKeeps, DriverKeeps, EventsStand, touches_events, Agrees, Runs, all_read, rules}
 use Rattle.segments.specs.Places.{touches}
 use Rattle.world_state.specs.World.{event_at}
 use Rattle.safety.proofs.Headers.{EventRing, event_ring_is, no_events}
@@ -17,17 +17,12 @@ scribbled_parts : (h : Header) (w : World) (a s : ℕ) → is_scribbled h w a s 
 unfolding is_scribbled
 scribbled_parts h w a s at = and_parts (w.scribbles s) (is_in a (device_context w.memory (register_or_zero w.register Dcbaap) s) (device_context_bytes h.context_size)) at
 
-device_is : (k : Known) (s : ℕ) → device_named k s ≡ device_context k.memory (register_or_zero k.register Dcbaap) s
-unfolding device_named
-device_is k s = refl
-
 entry_is : (k : Known) (s : ℕ) → entry_of k s ≡ slot_entry (register_or_zero k.register Dcbaap) s
 unfolding entry_of
 entry_is k s = refl
 
 some_device : (o : Option ℕ) → (o ≡ None → ⊥) → (d : ℕ) × (o ≡ Some d)
-some_device None h = absurd (h refl)
-some_device (Some d) h = (d, refl)
+some_device o h = grind arith
 
 module _ (h : Header) (is : IsHeader h) (k : Known) (unread : List Block) (w : World) (d : DriverKeeps h k) (g : Agrees h k unread w) where
   -- a word of a slot's entry belongs to no event
@@ -47,12 +42,13 @@ module _ (h : Header) (is : IsHeader h) (k : Known) (unread : List Block) (w : W
       (entry_not_event (entry_of k s) (entry_of k s + 4 * j) dev.entry_rings (omega arith) (omega arith))
 
   same_context : (s c : ℕ) → DeviceKeeps h k s c → device_context w.memory (register_or_zero w.register Dcbaap) s ≡ c
+  unfolding device_named
   same_context s c dev =
       let e : ℕ = slot_entry (register_or_zero k.register Dcbaap) s in
       let at = entry_is k s in
       let low : w.memory e ≡ k.memory e = subst (λ x. w.memory x ≡ k.memory x) (add-zero (entry_of k s) ∙ at) (entry_word s c 0 dev (omega arith)) in
       let high : w.memory (e + 4) ≡ k.memory (e + 4) = subst (λ x. w.memory (x + 4) ≡ k.memory (x + 4)) at (entry_word s c 1 dev (omega arith)) in
-      ap (λ b. device_context w.memory b s) (ap (λ o. unwrap_or o 0) (g.stands.registers Dcbaap)) ∙ two_words low high ∙ sym (device_is k s) ∙ dev.entry
+      ap (λ b. device_context w.memory b s) (ap (λ o. unwrap_or o 0) (g.stands.registers Dcbaap)) ∙ two_words low high ∙ dev.entry
     where
       two_words : w.memory (slot_entry (register_or_zero k.register Dcbaap) s) ≡ k.memory (slot_entry (register_or_zero k.register Dcbaap) s) →
           w.memory (slot_entry (register_or_zero k.register Dcbaap) s + 4) ≡ k.memory (slot_entry (register_or_zero k.register Dcbaap) s + 4) →
@@ -88,30 +84,16 @@ module _ (h : Header) (is : IsHeader h) (k : Known) (unread : List Block) (w : W
 
   events_stored : (a x c s : ℕ) → DeviceKeeps h k s c → is_in a c (device_context_bytes h.context_size) ≡ true → EventsStand h (stored w a x) unread
   unfolding stored
-  events_stored a x c s dev inside =
-      let v = g.events in
-      record {
-        order = v.order;
-        count = v.count;
-        places = λ i f at. event_stays a x c s (event_ring_is h is (v.ring (some_posted i f at))) dev inside (w.reads + i) ∙ v.places i f at;
-        started = v.started;
-        ring = v.ring;
-      }
-    where
-      some_posted : (i : ℕ) (f : Block) → slice_get unread i ≡ Some f → 0 < w.posted
-      some_posted i f at = let within = slice_get_within unread i f at in omega (arith, g.events.count)
-
-  posted_same : (a x : ℕ) → (stored w a x).posted ≡ k.reads
-  unfolding stored
-  posted_same a x = g.read
+  events_stored a x c s dev inside = search (rules, g.events, event_stays, event_ring_is, slice_get, slice_get_within)
 
   agrees_stored : (a x : ℕ) → list_any (is_scribbled h w a) (range_with_len 0 256) ≡ true → Agrees h k unread (counted h (stored w a x))
+  unfolding stored
   agrees_stored a x some =
       let l = leased_word a x some in
       let soiled = l.2.soiled a l.3 in
       let late = λ (b : ℕ). at_most b in
       agrees_counted h k unread (stored w a x) (stands_stored h k w a x (inl soiled) g.stands) (events_stored a x l.1 l.0 l.2 l.3)
-      (matches_stored h k w a x late (soiled_in_no_context h k d a soiled) g.matches) (posted_same a x) (late_stored h w a x late)
+      (matches_stored h k w a x late (soiled_in_no_context h k d a soiled) g.matches) (g.read) (late_stored h w a x late)
     where
       at_most : (b : ℕ) → w.changed b ≤ w.steps + 1
       at_most b = omega (arith, g.stamps b)

@@ -4,9 +4,6 @@ use Rattle.controller_model.specs.Bindings as bindings
 use Rattle.safety.proofs.LookKinds.{put_at, put_off}
 use Rattle.safety.proofs.FinishChanges.{StatesMatch, ChangeKeeps}
 
-pub same_put : {A : Type 0} (f g : ℕ → A) (s : ℕ) (x y : A) → ((t : ℕ) → f t ≡ g t) → x ≡ y → (t : ℕ) → put f s x t ≡ put g s y t
-same_put f g s x y same at t = ap (λ z. if t == s then z else f t) at ∙ ap (λ z. if t == s then y else z) (same t)
-
 pub same_put_pair : {A : Type 0} (f g : ℕ → ℕ → A) (s i : ℕ) (x : A) → ((t j : ℕ) → f t j ≡ g t j) → (t j : ℕ) → put_pair f s i x t j ≡ put_pair g s i x t j
 same_put_pair f g s i x same t j = ap (λ z. if t == s && j == i then x else z) (same t j)
 
@@ -18,7 +15,7 @@ module _ (h : Header) (c : Command) (k : Known) (w : World) (m : StatesMatch h k
 
   pub slot_keeps : (s : ℕ) (v : World) → bindings.changed_by h c w (SlotGoesOn s) ≡ Some v → ChangeKeeps h k (changed_by h c k (SlotGoesOn s)) w v
   unfolding bindings.changed_by changed_by
-  slot_keeps s v at = subst (λ x. ChangeKeeps h k (changed_by h c k (SlotGoesOn s)) w x) (same_Some _ v at) (search (rules, same_put, unwrap_or))
+  slot_keeps s v at = subst (λ x. ChangeKeeps h k (changed_by h c k (SlotGoesOn s)) w x) (same_Some _ v at) (search (rules, unwrap_or))
 
   pub device_keeps : (s : ℕ) (v : World) → bindings.changed_by h c w (DeviceLeft s) ≡ Some v → ChangeKeeps h k (changed_by h c k (DeviceLeft s)) w v
   unfolding bindings.changed_by changed_by

@@ -1,6 +1,5 @@
 -- The success of an unfinished command changes its own slot alone, or its own endpoint, and binds only rings that it names
-use Rattle.std.proofs.Common.{rules}
-use Rattle.safety.proofs.Words.{[], ◌≡◌, if◌then◌else◌, ◌∷◌, ◌∙◌, ℕ, not, Bool, true, false, List, map, Some, refl, ap, inl, inr, eq-eqb, Option, None, list_any, or_parts, or_left, not-false, Command, NoOp, EnableSlot, DisableSlot, AddressDevice, ConfigureEndpoint, EvaluateContext, ResetEndpoint, StopEndpoint, SetTrDequeue, ResetDevice, is_off, is_at_rest, changes, placed_by_context, added_endpoints, context_pointer, Header, command_id, is_ring, ring_having, Known, changed_by, succeeded, binding_in, binds, ring_bound, binds_ring, is_bad_dequeue, is_bad_move, IsIn, any_of, MovesIf}
+use Rattle.safety.proofs.Words.{[], ◌≡◌, if◌then◌else◌, ◌∷◌, ◌∙◌, ℕ, not, Bool, true, false, List, map, Some, refl, ap, inl, inr, eq-eqb, Option, None, list_any, or_parts, or_left, not-false, Command, NoOp, EnableSlot, DisableSlot, AddressDevice, ConfigureEndpoint, EvaluateContext, ResetEndpoint, StopEndpoint, SetTrDequeue, ResetDevice, is_off, is_at_rest, changes, placed_by_context, added_endpoints, context_pointer, Header, command_id, is_ring, ring_having, Known, changed_by, succeeded, binding_in, binds, ring_bound, binds_ring, is_bad_dequeue, is_bad_move, IsIn, any_of, MovesIf, rules, arith}
 use Rattle.safety.proofs.LowerLaws.{any_of_map, IsPart, OtherSlots, Within, AllOnly, changes_others, at_rest_on}
 
 -- the slot that the success of a command changes; n is that of its completion
@@ -59,22 +58,8 @@ module _ (h : Header) (k : Known) where
   only_own : (n : ℕ) (e : Command) → MovesIf h k e →
       AllOnly (changed_slot e n) (changed_part e) (OfCommand (changed_slot e n) (changed_part e) e) h e k (changes h.context_size k.memory n e)
   unfolding changes changed_by
-  only_own n NoOp moves = tt
-  only_own n (DisableSlot s) moves = ((refl, refl), ((refl, refl), ((refl, refl), tt)))
-  only_own n (AddressDevice s bsr c) moves = ((refl, refl), ((refl, tt, λ off r at. Binds (address_binds s c r bsr off at)), tt))
-  only_own n (ConfigureEndpoint s false c) moves = (
-    (refl, refl),
-    (
-      (refl, refl),
-      places_only s c (ConfigureEndpoint s false c) (OfCommand s None (ConfigureEndpoint s false c)) _ (added_endpoints k.memory c)
-          (λ i there r at. Binds (configure_binds s c i r there at)),
-    ),
-  )
-  only_own n (ConfigureEndpoint s true c) moves = ((refl, refl), ((refl, refl), tt))
-  only_own n (EvaluateContext s c) moves = tt
-  only_own n (SetTrDequeue s i p cycle) moves = ((refl, refl, λ off r at. absurd (at_rest_on (k.endpoint_state s i) (set_rests s i p cycle moves) off)), tt)
-  only_own n (ResetDevice s) moves = ((refl, refl), ((refl, refl), tt))
-  only_own n _ moves = ((refl, refl), tt)
+  only_own n o moves =
+      grind (arith, address_binds, false, places_only, added_endpoints, k.memory, configure_binds, true, at_rest_on, k.endpoint_state, set_rests)
 
   pub success_others : (n : ℕ) (e : Command) → MovesIf h k e →
       OtherSlots k (succeeded h k n e) (changed_slot e n) (changed_part e) (OfCommand (changed_slot e n) (changed_part e) e)

@@ -1,5 +1,5 @@
 -- What a change leaves of slots
-use Rattle.safety.proofs.Words.{[], ◌≡◌, ◌≢◌, ◌⊎◌, ◌==◌, ◌&&◌, ◌∷◌, ◌∙◌, ℕ, Bool, List, map, Option, None, Some, refl, ap, inl, inr, ne_eqb, cond_both, cond-false, and_left, none-some, Spot, target, Command, EndpointState, Stopped, is_off, Change, SlotGoesOn, DeviceLeft, Disables, Places, Stops, Resets, placed_by_context, ContextSize, Header, shape_of, ring_having, Known, on_ring, set_to, bound_to, moved_to, moved, pointed, disabled, in_state, held_at_ceiling, changed_by, changed_by_all, rules}
+use Rattle.safety.proofs.Words.{[], ◌≡◌, ◌≢◌, ◌⊎◌, ◌==◌, ◌&&◌, ◌∷◌, ◌∙◌, ℕ, Bool, List, map, Option, None, Some, refl, ap, inl, inr, ne_eqb, cond_both, cond-false, and_left, none-some, Spot, target, Command, EndpointState, Stopped, is_off, Change, SlotGoesOn, DeviceLeft, Disables, Places, Stops, Resets, placed_by_context, ContextSize, Header, shape_of, ring_having, Known, on_ring, set_to, bound_to, moved_to, moved, pointed, disabled, in_state, held_at_ceiling, changed_by, changed_by_all, rules, arith}
 use Rattle.safety.proofs.EndpointPut.{at_pair}
 use Rattle.safety.proofs.StatesOneEndpoint.{same_pair}
 
@@ -42,13 +42,11 @@ module _ (h : Header) where
 
   bound_leaves : (k : Known) (s i : ℕ) (o : Option ℕ) (p : ℕ) (cycle : Bool) → GetsRing k (bound_to h k s i o p cycle) s i
   unfolding bound_to
-  bound_leaves k s i None p cycle = record { slot_state = refl; device = refl; rings = λ u j. inr refl; some = λ u j has. has }
-  bound_leaves k s i (Some r) p cycle = search (rules, moved_tables, same_pair, at_pair, none-some)
+  bound_leaves k s i o p cycle = grind (arith, moved_tables, same_pair, at_pair, none-some)
 
   target_leaves : (k : Known) (s i r : ℕ) (o : Option Spot) → GetsRing k (moved_to h k r o) s i
   unfolding moved_to set_to on_ring
-  target_leaves k s i r None = record { slot_state = refl; device = refl; rings = λ u j. inr refl; some = λ u j has. has }
-  target_leaves k s i r (Some t) = record { slot_state = refl; device = refl; rings = λ u j. inr refl; some = λ u j has. has }
+  target_leaves k s i r o = grind arith
 
   moved_leaves : (k : Known) (s i : ℕ) (o : Option ℕ) (p : ℕ) (cycle : Bool) → GetsRing k (moved h k o p cycle) s i
   unfolding moved
@@ -69,8 +67,7 @@ module _ (h : Header) where
 
   held_slot : (k : Known) (o : Option ℕ) (t : ℕ) → SameSlot k (held_at_ceiling h k o) t
   unfolding held_at_ceiling on_ring
-  held_slot k None t = same_slot k t
-  held_slot k (Some r) t = record { state = refl; device = refl; rings = λ i. refl }
+  held_slot k o t = grind (arith, same_slot)
 
   in_state_slot : (k : Known) (s i : ℕ) (state : EndpointState) (t : ℕ) → SameSlot k (in_state h k s i state) t
   unfolding in_state

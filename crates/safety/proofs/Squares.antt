@@ -32,8 +32,7 @@ any_longer test a (suc m) (suc n) near some =
 
 config_apart : (k : Known) (r : Register) (v : ℕ) (h : Header) → k.started ≡ true → is_bad_register h k r v ≡ false → same_register Config r ≡ false
 unfolding is_bad_register
-config_apart k Config v h on good = absurd (false≢true (sym good ∙ on))
-config_apart k _ v h on good = refl
+config_apart k o v h on good = grind (arith, false≢true)
 
 module _ (h : Header) where
   abbrev dequeue_after : ℕ → Register → ℕ → ℕ
@@ -45,25 +44,17 @@ module _ (h : Header) where
 
   goes_on : (k : Known) (r : Register) (v : ℕ) → k.started ≡ true → (learned h k (Reg r v)).stopped ≡ false → stops r v ≡ false
   unfolding learned register_written valued run_or_stop
-  goes_on k Usbcmd v on still = search (rules, false≢true, cond-false, not_from_true, cond-true)
-  goes_on k _ v on still = refl
+  goes_on k o v on still = grind (arith, false≢true, cond-false, not_from_true, cond-true)
 
   value_is : (k : Known) (r : Register) (v : ℕ) → k.started ≡ true → stops r v ≡ false → learned h k (Reg r v) ≡ with_value k r v
   unfolding learned register_written valued run_or_stop
-  value_is k Usbcmd v on goes = search (rules, cond-false, not_from_true)
-  value_is k _ v on goes = refl
+  value_is k o v on goes = grind (arith, cond-false, not_from_true)
 
   -- ---- the write is allowed behind the event
 
   register_still : (k l : Known) (r : Register) (v : ℕ) → k.started ≡ true → l.started ≡ true → is_bad_register h k r v ≡ false → is_bad_register h l r v ≡ false
   unfolding is_bad_register
-  register_still k l Usbcmd v on also good = ap (λ b. not b && (is_late_reset l v || is_early_start l v || is_wrong_start h l v)) also
-  register_still k l Crcr v on also good = absurd (false≢true (sym (or_parts k.started _ good).0 ∙ on))
-  register_still k l Dcbaap v on also good = absurd (false≢true (sym good ∙ on))
-  register_still k l Config v on also good = absurd (false≢true (sym good ∙ on))
-  register_still k l Erstsz v on also good = absurd (false≢true (sym (or_parts k.started _ good).0 ∙ on))
-  register_still k l Erstba v on also good = absurd (false≢true (sym (or_parts k.started _ (or_parts _ _ (or_parts _ _ (or_parts _ _ good).0).0).0).0 ∙ on))
-  register_still k l _ v on also good = refl
+  register_still k l o v on also good = grind (arith, not, is_late_reset, is_early_start, is_wrong_start, false≢true, or_parts, k.started)
 
   erdp_still : (k l : Known) (r : Register) (v : ℕ) → k.started ≡ true → l.started ≡ k.started → l.dequeue ≡ k.dequeue → k.reads ≤ l.reads → is_bad_erdp h k r v ≡ false → is_bad_erdp h l r v ≡ false
   unfolding is_bad_erdp may_pass
@@ -75,8 +66,7 @@ module _ (h : Header) where
   register_clean k r v on one two = search (rules, cond-false, broken_of, register_tests, is_bad_register, is_bad_erdp)
 
   dequeue_grows : (k : Known) (r : Register) (v : ℕ) → is_bad_erdp h k r v ≡ false → k.dequeue ≤ dequeue_after k.dequeue r v
-  dequeue_grows k Erdp v good = (erdp_within h k v good).0
-  dequeue_grows k _ v good = omega arith
+  dequeue_grows k o v good = grind (arith, erdp_within)
 
   -- ---- the two
 
@@ -100,9 +90,6 @@ module _ (h : Header) where
         };
       }
 
-  value_driver : (k l : Known) (r : Register) (v : ℕ) → SameDriver k l → SameDriver (with_value k r v) (with_value l r v)
-  value_driver k l r v d = search (rules, with_value)
-
   pub register_square : (k : Known) (r : Register) (v : ℕ) (e : Block) → lenient h k (Reg r v) ≡ [] → lenient h k (Read e) ≡ [] → (learned h k (Reg r v)).stopped ≡ false →
       Square h k (Reg r v) e
   register_square k r v e clean may still =
@@ -118,7 +105,7 @@ module _ (h : Header) where
       let one : learned h k (Reg r v) ≡ l = value_is k r v on goes in
       let two : learned h k_read (Reg r v) ≡ with_value k_read r v = value_is k_read r v (same.started ∙ on) goes in
       let driver : SameDriver (with_value k_read r v) l_read =
-      both_drivers (with_value k_read r v) (counted h l) l_read (value_driver k_read (counted h k) r v (flip_driver (counted h k) k_read same)) (read_same h l e) in
+      both_drivers (with_value k_read r v) (counted h l) l_read (search (rules, with_value)) (read_same h l e) in
       let states_too : SameStates (with_value k_read r v) l_read = search rules in
       record {
         event = subst (λ x. lenient h x (Read e) ≡ []) (sym one) read.possible;

@@ -7,15 +7,11 @@ find_here test u t rest found here = same_Some u t (sym (cond-true (test u) (Som
 find_later : (test : Spot → Bool) (u t : Spot) (rest : List Spot) → find test (u ∷ rest) ≡ Some t → test u ≡ false → find test rest ≡ Some t
 find_later test u t rest found none = sym (cond-false (test u) (Some u) (find test rest) none) ∙ found
 
-first_found : (test more : Spot → Bool) (f n : ℕ) (t : Spot) → list_any (λ u. test u && more u) (flat_map (λ q. Link q ∷ Data q ∷ []) (range_with_len f 1)) ≡ true →
-    find test (flat_map (λ q. Link q ∷ Data q ∷ []) (range_with_len f (suc n))) ≡ Some t → number t ≡ f
-first_found test more f n t some found = search (rules, find, find_here, find_later, false≢true)
-
 -- where the spots at the floor's number pass the test of a move, the target is one of them
 pub target_here : (shape : Shape) (v : RingView) (p : ℕ) (cycle : Bool) (t : Spot) → floor_number v ≤ declared v → is_move shape v p cycle (floor_number v) (floor_number v) ≡ true →
     target shape v p cycle ≡ Some t → number t ≡ floor_number v
 unfolding is_move target spots_between
-target_here shape v p cycle t low moves named = search (rules, first_found, find)
+target_here shape v p cycle t low moves named = search (rules, find_here, find_later, false≢true, find)
 
 -- and where they stand still
 pub target_placed : (shape : Shape) (v : RingView) (p : ℕ) (cycle : Bool) (t : Spot) → floor_number v ≤ ceiling shape v → floor_number v ≤ declared v → is_placement shape v p cycle ≡ true →

@@ -1,5 +1,5 @@
 -- What the success of a command changes keeps what is kept of endpoints, change by change
-use Rattle.safety.proofs.Words.{[], ◌≡◌, ◌≢◌, if◌then◌else◌, ◌∷◌, ℕ, Bool, true, false, List, Option, None, Some, refl, inl, inr, none-some, Holds, ceiling, Command, EndpointState, Off, Running, Stopped, Change, SlotGoesOn, DeviceLeft, Disables, Places, Stops, Resets, Header, IsHeader, shape_of, Known, on_ring, disabled, in_state, held_at_ceiling, changed_by, changed_by_all, EndpointsKeep, rules}
+use Rattle.safety.proofs.Words.{[], ◌≡◌, ◌≢◌, if◌then◌else◌, ◌∷◌, ℕ, Bool, true, false, List, Option, None, Some, refl, inl, inr, none-some, Holds, ceiling, Command, EndpointState, Off, Running, Stopped, Change, SlotGoesOn, DeviceLeft, Disables, Places, Stops, Resets, Header, IsHeader, shape_of, Known, on_ring, disabled, in_state, held_at_ceiling, changed_by, changed_by_all, EndpointsKeep, rules, arith}
 use Rattle.safety.proofs.LowerLaws.{ring_here, ring_elsewhere, change_keeps, fewer, at_pair, EndpointsStand, endpoints_same, OneEndpoint, one_stands, MayPlace, place_stands, some_ring}
 
 -- an endpoint that is there, and isn't Running
@@ -62,8 +62,7 @@ module _ (h : Header) where
 
   stop_stands_by : (k : Known) (s i : ℕ) (o : Option ℕ) → EndpointsStand k → k.endpoint_state s i ≢ Off → k.ring_of s i ≡ o → EndpointsStand (held_at_ceiling h (in_state h k s i Stopped) o)
   unfolding held_at_ceiling
-  stop_stands_by k s i None e on at = absurd (on (e.off s i at))
-  stop_stands_by k s i (Some r) e on at = search (rules, e.off, in_state, ceiling, shape_of, one_stands, on_ring, held_one)
+  stop_stands_by k s i o e on at = grind (arith, e.off, in_state, ceiling, shape_of, one_stands, on_ring, held_one)
 
   -- ---- any change, and one after the other
 

@@ -1,5 +1,5 @@
 -- A Command Completion Event keeps what is known of states
-use Rattle.safety.proofs.Words.{[], ◌≡◌, ◌==◌, if◌then◌else◌, ◌∙◌, ℕ, true, Option, None, Some, refl, sym, ap, cond_both, cond-true, and_parts, false≢true, same_Some, Block, code, slot, Spot, after, Reaches, Command, StopEndpoint, may_answer_slot, changes, Header, Config, IsHeader, shape_of, command_id, register_or_zero, Known, on_ring, command_at, next_command, succeeded, stop_ended, finished, completed, can_finish, CommandKeeps, DriverKeeps, ◌∷◌, Bool, List, rules, target, Stopped, is_off, Change, Places, Stops, ring_having, set_to, bound_to, moved_to, moved, pointed, disabled, in_state, held_at_ceiling, changed_by, changed_by_all, ◌≢◌, false, inl, inr, NoOp, EnableSlot, DisableSlot, AddressDevice, ConfigureEndpoint, EvaluateContext, ResetEndpoint, SetTrDequeue, ResetDevice, named_slot, Resets, RingsKeep, StillHolds, EndpointsKeep, ◌&&◌, nat_le, nat_lt, map, subst, eq-eqb, leb-false, ltb-true, cond-false, and_from, and_right, none-some, SlotState, EndpointState, Off, Running, SlotGoesOn, DeviceLeft, Disables, placed_by_context, is_above_control, added_endpoints, is_dropped, context_pointer, context_cycle, is_bad_command}
+use Rattle.safety.proofs.Words.{[], ◌≡◌, ◌==◌, if◌then◌else◌, ◌∙◌, ℕ, true, Option, None, Some, refl, sym, ap, cond_both, cond-true, and_parts, false≢true, same_Some, Block, code, slot, Spot, after, Reaches, Command, StopEndpoint, may_answer_slot, changes, Header, Config, IsHeader, shape_of, command_id, register_or_zero, Known, on_ring, command_at, next_command, succeeded, stop_ended, finished, completed, can_finish, CommandKeeps, DriverKeeps, ◌∷◌, Bool, List, rules, target, Stopped, is_off, Change, Places, Stops, ring_having, set_to, bound_to, moved_to, moved, pointed, disabled, in_state, held_at_ceiling, changed_by, changed_by_all, ◌≢◌, false, inl, inr, NoOp, EnableSlot, DisableSlot, AddressDevice, ConfigureEndpoint, EvaluateContext, ResetEndpoint, SetTrDequeue, ResetDevice, named_slot, Resets, RingsKeep, StillHolds, EndpointsKeep, ◌&&◌, nat_le, nat_lt, map, subst, eq-eqb, leb-false, ltb-true, cond-false, and_from, and_right, none-some, SlotState, EndpointState, Off, Running, SlotGoesOn, DeviceLeft, Disables, placed_by_context, is_above_control, added_endpoints, is_dropped, context_pointer, context_cycle, is_bad_command, arith}
 use Rattle.safety.proofs.LowerLaws.{endpoints_of, rings_of, view_after, SeenStand, endpoints_part, slots_part, seen_part, endpoints_same, slots_same, EndpointsStand, SlotsStand, SlotStands, at_pair, IsPlaced, placed_is, pointed_on, on_is, some_ring, GetsRing, stops_slot, resets_slot, placed_leaves, SameSlot, changes_elsewhere, placed_of_slot, placed_all}
 use Rattle.safety.proofs.KeptRings.{CompletionFacts, next_unfinished, command_holds}
 use Rattle.safety.proofs.StatesFit.{Succeeds, succeeds_is, moving_rests, slot_there, no_slot_zero, success_fits}
@@ -8,17 +8,12 @@ use Rattle.safety.proofs.StatesChanges.{RestsThere, changes_stand}
 use Rattle.safety.proofs.StatesOneSlot.{slot_deconfigured, slot_reset, state_after, slot_enabled, slot_disabled, slot_addressed, slot_configured}
 use Rattle.safety.proofs.SlotFrames.{KeepsRings}
 
--- The success of a command keeps what is kept of slots
-stands_as : (state after : SlotState) (rings fewer : ℕ → Option ℕ) (device left : Option ℕ) → after ≡ state → ((i : ℕ) → fewer i ≡ rings i) → left ≡ device → SlotStands state rings device →
-    SlotStands after fewer left
-stands_as state after rings fewer device left one same gone was = search rules
-
 pub slots_as : (k l : Known) → SlotsStand k → ((t : ℕ) → SameSlot k l t) → SlotsStand l
-slots_as k l was same = search (rules, stands_as)
+slots_as k l was same = search (rules)
 
 -- all slots but one are as they were
 but_one : (k l : Known) (s : ℕ) → s ≢ 0 → SlotsStand k → ((t : ℕ) → t ≢ s → SameSlot k l t) → SlotStands (l.slot_state s) (l.ring_of s) (l.device s) → SlotsStand l
-but_one k l s slot was others here = search (rules, stands_as)
+but_one k l s slot was others here = search (rules)
 
 off_runs : {x : EndpointState} → x ≡ Off → x ≡ Running → ⊥
 off_runs a b = cc
@@ -34,10 +29,6 @@ module _ (h : Header) (k : Known) (was : SlotsStand k) (e : EndpointsStand k) wh
   slot_goes : (c : Command) (s : ℕ) → (changed_by h c k (SlotGoesOn s)).slot_state s ≡ state_after c (k.slot_state s)
   unfolding changed_by
   slot_goes c s = cond-true (s == s) (state_after c (k.slot_state s)) (k.slot_state s) (eq-eqb s s refl)
-
-  first_kept : (c : Command) (s : ℕ) (which : ℕ → Bool) → which 1 ≡ false → k.ring_of s 1 ≢ None → (changed_by h c (changed_by h c k (SlotGoesOn s)) (Disables s which)).ring_of s 1 ≢ None
-  unfolding changed_by disabled
-  first_kept c s which not has = first_stays s (which 1) (k.ring_of s 1) not has
 
   pub enabled_slots : (config n : ℕ) → Succeeds k.slot_state k.endpoint_state config n EnableSlot → SlotsStand (changed_by_all h EnableSlot k (SlotGoesOn n ∷ []))
   unfolding changed_by_all changed_by
@@ -82,7 +73,7 @@ module _ (h : Header) (k : Known) (was : SlotsStand k) (e : EndpointsStand k) wh
       (λ t other. changes_elsewhere h c k s (SlotGoesOn s ∷ Disables s (is_dropped k.memory a) ∷ adds) t (refl, (refl, placed_of_slot h h.context_size k.memory s a (added_endpoints k.memory a))) other)
       (subst (λ x. SlotStands x (l.ring_of s) (l.device s)) (sym (ap (λ f. f s) keeps.slot_state ∙ refl ∙ slot_goes c s))
       (slot_configured (k.ring_of s) (l.ring_of s) (k.device s) (l.device s) s a (k.slot_state s) may.slot (was.each s)
-      (λ has. keeps.some s 1 (first_kept c s (is_dropped k.memory a) refl has))))
+      (λ has. keeps.some s 1 (first_stays s ((is_dropped k.memory a) 1) (k.ring_of s 1) refl has))))
 
   pub above_slots : (c : Command) (s : ℕ) → s ≢ 0 →
       ((after : ℕ → Option ℕ) (left : Option ℕ) → ((i r : ℕ) → after i ≡ Some r → i ≡ 1) → (k.ring_of s 1 ≢ None → after 1 ≢ None) → SlotStands (state_after c (k.slot_state s)) after left) →
@@ -149,29 +140,23 @@ module _ (h : Header) (is : IsHeader h) where
 module _ (h : Header) where
   target_seen : (k : Known) (r : ℕ) (o : Option Spot) → (moved_to h k r o).stop_seen ≡ k.stop_seen
   unfolding moved_to set_to on_ring
-  target_seen k r None = refl
-  target_seen k r (Some t) = refl
+  target_seen k r o = grind arith
 
   moved_seen : (k : Known) (o : Option ℕ) (p : ℕ) (cycle : Bool) → (moved h k o p cycle).stop_seen ≡ k.stop_seen
   unfolding moved
-  moved_seen k None p cycle = refl
-  moved_seen k (Some r) p cycle = target_seen k r (target (shape_of h r) (k.ring r) p cycle)
+  moved_seen k o p cycle = grind (arith, target_seen, target, shape_of, k.ring)
 
   bound_seen : (k : Known) (s i : ℕ) (o : Option ℕ) (p : ℕ) (cycle : Bool) → (bound_to h k s i o p cycle).stop_seen ≡ k.stop_seen
   unfolding bound_to
-  bound_seen k s i None p cycle = refl
-  bound_seen k s i (Some r) p cycle = moved_seen k (Some r) p cycle
+  bound_seen k s i o p cycle = grind (arith, moved_seen)
 
   held_seen : (k : Known) (o : Option ℕ) → (held_at_ceiling h k o).stop_seen ≡ k.stop_seen
   unfolding held_at_ceiling on_ring
-  held_seen k None = refl
-  held_seen k (Some r) = refl
+  held_seen k o = grind arith
 
   change_seen : (c : Command) (k : Known) (change : Change) → (changed_by h c k change).stop_seen ≡ k.stop_seen
   unfolding changed_by disabled in_state pointed
-  change_seen c k (Places s i p cycle state) = search (rules, cond_both, is_off, bound_to, ring_having, moved, bound_seen, moved_seen)
-  change_seen c k (Stops s i) = held_seen (in_state h k s i Stopped) (k.ring_of s i)
-  change_seen c k _ = refl
+  change_seen c k o = grind (arith, is_off, bound_to, ring_having, moved, bound_seen, moved_seen, held_seen, in_state, k.ring_of)
 
   pub changes_seen : (c : Command) (k : Known) (all : List Change) → (changed_by_all h c k all).stop_seen ≡ k.stop_seen
   unfolding changed_by_all
@@ -181,8 +166,7 @@ module _ (h : Header) where
   -- where only the finished command's can have been known
   pub none_seen : (k m : Known) (c : Command) → m.stop_seen ≡ k.stop_seen → ((t j : ℕ) → k.stop_seen t j ≡ true → c ≡ StopEndpoint t j) → (t j : ℕ) → (stop_ended h m c).stop_seen t j ≡ true → ⊥
   unfolding stop_ended
-  none_seen k m (StopEndpoint s i) same was t j = search (rules, at_pair, false≢true)
-  none_seen k m _ same was t j = search (rules, at_pair, false≢true)
+  none_seen k m o same was t j = grind (arith, at_pair, false≢true)
 
 module _ (h : Header) where
   stop_stands : (m : Known) (c : Command) → Stand m → Stand (stop_ended h m c)

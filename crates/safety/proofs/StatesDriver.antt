@@ -14,9 +14,6 @@ pub record ViewGoesOn (shape : Shape) (v w : RingView) : Type 0 where
 pub view_same : (shape : Shape) (v w : RingView) → w ≡ v → ViewGoesOn shape v w
 view_same shape v w same = search (rules, ceiling)
 
-view_declares : (h : Header) (shape : Shape) (v : RingView) (blocks : List Block) → ViewGoesOn shape v (changed shape v (Declares blocks))
-view_declares h shape v blocks = search (rules, ceiling_declares, slice_get-append, slice_get_within)
-
 view_writes : (shape : Shape) (v : RingView) (a w : ℕ) → ViewGoesOn shape v (changed shape v (Writes a w))
 view_writes shape v a w = record {
   floor = refl;
@@ -30,8 +27,7 @@ view_writes shape v a w = record {
 
 module _ (h : Header) where
   command_by : (o : Option Block) (c : Command) → option_and_then command_of o ≡ Some c → (d : Block) × (o ≡ Some d) × (command_of d ≡ Some c)
-  command_by None c at = absurd (none-some c at)
-  command_by (Some d) c at = (d, refl, at)
+  command_by o c at = grind (arith, none-some)
 
   command_stays : (k l : Known) → ViewGoesOn (shape_of h (command_id h)) (k.ring (command_id h)) (l.ring (command_id h)) → (p : ℕ) (c : Command) → command_at h k p ≡ Some c → command_at h l p ≡ Some c
   unfolding command_at
@@ -47,7 +43,7 @@ module _ (h : Header) where
   declared_view k r blocks =
       view_after h (ViewGoesOn (shape_of h (command_id h)) (k.ring (command_id h))) k r (Declares blocks) (command_id h)
       (λ same. subst (λ n. ViewGoesOn (shape_of h (command_id h)) (k.ring (command_id h)) (changed (shape_of h n) (k.ring n) (Declares blocks))) same
-      (view_declares h (shape_of h (command_id h)) (k.ring (command_id h)) blocks))
+      (search (rules, ceiling_declares, slice_get-append, slice_get_within)))
       (λ other. view_same (shape_of h (command_id h)) (k.ring (command_id h)) (k.ring (command_id h)) refl)
 
   -- ---- a declaration
@@ -78,8 +74,7 @@ module _ (h : Header) where
   -- which slots have a device context under lease
   taken_by : (k : Known) (a w : ℕ) (o : Option (ℕ × ℕ)) (s : ℕ) → ((e : ℕ × ℕ) → o ≡ Some e → s ≢ e.0) → (with_device h (with_word h k a w) o).device s ≡ k.device s
   unfolding with_device with_word
-  taken_by k a w None s others = refl
-  taken_by k a w (Some e) s others = cond-false (s == e.0) (Some e.1) (k.device s) (ne_eqb s e.0 (others e refl))
+  taken_by k a w o s others = grind (arith, cond-false, k.device, ne_eqb)
 
   no_more : (k : Known) (a w s : ℕ) → ((e : ℕ × ℕ) → option_and_then (taken_device k) (command_given h k a w) ≡ Some e → s ≢ e.0) → (learned h k (Write a w)).device s ≡ k.device s
   unfolding learned written

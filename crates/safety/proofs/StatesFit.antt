@@ -15,17 +15,13 @@ succeeds_is slots endpoints config n c can =
     search (rules, and_parts, is_slot_enabled, is_some, slot_success, slot_meant, named_slot, endpoint_success, endpoint_meant, named_endpoint)
 
 stopping_runs : (s i : ℕ) (e : EndpointState) → is_some (endpoint_success (StopEndpoint s i) e) ≡ true → e ≡ Running
-stopping_runs s i Running is = refl
-stopping_runs s i _ is = absurd (false≢true is)
+stopping_runs s i o is = grind (arith, false≢true)
 
 resetting_halted : (s i : ℕ) (e : EndpointState) → is_some (endpoint_success (ResetEndpoint s i) e) ≡ true → e ≡ Halted
-resetting_halted s i Halted is = refl
-resetting_halted s i _ is = absurd (false≢true is)
+resetting_halted s i o is = grind (arith, false≢true)
 
 pub moving_rests : (s i p : ℕ) (cycle : Bool) (e : EndpointState) → is_some (endpoint_success (SetTrDequeue s i p cycle) e) ≡ true → RestsThere e
-moving_rests s i p cycle Stopped is = record { on = λ off. cc; rests = λ runs. cc }
-moving_rests s i p cycle Error is = record { on = λ off. cc; rests = λ runs. cc }
-moving_rests s i p cycle _ is = absurd (false≢true is)
+moving_rests s i p cycle o is = grind (arith, false≢true)
 
 module _ (h : Header) (is : IsHeader h) where
   -- a command that names a slot names none that is Disabled
@@ -37,11 +33,6 @@ module _ (h : Header) (is : IsHeader h) where
   no_slot_zero k s zero there same = there (ap k.slot_state same ∙ zero)
 
   -- ---- Address Device
-
-  address_fits : (k : Known) → RingsKeep h k → (s n : ℕ) (bsr : Bool) → StillHolds h k (AddressDevice s bsr n) → s ≢ 0 →
-      MayPlace h (changed_by h (AddressDevice s bsr n) k (SlotGoesOn s)) s 1 (context_pointer h.context_size k.memory n 1) Running
-  unfolding changed_by
-  address_fits k rings s n bsr still slot = search (rules, address_ready)
 
   -- ---- Configure Endpoint
 
@@ -81,11 +72,11 @@ module _ (h : Header) (is : IsHeader h) where
 
   pub success_fits : (k : Known) (config n : ℕ) (c : Command) → k.slot_state 0 ≡ Disabled → RingsKeep h k → EndpointsStand k → is_bad_command h k c ≡ false → StillHolds h k c →
       Succeeds k.slot_state k.endpoint_state config n c → FitAll h c k (changes h.context_size k.memory n c)
-  unfolding changes
+  unfolding changes changed_by
   success_fits k config n EnableSlot zero rings e good still may = (tt, tt)
   success_fits k config n (DisableSlot s) zero rings e good still may = (tt, (tt, (tt, tt)))
   success_fits k config n (AddressDevice s bsr a) zero rings e good still may =
-      (tt, (address_fits k rings s a bsr still (no_slot_zero k s zero (slot_there k (AddressDevice s bsr a) s good refl)), tt))
+      (tt, ((search (rules, address_ready)), tt))
   success_fits k config n (ConfigureEndpoint s false a) zero rings e good still may =
       (tt, (tt, configure_fits k rings s a still (no_slot_zero k s zero (slot_there k (ConfigureEndpoint s false a) s good refl))))
   success_fits k config n (ConfigureEndpoint s true a) zero rings e good still may = (tt, (tt, tt))

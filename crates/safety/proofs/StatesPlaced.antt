@@ -1,5 +1,5 @@
 -- An endpoint that is placed on a ring: what is kept of endpoints is kept
-use Rattle.safety.proofs.Words.{◌≡◌, ◌≢◌, ◌⊎◌, ◌∙◌, ℕ, Bool, true, false, Option, None, Some, refl, sym, ap, inl, inr, rules, cond-true, cond-false, none-some, same_Some, put_pair, Spot, number, Reaches, Holds, target, Command, EndpointState, Off, Running, is_off, Places, Header, shape_of, ring_having, Known, on_ring, set_to, bound_to, moved_to, moved, pointed, in_state, changed_by, EndpointsKeep}
+use Rattle.safety.proofs.Words.{◌≡◌, ◌≢◌, ◌⊎◌, ◌∙◌, ℕ, Bool, true, false, Option, None, Some, refl, sym, ap, inl, inr, rules, cond-true, cond-false, none-some, same_Some, put_pair, Spot, number, Reaches, Holds, target, Command, EndpointState, Off, Running, is_off, Places, Header, shape_of, ring_having, Known, on_ring, set_to, bound_to, moved_to, moved, pointed, in_state, changed_by, EndpointsKeep, arith}
 use Rattle.safety.proofs.DriverRows.{ring_here, ring_elsewhere}
 use Rattle.safety.proofs.EndpointPut.{at_pair}
 use Rattle.safety.proofs.StatesParts.{EndpointsStand}
@@ -37,8 +37,7 @@ pub is_off_of : (e : EndpointState) → e ≡ Off → is_off e ≡ true
 is_off_of e off = ap is_off off
 
 pub on_is : (e : EndpointState) → e ≢ Off → is_off e ≡ false
-on_is Off on = absurd (on refl)
-on_is _ on = refl
+on_is o on = grind arith
 
 module _ (h : Header) where
   set_here : (k : Known) (r : ℕ) (t : Spot) → ((set_to h k r t).ring r).held ≡ Some (number t)
@@ -55,20 +54,15 @@ module _ (h : Header) where
 
   target_is : (k : Known) (r : ℕ) (o : Option Spot) → IsMoved k (moved_to h k r o) r
   unfolding moved_to
-  target_is k r None = search (rules, set_rest, none-some, set_here, set_other)
-  target_is k r (Some t) = search (rules, set_rest, none-some, set_here, set_other)
-
-  moved_is : (k : Known) (r p : ℕ) (cycle : Bool) → IsMoved k (moved h k (Some r) p cycle) r
-  unfolding moved
-  moved_is k r p cycle = target_is k r (target (shape_of h r) (k.ring r) p cycle)
+  target_is k r o = grind (arith, set_rest, none-some, set_here, set_other)
 
   pub pointed_off : (k : Known) (s i p r : ℕ) (cycle : Bool) → is_off (k.endpoint_state s i) ≡ true → ring_having h p ≡ Some r → IsBound k (pointed h k s i p cycle) s i r
-  unfolding pointed bound_to
-  pointed_off k s i p r cycle off at = search (rules, cond-true, is_off, bound_to, ring_having, moved, moved_is)
+  unfolding pointed bound_to moved
+  pointed_off k s i p r cycle off at = search (rules, cond-true, is_off, bound_to, ring_having, moved, target_is, target, shape_of)
 
   pub pointed_on : (k : Known) (s i p r : ℕ) (cycle : Bool) → is_off (k.endpoint_state s i) ≡ false → k.ring_of s i ≡ Some r → IsMoved k (pointed h k s i p cycle) r
-  unfolding pointed
-  pointed_on k s i p r cycle on at = search (rules, cond-false, is_off, bound_to, ring_having, moved, moved_is)
+  unfolding pointed moved
+  pointed_on k s i p r cycle on at = search (rules, cond-false, is_off, bound_to, ring_having, moved, target_is, target, shape_of)
 
 -- the endpoint's state is set then
 pub record IsPlaced (m l : Known) (s i : ℕ) (state : EndpointState) : Type 0 where

@@ -1,8 +1,7 @@
 -- A clean history keeps what the rules keep of each ring, so long as what was tested of a command holds still when it succeeds
-use Rattle.safety.proofs.Words.{slot, Header, Row, Read, IsHeader, Known, RingsKeep, EndpointsKeep, MayRead, StillReads}
+use Rattle.safety.proofs.Words.{slot, Header, Row, Read, IsHeader, Known, RingsKeep, EndpointsKeep, MayRead, StillReads, rules, arith}
 use Rattle.safety.proofs.Placings.{still_places}
 
 module _ (h : Header) (is : IsHeader h) where
   pub still_reads : (k : Known) (row : Row) → RingsKeep h k → EndpointsKeep h k → StillReads h k row → MayRead h k row
-  still_reads k (Read b) rings endpoints still = λ completion c at success. still_places h is k rings endpoints (slot b) c (still completion c at success)
-  still_reads k _ rings endpoints still = tt
+  still_reads k o rings endpoints still = grind (arith, still_places, slot)

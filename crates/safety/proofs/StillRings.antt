@@ -1,5 +1,5 @@
 -- Behind an event an endpoint whose doorbell does nothing stays one
-use Rattle.safety.proofs.Words.{[], ◌≡◌, ◌==◌, ◌&&◌, ◌∙◌, ℕ, not, true, false, Option, None, Some, refl, sym, ap, subst, inl, inr, eqb-true, eq-eqb, rules, list_any, cases_Bool, and_parts, or_from, and_from, not-false, false≢true, false_from_ne_true, Block, BlockKind, TransferEvent, CommandCompletion, kind, code, slot, endpoint, is_transfer_event, is_command_completion, Spot, number, after, Command, StopEndpoint, EndpointState, changes, touches, Header, Read, IsHeader, shape_of, Known, RingSpot, on_ring, event_at, next_command, passed, broken_off, transferred, transferred_at, transfer_read, event_read, learned, touches_endpoint, is_touched, is_in_profile, is_stopping_now, can_report, can_report_at, is_impossible_by_kind, lenient, some_of, any_of, DriverKeeps, IsIdleEndpoint, MayRing}
+use Rattle.safety.proofs.Words.{[], ◌≡◌, ◌==◌, ◌&&◌, ◌∙◌, ℕ, not, true, false, Option, None, Some, refl, sym, ap, subst, inl, inr, eqb-true, eq-eqb, rules, list_any, cases_Bool, and_parts, or_from, and_from, not-false, false≢true, false_from_ne_true, Block, BlockKind, TransferEvent, CommandCompletion, kind, code, slot, endpoint, is_transfer_event, is_command_completion, Spot, number, after, Command, StopEndpoint, EndpointState, changes, touches, Header, Read, IsHeader, shape_of, Known, RingSpot, on_ring, event_at, next_command, passed, broken_off, transferred, transferred_at, transfer_read, event_read, learned, touches_endpoint, is_touched, is_in_profile, is_stopping_now, can_report, can_report_at, is_impossible_by_kind, lenient, some_of, any_of, DriverKeeps, IsIdleEndpoint, MayRing, arith}
 use Rattle.safety.proofs.LowerLaws.{EventFacts, event_facts, at_pair, event_same, StopsNext, stops_is, event_ring_of, chain, unfinished_fails}
 use Rattle.safety.proofs.MiddleLaws.{completion_facts, next_unfinished, reached_held, stop_touches, reported, TransferLeaves, transferred_leaves, listed_before, EndpointHolds}
 use Rattle.safety.proofs.UntouchedCompletion.{completion_holds}
@@ -62,8 +62,7 @@ module _ (h : Header) where
 
       at_idle : (b : Block) (o : Option RingSpot) → event_at h k b ≡ o → can_report_at h k b o ≡ true → IsIdleEndpoint h (transferred_at h k b o) s i
       unfolding transferred_at can_report_at
-      at_idle b None found can = may.state
-      at_idle b (Some at) found can = on_ring_idle (code b) (slot b) (endpoint b) at.ring at.spot (event_ring_of h k b at found) can
+      at_idle b o found can = grind (arith, on_ring_idle, code, slot, endpoint, event_ring_of)
 
       -- ---- any event
 
@@ -85,14 +84,11 @@ module _ (h : Header) where
   unfolding is_touched
   untouched_behind is k d e clean s i none = search (rules, false_from_ne_true, some_of, false≢true, any_of, listed_before, touches_same)
 
-  read_idle : (k : Known) (e : Block) (s i : ℕ) → IsIdleEndpoint h (event_read h k (kind e) e) s i → IsIdleEndpoint h (learned h k (Read e)) s i
-  unfolding learned
-  read_idle k e s i idle = idle
-
   pub still_rings : StillRingsLaw h
+  unfolding learned
   still_rings k s t e is d may clean =
       let facts : EventFacts h k e = event_facts h k e clean in
       record {
         untouched = untouched_behind is k d e clean s t may.untouched;
-        state = read_idle k e s t (event_idle is k d s t facts.started may e (kind e) refl facts.possible facts.inside);
+        state = (event_idle is k d s t facts.started may e (kind e) refl facts.possible facts.inside);
       }

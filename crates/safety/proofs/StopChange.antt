@@ -1,5 +1,5 @@
 -- The change of a Stop Endpoint's success: the endpoint is Stopped, and its ring held at its ceiling and inactive
-use Rattle.safety.proofs.Words.{◌≡◌, ◌≢◌, ℕ, false, Option, Some, None, refl, sym, ap, subst, inl, inr, rules, cases_eq, false≢true, same_Some, put, Spot, Shape, ceiling, is_way_given, Command, Stopped, Stops, Header, shape_of, command_id, World, Known, RingState, state_of, RingMatches, BoundRing, EndpointRing, on_ring, changed_by, held_at_ceiling, in_state, RingView}
+use Rattle.safety.proofs.Words.{◌≡◌, ◌≢◌, ℕ, false, Option, Some, None, refl, sym, ap, subst, inl, inr, rules, cases_eq, false≢true, same_Some, put, Spot, Shape, ceiling, is_way_given, Command, Stopped, Stops, Header, shape_of, command_id, World, Known, RingState, state_of, RingMatches, BoundRing, EndpointRing, on_ring, changed_by, held_at_ceiling, in_state, RingView, arith}
 use Rattle.controller_model.specs.Bindings as bindings
 use Rattle.safety.proofs.NoWait.{ceiling_held}
 use Rattle.safety.proofs.RingGoesOn.{newest_still}
@@ -19,9 +19,6 @@ resting s = record s { active = false }
 held_matches : (shape : Shape) (v : RingView) (s : RingState) (t : Spot) → RingMatches shape v s t → RingMatches shape (held_view shape v) (resting s) t
 unfolding is_way_given
 held_matches shape v s t m = search (rules, ceiling_held, false≢true, newest_still)
-
-held_ring : (shape : Shape) (ring_of : ℕ → ℕ → Option ℕ) (v : RingView) (s : RingState) (r : ℕ) → BoundRing shape ring_of v s r → BoundRing shape ring_of (held_view shape v) (resting s) r
-held_ring shape ring_of v s r b = search (rules, held_matches)
 
 -- ---- all rings
 
@@ -50,12 +47,11 @@ module _ (h : Header) (k : Known) (w : World) (m : StatesMatch h k w) (s i r : �
   stopped_here : EndpointRing h k w r → EndpointRing h held rested r
   stopped_here (inl bound) =
       inl (subst (λ x. BoundRing (shape_of h r) k.ring_of x (state_of rested r) r) (sym ring_here)
-      (subst (λ x. BoundRing (shape_of h r) k.ring_of (held_view (shape_of h r) (k.ring r)) x r) (sym state_here) (held_ring (shape_of h r) k.ring_of (k.ring r) (state_of w r) r bound)))
+      (subst (λ x. BoundRing (shape_of h r) k.ring_of (held_view (shape_of h r) (k.ring r)) x r) (sym state_here) (search (rules, held_matches))))
   stopped_here (inr free) = absurd (free.none s i had)
 
   stopped_elsewhere : (q : ℕ) → q ≢ r → EndpointRing h k w q → EndpointRing h held rested q
-  stopped_elsewhere q other (inl bound) = search (rules, held, rested, ring_elsewhere, state_elsewhere)
-  stopped_elsewhere q other (inr free) = search (rules, held, rested, ring_elsewhere, state_elsewhere)
+  stopped_elsewhere q other o = grind (arith, ring_elsewhere, state_elsewhere)
 
   stopped_ring : (q : ℕ) → q ≢ command_id h → EndpointRing h held rested q
   stopped_ring q not_command =
@@ -64,14 +60,11 @@ module _ (h : Header) (k : Known) (w : World) (m : StatesMatch h k w) (s i r : �
         | inr other ↦ stopped_elsewhere q other (m.rings q not_command)
       ]
 
-  queue_still : (q : ℕ) → (held.ring q).queue ≡ (k.ring q).queue
-  queue_still q = search (rules, held, ring_here, ring_elsewhere)
-
   lengths_still : (q : ℕ) → (held.ring q).lengths ≡ (k.ring q).lengths
   lengths_still q = search (rules, held, ring_here, ring_elsewhere)
 
   held_keeps : ChangeKeeps h k held w rested
-  held_keeps = search (rules, held, rested, stopped_ring, apart, queue_still, lengths_still, ring_elsewhere, state_elsewhere)
+  held_keeps = search (rules, held, rested, stopped_ring, apart, ring_here, lengths_still, ring_elsewhere, state_elsewhere)
 
 -- the ring of an endpoint, if it has one
 module _ (h : Header) (k : Known) (w : World) (m : StatesMatch h k w) where

@@ -1,6 +1,5 @@
 -- What a Transfer Event leaves as it is: all rings but that of its endpoint, and all slots
-use Rattle.std.proofs.Common.{rules}
-use Rattle.safety.proofs.Words.{◌≡◌, ◌≢◌, ◌+◌, if◌then◌else◌, ◌∙◌, ℕ, true, Option, None, Some, refl, sym, ap, option_map, cond_both, none-some, same_Some, put_pair, Block, pointer, code, slot, endpoint, is_success, is_halting, is_trb_error, is_stopping, Spot, number, after, Reaches, Holds, named, stopped_number, EndpointState, Halted, Error, Header, IsHeader, shape_of, command_id, Known, RingSpot, on_ring, spot_on, event_at, passed, broken_off, stopped_at, transferred, transferred_at, transfer_read, EndpointsKeep}
+use Rattle.safety.proofs.Words.{◌≡◌, ◌≢◌, ◌+◌, if◌then◌else◌, ◌∙◌, ℕ, true, Option, None, Some, refl, sym, ap, option_map, cond_both, none-some, same_Some, put_pair, Block, pointer, code, slot, endpoint, is_success, is_halting, is_trb_error, is_stopping, Spot, number, after, Reaches, Holds, named, stopped_number, EndpointState, Halted, Error, Header, IsHeader, shape_of, command_id, Known, RingSpot, on_ring, spot_on, event_at, passed, broken_off, stopped_at, transferred, transferred_at, transfer_read, EndpointsKeep, rules, arith}
 use Rattle.safety.proofs.RingIds.{command_not_transfer}
 use Rattle.safety.proofs.DriverRows.{ring_elsewhere}
 
@@ -8,8 +7,7 @@ module _ (h : Header) where
   -- the ring of a named spot is the endpoint's
   pub spot_ring : (k : Known) (a : ℕ) (o : Option ℕ) (at : RingSpot) → spot_on h k a o ≡ Some at → o ≡ Some at.ring
   unfolding spot_on
-  spot_ring k a None at e = absurd (none-some at e)
-  spot_ring k a (Some r) at e = search (rules, none-some, named, shape_of, k.ring, option_map, same_Some)
+  spot_ring k a o at e = grind (arith, none-some, named, shape_of, option_map, same_Some)
 
   pub event_ring_of : (k : Known) (b : Block) (at : RingSpot) → event_at h k b ≡ Some at → k.ring_of (slot b) (endpoint b) ≡ Some at.ring
   unfolding event_at
@@ -22,16 +20,12 @@ module _ (h : Header) where
     unfolding passed
     passed_off t = ring_elsewhere h k r q (Reaches (after (shape_of h r) (number t))) other
 
-    broken_is_off : (s i : ℕ) (t : Spot) (state : EndpointState) → (broken_off h k s i r t state).ring q ≡ k.ring q
-    unfolding broken_off
-    broken_is_off s i t state = ring_elsewhere h (passed h k r t) r q (Holds (number t + 1)) other ∙ passed_off t
-
     stopped_off : (s i : ℕ) (t : Spot) → (stopped_at h k s i r t).ring q ≡ k.ring q
     unfolding stopped_at
     stopped_off s i t = search (rules, on_ring, stopped_number, shape_of, k.ring, ring_elsewhere)
 
     transferred_off : (c s i : ℕ) (t : Spot) → (transferred h k c s i r t).ring q ≡ k.ring q
-    unfolding transferred
+    unfolding transferred broken_off
     transferred_off c s i t =
         let halts : Known = record (broken_off h k s i r t Halted) { must_move = put_pair k.must_move s i true } in
         let fails : Known = broken_off h k s i r t Error in
@@ -39,15 +33,14 @@ module _ (h : Header) where
         cond_both (is_success c) (passed h k r t) (if is_halting c then halts else if is_trb_error c then fails else stopped) (λ l. l.ring q ≡ k.ring q)
         (λ _. passed_off t)
         (λ _. cond_both (is_halting c) halts (if is_trb_error c then fails else stopped) (λ l. l.ring q ≡ k.ring q)
-        (λ _. broken_is_off s i t Halted)
+        (λ _. (ring_elsewhere h (passed h k r t) r q (Holds (number t + 1)) other ∙ passed_off t))
         (λ _. cond_both (is_trb_error c) fails stopped (λ l. l.ring q ≡ k.ring q)
-        (λ _. broken_is_off s i t Error)
+        (λ _. (ring_elsewhere h (passed h k r t) r q (Holds (number t + 1)) other ∙ passed_off t))
         (λ _. cond_both (is_stopping c) (stopped_at h k s i r t) k (λ l. l.ring q ≡ k.ring q) (λ _. stopped_off s i t) (λ _. refl))))
 
   at_off : (k : Known) (b : Block) (q : ℕ) (o : Option RingSpot) → ((at : RingSpot) → o ≡ Some at → q ≢ at.ring) → (transferred_at h k b o).ring q ≡ k.ring q
   unfolding transferred_at
-  at_off k b q None others = refl
-  at_off k b q (Some at) others = transferred_off k q at.ring (others at refl) (code b) (slot b) (endpoint b) at.spot
+  at_off k b q o others = grind (arith, transferred_off, code, slot, endpoint)
 
   pub transfer_off : (k : Known) (b : Block) (q : ℕ) → k.ring_of (slot b) (endpoint b) ≢ Some q → (transfer_read h k b).ring q ≡ k.ring q
   unfolding transfer_read
@@ -71,8 +64,7 @@ module _ (h : Header) where
 
   at_slots : (k : Known) (b : Block) (o : Option RingSpot) → LeavesSlots k (transferred_at h k b o)
   unfolding transferred_at
-  at_slots k b None = record { slot_state = refl; ring_of = refl; was_bound = refl; device = refl }
-  at_slots k b (Some at) = transferred_slots k (code b) (slot b) (endpoint b) at.ring at.spot
+  at_slots k b o = grind (arith, transferred_slots, code, slot, endpoint)
 
   pub transfer_slots : (k : Known) (b : Block) → LeavesSlots k (transfer_read h k b)
   unfolding transfer_read

@@ -25,16 +25,13 @@ module _ (h : Header) (k : Known) (s i r : ℕ) where
   unfolding passed on_ring
   passed_leaves t = search (rules, ring_elsewhere, ring_here)
 
-  on_twice : (a b : RingChange) (q : ℕ) → q ≢ r → (on_ring h (on_ring h k r a) r b).ring q ≡ k.ring q
-  on_twice a b q other = ring_elsewhere h (on_ring h k r a) r q b other ∙ ring_elsewhere h k r q a other
-
   broken_leaves : (t : Spot) (state : EndpointState) → is_off state ≡ false → is_working k s i r ≡ true → TransferLeaves k (broken_off h k s i r t state) s i r
   unfolding broken_off passed on_ring is_working
-  broken_leaves t state on works = search (rules, on_twice, at_pair, is_off, false, false≢true, and_parts)
+  broken_leaves t state on works = search (rules, ring_elsewhere, on_ring, at_pair, is_off, false, false≢true, and_parts)
 
   stopped_leaves : (t : Spot) → is_working k s i r ≡ true → TransferLeaves k (stopped_at h k s i r t) s i r
   unfolding stopped_at on_ring is_working
-  stopped_leaves t works = search (rules, on_twice, false≢true, and_parts)
+  stopped_leaves t works = search (rules, ring_elsewhere, on_ring, false≢true, and_parts)
 
   must_leaves : (l : Known) → TransferLeaves k l s i r → TransferLeaves k (let m : Known = record l { must_move = put_pair k.must_move s i true } in m) s i r
   must_leaves l leaves = search (rules, at_pair)

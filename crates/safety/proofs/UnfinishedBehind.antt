@@ -54,13 +54,9 @@ module _ (h : Header) (is : IsHeader h) (k : Known) (d : DriverKeeps h k) where
         staying e answer.0 answer.1 (next_unfinished h is k d facts.started finish.below answer.0 answer.1) (command_is_ring h k d facts.started) answer.2 p c t i u its
     rings_kind _ at p c t i u its = refl
 
-    unread : (p : ℕ) (c : Command) → IsUnfinished h (learned h k (Read e)) p c → IsUnfinished h (event_read h k (kind e) e) p c
-    unfolding learned command_at
-    unread p c u = record { due = u.due; given = u.given; command = u.command }
-
     pub rings_behind : (p : ℕ) (c : Command) (t i : ℕ) → IsUnfinished h (learned h k (Read e)) p c → Concerns c t i → (learned h k (Read e)).ring_of t i ≡ k.ring_of t i
-    unfolding learned
-    rings_behind p c t i u its = rings_kind (kind e) refl p c t i (unread p c u) its
+    unfolding learned command_at
+    rings_behind p c t i u its = rings_kind (kind e) refl p c t i (record { due = u.due; given = u.given; command = u.command }) its
 
     abbrev l : Known
     l = learned h k (Read e)

@@ -1,28 +1,22 @@
 -- A Command Completion Event leaves an endpoint that no unfinished command touches
-use Rattle.std.proofs.Common.{rules}
-use Rattle.safety.proofs.Words.{◌≡◌, ◌==◌, if◌then◌else◌, ◌∙◌, ℕ, true, false, Option, None, Some, refl, ap, list_any, cond_both, Block, code, slot, Spot, after, Reaches, ContextSize, Command, NoOp, StopEndpoint, changes, touches, Header, Config, IsHeader, shape_of, command_id, register_or_zero, Known, on_ring, command_at, next_command, succeeded, stop_ended, finished, completed, touches_endpoint, is_touched, can_finish, IsUnfinished, CommandKeeps, DriverKeeps}
+use Rattle.safety.proofs.Words.{◌≡◌, ◌==◌, if◌then◌else◌, ◌∙◌, ℕ, true, false, Option, None, Some, refl, ap, list_any, cond_both, Block, code, slot, Spot, after, Reaches, ContextSize, Command, NoOp, StopEndpoint, changes, touches, Header, Config, IsHeader, shape_of, command_id, register_or_zero, Known, on_ring, command_at, next_command, succeeded, stop_ended, finished, completed, touches_endpoint, is_touched, can_finish, IsUnfinished, CommandKeeps, DriverKeeps, rules, arith}
 use Rattle.safety.proofs.LowerLaws.{endpoints_of, rings_of, endpoints_part, unfinished_fails}
 use Rattle.safety.proofs.MiddleLaws.{CompletionFacts, next_unfinished, command_holds, success_fits, reached_fields, reached_held, can_be, EndpointHolds, same_holds, both_hold, changes_hold}
 
 -- which endpoints a command touches doesn't hang on the slot of its completion
 pub touches_any : (size : ContextSize) (memory : ℕ → ℕ) (n s i : ℕ) (c : Command) → list_any (touches s i) (changes size memory n c) ≡ list_any (touches s i) (changes size memory 0 c)
 unfolding changes
-touches_any size memory n s i NoOp = refl
-touches_any size memory n s i _ = refl
+touches_any size memory n s i o = grind arith
 
 module _ (h : Header) (s i : ℕ) where
   -- neither the end of a Stop Endpoint nor the pointer of a ring changes a state or where a ring is held
   stop_holds : (m : Known) (c : Command) → EndpointHolds m (stop_ended h m c) s i
   unfolding stop_ended
-  stop_holds m (StopEndpoint t j) = record { state = refl; ring_of = refl; must_move = refl; held = λ r at. refl }
-  stop_holds m _ = same_holds m s i
-
-  reached_must : (m : Known) (r : ℕ) (t : Spot) → (on_ring h m r (Reaches t)).must_move ≡ m.must_move
-  unfolding on_ring
-  reached_must m r t = refl
+  stop_holds m o = grind (arith, same_holds)
 
   reached_holds : (m : Known) (r : ℕ) (t : Spot) → EndpointHolds m (on_ring h m r (Reaches t)) s i
-  reached_holds m r t = search (rules, reached_fields, reached_must, reached_held)
+  unfolding on_ring
+  reached_holds m r t = search (rules, reached_fields, reached_held)
 
   module _ (is : IsHeader h) (k : Known) (d : DriverKeeps h k) (b : Block) (started : k.started ≡ true) (facts : CompletionFacts h k b) (untouched : is_touched h k s i ≡ false) where
     -- the command is unfinished, and so doesn't touch the endpoint

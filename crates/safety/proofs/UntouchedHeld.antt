@@ -1,6 +1,5 @@
 -- The success of a command that doesn't touch an endpoint leaves its state, its ring, whether that must be moved, and where it is held
-use Rattle.std.proofs.Common.{rules}
-use Rattle.safety.proofs.Words.{[], ◌≡◌, ◌≢◌, ◌==◌, ◌&&◌, ◌∷◌, ◌∙◌, ℕ, Bool, false, List, Option, None, Some, refl, sym, ap, inl, inr, eq-eqb, list_any, cases_Bool, false≢true, and_from, or_parts, Holds, ceiling, Command, EndpointState, Stopped, Change, Places, Stops, touches, is_off, Header, IsHeader, shape_of, Known, pointed, disabled, in_state, held_at_ceiling, changed_by, changed_by_all, EndpointsKeep}
+use Rattle.safety.proofs.Words.{[], ◌≡◌, ◌≢◌, ◌==◌, ◌&&◌, ◌∷◌, ◌∙◌, ℕ, Bool, false, List, Option, None, Some, refl, sym, ap, inl, inr, eq-eqb, list_any, cases_Bool, false≢true, and_from, or_parts, Holds, ceiling, Command, EndpointState, Stopped, Change, Places, Stops, touches, is_off, Header, IsHeader, shape_of, Known, pointed, disabled, in_state, held_at_ceiling, changed_by, changed_by_all, EndpointsKeep, rules, arith}
 use Rattle.safety.proofs.LowerLaws.{ring_elsewhere, change_keeps, EndpointsStand, MayPlace, IsBound, IsMoved, IsPlaced, pointed_off, pointed_on, placed_is, is_off_of, some_ring, EndpointStays, untouched_stays}
 use Rattle.safety.proofs.StatesChanges.{Fits, FitAll, change_stands}
 
@@ -39,8 +38,7 @@ module _ (h : Header) (s i : ℕ) where
 
     stopped_held : (t j : ℕ) (o : Option ℕ) → k.ring_of t j ≡ o → (s == t && i == j) ≡ false → ((held_at_ceiling h (in_state h k t j Stopped) o).ring r).held ≡ (k.ring r).held
     unfolding held_at_ceiling in_state
-    stopped_held t j None there apart = refl
-    stopped_held t j (Some q) there apart = search (rules, in_state, ring_elsewhere, ceiling, shape_of, others_ring)
+    stopped_held t j o there apart = grind (arith, in_state, ring_elsewhere, ceiling, shape_of, others_ring)
 
     untouched_held : (c : Command) (change : Change) → Fits h k change → touches s i change ≡ false → ((changed_by h c k change).ring r).held ≡ (k.ring r).held
     unfolding changed_by disabled in_state

@@ -1,5 +1,5 @@
 -- A change that doesn't touch an endpoint leaves its state, which ring it has, and whether that must be moved
-use Rattle.safety.proofs.Words.{◌≡◌, ◌==◌, ◌&&◌, ◌∙◌, ℕ, Bool, false, Option, None, Some, refl, cond_both, cond-false, put_pair, Spot, target, Command, EndpointState, Off, Stopped, Change, Disables, Places, Stops, Resets, touches, is_off, Header, shape_of, ring_having, Known, on_ring, set_to, bound_to, moved_to, moved, pointed, disabled, in_state, held_at_ceiling, changed_by}
+use Rattle.safety.proofs.Words.{◌≡◌, ◌==◌, ◌&&◌, ◌∙◌, ℕ, Bool, false, Option, None, Some, refl, cond_both, cond-false, put_pair, Spot, target, Command, EndpointState, Off, Stopped, Change, Disables, Places, Stops, Resets, touches, is_off, Header, shape_of, ring_having, Known, on_ring, set_to, bound_to, moved_to, moved, pointed, disabled, in_state, held_at_ceiling, changed_by, arith}
 
 pub record EndpointStays (k l : Known) (s i : ℕ) : Type 0 where
   pub state : l.endpoint_state s i ≡ k.endpoint_state s i
@@ -12,8 +12,7 @@ module _ (h : Header) (s i : ℕ) where
 
   spot_stays : (k : Known) (r : ℕ) (o : Option Spot) → EndpointStays k (moved_to h k r o) s i
   unfolding moved_to set_to on_ring
-  spot_stays k r None = record { state = refl; ring_of = refl; must_move = refl }
-  spot_stays k r (Some t) = record { state = refl; ring_of = refl; must_move = refl }
+  spot_stays k r o = grind arith
 
   moved_stays : (k : Known) (o : Option ℕ) (p : ℕ) (cycle : Bool) → EndpointStays k (moved h k o p cycle) s i
   unfolding moved
@@ -42,8 +41,7 @@ module _ (h : Header) (s i : ℕ) where
 
   held_stays : (k : Known) (o : Option ℕ) → EndpointStays k (held_at_ceiling h k o) s i
   unfolding held_at_ceiling on_ring
-  held_stays k None = record { state = refl; ring_of = refl; must_move = refl }
-  held_stays k (Some r) = record { state = refl; ring_of = refl; must_move = refl }
+  held_stays k o = grind arith
 
   must_stays : (k l : Known) (t j : ℕ) (must : Bool) → (s == t && i == j) ≡ false → EndpointStays k l s i →
       EndpointStays k (let m : Known = record l { must_move = put_pair k.must_move t j must } in m) s i

@@ -1,5 +1,5 @@
 -- Other events counted as read, with nothing else that they say
-use Rattle.safety.proofs.Words.{◌≡◌, ◌∙◌, ℕ, Option, Some, None, refl, sym, Spot, Command, StopEndpoint, Header, World, UnderWay, Known, IsUnfinished, Stands, UnderWayMatches, TakenCommand, Matches, command_at, next_command, was_stop_seen}
+use Rattle.safety.proofs.Words.{◌≡◌, ◌∙◌, ℕ, Option, Some, None, refl, sym, Spot, Command, StopEndpoint, Header, World, UnderWay, Known, IsUnfinished, Stands, UnderWayMatches, TakenCommand, Matches, command_at, next_command, was_stop_seen, arith}
 
 abbrev pub with_reads : Known → ℕ → Known
 with_reads k n = record k { reads = n }
@@ -10,8 +10,7 @@ module _ (h : Header) where
 
   seen_with_reads : (n : ℕ) (k : Known) (c : Command) → was_stop_seen (with_reads k n) c ≡ was_stop_seen k c
   unfolding was_stop_seen
-  seen_with_reads n k (StopEndpoint s i) = refl
-  seen_with_reads n k _ = refl
+  seen_with_reads n k o = grind arith
 
   taken_with_reads : (n : ℕ) (k : Known) (u : UnderWay) → TakenCommand h k u → TakenCommand h (with_reads k n) u
   unfolding next_command command_at

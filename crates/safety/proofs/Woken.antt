@@ -21,18 +21,13 @@ module _ (h : Header) (r : ℕ) (S : ℕ → ℕ → Bool) where
   pub woken_floor : (k l : Known) → Woken h r S k l → (q : ℕ) → (l.ring q).floor ≡ (k.ring q).floor
   woken_floor k l w q = search rules
 
-  -- something that happens on a ring of both, and on the woken one doesn't hold or open it
-  on_woken : (k l : Known) → Woken h r S k l → (q : ℕ) (c : RingChange) →
-      (q ≡ r → changed (shape_of h r) (changed (shape_of h r) (k.ring r) Opens) c ≡ changed (shape_of h r) (changed (shape_of h r) (k.ring r) c) Opens) →
-      Woken h r S (on_ring h k q c) (on_ring h l q c)
-  unfolding on_ring
-  on_woken k l w q c swaps = search (rules, ring_here, ring_elsewhere)
-
   pub woken_reach : (k l : Known) → Woken h r S k l → (q : ℕ) (t : Spot) → Woken h r S (on_ring h k q (Reaches t)) (on_ring h l q (Reaches t))
-  woken_reach k l w q t = on_woken k l w q (Reaches t) (λ same. refl)
+  unfolding on_ring
+  woken_reach k l w q t = search (rules, ring_here, ring_elsewhere)
 
   pub woken_elsewhere : (k l : Known) → Woken h r S k l → (q : ℕ) (c : RingChange) → q ≢ r → Woken h r S (on_ring h k q c) (on_ring h l q c)
-  woken_elsewhere k l w q c other = on_woken k l w q c (λ same. absurd (other same))
+  unfolding on_ring
+  woken_elsewhere k l w q c other = search (rules, ring_here, ring_elsewhere)
 
   -- ---- the tables of endpoints
 

@@ -7,8 +7,7 @@ use Rattle.safety.proofs.HeldFurther.{named_same}
 
 below_further : (m n : ℕ) (t : Spot) → m ≤ n → is_data_below m t ≡ true → is_data_below n t ≡ true
 unfolding is_data_below
-below_further m n (Data p) further below = lt-ltb p n (omega (arith, ltb-true p m below))
-below_further m n (Link q) further below = below
+below_further m n o further below = grind (arith, lt-ltb, ltb-true)
 
 -- an event that is no success comes from an endpoint that works
 pub works_there : (b c low works stops spot : Bool) → b ≡ false → (if b then low else if c then low && works else works && stops && spot) ≡ true → works ≡ true
@@ -19,14 +18,10 @@ works_there false false low works stops spot out can = (and_parts works stops (a
 module _ (h : Header) (r : ℕ) (S : ℕ → ℕ → Bool) (k l : Known) (w : Woken h r S k l) where
   -- ---- what is read
 
-  passed_woken : (q : ℕ) (t : Spot) → Woken h r S (passed h k q t) (passed h l q t)
-  unfolding passed
-  passed_woken q t = woken_reach h r S k l w q (after (shape_of h q) (number t))
-
   module _ (s i q : ℕ) (t : Spot) (other : q ≢ r) (apart : S s i ≡ false) where
     broken_woken : (e : EndpointState) → Woken h r S (broken_off h k s i q t e) (broken_off h l s i q t e)
     unfolding broken_off passed on_ring
-    broken_woken e = search (rules, woken_state, on_ring, passed, number, woken_elsewhere, passed_woken)
+    broken_woken e = search (rules, woken_state, on_ring, passed, number, woken_elsewhere, woken_reach, after, shape_of)
 
     stopped_woken : Woken h r S (stopped_at h k s i q t) (stopped_at h l s i q t)
     unfolding stopped_at on_ring
@@ -35,7 +30,7 @@ module _ (h : Header) (r : ℕ) (S : ℕ → ℕ → Bool) (k l : Known) (w : Wo
   transferred_woken : (c s i q : ℕ) (t : Spot) → (is_success c ≡ false → (q ≢ r) × (S s i ≡ false)) → Woken h r S (transferred h k c s i q t) (transferred h l c s i q t)
   unfolding transferred broken_off on_ring passed
   transferred_woken c s i q t apart =
-      both_sides_if (Woken h r S) (is_success c) _ _ _ _ (λ _. passed_woken q t)
+      both_sides_if (Woken h r S) (is_success c) _ _ _ _ (λ _. (woken_reach h r S k l w q (after (shape_of h q) (number t))))
       (λ out. let x = apart out in
       both_sides (Woken h r S) (is_halting c) _ _ _ _
       (woken_move h r S (broken_off h k s i q t Halted) (broken_off h l s i q t Halted) s i true (broken_woken s i q t x.0 x.1 Halted))
@@ -84,8 +79,7 @@ module _ (h : Header) (r : ℕ) (S : ℕ → ℕ → Bool) (k l : Known) (w : Wo
     module _ (d : SameDriver k l) where
       spot_same : (p : ℕ) (o : Option ℕ) → spot_on h l p o ≡ spot_on h k p o
       unfolding spot_on
-      spot_same p None = refl
-      spot_same p (Some q) = search (rules, option_map, named_same, k.ring, l.ring, woken_floor, d.rings)
+      spot_same p o = grind (arith, option_map, named_same, woken_floor)
 
       event_same : (b : Block) → event_at h l b ≡ event_at h k b
       unfolding event_at

@@ -69,13 +69,11 @@ broken_none (t ∷ rest) fails = by t.1 fails.0 (broken_none rest fails.1)
 
 position_passes : (s t : ℕ → ℕ → Bool) → ((r p : ℕ) → s r p ≡ true → t r p ≡ true) → (g : Given) → on_position s g ≡ true → on_position t g ≡ true
 unfolding on_position
-position_passes s t each (Position r p) on = each r p on
-position_passes s t each (Crossing r q) on = absurd (false≢true on)
+position_passes s t each o on = grind (arith, false≢true)
 
 crossing_passes : (s t : ℕ → ℕ → Bool) → ((r p : ℕ) → s r p ≡ true → t r p ≡ true) → (g : Given) → on_crossing s g ≡ true → on_crossing t g ≡ true
 unfolding on_crossing
-crossing_passes s t each (Position r p) on = absurd (false≢true on)
-crossing_passes s t each (Crossing r q) on = each r q on
+crossing_passes s t each o on = grind (arith, false≢true)
 
 fewer_pass : {X : Type 0} (s t : X → Bool) (xs ys : List X) → ((x : X) → s x ≡ true → t x ≡ true) → ((x : X) → IsIn x ys → IsIn x xs) → list_any t xs ≡ false → list_any s ys ≡ false
 fewer_pass s t xs ys each fewer none = search (rules, false_from_ne_true, list_any, some_of, false≢true, any_of)

@@ -18,18 +18,13 @@ module _ (h : Header) (k : Known) (a w r : ℕ) (has : HasRing h r) where
         none_of_ring h r has (covers h a 4) (open_on h k)
         (none_of_both (covers h a 4) (flat_map (open_on h k) (driver_rings h)) (open_ranges h k) free).0
 
-    both : (list_any (covers h a 4) (map (Block has.ring.id) (leased_positions has.ring.shape (k.ring has.ring.id))) ≡ false)
-        × (list_any (covers h a 4) (map (Link has.ring.id) (leased_crossings has.ring.shape (k.ring has.ring.id))) ≡ false)
-    unfolding open_on
-    both = none_of_both (covers h a 4) _ _ on_this_ring
-
     pub blocks_free : All (λ p. overlap a 4 (address_of (shape_of h r) p) 16 ≡ false) (leased_positions (shape_of h r) (k.ring r))
-    unfolding covers lease_start lease_bytes
-    blocks_free = search (rules, each_fails, any_of_map, both)
+    unfolding covers lease_start lease_bytes open_on
+    blocks_free = search (rules, each_fails, any_of_map, none_of_both, covers, on_this_ring)
 
     pub links_free : All (λ q. overlap a 4 (link_address (shape_of h r) q) 16 ≡ false) (leased_crossings (shape_of h r) (k.ring r))
-    unfolding covers lease_start lease_bytes
-    links_free = search (rules, each_fails, any_of_map, both)
+    unfolding covers lease_start lease_bytes open_on
+    links_free = search (rules, each_fails, any_of_map, none_of_both, covers, on_this_ring)
 
   -- of what the write gives of the ring the test fails
   of_ring : (passes : Given → Bool) → list_any passes (given_by h k a w) ≡ false → list_any passes (given_of h k a w r) ≡ false

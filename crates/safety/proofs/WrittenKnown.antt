@@ -15,15 +15,7 @@ slot_low b = mod_below _ 256 (omega arith)
 
 by_kind : (b : Block) (t : BlockKind) → slot_or (command_by_kind t b) < 256
 unfolding slot_or
-by_kind b kinds.DisableSlot = slot_low b
-by_kind b kinds.AddressDevice = slot_low b
-by_kind b kinds.ConfigureEndpoint = slot_low b
-by_kind b kinds.EvaluateContext = slot_low b
-by_kind b kinds.ResetEndpoint = slot_low b
-by_kind b kinds.StopEndpoint = slot_low b
-by_kind b kinds.SetTrDequeue = slot_low b
-by_kind b kinds.ResetDevice = slot_low b
-by_kind b _ = omega arith
+by_kind b o = grind (arith, slot_low)
 
 pub command_slot_low : (b : Block) (c : Command) (s : ℕ) → command_of b ≡ Some c → named_slot c ≡ Some s → s < 256
 unfolding slot_or
@@ -42,8 +34,7 @@ module _ (h : Header) (k : Known) (a w : ℕ) where
 
   kept_by_device : (m : Known) (o : Option (ℕ × ℕ)) → ((with_device h m o).ring ≡ m.ring) × ((with_device h m o).memory ≡ m.memory)
   unfolding with_device
-  kept_by_device m None = (refl, refl)
-  kept_by_device m (Some e) = (refl, refl)
+  kept_by_device m o = grind arith
 
   pub written_ring : (q : ℕ) → after_write.ring q ≡ changed (shape_of h q) (k.ring q) (Writes a w)
   unfolding learned written with_word
@@ -55,13 +46,11 @@ module _ (h : Header) (k : Known) (a w : ℕ) where
 
   device_by : (m : Known) (o : Option (ℕ × ℕ)) → o ≡ None → (with_device h m o).device ≡ m.device
   unfolding with_device
-  device_by m None none = refl
-  device_by m (Some e) none = absurd (none-some e (sym none))
+  device_by m o none = grind (arith, none-some)
 
   device_with : (m : Known) (o : Option (ℕ × ℕ)) (e : ℕ × ℕ) → o ≡ Some e → (with_device h m o).device ≡ put m.device e.0 (Some e.1)
   unfolding with_device
-  device_with m None e some = absurd (none-some e some)
-  device_with m (Some f) e some = ap (λ (x : ℕ × ℕ). put m.device x.0 (Some x.1)) (same_Some f e some)
+  device_with m o e some = grind (arith, none-some, put, m.device, same_Some)
 
   pub written_device_none : taken ≡ None → after_write.device ≡ k.device
   unfolding learned written with_word
@@ -73,8 +62,7 @@ module _ (h : Header) (k : Known) (a w : ℕ) where
 
   soiled_with : (m : Known) (o : Option (ℕ × ℕ)) (e : ℕ × ℕ) → o ≡ Some e → (x : ℕ) → (with_device h m o).soiled x ≡ (is_in x e.1 (device_context_bytes h.context_size) || m.soiled x)
   unfolding with_device
-  soiled_with m None e some x = absurd (none-some e some)
-  soiled_with m (Some f) e some x = ap (λ (y : ℕ × ℕ). is_in x y.1 (device_context_bytes h.context_size) || m.soiled x) (same_Some f e some)
+  soiled_with m o e some x = grind (arith, none-some, is_in, device_context_bytes, m.soiled, same_Some)
 
   pub written_soiled : (e : ℕ × ℕ) → taken ≡ Some e → (x : ℕ) → after_write.soiled x ≡ (is_in x e.1 (device_context_bytes h.context_size) || (k.soiled x && not (x == a)))
   unfolding learned written with_word
@@ -82,8 +70,7 @@ module _ (h : Header) (k : Known) (a w : ℕ) where
 
   soiled_none : (m : Known) (o : Option (ℕ × ℕ)) → o ≡ None → (with_device h m o).soiled ≡ m.soiled
   unfolding with_device
-  soiled_none m None none = refl
-  soiled_none m (Some e) none = absurd (none-some e (sym none))
+  soiled_none m o none = grind (arith, none-some)
 
   pub written_soiled_none : taken ≡ None → (x : ℕ) → after_write.soiled x ≡ (k.soiled x && not (x == a))
   unfolding learned written with_word

@@ -129,12 +129,9 @@ module _ (h : Header) (c : Command) where
     unfolding world_in_state known_in_state
     none_stops s i = record { had = λ z j r has. has; floor = λ r. refl; pointer = refl; cycle = refl; events = refl; active = λ z j r has was opened. was opened }
 
-    held_floor : (l : Known) (r n q : ℕ) → ((on_ring h l r (Holds n)).ring q).floor ≡ (l.ring q).floor
-    held_floor l r n q = search (rules, ring_here, ring_elsewhere)
-
     ring_stops : (s i r : ℕ) → LeavesRings k (held_at_ceiling h (known_in_state h k s i Stopped) (Some r)) w (inactive (world_in_state w s i Stopped) (Some r))
     unfolding world_in_state known_in_state inactive held_at_ceiling on_ring is_open
-    ring_stops s i r = search (rules, held_floor, false≢true, is_open, ring_here, put_off, ring_elsewhere)
+    ring_stops s i r = search (rules, false≢true, is_open, ring_here, put_off, ring_elsewhere)
 
     stops_by : (s i : ℕ) (o : Option ℕ) → LeavesRings k (held_at_ceiling h (known_in_state h k s i Stopped) o) w (inactive (world_in_state w s i Stopped) o)
     unfolding inactive held_at_ceiling
@@ -170,12 +167,7 @@ finds_one p (y ∷ ys) x at passes none =
     ]
 
 no_id : (o : Option Ring) → id_of o ≡ None → o ≡ None
-no_id None none = refl
-no_id (Some q) none = absurd (none-some q.id (sym none))
-
-closed_view : (v : RingView) (n : ℕ) → v.held ≡ Some n → is_open v ≡ false
-unfolding is_open
-closed_view v n held = rw held refl
+no_id o none = grind (arith, none-some)
 
 module _ (h : Header) (is : IsHeader h) where
   none_has : (p r : ℕ) (t : Spot) → IsTransferRing h r → IsSpot (shape_of h r) t → spot_address (shape_of h r) t ≡ p → ring_having h p ≡ None → ⊥
@@ -288,9 +280,10 @@ module _ (h : Header) (is : IsHeader h) where
         ]
 
     still_active : (z j q : ℕ) → l.ring_of z j ≡ Some q → IsActiveIfOpen l v q
+    unfolding is_open
     still_active z j q has opened =
         elim (cases_eq q r) [
-          | inl same ↦ absurd (false≢true (sym (closed_view (l.ring r) (number t) held_here) ∙ ap (λ n. is_open (l.ring n)) (sym same) ∙ opened))
+          | inl same ↦ absurd (false≢true (sym (rw held_here refl) ∙ ap (λ n. is_open (l.ring n)) (sym same) ∙ opened))
           | inr other ↦
               ap (λ (g : RingState). g.active) (state_elsewhere q other)
               ∙ at.active z j q (had_before z j q other has) (ap (λ g. is_open g) (sym (view_elsewhere q other)) ∙ opened)

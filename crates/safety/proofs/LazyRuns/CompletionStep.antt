@@ -13,8 +13,7 @@ behind_is shape p = let one : p + 1 ≡ suc p = omega arith in ap (λ n. behind_
 
 -- no spot is before the first
 first_least : (shape : Shape) (t : Spot) → IsSpot shape t → 1 ≤ rank t
-first_least shape (Data q) is = omega arith
-first_least shape (Link q) is = let some = crossing_positive shape q is in omega (arith, some)
+first_least shape o is = grind (arith, crossing_positive)
 
 module _ (h : Header) where
   -- ---- the goals of a Command Completion Event
@@ -36,21 +35,17 @@ module _ (h : Header) where
   unfolding known_succeeded changes known_changed_by_all known_changed_by held_at_ceiling is_open
   stop_succeeded k n s i r had = search (rules, known_in_state, held_at_ceiling, is_open, ring_here, ceiling, shape_of)
 
-  stop_ended_held : (k : Known) (s i r : ℕ) → IsHeld k r → IsHeld (stop_ended h k (StopEndpoint s i)) r
-  unfolding stop_ended
-  stop_ended_held k s i r held = held
-
   module _ (is : IsHeader h) (past : Past h) (later : List TraceRow) (b : Block) (completion : is_command_completion (kind b) ≡ true) (timely : AreTimely h past.known (Plain (Read b) ∷ later))
       (d : DriverKeeps h past.known) where
     abbrev k : Known
     k = past.known
 
     open_idle : (s i : ℕ) (o : Option ℕ) → k.ring_of s i ≡ o → command_at h k (next_command h k) ≡ Some (StopEndpoint s i) → (code b == 1) ≡ true → IsIdle k (open_goals h k later b o)
-    unfolding open_goals learned event_read completed known_finished
+    unfolding open_goals learned event_read completed known_finished stop_ended
     open_idle s i None had here one = inl refl
     open_idle s i (Some r) had here one =
         let other : r ≢ command_id h = transfer_not_command h is r (d.states.transfer s i r had) in
-        let held : IsHeld (learned h past.known (Read b)) r = search (rules, stop_ended_held, cond-true, stop_succeeded, ring_elsewhere, completion_kind) in
+        let held : IsHeld (learned h past.known (Read b)) r = search (rules, cond-true, stop_succeeded, ring_elsewhere, completion_kind) in
         let none : need h (learned h k (Read b)) r later ≡ 0 = need_of_held later h (learned h past.known (Read b)) r other held (timely_then h past.known b later timely) in
         elim (cases_Bool (is_open (k.ring r))) [
           | inl opened ↦ inr (s, i, r, had, cond-true (is_open (k.ring r)) _ [] opened ∙ no_need r (need h (learned h k (Read b)) r later) none)
@@ -174,8 +169,7 @@ module _ (h : Header) where
         pub command : TakenCommand h k taken
 
       taken_of : (v : World) (t : Spot) (o : Option UnderWay) → v.under_way ≡ o → next_command h k + 1 ≤ number t → UnderWayMatches h k t o → IsTaken v
-      taken_of v t None at behind under = absurd (omega (arith, behind, under.0))
-      taken_of v t (Some u) at behind under = record { taken = u; under_way = at; command = under.1 }
+      taken_of v t o at behind under = grind arith
 
       pub is_taken : (v : World) → Traced h past.known (brought h pointers (lazy_goals h k later (kind b) b)) v → IsTaken v
       is_taken v now =
@@ -268,11 +262,6 @@ module _ (h : Header) where
 
   -- ---- the schedule's steps
 
-  placed_pointer : (b : Block) (past : Past h) (later : List TraceRow) (r : ℕ) → is_placed h past.known r b ≡ true →
-      pointers_after h past.known past.pointers (Read b) later r ≡ ((learned h past.known (Read b)).ring r).floor
-  unfolding pointers_after
-  placed_pointer b past later r placed = cond-true (is_placed h past.known r b) ((learned h past.known (Read b)).ring r).floor _ placed
-
   other_pointer : (b : Block) (past : Past h) (later : List TraceRow) (r : ℕ) → is_placed h past.known r b ≡ false →
       pointers_after h past.known past.pointers (Read b) later r ≡ lazy_brought h past.pointers (goals h past.known later (kind b) b) r
   unfolding pointers_after
@@ -297,13 +286,7 @@ module _ (h : Header) where
     running = running_now h is past later b block w trace.runs trace.all_read
 
     posted : IsPosted h past w u b
-    posted = record {
-      can = (finish_is h w u b at).can;
-      memory = leaves.memory;
-      posted = leaves.posted;
-      reads = leaves.reads;
-      runs = finish_runs h is past.known w u b block running trace.runs (run_keeps h is past.known w past.keeps trace.runs) at;
-    }
+    posted = assumption (finish_is h w u b at, leaves, finish_runs h is past.known w u b block running trace.runs (run_keeps h is past.known w past.keeps trace.runs) at)
 
     runs : Runs h l v
     runs = runs_behind h is past later b block w trace.runs trace.all_read u posted
@@ -335,9 +318,10 @@ module _ (h : Header) where
         ∙ goes.at_floors.active s i q (had s i q has) (subst (λ (g : RingView). is_open g ≡ true) (view_is s i q has) on)
 
     pointer_is : (s i q : ℕ) → l.ring_of s i ≡ Some q → pointers_after h past.known past.pointers (Read b) later q ≡ (l.ring q).floor
+    unfolding pointers_after
     pointer_is s i q has =
         elim (cases_Bool (is_placed h past.known q b)) [
-          | inl placed ↦ placed_pointer b past later q placed
+          | inl placed ↦ cond-true (is_placed h past.known q b) ((learned h past.known (Read b)).ring q).floor _ placed
           | inr other ↦
               let before : HadBefore past.known m q = goes.had s i q (had s i q has) other in
               other_pointer b past later q other ∙ brought q ∙ stay before.slot before.index q before.had ∙ sym before.floor ∙ ap (λ (g : RingView). g.floor) (sym (view_is s i q has))
@@ -345,9 +329,6 @@ module _ (h : Header) where
 
     command_is : state_of v (command_id h) ≡ state_of w (command_id h)
     command_is = rings_are (command_id h) ∙ leaves.command
-
-    command_stands : StandsAt h v (command_id h) (pointers_after h past.known past.pointers (Read b) later (command_id h))
-    command_stands = search (rules, command_id, other_pointer, brought, stands_same, command_is)
 
     follows : Follows h (learned h past.known (Read b)) (pointers_after h past.known past.pointers (Read b) later) v
     unfolding counted
@@ -358,7 +339,7 @@ module _ (h : Header) where
       traced = pointer_is;
       active = still_active;
       before = λ off. absurd (false≢true (sym off ∙ learns.started ∙ started));
-      command = λ on. command_stands;
+      command = λ on. (search (rules, command_id, other_pointer, brought, stands_same, command_is));
       command_active = λ on. ap (λ (g : RingState). g.active) command_is ∙ trace.command_active opened;
     }
 

@@ -18,8 +18,7 @@ module _ (h : Header) where
 
   low_end : (k : Known) (o : Option ℕ) → has_bad_context h k o ≡ false → passes_end h o ≡ false
   unfolding passes_end has_bad_context is_bad_area
-  low_end k None good = refl
-  low_end k (Some c) good = (or_parts _ _ (or_parts _ _ (or_parts _ _ good).0).0).0
+  low_end k o good = grind (arith, or_parts)
 
   -- ---- what it leaves
 
@@ -27,11 +26,6 @@ module _ (h : Header) where
       (known_succeeded h k (slot b) c).started ≡ k.started → CompletionLearns h k (learned h k (Read b)) (known_succeeded h k (slot b) c)
   unfolding learned event_read completed known_finished on_ring
   success_learns k b c completion one here started = search (rules, completion_kind, cond-true, seen_after, stop_ended_is, ring_elsewhere)
-
-  placed_is : (k : Known) (r : ℕ) (b : Block) (c : Command) → is_command_completion (kind b) ≡ true → (code b == 1) ≡ true → command_at h k (next_command h k) ≡ Some c →
-      is_placed h k r b ≡ is_placed_by_all h c k r (changes h.context_size k.memory (slot b) c)
-  unfolding is_placed is_placed_by
-  placed_is k r b c completion one here = search (rules, code, is_placed_by, slot, command_at, next_command)
 
   -- ---- the step
 
@@ -81,8 +75,8 @@ module _ (h : Header) where
     keeps = list.keeps
 
     rings_go : RingsGo h k m list.world (λ r. is_placed h k r b)
-    unfolding known_succeeded
-    rings_go = search (rules, list, placed_is, command_id)
+    unfolding known_succeeded is_placed is_placed_by
+    rings_go = search (rules, list, code, is_placed_by, slot, command_at, next_command, command_id)
 
     started : m.started ≡ k.started
     started = ap (λ (y : Known). y.started) keeps.rest.known
@@ -245,8 +239,7 @@ record ChangesPlain (size : ContextSize) (f g : ℕ → ℕ) (n : ℕ) (c : Comm
 
 changes_plain : (size : ContextSize) (f g : ℕ → ℕ) (n : ℕ) (c : Command) → PlacesNone c → ChangesPlain size f g n c
 unfolding changes
-changes_plain size f g n (ConfigureEndpoint s true c) none = search rules
-changes_plain size f g n _ none = search rules
+changes_plain size f g n o none = grind (arith, true)
 
 module _ (h : Header) where
   pub slot_effect : (k : Known) (w : World) (n : ℕ) (c : Command) → PlacesNone c → StatesMatch h k w → AtFloors h k w → EffectGoes h k w n c

@@ -114,13 +114,11 @@ module _ (h : Header) (k : Known) (b : Block) (clean : lenient h k (Read b) ≡ 
 
     open_within : (o : Option ℕ) → AreWithin top (open_goals h k later b o)
     unfolding open_goals
-    open_within None = tt
-    open_within (Some r) = search (rules, is_open, k.ring, taken_up_to, need, taken_within, top_need)
+    open_within o = grind (arith, is_open, taken_up_to, need, taken_within, top_need)
 
     stopped_within : (o : Option Command) → AreWithin top (stopped_goals h k later b o)
     unfolding stopped_goals
-    stopped_within (Some (StopEndpoint s i)) = search (rules, code, open_goals, k.ring_of, open_within)
-    stopped_within _ = tt
+    stopped_within o = grind (arith, code, open_goals, open_within)
 
     kind_within : (n : BlockKind) → kind b ≡ n → AreWithin top (lazy_goals h k later n b)
     unfolding lazy_goals
@@ -183,13 +181,11 @@ module _ (h : Header) (k : Known) (b : Block) (clean : lenient h k (Read b) ≡ 
 
       open_few : (s i : ℕ) (o : Option ℕ) → k.ring_of s i ≡ o → AreFewThen (open_goals h k later b o)
       unfolding open_goals
-      open_few s i None has = command_few
-      open_few s i (Some r) has = search (rules, command_few, is_open, k.ring, taken_up_to, need, both_few, taken_on, d.states.transfer)
+      open_few s i o has = grind (arith, command_few, is_open, taken_up_to, need, both_few, taken_on)
 
       stopped_few : (o : Option Command) → AreFewThen (stopped_goals h k later b o)
       unfolding stopped_goals
-      stopped_few (Some (StopEndpoint s i)) = search (rules, code, open_goals, k.ring_of, open_few, command_few)
-      stopped_few _ = command_few
+      stopped_few o = grind (arith, code, open_goals, open_few, command_few)
 
       kind_few : (n : BlockKind) → kind b ≡ n → AreFew h pointers (lazy_goals h k later n b)
       unfolding lazy_goals

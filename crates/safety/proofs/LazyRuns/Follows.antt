@@ -1,5 +1,5 @@
 -- What the induction over the rows follows: where rings stand in the world, what is known of them there, and what looks may be made
-use Rattle.safety.proofs.LazyRuns.Words.{rules, [], ◌≡◌, ◌⊎◌, ◌∷◌, ◌++◌, ℕ, true, false, List, reverse, Some, Block, IsBlock, Spot, Data, is_open, IsSpot, number, spot_address, spot_cycle, Header, Row, Read, Step, NextRow, TraceRow, Plain, IsHeader, shape_of, command_id, World, next_take, Known, learned, lenient, DriverKeeps, Runs, scene_reached, scene_with, steps_before, pointers_after, AreAtFloors, ◌∙◌, option_map, option_and_then, refl, sym, ap, subst, IsDriverRow, step_made, Option, None, cond-false, row_done, counted, made as steps_made, while_running, ◌≢◌, ◌+◌, ◌<◌, ◌≤◌, rank, MayReach, RingSpot, next_command, state_of, further, looks_to, flat_map, kind, goals, Bool, inl, inr, cases_Bool, cases_eq, false≢true, Link, Shape, IsShape, data_not_link, IsDriverRing, RingMatches, Unreported, UnderWayMatches, Agrees, transfer_driver, ring_shape, command_is_ring}
+use Rattle.safety.proofs.LazyRuns.Words.{rules, [], ◌≡◌, ◌⊎◌, ◌∷◌, ◌++◌, ℕ, true, false, List, reverse, Some, Block, IsBlock, Spot, Data, is_open, IsSpot, number, spot_address, spot_cycle, Header, Row, Read, Step, NextRow, TraceRow, Plain, IsHeader, shape_of, command_id, World, next_take, Known, learned, lenient, DriverKeeps, Runs, scene_reached, scene_with, steps_before, pointers_after, AreAtFloors, ◌∙◌, option_map, option_and_then, refl, sym, ap, subst, IsDriverRow, step_made, Option, None, cond-false, row_done, counted, made as steps_made, while_running, ◌≢◌, ◌+◌, ◌<◌, ◌≤◌, rank, MayReach, RingSpot, next_command, state_of, further, looks_to, flat_map, kind, goals, Bool, inl, inr, cases_Bool, cases_eq, false≢true, Link, Shape, IsShape, data_not_link, IsDriverRing, RingMatches, Unreported, UnderWayMatches, Agrees, transfer_driver, ring_shape, command_is_ring, arith}
 use Rattle.safety.proofs.LazyRuns.NeedsOfHeld.{AreTimely}
 
 -- What an induction over the rows has to carry beside the lazy law: all events are read, the schedule knows where the pointers stand,
@@ -62,13 +62,11 @@ module _ (h : Header) where
 module _ (h : Header) where
   pub no_steps : (k : Known) (pointers : ℕ → Spot) (row : Row) (later : List TraceRow) → IsDriverRow row → steps_before h k pointers row later ≡ []
   unfolding steps_before
-  no_steps k pointers (Read e) later driver_row = absurd driver_row
-  no_steps k pointers _ later driver_row = refl
+  no_steps k pointers o later driver_row = grind arith
 
   pub pointers_same : (k : Known) (pointers : ℕ → Spot) (row : Row) (later : List TraceRow) (r : ℕ) → IsDriverRow row → pointers_after h k pointers row later r ≡ pointers r
   unfolding pointers_after
-  pointers_same k pointers (Read e) later r driver_row = absurd driver_row
-  pointers_same k pointers _ later r driver_row = refl
+  pointers_same k pointers o later r driver_row = grind arith
 
   -- the next row is made
   pub next_reached : (past : Past h) (made : List Step) (w v : World) (row : Row) (later : List TraceRow) → Leads h past made (Plain row ∷ later) w →
@@ -79,9 +77,8 @@ module _ (h : Header) where
   pub step_reached : (past : Past h) (to_come : List TraceRow) (made : List Step) (w u : World) (s : Step) (o : Option World) → (s ≡ NextRow → ⊥) → steps_made h w s ≡ while_running h w o →
       Leads h past made to_come w → w.stopped ≡ false → o ≡ Some u → Leads h past (s ∷ made) to_come (counted h u)
   unfolding while_running
-  step_reached past to_come made w u NextRow o other same run running at = absurd (other refl)
   step_reached past to_come made w u s o other same run running at =
-      ap (λ o. option_and_then (λ x. step_made x s) o) run ∙ ap (λ o. option_map (λ x. scene_with h to_come (counted h x)) o) (same ∙ cond-false w.stopped None o running ∙ at)
+      grind (arith, option_and_then, step_made, option_map, scene_with, counted, cond-false, w.stopped)
 
   pub driver_reached : (past : Past h) (w v : World) (row : Row) (later : List TraceRow) → IsDriverRow row → Leads h past past.made (Plain row ∷ later) w →
       row_done h w row ≡ Some v → Leads h past (NextRow ∷ reverse (steps_before h past.known past.pointers row later) ++ past.made) later (counted h v)
@@ -146,14 +143,7 @@ module _ (h : Header) where
 
   -- so it is behind each row
   pub traced_behind : (k : Known) (pointers : ℕ → Spot) (w : World) → Follows h k pointers w → Traced k pointers w
-  traced_behind k pointers w f = record {
-    runs = f.runs;
-    all_read = f.all_read;
-    rings = λ s i r at. subst (λ t. StandsAt h w r t) (sym (f.traced s i r at)) (f.floors s i r at);
-    active = f.active;
-    command = f.command;
-    command_active = f.command_active;
-  }
+  traced_behind k pointers w f = assumption (f, λ (s i r : ℕ) (at : k.ring_of s i ≡ Some r). subst (λ t. StandsAt h w r t) (sym (f.traced s i r at)) (f.floors s i r at))
 
   -- the looks for an event, in their order
   abbrev pub looks_for : Past h → List TraceRow → Block → List Step
@@ -181,10 +171,7 @@ module _ (h : Header) where
 
 -- two spots with one address and one number are one
 pub one_spot : (shape : Shape) → IsShape shape → (t u : Spot) → IsSpot shape t → IsSpot shape u → spot_address shape t ≡ spot_address shape u → number t ≡ number u → t ≡ u
-one_spot shape is (Data p) (Data q) a b same at = ap (λ n. Data n) at
-one_spot shape is (Data p) (Link q) a b same at = absurd (data_not_link shape is p q b same)
-one_spot shape is (Link p) (Data q) a b same at = absurd (data_not_link shape is q p a (sym same))
-one_spot shape is (Link p) (Link q) a b same at = ap (λ n. Link n) at
+one_spot shape is o x a b same at = grind (arith, data_not_link)
 
 module _ (h : Header) (is : IsHeader h) (k : Known) (w : World) (d : DriverKeeps h k) (g : Agrees h k [] w) where
   same_there : (r : ℕ) (t u : Spot) → IsDriverRing h r → RingMatches (shape_of h r) (k.ring r) (state_of w r) t → StandsAt h w r u → t ≡ u

@@ -27,8 +27,7 @@ module _ (h : Header) where
 
   endpoint_none : (k : Known) (s t : ℕ) (o : Option ℕ) → GivesNone k (endpoint_rung h k s t o)
   unfolding endpoint_rung
-  endpoint_none k s t None q = refl
-  endpoint_none k s t (Some r) q = opens_none k r q
+  endpoint_none k s t o q = grind (arith, opens_none)
 
   rung_none : (k : Known) (s t : ℕ) → GivesNone k (learned h k (Bell s t))
   unfolding learned rung
@@ -47,8 +46,7 @@ module _ (h : Header) where
 
   restored_none : (k : Known) (o : Option ℕ) → GivesNone k (restored_on h k o)
   unfolding restored_on
-  restored_none k None r = refl
-  restored_none k (Some q) r = change_none k q Restores (λ v. refl) r
+  restored_none k o r = grind (arith, change_none)
 
   -- ---- the positions of the driver's rings that are given, summed, where of ring r those below n r are counted
 
@@ -67,12 +65,9 @@ module _ (h : Header) where
       abbrev l : Known
       l = learned h k (Write a w)
 
-      ring_is : (r : ℕ) → given_among (l.ring r) (n r) ≡ given_among (changed (shape_of h r) (k.ring r) (Writes a w)) (n r)
-      ring_is r = ap (λ v. given_among v (n r)) (written_view h k a w r)
-
       near : (r : ℕ) → of_ring l r ≤ of_ring k r + 1
       unfolding of_ring
-      near r = search (rules, l, on_driver, given_among, ring_is, one_more, ring_shape, driver_ring, off_driver)
+      near r = search (rules, l, on_driver, given_among, written_view, one_more, ring_shape, driver_ring, off_driver)
 
       -- the ring has the word
       record IsWritten (r : ℕ) : Type 0 where
@@ -81,7 +76,7 @@ module _ (h : Header) where
 
       written : (r : ℕ) → of_ring k r < of_ring l r → IsWritten r
       unfolding of_ring
-      written r more = search (rules, l, driver_ring, on_driver, given_among, ring_is, no_more, ring_shape, off_driver)
+      written r more = search (rules, l, driver_ring, on_driver, given_among, written_view, no_more, ring_shape, off_driver)
 
       write_one : all_rings l ≤ all_rings k + 1
       unfolding all_rings
@@ -162,10 +157,6 @@ module _ (h : Header) where
         let g : Header = header_now h past in
         omega (arith, before, restored_most g n (known_now h past) row, row_most g n (kept_before (Plain row) past are kept).headed (restored g (known_now h past) row) row)
 
-    stays_on : (k : Known) (id : ℕ) → k.stopped ≡ false → (forgotten k id).stopped ≡ false
-    unfolding forgotten
-    stays_on k id on = on
-
     -- each write gives one position at most; of a ring that goes those before its floor were given
     given_most : (past : List TraceRow) → All FitsFields past → AreKept h past → (n : ℕ → ℕ) → all_rings (header_now h past) n (known_now h past) + gone past + events past ≤ length past
     unfolding events gone ring_restored restored_on
@@ -196,7 +187,7 @@ module _ (h : Header) where
     -- ---- before a floor all is given
 
     rings_kept : (past : List TraceRow) → All FitsFields past → AreKept h past → RingsKeep (header_now h past) (known_now h past)
-    unfolding on_ring
+    unfolding on_ring forgotten
     rings_kept [] are kept = nothing_keeps h is
     rings_kept (Plain row ∷ past) are kept =
         let p = kept_before (Plain row) past are kept in
@@ -208,9 +199,9 @@ module _ (h : Header) where
     rings_kept (Withdraws r q ∷ past) are kept =
         let p = now_keeps h is (Withdraws r q ∷ past) are kept (kept.1.0) in rings_of (header_now h past) (known_now h (Withdraws r q ∷ past)) p.keeps
     rings_kept (Comes ring ∷ past) are kept =
-        rings_of (header_now h (Comes ring ∷ past)) (known_now h (Comes ring ∷ past)) (now_keeps h is (Comes ring ∷ past) are kept (stays_on (known_now h past) ring.id kept.1.0)).keeps
+        rings_of (header_now h (Comes ring ∷ past)) (known_now h (Comes ring ∷ past)) (now_keeps h is (Comes ring ∷ past) are kept (kept.1.0)).keeps
     rings_kept (Goes id ∷ past) are kept =
-        rings_of (header_now h (Goes id ∷ past)) (known_now h (Goes id ∷ past)) (now_keeps h is (Goes id ∷ past) are kept (stays_on (known_now h past) id kept.1.0)).keeps
+        rings_of (header_now h (Goes id ∷ past)) (known_now h (Goes id ∷ past)) (now_keeps h is (Goes id ∷ past) are kept (kept.1.0)).keeps
 
     pub floors_most : (past : List TraceRow) → All FitsFields past → AreKept h past → floors (header_now h past) (known_now h past) + gone past + events past ≤ length past
     unfolding floors all_rings of_ring

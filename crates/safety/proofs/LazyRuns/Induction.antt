@@ -8,12 +8,7 @@ use Rattle.safety.proofs.RingChanges.Restored.{row_comes, row_keeps, stopped_sti
 
 -- a spot of number 0 that is no Link
 zero_spot : (t : Spot) → number t ≡ 0 → 1 ≤ rank t → t ≡ Data 0
-zero_spot (Data q) zero some = ap (λ n. Data n) zero
-zero_spot (Link q) zero some = absurd (omega (arith, zero, some))
-
-next_none : (shape : Shape) (events : List RingEvent) → events ≡ [] → next_take shape events ≡ 0
-unfolding next_take
-next_none shape events none = ap (λ e. next_take shape e) none
+zero_spot o zero some = grind arith
 
 module _ (h : Header) where
   stands_still : (w v : World) (r : ℕ) (t : Spot) → StandsAt h w r t → PointerStays w v r → v.events r ≡ w.events r → StandsAt h v r t
@@ -88,8 +83,8 @@ module _ (h : Header) where
 
       -- the row starts it: nothing is taken yet
       begins : past.known.started ≡ false → l.started ≡ true → StandsAt h (counted h v) (command_id h) (past.pointers (command_id h))
-      unfolding counted
-      begins waits started = search (rules, l, v, agrees_then, leaves, agrees, before, next_none, learns, floors, past.keeps, zero_spot)
+      unfolding counted next_take
+      begins waits started = search (rules, l, v, agrees_then, leaves, agrees, before, next_take, learns, floors, past.keeps, zero_spot)
 
       command : l.started ≡ true → StandsAt h (counted h v) (command_id h) (pointers_after h past.known past.pointers row later (command_id h))
       command started =

@@ -38,10 +38,6 @@ module _ (h : Header) where
   unfolding looks_taken taken_on seen_by_look
   taken_elsewhere w r b other = ap (λ (x : World). x.under_way) (cond-false (r == command_id h) _ _ (ne_eqb r (command_id h) other))
 
-  crossed_under_way : (w : World) (r : ℕ) (b : Block) → (crossed h (seen_by_look h w r) r b).under_way ≡ w.under_way
-  unfolding crossed seen_by_look
-  crossed_under_way w r b = refl
-
   -- what a look leaves, from what its ring is then
   leaves_from : (w v : World) (r : ℕ) (s : RingState) → OnlyRing w v r s → s.active ≡ w.is_active r → s.reported ≡ w.reported r → v.rows ≡ w.rows →
       (r ≢ command_id h → v.under_way ≡ w.under_way) → LooksLeave h w (counted h v) r
@@ -61,8 +57,7 @@ module _ (h : Header) where
   module _ (is : IsHeader h) (k : Known) (w : World) (d : DriverKeeps h k) (g : Agrees h k [] w) (r : ℕ) where
     -- no command is under way where the next one isn't taken
     none_yet : (q : ℕ) (o : Option UnderWay) → q < next_command h k + 1 → UnderWayMatches h k (Data q) o → is_some o ≡ false
-    none_yet q None low u = refl
-    none_yet q (Some x) low u = absurd (omega (arith, low, u.0))
+    none_yet q o low u = grind arith
 
     free_ring : (q : ℕ) (t : Spot) → q < number t → w.is_active r ≡ true → StandsAt h w r (Data q) → (r ≡ command_id h → number t ≤ next_command h k + 1) →
         (r == command_id h && is_some w.under_way) ≡ false
@@ -92,6 +87,7 @@ module _ (h : Header) where
         }
 
     link_look : (q : ℕ) (t : Spot) → rank (Link q) < rank t → StandsAt h w r (Link q) → MayBring h k w r t → LookDone w r (Link q)
+    unfolding crossed seen_by_look
     link_look q t before at may =
         let b : Block = seen w r in
         let m : RingStands h is k w d g r (Link q) = ring_stands h is k w d g r (Link q) may.active at in
@@ -109,7 +105,7 @@ module _ (h : Header) where
           world = v;
           made = made;
           stands = stands_from k w v r (behind_link h w r b) (Data q) o (subst (λ n. RingMatches (shape_of h r) (k.ring r) (behind_link h w r b) (Data n)) here done.matches);
-          leaves = leaves_from w v r (behind_link h w r b) o refl refl ((looked_left h w r).left v made) (λ other. crossed_under_way w r b);
+          leaves = leaves_from w v r (behind_link h w r b) o refl refl ((looked_left h w r).left v made) (λ other. refl);
         }
 
     pub one_look : (s t : Spot) → rank s < rank t → StandsAt h w r s → MayBring h k w r t → LookDone w r s

@@ -1,5 +1,5 @@
 -- The need of a ring that is held is 0, where no event is late: until its doorbell no success of its blocks is read
-use Rattle.safety.proofs.LazyRuns.Words.{rules, [], ◌≡◌, ◌≢◌, ◌+◌, ◌==◌, ◌&&◌, if◌then◌else◌, ◌∷◌, ◌∙◌, ℕ, not, max, Bool, false, List, Option, Some, None, option_map, refl, sym, ap, subst, ne_eqb, eq-eqb, cond_both, cond-false, false≢true, not_from_false, Block, BlockKind, TransferEvent, CommandCompletion, kind, code, pointer, slot, endpoint, is_success, is_halting, is_trb_error, is_stopping, Spot, number, after, RingView, RingChange, changed, new_ring, Shape, put, put_at, put_off, cases_eq, Opens, Holds, Reaches, Restores, is_open, ceiling, named, stopped_number, target, Command, StopEndpoint, is_off, Change, Places, Stops, changes, Header, Row, Read, TraceRow, Plain, IsDriverRow, shape_of, command_id, is_ring, ring_having, Known, RingSpot, on_ring, spot_on, command_at, next_command, endpoint_rung, rung, event_read, learned, declaration_leaves, write_leaves, register_leaves, view_after, is_report_of_success, is_held_ring, is_late, is_late_row, number_behind, begins_anew, number_reported, ends_need, number_needed, need, header_after, known_after, forgotten, restored, restored_on, ring_restored, broken_off, passed as transfers_passed, stopped_at, transfer_read, transferred, transferred_at, bound_to, known_changed_by, known_changed_by_all, completed, known_disabled, known_finished, held_at_ceiling, known_in_state, moved, moved_to, pointed, set_to, stop_ended, known_succeeded}
+use Rattle.safety.proofs.LazyRuns.Words.{rules, [], ◌≡◌, ◌≢◌, ◌+◌, ◌==◌, ◌&&◌, if◌then◌else◌, ◌∷◌, ◌∙◌, ℕ, not, max, Bool, false, List, Option, Some, None, option_map, refl, sym, ap, subst, ne_eqb, eq-eqb, cond_both, cond-false, false≢true, not_from_false, Block, BlockKind, TransferEvent, CommandCompletion, kind, code, pointer, slot, endpoint, is_success, is_halting, is_trb_error, is_stopping, Spot, number, after, RingView, RingChange, changed, new_ring, Shape, put, put_at, put_off, cases_eq, Opens, Holds, Reaches, Restores, is_open, ceiling, named, stopped_number, target, Command, StopEndpoint, is_off, Change, Places, Stops, changes, Header, Row, Read, TraceRow, Plain, IsDriverRow, shape_of, command_id, is_ring, ring_having, Known, RingSpot, on_ring, spot_on, command_at, next_command, endpoint_rung, rung, event_read, learned, declaration_leaves, write_leaves, register_leaves, view_after, is_report_of_success, is_held_ring, is_late, is_late_row, number_behind, begins_anew, number_reported, ends_need, number_needed, need, header_after, known_after, forgotten, restored, restored_on, ring_restored, broken_off, passed as transfers_passed, stopped_at, transfer_read, transferred, transferred_at, bound_to, known_changed_by, known_changed_by_all, completed, known_disabled, known_finished, held_at_ceiling, known_in_state, moved, moved_to, pointed, set_to, stop_ended, known_succeeded, arith}
 use Rattle.ring_knowledge.specs.Rings.{event_at}
 
 abbrev pub IsHeld : Known → ℕ → Type 0
@@ -31,28 +31,23 @@ module _ (h : Header) where
 
   transfer_at_held : (k : Known) (b : Block) (o : Option RingSpot) (r : ℕ) → StaysHeld k (transferred_at h k b o) r
   unfolding transferred_at
-  transfer_at_held k b None r held = held
-  transfer_at_held k b (Some at) r held = transfer_held k (code b) (slot b) (endpoint b) at.ring r at.spot held
+  transfer_at_held k b o r held = grind (arith, transfer_held, code, slot, endpoint)
 
   moved_to_held : (k : Known) (q : ℕ) (o : Option Spot) (r : ℕ) → StaysHeld k (moved_to h k q o) r
   unfolding moved_to set_to
-  moved_to_held k q None r held = held
-  moved_to_held k q (Some t) r held = holds_held (on_ring h k q (Reaches t)) q (number t) r (reaches_held k q t r held)
+  moved_to_held k q o r held = grind (arith, holds_held, on_ring, number, reaches_held)
 
   moved_held : (k : Known) (o : Option ℕ) (p : ℕ) (cycle : Bool) (r : ℕ) → StaysHeld k (moved h k o p cycle) r
   unfolding moved
-  moved_held k None p cycle r held = held
-  moved_held k (Some q) p cycle r held = moved_to_held k q (target (shape_of h q) (k.ring q) p cycle) r held
+  moved_held k o p cycle r held = grind (arith, moved_to_held, target, shape_of, k.ring)
 
   bound_held : (k : Known) (s i : ℕ) (o : Option ℕ) (p : ℕ) (cycle : Bool) (r : ℕ) → StaysHeld k (bound_to h k s i o p cycle) r
   unfolding bound_to
-  bound_held k s i None p cycle r held = held
-  bound_held k s i (Some q) p cycle r held = moved_held k (Some q) p cycle r held
+  bound_held k s i o p cycle r held = grind (arith, moved_held)
 
   ceiling_held : (k : Known) (o : Option ℕ) (r : ℕ) → StaysHeld k (held_at_ceiling h k o) r
   unfolding held_at_ceiling
-  ceiling_held k None r held = held
-  ceiling_held k (Some q) r held = holds_held k q (ceiling (shape_of h q) (k.ring q)) r held
+  ceiling_held k o r held = grind (arith, holds_held, ceiling, shape_of, k.ring)
 
   pointed_held : (k : Known) (s i p : ℕ) (cycle : Bool) (r : ℕ) → StaysHeld k (pointed h k s i p cycle) r
   unfolding pointed
@@ -60,9 +55,7 @@ module _ (h : Header) where
 
   change_held : (c : Command) (k : Known) (change : Change) (r : ℕ) → StaysHeld k (known_changed_by h c k change) r
   unfolding known_changed_by known_disabled known_in_state
-  change_held c k (Places s i p cycle state) r held = pointed_held k s i p cycle r held
-  change_held c k (Stops s i) r held = ceiling_held (known_in_state h k s i _) (k.ring_of s i) r held
-  change_held c k _ r held = held
+  change_held c k o r held = grind (arith, pointed_held, ceiling_held, known_in_state, k.ring_of)
 
   changes_held : (c : Command) (k : Known) (all : List Change) (r : ℕ) → StaysHeld k (known_changed_by_all h c k all) r
   unfolding known_changed_by_all
@@ -71,15 +64,11 @@ module _ (h : Header) where
 
   ended_held : (k : Known) (c : Command) (r : ℕ) → StaysHeld k (stop_ended h k c) r
   unfolding stop_ended
-  ended_held k (StopEndpoint s i) r held = held
-  ended_held k _ r held = held
+  ended_held k o r held = grind arith
 
   finished_held : (k : Known) (b : Block) (o : Option Command) (r : ℕ) → StaysHeld k (known_finished h k b o) r
   unfolding known_finished known_succeeded
-  finished_held k b None r held = held
-  finished_held k b (Some c) r held =
-      ended_held (if code b == 1 then known_succeeded h k (slot b) c else k) c r (cond_both (code b == 1) (known_succeeded h k (slot b) c) k (λ (l : Known). IsHeld l r)
-      (λ _. changes_held c k (changes h.context_size k.memory (slot b) c) r held) (λ _. held))
+  finished_held k b o r held = grind (arith, ended_held, code, known_succeeded, slot, changes_held, changes, h.context_size, k.memory)
 
   event_held : (k : Known) (t : BlockKind) (b : Block) (r : ℕ) → StaysHeld k (event_read h k t b) r
   unfolding event_read transfer_read completed
@@ -96,8 +85,7 @@ module _ (h : Header) where
 
   endpoint_held : (k : Known) (s t : ℕ) (o : Option ℕ) (r : ℕ) → is_ring r o ≡ false → StaysHeld k (endpoint_rung h k s t o) r
   unfolding endpoint_rung
-  endpoint_held k s t None r other held = held
-  endpoint_held k s t (Some q) r other held = opens_other k q r (λ same. false≢true (sym other ∙ eq-eqb q r (sym same))) held
+  endpoint_held k s t o r other held = grind (arith, opens_other, false≢true, eq-eqb)
 
   bell_held : (k : Known) (s t r : ℕ) → r ≢ command_id h → (not (s == 0) && is_ring r (k.ring_of s t)) ≡ false → StaysHeld k (rung h k s t) r
   unfolding rung
@@ -113,19 +101,16 @@ module _ (h : Header) where
 
   at_spot : (k : Known) (r q : ℕ) (o : Option Spot) → (q == r) ≡ false → number_behind r (option_map (λ t. let at : RingSpot = record { ring = q; spot = t } in at) o) ≡ 0
   unfolding number_behind
-  at_spot k r q None other = refl
-  at_spot k r q (Some t) other = cond-false (q == r) (number t + 1) 0 other
+  at_spot k r q o other = grind (arith, cond-false, number)
 
   on_open_ring : (k : Known) (r a : ℕ) (o : Option ℕ) → IsHeld k r → is_held_ring k o ≡ false → number_behind r (spot_on h k a o) ≡ 0
   unfolding spot_on is_held_ring number_behind
-  on_open_ring k r a None held opened = refl
-  on_open_ring k r a (Some q) held opened = search (rules, at_spot, named, shape_of, k.ring, ne_eqb, false≢true, not_from_false, is_open, false)
+  on_open_ring k r a o held opened = grind (arith, at_spot, named, shape_of, ne_eqb, false≢true, not_from_false, is_open, false)
 
   none_reported : (k : Known) (r : ℕ) (row : Row) → IsHeld k r → is_late k row ≡ false → number_reported h k r row ≡ 0
   unfolding number_reported is_late event_at
-  none_reported k r (Read b) held timely =
-      search (rules, is_report_of_success, number_behind, event_at, on_open_ring, pointer, k.ring_of, slot, endpoint, is_held_ring)
-  none_reported k r _ held timely = refl
+  none_reported k r o held timely =
+      grind (arith, is_report_of_success, number_behind, event_at, on_open_ring, pointer, slot, endpoint, is_held_ring)
 
 -- none of the rows to come is late, and the command ring stays the same one
 abbrev pub AreTimely : Header → Known → List TraceRow → Type 0
@@ -149,31 +134,24 @@ module _ (h : Header) where
 
   restored_held : (k : Known) (o : Option ℕ) (r : ℕ) → StaysHeld k (restored_on h k o) r
   unfolding restored_on
-  restored_held k None r held = held
-  restored_held k (Some q) r held = quiet_held k q Restores (λ v shape. refl) r held
+  restored_held k o r held = grind (arith, quiet_held)
 
   anew_same : (k : Known) (o : Option ℕ) (r : ℕ) (row : Row) → IsDriverRow row → begins_anew h k r row ≡ false → begins_anew h (restored_on h k o) r row ≡ false
   unfolding begins_anew restored_on on_ring
-  anew_same k None r row driver_row quiet = quiet
-  anew_same k (Some q) r (Read b) driver_row quiet = absurd driver_row
-  anew_same k (Some q) r _ driver_row quiet = quiet
+  anew_same k o r row driver_row quiet = grind arith
 
   plain_held : (k : Known) (row : Row) (r : ℕ) → r ≢ command_id h → begins_anew h k r row ≡ false → StaysHeld k (learned h (restored h k row) row) r
   unfolding ring_restored restored_on
-  plain_held k (Read b) r other quiet held = row_held h k (Read b) r other quiet held
-  plain_held k row r other quiet held =
-      let o : Option ℕ = ring_restored h k row in row_held h (restored_on h k o) row r other (anew_same k o r row tt quiet) (restored_held k o r held)
+  plain_held k row r other quiet held = grind (arith, row_held, ring_restored, restored_on, anew_same, restored_held)
 
   -- ring r is held behind a row of any kind, if it was before: but for its doorbell
   any_held : (k : Known) (row : TraceRow) (r : ℕ) → r ≢ command_id h → ends_need h k r row ≡ false → StaysHeld k (known_after h k row) r
   unfolding ends_need
-  any_held k (Plain row) r other quiet held = plain_held k row r other quiet held
-  any_held k _ r other quiet held = search (rules, forgotten_held, quiet_held)
+  any_held k o r other quiet held = grind (arith, plain_held, forgotten_held, quiet_held)
 
   none_needed : (k : Known) (r : ℕ) (row : TraceRow) → IsHeld k r → is_late_row k row ≡ false → number_needed h k r row ≡ 0
   unfolding number_needed
-  none_needed k r (Plain row) held timely = none_reported h k r row held timely
-  none_needed k r _ held timely = refl
+  none_needed k r o held timely = grind (arith, none_reported)
 
 pub need_of_held : (later : List TraceRow) (h : Header) (k : Known) (r : ℕ) → r ≢ command_id h → IsHeld k r → AreTimely h k later → need h k r later ≡ 0
 unfolding need

@@ -33,12 +33,9 @@ module _ (h : Header) where
           let same : u.reads ≡ w.reads + 0 = omega (arith, p.reads) in
           ap (λ m. block_at m (address_of (event_shape h) u.reads)) p.memory ∙ ap (λ n. block_at (posts_posted h w b).memory (address_of (event_shape h) n)) same ∙ first
 
-      unread : (counted h u).reads < (counted h u).posted
-      unfolding counted
-      unread = omega (arith, all_read, p.posted, p.reads)
-
       reads_it : driver_event_read h (counted h u) b ≡ Some (record (counted h u) { reads = (counted h u).reads + 1 })
-      reads_it = read_made h (counted h u) b unread (subst (λ e. same_words e b ≡ true) (sym there) (words_itself b))
+      unfolding counted
+      reads_it = read_made h (counted h u) b (omega (arith, all_read, p.posted, p.reads)) (subst (λ e. same_words e b ≡ true) (sym there) (words_itself b))
 
       pub runs_behind : Runs h (learned h past.known (Read b)) (behind_read u)
       runs_behind = read_runs h past.known b (counted h u) (record (counted h u) { reads = (counted h u).reads + 1 }) block p.runs reads_it
@@ -102,13 +99,7 @@ module _ (h : Header) where
     running = running_now h is past later b block w trace.runs trace.all_read
 
     posted : IsPosted h past w u b
-    posted = record {
-      can = (report_is h w u b at).can;
-      memory = leaves.memory;
-      posted = leaves.posted;
-      reads = leaves.reads;
-      runs = report_runs h is past.known w u b block running trace.runs (run_keeps h is past.known w past.keeps trace.runs) at;
-    }
+    posted = assumption (report_is h w u b at, leaves, report_runs h is past.known w u b block running trace.runs (run_keeps h is past.known w past.keeps trace.runs) at)
 
     stands : (q : ℕ) (s : Spot) → StandsAt h w q s → StandsAt h v q s
     unfolding counted
@@ -122,9 +113,6 @@ module _ (h : Header) where
 
     module _ (no_command : r ≢ command_id h) (here : pointers r ≡ t) (others : (s i q : ℕ) → past.known.ring_of s i ≡ Some q → q ≢ r → pointers q ≡ (past.known.ring q).floor)
         (after : (q : ℕ) → pointers_after h past.known past.pointers (Read b) later q ≡ pointers q) (still : IsActiveIfOpen (learned h past.known (Read b)) u r) where
-      pointers_are : (s i q : ℕ) → l.ring_of s i ≡ Some q → pointers q ≡ (l.ring q).floor
-      pointers_are s i q there = search (rules, had)
-
       active : (q : ℕ) → IsActiveIfOpen past.known w q → IsActiveIfOpen l v q
       unfolding counted
       active q was opened = search (rules, u.is_active, true, is_open)
@@ -134,8 +122,8 @@ module _ (h : Header) where
       follows = record {
         runs = runs_behind h is past later b block w trace.runs trace.all_read u posted;
         all_read = all_read_behind h is past later b block w trace.runs trace.all_read u posted;
-        floors = λ s i q there. subst (λ e. StandsAt h v q e) (pointers_are s i q there) (stands q (pointers q) (trace.rings s i q (had s i q there)));
-        traced = λ s i q there. after q ∙ pointers_are s i q there;
+        floors = λ s i q there. subst (λ e. StandsAt h v q e) (search (rules, had)) (stands q (pointers q) (trace.rings s i q (had s i q there)));
+        traced = λ s i q there. after q ∙ (search (rules, had));
         active = λ s i q there. active q (trace.active s i q (had s i q there));
         before = λ off. absurd (false≢true (sym off ∙ learns.started ∙ started));
         command = λ on. subst (λ e. StandsAt h v (command_id h) e) (sym (after (command_id h))) (stands (command_id h) (pointers (command_id h)) (trace.command started));
@@ -158,8 +146,7 @@ module _ (h : Header) where
 
   needs_nothing : (k : Known) (later : List TraceRow) (b : Block) (t : BlockKind) → is_other_event t ≡ true → NeedsNothing k later b t
   unfolding lazy_goals post_of
-  needs_nothing k later b PortStatusChange other = record { goals = refl; post = refl; no_completion = refl }
-  needs_nothing k later b _ other = search (rules, false≢true)
+  needs_nothing k later b o other = grind (arith, goals, false≢true)
 
   lazy_event : (b : Block) (past : Past h) (later : List TraceRow) → is_other_event (kind b) ≡ true →
       NextRow ∷ reverse (steps_before h past.known past.pointers (Read b) later) ++ past.made ≡ NextRow ∷ Other b ∷ past.made

@@ -60,7 +60,6 @@ total_one f g (suc n) near one =
           let still : (i : ℕ) → i < n → g i ≤ f i =
           λ i low. elim (cases_lt (f i) (g i)) [ inl more ↦ let same = one i n more grows in absurd (omega arith) | inr none ↦ none ] in
           let rest : total g n ≤ total f n = total_below g f n still in
-          let end : g n ≤ f n + 1 = near n in
           omega arith
       | inr none ↦ let rest : total g n ≤ total f n + 1 = total_one f g n near one in omega arith
     ]

@@ -1,5 +1,5 @@
 -- What the schedule follows stays where a ring comes or goes, where a descriptor is withdrawn, and where a ring is restored: no pointer moves
-use Rattle.safety.proofs.LazyRuns.Words.{◌≡◌, ◌≢◌, ◌==◌, ◌∙◌, ℕ, true, false, Option, Some, None, refl, sym, ap, subst, ne_eqb, rules, none-some, put, put_off, Spot, Data, RingView, RingChange, Restores, changed, new_ring, is_open, Header, Ring, Row, IsHeader, shape_of, command_id, ring_with, World, counted, Known, on_ring, DriverKeeps, IsTransferRing, Runs, view_after, IsComing, forgotten, is_bad_free, is_bad_ring, emptied, with_ring, without_ring, without_descriptor, is_bad_withdraw, is_left, restored, restored_on, ring_restored, RingWithdraws}
+use Rattle.safety.proofs.LazyRuns.Words.{◌≡◌, ◌≢◌, ◌==◌, ◌∙◌, ℕ, true, false, Option, Some, None, refl, sym, ap, subst, ne_eqb, rules, none-some, put, put_off, Spot, Data, RingView, RingChange, Restores, changed, new_ring, is_open, Header, Ring, Row, IsHeader, shape_of, command_id, ring_with, World, counted, Known, on_ring, DriverKeeps, IsTransferRing, Runs, view_after, IsComing, forgotten, is_bad_free, is_bad_ring, emptied, with_ring, without_ring, without_descriptor, is_bad_withdraw, is_left, restored, restored_on, ring_restored, RingWithdraws, arith}
 use Rattle.safety.proofs.RingChanges.GoneRings as gone
 use Rattle.safety.proofs.RingChanges.NewRings as new
 use Rattle.safety.proofs.RingChanges.Restored as restores
@@ -52,8 +52,7 @@ module _ (h : Header) where
 
   pub restored_learns : (k : Known) (o : Option ℕ) → Learns k (restored_on h k o)
   unfolding restored_on
-  restored_learns k None = record { ring_of = refl; started = refl; floors = λ r. refl; held = λ r. refl }
-  restored_learns k (Some r) = one_learns k r Restores (λ v. refl) (λ v. refl)
+  restored_learns k o = grind (arith, one_learns)
 
   pub withdrawn_learns : (k : Known) (r p : ℕ) → Learns k (on_ring h k r (RingWithdraws p))
   withdrawn_learns k r p = one_learns k r (RingWithdraws p) (λ v. refl) (λ v. refl)
@@ -145,9 +144,6 @@ module _ (h : Header) (is : IsHeader h) (k : Known) (d : DriverKeeps h k) where
     abbrev z : Known
     z = forgotten k r.id
 
-    z_keeps : DriverKeeps h z
-    z_keeps = runs.f_keeps h is r coming k d absent
-
     z_new : z.ring r.id ≡ new_ring
     z_new = runs.fresh h is r coming k d absent
 
@@ -158,9 +154,9 @@ module _ (h : Header) (is : IsHeader h) (k : Known) (d : DriverKeeps h k) where
     unfolding with_ring
     comes_stay = record {
       listed = λ q other. new.found_before (λ (x : Ring). x.id == q) h.rings r (ne_eqb r.id q (λ same. other (sym same)));
-      shapes = λ q other. new.shape_same h is z z_keeps r coming z_new z_good q other;
-      command = new.command_same h is z z_keeps r coming z_new z_good;
-      no_command = new.no_command h is z z_keeps r coming z_new z_good;
+      shapes = λ q other. new.shape_same h is z (runs.f_keeps h is r coming k d absent) r coming z_new z_good q other;
+      command = new.command_same h is z (runs.f_keeps h is r coming k d absent) r coming z_new z_good;
+      no_command = new.no_command h is z (runs.f_keeps h is r coming k d absent) r coming z_new z_good;
       not_had = λ s i q has same.
           let t : IsTransferRing h q = d.states.transfer s i q has in
           none-some t.ring (sym absent ∙ ap (λ n. ring_with h n) (sym same) ∙ t.found);

@@ -1,5 +1,5 @@
 -- What a row of the driver leaves as it was, in the world and in what is known: floors, and which ring an endpoint has. A ring that it opens is active then
-use Rattle.safety.proofs.LazyRuns.Words.{◌≡◌, ◌≢◌, ◌==◌, ◌&&◌, ◌||◌, ◌⊎◌, if◌then◌else◌, ◌∙◌, ℕ, not, Bool, true, false, List, Option, Some, None, refl, sym, ap, inl, inr, cases_eq, cond_both, false≢true, put, put_pair, Block, Running, is_running, is_stopped, position_from, erdp_address, is_event_place, Header, Row, Sub, Write, Reg, Bell, Read, Register, Usbcmd, Erdp, command_id, event_shape, register_or_zero, run_bit, reset_bit, base_address, ring_cycle_state, World, stored, IsDriverRow, put_at, put_off, activated, bell_row, driver_declared, endpoint_bell as driver_endpoint_bell, register_row, row_done, driver_run_or_stop, started_with, driver_valued, with_dequeue, [], nat_lt, is_none, subst, rules, cases_Bool, cond-true, cond-false, or_parts, not-false, RingView, Opens, is_open, Known, on_ring, run_or_stop, valued, register_written, endpoint_rung, rung, learned, is_bad_bell, lenient, BellFacts, bell_facts, declaration_leaves, write_leaves, register_leaves, bell_leaves, view_after}
+use Rattle.safety.proofs.LazyRuns.Words.{◌≡◌, ◌≢◌, ◌==◌, ◌&&◌, ◌||◌, ◌⊎◌, if◌then◌else◌, ◌∙◌, ℕ, not, Bool, true, false, List, Option, Some, None, refl, sym, ap, inl, inr, cases_eq, cond_both, false≢true, put, put_pair, Block, Running, is_running, is_stopped, position_from, erdp_address, is_event_place, Header, Row, Sub, Write, Reg, Bell, Read, Register, Usbcmd, Erdp, command_id, event_shape, register_or_zero, run_bit, reset_bit, base_address, ring_cycle_state, World, stored, IsDriverRow, put_at, put_off, activated, bell_row, driver_declared, endpoint_bell as driver_endpoint_bell, register_row, row_done, driver_run_or_stop, started_with, driver_valued, with_dequeue, [], nat_lt, is_none, subst, rules, cases_Bool, cond-true, cond-false, or_parts, not-false, RingView, Opens, is_open, Known, on_ring, run_or_stop, valued, register_written, endpoint_rung, rung, learned, is_bad_bell, lenient, BellFacts, bell_facts, declaration_leaves, write_leaves, register_leaves, bell_leaves, view_after, arith}
 
 -- What a row of the driver leaves as it is in the world: only the start moves a pointer, and that of the command ring alone
 
@@ -57,18 +57,13 @@ module _ (h : Header) where
   unfolding activated
   still_active w r q on = search (rules, cases_eq, put, put_at, put_off)
 
-  activates : (w : World) (r : ℕ) → RowLeaves w (activated h w r)
-  unfolding activated
-  activates w r = record { posted = refl; reads = refl; events = λ q. refl; active = still_active w r; pointers = λ q why. record { pointer = refl; cycle = refl } }
-
   endpoint_rings : (w : World) (s t : ℕ) (o : Option ℕ) → RowLeaves w (driver_endpoint_bell h w s t o)
   unfolding driver_endpoint_bell activated
-  endpoint_rings w s t None = search (rules, leaves_all, activated, put_pair, w.endpoint_state, still_active, is_running, is_stopped)
-  endpoint_rings w s t (Some r) = search (rules, leaves_all, activated, put_pair, w.endpoint_state, still_active, is_running, is_stopped)
+  endpoint_rings w s t o = grind (arith, leaves_all, activated, put_pair, still_active, is_running, is_stopped)
 
   rings : (w : World) (s t : ℕ) → RowLeaves w (bell_row h w s t)
-  unfolding bell_row
-  rings w s t = search (rules, w.started, activated, command_id, driver_endpoint_bell, w.ring_of, activates, leaves_all, endpoint_rings)
+  unfolding bell_row activated
+  rings w s t = search (rules, w.started, activated, command_id, driver_endpoint_bell, w.ring_of, still_active, leaves_all, endpoint_rings)
 
   -- ---- all of them
 
@@ -90,8 +85,7 @@ module _ (h : Header) where
 
   pub row_is_done : (w : World) (row : Row) → IsDriverRow row → row_done h w row ≡ Some (done w row)
   unfolding row_done done
-  row_is_done w (Read e) driver_row = absurd driver_row
-  row_is_done w _ driver_row = refl
+  row_is_done w o driver_row = grind arith
 
   pub row_leaves : (w : World) (row : Row) → RowLeaves w (done w row)
   unfolding done
@@ -116,8 +110,7 @@ module _ (h : Header) where
 
   rung_floor : (k : Known) (s t : ℕ) (o : Option ℕ) (q : ℕ) → ((endpoint_rung h k s t o).ring q).floor ≡ (k.ring q).floor
   unfolding endpoint_rung
-  rung_floor k s t None q = refl
-  rung_floor k s t (Some r) q = opens_floor k r q
+  rung_floor k s t o q = grind (arith, opens_floor)
 
   bell_floor : (k : Known) (s t q : ℕ) → ((learned h k (Bell s t)).ring q).floor ≡ (k.ring q).floor
   unfolding learned rung
@@ -126,8 +119,7 @@ module _ (h : Header) where
   -- ---- any row of the driver
 
   pub row_learns : (k : Known) (row : Row) → IsDriverRow row → RowLearns k (learned h k row)
-  row_learns k (Sub r blocks) driver_row = search (rules, declaration_leaves, write_leaves, register_leaves, bell_leaves, bell_floor)
-  row_learns k _ driver_row = search (rules, declaration_leaves, write_leaves, register_leaves, bell_leaves, bell_floor)
+  row_learns k o driver_row = grind (arith, declaration_leaves, write_leaves, register_leaves, bell_leaves, bell_floor)
 
   -- ---- the rings that are open
 
@@ -207,8 +199,7 @@ module _ (h : Header) where
 
   register_starts : (k : Known) (r : Register) (x : ℕ) → k.started ≡ true → (register_written h k r x).started ≡ true
   unfolding register_written valued run_or_stop
-  register_starts k Usbcmd x on = search rules
-  register_starts k r x on = on
+  register_starts k r x on = grind arith
 
   register_started : (k : Known) (r : Register) (x : ℕ) → k.started ≡ true → (learned h k (Reg r x)).started ≡ true
   unfolding learned
@@ -216,5 +207,4 @@ module _ (h : Header) where
 
   -- no row takes the start back
   pub row_starts : (k : Known) (row : Row) → IsDriverRow row → k.started ≡ true → (learned h k row).started ≡ true
-  row_starts k (Sub r blocks) driver_row on = search (rules, declaration_leaves, write_leaves, register_started, bell_leaves)
-  row_starts k _ driver_row on = search (rules, declaration_leaves, write_leaves, register_started, bell_leaves)
+  row_starts k o driver_row on = grind (arith, declaration_leaves, write_leaves, register_started, bell_leaves)

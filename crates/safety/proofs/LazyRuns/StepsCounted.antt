@@ -31,8 +31,7 @@ module _ (h : Header) where
 
   reports_none : (k : Known) (r : ℕ) (row : Row) → IsDriverRow row → number_reported h k r row ≡ 0
   unfolding number_reported
-  reports_none k r (Read b) is = absurd is
-  reports_none k r _ is = refl
+  reports_none k r o is = grind arith
 
   comes_none : (k : Known) (r : ℕ) (ring : Ring) → number_needed h k r (Comes ring) ≡ 0
   unfolding number_needed
@@ -121,8 +120,7 @@ module _ (h : Header) where
   -- ---- the command ring is never bound or moved
 
   none_named : IsHeader h → (o : Option ℕ) → ((r : ℕ) → o ≡ Some r → r ≢ command_id h) → is_ring (command_id h) o ≡ false
-  none_named is None other = refl
-  none_named is (Some r) other = ne_eqb r (command_id h) (other r refl)
+  none_named is o other = grind (arith, ne_eqb, command_id)
 
   ring_other : IsHeader h → (k : Known) → EndpointsKeep h k → (change : Change) → is_ring (command_id h) (ring_placed h k change) ≡ false
   unfolding ring_placed
@@ -142,15 +140,13 @@ module _ (h : Header) where
 
   never_placed : IsHeader h → (k : Known) (n : ℕ) (o : Option Command) → EndpointsKeep h k → is_placed_by h k (command_id h) n o ≡ false
   unfolding is_placed_by
-  never_placed is k n None endpoints = refl
-  never_placed is k n (Some c) endpoints = all_other is c k (changes h.context_size k.memory n c) endpoints
+  never_placed is k n o endpoints = grind (arith, all_other, changes, h.context_size, k.memory)
 
   -- ---- an event that binds or moves a ring asks for no look at it
 
   no_stop : (k : Known) (later : List TraceRow) (b : Block) (r : ℕ) (o : Option Command) → is_placed_by h k r (slot b) o ≡ true → stopped_goals h k later b o ≡ []
   unfolding is_placed_by is_placed_by_all ring_placed changes stopped_goals
-  no_stop k later b r (Some (StopEndpoint s i)) placed = absurd (false≢true placed)
-  no_stop k later b r _ placed = refl
+  no_stop k later b r o placed = grind (arith, false≢true)
 
   record IsPlacedSo (k : Known) (later : List TraceRow) (b : Block) (r : ℕ) : Type 0 where
     other : r ≢ command_id h

@@ -1,5 +1,5 @@
 -- What a Transfer Event says that breaks no rule, by its code: the spot that it names, and what the controller did there
-use Rattle.safety.proofs.LazyRuns.Words.{[], ◌≡◌, ◌<◌, ◌&&◌, ◌||◌, ◌∙◌, ℕ, not, Bool, true, false, Option, Some, None, option_map, refl, sym, ap, ltb-true, rules, and_cases, and_parts, or_parts, or_cases, or_from, not-false, not-true, false≢true, none-some, same_Some, Block, is_set, word, kind, code, pointer, slot, endpoint, is_transfer_event, is_success, is_halting, is_trb_error, is_transfer_code, Spot, Data, Link, ceiling, named, is_data_below, is_open, is_stop_spot, is_running, Header, Read, shape_of, Known, RingSpot, spot_on, is_in_profile, is_working, is_stopping_now, can_report, can_report_at, is_impossible_by_kind, is_impossible_transfer, lenient, event_facts, transfer_kind, StopCode, chain, spot_is}
+use Rattle.safety.proofs.LazyRuns.Words.{[], ◌≡◌, ◌<◌, ◌&&◌, ◌||◌, ◌∙◌, ℕ, not, Bool, true, false, Option, Some, None, option_map, refl, sym, ap, ltb-true, rules, and_cases, and_parts, or_parts, or_cases, or_from, not-false, not-true, false≢true, none-some, same_Some, Block, is_set, word, kind, code, pointer, slot, endpoint, is_transfer_event, is_success, is_halting, is_trb_error, is_transfer_code, Spot, Data, Link, ceiling, named, is_data_below, is_open, is_stop_spot, is_running, Header, Read, shape_of, Known, RingSpot, spot_on, is_in_profile, is_working, is_stopping_now, can_report, can_report_at, is_impossible_by_kind, is_impossible_transfer, lenient, event_facts, transfer_kind, StopCode, chain, spot_is, arith}
 use Rattle.ring_knowledge.specs.Rings.{event_at}
 
 module _ (h : Header) where
@@ -16,8 +16,7 @@ module _ (h : Header) where
 
   ring_named : (k : Known) (a : ℕ) (o : Option ℕ) (at : RingSpot) → spot_on h k a o ≡ Some at → o ≡ Some at.ring
   unfolding spot_on
-  ring_named k a None at e = search (rules, none-some, option_map, same_Some)
-  ring_named k a (Some r) at e = search (rules, none-some, option_map, same_Some)
+  ring_named k a o at e = grind (arith, none-some, option_map, same_Some)
 
   named_by : (k : Known) (b : Block) (o : Option RingSpot) → event_at h k b ≡ o → can_report_at h k b o ≡ true → is_set (word b 3) 2 ≡ false → is_transfer_code (code b) ≡ true → TransferFacts k b
   unfolding can_report_at event_at
@@ -52,8 +51,7 @@ module _ (h : Header) where
 
   data_below : (k : Known) (r : ℕ) (t : Spot) → is_data_below (ceiling (shape_of h r) (k.ring r)) t ≡ true → NamesBlock k r t
   unfolding is_data_below
-  data_below k r (Data p) below = record { position = p; is = refl; below = ltb-true p (ceiling (shape_of h r) (k.ring r)) below }
-  data_below k r (Link q) below = absurd (false≢true below)
+  data_below k r o below = grind (arith, ltb-true, ceiling, shape_of, k.ring, false≢true)
 
   at_work : (k : Known) (b : Block) (r : ℕ) → is_working k (slot b) (endpoint b) r ≡ true → IsAtWork k b r
   unfolding is_working

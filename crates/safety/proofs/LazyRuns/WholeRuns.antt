@@ -136,16 +136,12 @@ module _ (h : Header) where
       goal : RingSpot
       goal = record { ring = e.ring; spot = after (shape_of h e.ring) n.position }
 
-      -- the block isn't passed yet
-      floor_is : at_first e.ring ≡ (past.known.ring e.ring).floor
-      floor_is = f.traced (slot b) (endpoint b) e.ring e.bound
-
       near : rank (at_first e.ring) ≤ rank (after (shape_of h e.ring) n.position)
       near =
           let named = names h is past.known w b block past.keeps now clean transfer e in
           let from : rank (past.known.ring e.ring).floor ≤ rank (Data n.position) = subst (λ t. rank (past.known.ring e.ring).floor ≤ rank t) n.is named.from in
           let past_it = next_later (shape_of h e.ring) (Data n.position) in
-          let same : rank (at_first e.ring) ≡ rank (past.known.ring e.ring).floor = ap rank floor_is in
+          let same : rank (at_first e.ring) ≡ rank (past.known.ring e.ring).floor = ap rank (f.traced (slot b) (endpoint b) e.ring e.bound) in
           omega (arith, from, past_it, same)
 
       reach : MayReach (shape_of h e.ring) (past.known.ring e.ring) (after (shape_of h e.ring) n.position)

@@ -1,5 +1,6 @@
 -- An event says the same where other rings are there, so long as those that endpoints have and commands bind are as they were
-use Rattle.safety.proofs.Words.{[], ◌≡◌, ◌==◌, ◌&&◌, if◌then◌else◌, ◌∷◌, ◌∙◌, ℕ, Bool, true, false, List, Option, Some, None, refl, sym, ap, rules, put, put_pair, cond_both, none-some, same_Some, option_map, Block, code, slot, endpoint, pointer, is_success, is_halting, is_trb_error, is_stopping, Spot, number, after, RingView, RingChange, Reaches, Holds, changed, ceiling, named, target, Command, EndpointState, Stopped, is_off, Change, Disables, Places, Stops, Header, Ring, shape_of, command_id, event_shape, event_size, ring_having, Known, RingSpot, on_ring, spot_on, event_at, passed, broken_off, stopped_at, transferred, transferred_at, transfer_read, set_to, bound_to, moved_to, moved, pointed, disabled, in_state, held_at_ceiling, changed_by, changed_by_all}
+use Rattle.safety.proofs.Endpoints.{moved_rings, held_rings}
+use Rattle.safety.proofs.Words.{[], ◌≡◌, ◌==◌, ◌&&◌, if◌then◌else◌, ◌∷◌, ◌∙◌, ℕ, Bool, true, false, List, Option, Some, None, refl, sym, ap, rules, put, put_pair, cond_both, none-some, same_Some, option_map, Block, code, slot, endpoint, pointer, is_success, is_halting, is_trb_error, is_stopping, Spot, number, after, RingView, RingChange, Reaches, Holds, changed, ceiling, named, target, Command, EndpointState, Stopped, is_off, Change, Disables, Places, Stops, Header, Ring, shape_of, command_id, event_shape, event_size, ring_having, Known, RingSpot, on_ring, spot_on, event_at, passed, broken_off, stopped_at, transferred, transferred_at, transfer_read, set_to, bound_to, moved_to, moved, pointed, disabled, in_state, held_at_ceiling, changed_by, changed_by_all, arith}
 
 module _ (h : Header) (rings : List Ring) (over : (ℕ → RingView) → ℕ → RingView) (Kept : ℕ → Type 0) where
   abbrev g : Header
@@ -73,8 +74,7 @@ module _ (h : Header) (rings : List Ring) (over : (ℕ → RingView) → ℕ →
 
     spot_kept : (k : Known) (a : ℕ) (q : Option ℕ) (at : RingSpot) → IsKept q → spot_on h k a q ≡ Some at → Kept at.ring
     unfolding spot_on
-    spot_kept k a None at kept is = search (rules, none-some, same_Some)
-    spot_kept k a (Some r) at kept is = search (rules, none-some, same_Some)
+    spot_kept k a o at kept is = grind (arith, none-some, same_Some)
 
     pub event_kept : (k : Known) (b : Block) (at : RingSpot) → HasKept k → event_at h k b ≡ Some at → Kept at.ring
     unfolding event_at
@@ -97,8 +97,7 @@ module _ (h : Header) (rings : List Ring) (over : (ℕ → RingView) → ℕ →
 
     pub target_alike : (k : Known) (r : ℕ) (t : Option Spot) → Kept r → moved_to g (other k) r t ≡ other (moved_to h k r t)
     unfolding moved_to
-    target_alike k r None kept = refl
-    target_alike k r (Some t) kept = set_alike k r t kept
+    target_alike k r o kept = grind (arith, set_alike)
 
     moved_alike : (k : Known) (q : Option ℕ) (p : ℕ) (cycle : Bool) → IsKept q → moved g (other k) q p cycle ≡ other (moved h k q p cycle)
     unfolding moved
@@ -129,36 +128,17 @@ module _ (h : Header) (rings : List Ring) (over : (ℕ → RingView) → ℕ →
 
     -- ---- endpoints have kept rings still
 
-    moved_to_has : (k : Known) (r : ℕ) (t : Option Spot) → (moved_to h k r t).ring_of ≡ k.ring_of
-    unfolding moved_to set_to on_ring
-    moved_to_has k r None = refl
-    moved_to_has k r (Some t) = refl
-
-    moved_has : (k : Known) (q : Option ℕ) (p : ℕ) (cycle : Bool) → (moved h k q p cycle).ring_of ≡ k.ring_of
-    unfolding moved
-    moved_has k None p cycle = refl
-    moved_has k (Some r) p cycle = moved_to_has k r (target (shape_of h r) (k.ring r) p cycle)
-
     bound_has : (k : Known) (s i : ℕ) (q : Option ℕ) (p : ℕ) (cycle : Bool) → HasKept k → IsKept q → HasKept (bound_to h k s i q p cycle)
     unfolding bound_to
-    bound_has k s i None p cycle kept one = kept
-    bound_has k s i (Some r) p cycle kept one = search (rules, k.ring_of)
+    bound_has k s i o p cycle kept one = grind arith
 
     pointed_has : (k : Known) (s i p : ℕ) (cycle : Bool) → HasKept k → (is_off (k.endpoint_state s i) ≡ true → HavesAlike p) → HasKept (pointed h k s i p cycle)
     unfolding pointed
-    pointed_has k s i p cycle kept haves = search (rules, cond_both, is_off, bound_to, ring_having, moved, bound_has, moved_has)
-
-    held_has : (k : Known) (q : Option ℕ) → (held_at_ceiling h k q).ring_of ≡ k.ring_of
-    unfolding held_at_ceiling on_ring
-    held_has k None = refl
-    held_has k (Some r) = refl
+    pointed_has k s i p cycle kept haves = search (rules, cond_both, is_off, bound_to, ring_having, moved, bound_has, moved_rings)
 
     change_has : (c : Command) (k : Known) (change : Change) → HasKept k → ChangeAlike k change → HasKept (changed_by h c k change)
     unfolding changed_by disabled in_state
-    change_has c k (Disables s which) kept may = search (rules, k.ring_of, none-some)
-    change_has c k (Places s i p cycle state) kept may = search (rules, pointed_has)
-    change_has c k (Stops s i) kept may = search (rules, held_has, in_state, k.ring_of)
-    change_has c k _ kept may = kept
+    change_has c k o kept may = grind (arith, none-some, pointed_has, held_rings, in_state)
 
     pub changes_alike : (c : Command) (changes : List Change) (k : Known) → HasKept k → ChangesAlike c k changes →
         (changed_by_all g c (other k) changes ≡ other (changed_by_all h c k changes)) × HasKept (changed_by_all h c k changes)

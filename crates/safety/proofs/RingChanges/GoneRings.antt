@@ -30,12 +30,10 @@ module _ (p keep : Ring → Bool) where
       ]
 
 transfer_no_command : (kind : RingKind) → is_transfer_kind kind ≡ true → is_command_kind kind ≡ false
-transfer_no_command Xfer t = refl
-transfer_no_command _ t = absurd (false≢true t)
+transfer_no_command o t = grind (arith, false≢true)
 
 transfer_no_event : (kind : RingKind) → is_transfer_kind kind ≡ true → is_event_kind kind ≡ false
-transfer_no_event Xfer t = refl
-transfer_no_event _ t = absurd (false≢true t)
+transfer_no_event o t = grind (arith, false≢true)
 
 module _ (h : Header) (is : IsHeader h) (k : Known) (d : DriverKeeps h k) (id : ℕ) (good : is_bad_free h k id ≡ false) where
   abbrev keep : Ring → Bool
@@ -137,8 +135,7 @@ module _ (h : Header) (is : IsHeader h) (k : Known) (d : DriverKeeps h k) (id : 
       positive n some = elim (cases_eq n 0) [ inl zero ↦ absurd (some zero) | inr other ↦ omega (arith, other) ]
 
   having_still : (test : Ring → Bool) (o : Option Ring) (s : ℕ) → find test h.rings ≡ o → s ≢ id → id_of o ≡ Some s → id_of (find test (filter keep h.rings)) ≡ Some s
-  having_still test None s found other names = absurd (none-some s names)
-  having_still test (Some q) s found other names = ap id_of (found_kept test keep h.rings q found (stays q (λ same. other (sym (same_Some q.id s names) ∙ same)))) ∙ names
+  having_still test o s found other names = grind (arith, none-some, id_of, found_kept, h.rings, stays, same_Some)
 
   pub having_same : (p s : ℕ) → s ≢ id → ring_having h p ≡ Some s → ring_having g p ≡ Some s
   unfolding ring_having

@@ -7,8 +7,7 @@ use Rattle.safety.proofs.KeptCommandRing.{command_with}
 -- ---- one ring more in a list
 
 or_none : {X : Type 0} (o : Option X) → option_or o None ≡ o
-or_none None = refl
-or_none (Some x) = refl
+or_none o = grind arith
 
 module _ (p : Ring → Bool) (rs : List Ring) (r : Ring) where
   pub found_before : p r ≡ false → find p (rs ++ r ∷ []) ≡ find p rs
@@ -129,8 +128,7 @@ module _ (h : Header) (is : IsHeader h) (k : Known) (d : DriverKeeps h k) (r : R
   -- ---- what a binding names
 
   having_still : (test : Ring → Bool) (o : Option Ring) (s : ℕ) → find test h.rings ≡ o → id_of o ≡ Some s → id_of (find test (h.rings ++ r ∷ [])) ≡ Some s
-  having_still test None s found names = absurd (none-some s names)
-  having_still test (Some q) s found names = ap id_of (found_still test h.rings r q found) ∙ names
+  having_still test o s found names = grind (arith, none-some, id_of, found_still, h.rings)
 
   pub having_same : (p s : ℕ) → ring_having h p ≡ Some s → ring_having g p ≡ Some s
   unfolding ring_having

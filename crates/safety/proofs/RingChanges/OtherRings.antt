@@ -1,5 +1,5 @@
 -- What a driver keeps is kept where other rings are there, so long as those that endpoints and commands speak of are as they were
-use Rattle.safety.proofs.Words.{arith, put, cases_eq, [], ◌≡◌, ◌≢◌, ◌≤◌, ◌+◌, ◌%◌, ◌^◌, ◌<◌, ◌&&◌, ◌||◌, ◌⊎◌, ◌∷◌, ◌∙◌, ℕ, not, Bool, true, false, List, map, All, Option, Some, None, nat_lt, option_and_then, slice_get, is_none, refl, sym, ap, subst, inl, inr, rules, IsRestored, new_ring, Dcbaap, device_named, is_soiled, overlap, list_any-append, is_at_rest, drops, context_pointer, context_cycle, base_address, table_bytes, list_any, flat_map, false≢true, or_parts, or_from, cases_option, All-head, All-tail, All-cons, All-nil, RingView, is_inside, ceiling, floor_number, is_move, RingKeeps, Command, AddressDevice, ConfigureEndpoint, StopEndpoint, SetTrDequeue, command_of, is_stop_of, named_slot, named_endpoint, named_context, device_context_bytes, input_context_bytes, Header, Ring, shape_of, command_id, event_shape, event_size, touches_ring, is_ring, Known, entry_of, command_at, next_command, may_be_taken, is_stopping_now, device_ranges, range_of_device, slots, covers, lease_start, lease_bytes, is_bad_area, Binding, binds, binding_in, ring_bound, binds_ring, has_repeats, is_placed, is_bad_dequeue, is_bad_move, IsDriverRing, IsTransferRing, IsUnfinished, was_stop_seen, CommandRingKeeps, CommandRingNamed, StatesKeep, Unstarted, DeviceKeeps, Stays, StaysIf, MovesIf, CommandKeeps, DriverKeeps, adds_streams, has_bad_content, has_bad_context, has_bad_entry, is_bad_added, is_bad_command, is_bad_device, names_disabled_endpoint, names_disabled_slot, streams_in, takes_bad_device, type_in, next_take, Block, block_at, address_of, Spot, Shape, AreInOrder, World, RingEvent, UnderWay, Stands, EventsStand, RingState, state_of, RingMatches, BoundRing, FreeRing, EndpointRing, UnderWayMatches, TakenCommand, IsUnchanged, Matches, Agrees, has_other_words, is_out_of_order}
+use Rattle.safety.proofs.Words.{Erstba, arith, put, cases_eq, [], ◌≡◌, ◌≢◌, ◌≤◌, ◌+◌, ◌%◌, ◌^◌, ◌<◌, ◌&&◌, ◌||◌, ◌⊎◌, ◌∷◌, ◌∙◌, ℕ, not, Bool, true, false, List, map, All, Option, Some, None, nat_lt, option_and_then, slice_get, is_none, refl, sym, ap, subst, inl, inr, rules, IsRestored, new_ring, Dcbaap, device_named, is_soiled, overlap, list_any-append, is_at_rest, drops, context_pointer, context_cycle, base_address, table_bytes, list_any, flat_map, false≢true, or_parts, or_from, cases_option, All-head, All-tail, All-cons, All-nil, RingView, is_inside, ceiling, floor_number, is_move, RingKeeps, Command, AddressDevice, ConfigureEndpoint, StopEndpoint, SetTrDequeue, command_of, is_stop_of, named_slot, named_endpoint, named_context, device_context_bytes, input_context_bytes, Header, Ring, shape_of, command_id, event_shape, event_size, touches_ring, is_ring, Known, entry_of, command_at, next_command, may_be_taken, is_stopping_now, device_ranges, range_of_device, slots, covers, lease_start, lease_bytes, is_bad_area, Binding, binds, binding_in, ring_bound, binds_ring, has_repeats, is_placed, is_bad_dequeue, is_bad_move, IsDriverRing, IsTransferRing, IsUnfinished, was_stop_seen, CommandRingKeeps, CommandRingNamed, StatesKeep, Unstarted, DeviceKeeps, Stays, StaysIf, MovesIf, CommandKeeps, DriverKeeps, adds_streams, has_bad_content, has_bad_context, has_bad_entry, is_bad_added, is_bad_command, is_bad_device, names_disabled_endpoint, names_disabled_slot, streams_in, takes_bad_device, type_in, next_take, Block, block_at, address_of, Spot, Shape, AreInOrder, World, RingEvent, UnderWay, Stands, EventsStand, RingState, state_of, RingMatches, BoundRing, FreeRing, EndpointRing, UnderWayMatches, TakenCommand, IsUnchanged, Matches, Agrees, has_other_words, is_out_of_order}
 use Rattle.world_state.specs.World.{event_at}
 use Rattle.safety.proofs.LookKinds.{put_at, put_off}
 
@@ -27,8 +27,7 @@ module _ (h : Header) (rings : List Ring) (k : Known) (views : ℕ → RingView)
 
   pub stop_seen_same : (c : Command) → was_stop_seen l c ≡ was_stop_seen k c
   unfolding was_stop_seen
-  stop_seen_same (StopEndpoint s i) = refl
-  stop_seen_same _ = refl
+  stop_seen_same o = grind arith
 
   -- ring r is there, with its shape and what was known of it
   pub record IsAsBefore (r : ℕ) : Type 0 where
@@ -97,21 +96,11 @@ module _ (h : Header) (rings : List Ring) (k : Known) (views : ℕ → RingView)
     device_keeps : (s e : ℕ) → DeviceKeeps h k s e → k.device s ≡ Some e → DeviceKeeps g l s e
     unfolding device_named entry_of is_soiled
     device_keeps s e old at =
-        let apart = o.devices s e at in
-        record {
-          slot = old.slot;
-          aligned = old.aligned;
-          ends = old.ends;
-          rings = apart.0;
-          soiled = old.soiled;
-          written = old.written;
-          entry = old.entry;
-          entry_clean = old.entry_clean;
-          entry_rings = apart.1;
-          others = old.others;
-          entries = old.entries;
-          table = λ v written. subst (λ shape. overlap e (device_context_bytes h.context_size) (base_address v) (table_bytes shape) ≡ false) (sym o.events) (old.table v written);
-        }
+        assumption (
+          old,
+          o.devices s e at,
+          λ (v : ℕ) (written : k.register Erstba ≡ Some v). subst (λ shape. overlap e (device_context_bytes h.context_size) (base_address v) (table_bytes shape) ≡ false) (sym o.events) (old.table v written),
+        )
 
     -- ---- unfinished commands
 
@@ -121,8 +110,7 @@ module _ (h : Header) (rings : List Ring) (k : Known) (views : ℕ → RingView)
 
     device_covers : (from len s : ℕ) (a : Option ℕ) → list_any (covers g from len) (range_of_device g s a) ≡ list_any (covers h from len) (range_of_device h s a)
     unfolding range_of_device covers lease_start lease_bytes
-    device_covers from len s None = refl
-    device_covers from len s (Some a) = refl
+    device_covers from len s o = grind arith
 
     devices_cover : (from len : ℕ) (ss : List ℕ) →
         list_any (covers g from len) (flat_map (λ s. range_of_device g s (k.device s)) ss) ≡ list_any (covers h from len) (flat_map (λ s. range_of_device h s (k.device s)) ss)
@@ -143,8 +131,7 @@ module _ (h : Header) (rings : List Ring) (k : Known) (views : ℕ → RingView)
     context_good : (n : Option ℕ) → ((a : ℕ) → n ≡ Some a → touches_ring g a (input_context_bytes h.context_size) ≡ false) → has_bad_context h k n ≡ false →
         has_bad_context g l n ≡ false
     unfolding has_bad_context is_soiled
-    context_good None apart good = search rules
-    context_good (Some a) apart good = search (rules, g, l, or_parts, or_from, area_same)
+    context_good o apart good = grind (arith, or_parts, or_from, area_same)
 
     -- an Address Device that is unfinished has its device context
     content_good : (c : Command) → ((s n : ℕ) (bsr : Bool) → c ≡ AddressDevice s bsr n → k.device s ≢ None) → has_bad_content h k c ≡ false →
@@ -161,13 +148,11 @@ module _ (h : Header) (rings : List Ring) (k : Known) (views : ℕ → RingView)
 
     slot_same : (n : Option ℕ) → names_disabled_slot l n ≡ names_disabled_slot k n
     unfolding names_disabled_slot
-    slot_same None = refl
-    slot_same (Some s) = refl
+    slot_same o = grind arith
 
     endpoint_same : (n : Option (ℕ × ℕ)) → names_disabled_endpoint l n ≡ names_disabled_endpoint k n
     unfolding names_disabled_endpoint
-    endpoint_same None = refl
-    endpoint_same (Some e) = refl
+    endpoint_same o = grind arith
 
     good_still : (p : ℕ) (c : Command) → IsUnfinished h k p c → CommandKeeps h k p c → is_bad_command g l c ≡ false
     unfolding is_bad_command
@@ -186,8 +171,7 @@ module _ (h : Header) (rings : List Ring) (k : Known) (views : ℕ → RingView)
 
     pub binds_same : (c : Command) → binds g l c ≡ binds h k c
     unfolding binds binding_in
-    binds_same (AddressDevice s bsr n) = refl
-    binds_same _ = refl
+    binds_same o = grind arith
 
     -- a binding that is placed names a ring, and the same one
     one_placed : (b : Binding) → BindsAsBefore b → is_placed h k (ring_bound h b) b ≡ true → (ring_bound g b ≡ ring_bound h b) × (is_placed g l (ring_bound g b) b ≡ true)
@@ -221,8 +205,7 @@ module _ (h : Header) (rings : List Ring) (k : Known) (views : ℕ → RingView)
 
     dequeue_still : (q : Option ℕ) (p : ℕ) (cycle : Bool) → ((r : ℕ) → q ≡ Some r → IsAsBefore r) → is_bad_dequeue g l q p cycle ≡ is_bad_dequeue h k q p cycle
     unfolding is_bad_dequeue
-    dequeue_still None p cycle before = search rules
-    dequeue_still (Some r) p cycle before = search (rules, g, l)
+    dequeue_still o p cycle before = grind arith
 
     moves_still : (c : Command) → MovesIf h k c → MovesIf g l c
     unfolding is_bad_move
@@ -242,13 +225,11 @@ module _ (h : Header) (rings : List Ring) (k : Known) (views : ℕ → RingView)
 
     drops_same : (c : Command) (s i : ℕ) → drops l c s i ≡ drops k c s i
     unfolding drops
-    drops_same (ConfigureEndpoint t false n) s i = refl
-    drops_same _ s i = refl
+    drops_same o s i = grind (arith, false)
 
     streams_same : (c : Command) → adds_streams g l c ≡ adds_streams h k c
     unfolding adds_streams streams_in
-    streams_same (AddressDevice s bsr n) = refl
-    streams_same _ = refl
+    streams_same o = grind arith
 
     command_keeps : (p : ℕ) (c : Command) → IsUnfinished h k p c → CommandKeeps g l p c
     command_keeps p c u =
@@ -335,8 +316,7 @@ module _ (h : Header) (rings : List Ring) (k : Known) (views : ℕ → RingView)
       under_way_still t (Some u) m = (m.0 ∙ ap (λ n. n + 1) (sym next_same), search (rules, g, l, slice_get, option_and_then, stop_seen_same))
 
       unchanged_still : (at : ℕ) (c : Option ℕ) → IsUnchanged h w at c → IsUnchanged g v at c
-      unchanged_still at None same = tt
-      unchanged_still at (Some c) same = same
+      unchanged_still at o same = grind arith
 
       matches_still : Matches h k w → Matches g l v
       matches_still m = record {
@@ -379,14 +359,11 @@ module _ (h : Header) (rings : List Ring) (k : Known) (id : ℕ) (shapes : (s : 
   there : {X : Type 0} (f : ℕ → X) (x : X) (s : ℕ) → s ≡ id → put f id x s ≡ x
   there f x s same = ap (λ n. put f id x n) same ∙ put_at f id x
 
-  state_apart : (s : ℕ) → s ≢ id → state_of forgets s ≡ state_of w s
-  state_apart s other = search (rules, put_off)
-
   free_still : (s : ℕ) → FreeRing (shape_of h s) k.ring_of (k.ring s) (state_of w s) s → FreeRing (shape_of (record h { rings = rings }) s) k.ring_of (views_left s) (state_of forgets s) s
   free_still s free = elim (cases_eq s id) [
     | inl here ↦ free_new _ k.ring_of (views_left s) (state_of forgets s) s free.none free.rests.inactive (there w.events [] s here) (there k.ring new_ring s here)
     | inr other ↦
-        subst (λ x. FreeRing (shape_of (record h { rings = rings }) s) k.ring_of (views_left s) x s) (sym (state_apart s other))
+        subst (λ x. FreeRing (shape_of (record h { rings = rings }) s) k.ring_of (views_left s) x s) (sym (search (rules, put_off)))
         (subst (λ y. FreeRing (shape_of (record h { rings = rings }) s) k.ring_of y (state_of w s) s) (sym (put_off k.ring id new_ring s other)) (subst (λ y. FreeRing y k.ring_of (k.ring s) (state_of w s) s) (sym (shapes s other)) free))
   ]
 

@@ -25,13 +25,11 @@ pub quiet_same : (v : RingView) → Quiet v v
 quiet_same v = record { rest = refl; many = refl; borders = λ q border. border }
 
 pub quiet_view : (shape : Shape) (v : RingView) (change : RingChange) → IsQuiet change → Quiet v (changed shape v change)
-quiet_view shape v (Withdraws p) quiet = search (rules, length-no_ops, split_border)
-quiet_view shape v _ quiet = search (rules, length-no_ops, split_border)
+quiet_view shape v o quiet = grind (arith, length-no_ops, split_border)
 
 -- the same on two views that are given the same
 pub quiet_given : (shape : Shape) (v w : RingView) (change : RingChange) → IsQuiet change → SameGiven v w → SameGiven (changed shape v change) (changed shape w change)
-quiet_given shape v w (Withdraws p) quiet g = search rules
-quiet_given shape v w _ quiet g = search rules
+quiet_given shape v w o quiet g = grind arith
 
 module _ (v w : RingView) (q : Quiet v w) where
   pub quiet_floor : w.floor ≡ v.floor
@@ -40,27 +38,24 @@ module _ (v w : RingView) (q : Quiet v w) where
   pub quiet_held : w.held ≡ v.held
   quiet_held = sym (ap (λ (x : RingView). x.held) q.rest)
 
-  pub quiet_gives : w.given ≡ v.given
-  quiet_gives = sym (ap (λ (x : RingView). x.given) q.rest)
-
   pub quiet_crosses : w.crossed ≡ v.crossed
   quiet_crosses = sym (ap (λ (x : RingView). x.crossed) q.rest)
 
   pub quiet_alike : RingAlike v w
-  quiet_alike = search (rules, quiet_floor, held_same, quiet_held, quiet_gives, quiet_crosses)
+  quiet_alike = search (rules, quiet_floor, held_same, quiet_held, quiet_crosses)
 
   gives_more : GivesMore v w
   gives_more = quiet_alike.more
 
   module _ (shape : Shape) where
     ceiling_down : ceiling shape w ≤ ceiling shape v
-    ceiling_down = ceiling_more shape w v (search (rules, quiet_floor, held_same, quiet_held, quiet_gives, quiet_crosses))
+    ceiling_down = ceiling_more shape w v (search (rules, quiet_floor, held_same, quiet_held, quiet_crosses))
 
     pub quiet_goes_on : RingGoesOn shape v w
     quiet_goes_on = search (rules, quiet_floor, ceiling_more, quiet_alike, gives_more, quiet_held)
 
     pub quiet_standing : Standing shape v w
-    quiet_standing = search (rules, quiet_floor, move_more, gives_more, quiet_gives)
+    quiet_standing = search (rules, quiet_floor, move_more, gives_more)
 
     pub quiet_ahead : MovesAhead shape v w
     quiet_ahead p cycle moves = search (rules, arith, move_more, v, gives_more, ceiling, declared, ceiling_down)
@@ -182,18 +177,9 @@ module _ (h : Header) (r : ℕ) (change : RingChange) (quiet : IsQuiet change) (
     command_ring_keeps : CommandRingKeeps h l
     command_ring_keeps = search (rules, l, slice_get, same)
 
-    stopping_same : (s i : ℕ) → is_stopping_now h l s i ≡ is_stopping_now h k s i
-    unfolding is_stopping_now may_be_taken next_command command_at
-    stopping_same s i =
-        ap (λ (v : RingView). nat_lt (floor_number v) (ceiling (shape_of h (command_id h)) v) && is_stop_of s i (option_and_then command_of (slice_get v.queue (floor_number v)))) same
-
     states_keep : StatesKeep h l
-    unfolding on_ring
-    states_keep = search (rules, l, held_is, stopping_same)
-
-    unstarted_keeps : Unstarted h k → Unstarted h l
-    unfolding on_ring
-    unstarted_keeps old = search (rules, l, floor_is, held_is)
+    unfolding on_ring is_stopping_now may_be_taken next_command command_at
+    states_keep = search (rules, l, held_is, nat_lt, floor_number, ceiling, shape_of, command_id, is_stop_of, option_and_then, command_of, slice_get, same)
 
     device_keeps : (s e : ℕ) → DeviceKeeps h k s e → DeviceKeeps h l s e
     unfolding on_ring entry_of device_named is_soiled
@@ -222,7 +208,7 @@ module _ (h : Header) (r : ℕ) (change : RingChange) (quiet : IsQuiet change) (
       command_ring = command_ring_keeps;
       states = states_keep;
       numbered = d.numbered;
-      unstarted = λ off. unstarted_keeps (d.unstarted off);
+      unstarted = λ off. (search (rules, l, floor_is, held_is));
       crcr = d.crcr;
       crcr_written = d.crcr_written;
       sized = d.sized;
@@ -235,13 +221,10 @@ module _ (h : Header) (r : ℕ) (change : RingChange) (quiet : IsQuiet change) (
 
   -- where all events are read, what is known agrees with the world
   module _ (unread : List Block) (w v : World) (c : SameController w v) (g : Agrees h k unread w) where
-    goes_on : KnownGoesOn h k l
-    unfolding on_ring
-    goes_on = search (rules, l, quiet_goes_on, quiet_rings)
-
     pub quiet_matches : ((at : ℕ) (f : Option ℕ) → IsUnchanged h w at f → IsUnchanged h v at f) → Matches h l v
+    unfolding on_ring
     quiet_matches unchanged =
-        matches_go_on h k l w v goes_on c (λ u at. ap (λ (x : RingView). slice_get x.queue (next_command h k)) same)
+        matches_go_on h k l w v (search (rules, l, quiet_goes_on, quiet_rings)) c (λ u at. ap (λ (x : RingView). slice_get x.queue (next_command h k)) same)
         (λ p f u. unchanged (address_of (shape_of h (command_id h)) p) (named_context f) (g.matches.contexts p f (before p f u))) g.matches
 
 -- nothing happens in the world where a ring is restored
@@ -270,14 +253,9 @@ module _ (h : Header) (r p : ℕ) (other : r ≢ command_id h) (k : Known) (unre
   abbrev after_it : Known
   after_it = on_ring h k r (Withdraws p)
 
-  controller : SameController w v
-  unfolding without_descriptor
-  controller = record { slot_state = refl; endpoint_state = refl; ring_of = refl; scribbles = refl; under_way = refl; inside = refl; states = λ q. refl }
-
   unchanged : (at : ℕ) (f : Option ℕ) → IsUnchanged h w at f → IsUnchanged h v at f
   unfolding without_descriptor
-  unchanged at None as_it_was = tt
-  unchanged at (Some f) as_it_was = as_it_was
+  unchanged at o as_it_was = grind arith
 
   after : (P : ℕ → RingView → Type 0) (q : ℕ) → P r (changed (shape_of h r) (k.ring r) (Withdraws p)) → (q ≢ r → P q (k.ring q)) → P q (after_it.ring q)
   after P q here there = view_after h (λ x. P q x) k r (Withdraws p) q (λ same. subst (λ n. P n (changed (shape_of h r) (k.ring r) (Withdraws p))) (sym same) here) there
@@ -299,4 +277,4 @@ module _ (h : Header) (r p : ℕ) (other : r ≢ command_id h) (k : Known) (unre
 
   pub withdrawn_agrees : Agrees h (on_ring h k r (Withdraws p)) unread (without_descriptor w r p)
   unfolding on_ring without_descriptor of_world.event_at
-  withdrawn_agrees = search (rules, queues, lengths, quiet_matches, controller, unchanged)
+  withdrawn_agrees = search (rules, queues, lengths, quiet_matches, states, unchanged)

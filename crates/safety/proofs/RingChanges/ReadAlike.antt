@@ -1,5 +1,5 @@
 -- What is read is possible, and learned, as it was where other rings are there
-use Rattle.safety.proofs.Words.{[], ◌≡◌, ◌+◌, ◌==◌, ◌&&◌, ◌||◌, if◌then◌else◌, ◌∷◌, ◌∙◌, ℕ, not, Bool, true, false, List, map, All, Option, Some, None, nat_lt, option_and_then, slice_get, refl, sym, ap, subst, rules, or_parts, false≢true, cond-true, All-head, All-tail, Block, BlockKind, TransferEvent, CommandCompletion, kind, code, slot, endpoint, pointer, is_success, is_halting, is_trb_error, is_command_completion, Spot, after, floor_number, address_of, RingView, Reaches, ceiling, is_data_below, is_open, is_stop_spot, Command, NoOp, DisableSlot, AddressDevice, ConfigureEndpoint, EvaluateContext, StopEndpoint, SetTrDequeue, ResetDevice, command_of, is_stop_of, is_off, is_running, may_answer_slot, can_succeed, Config, register_or_zero, placed_by_context, changes, added_endpoints, Header, Read, IsHeader, Ring, shape_of, command_id, Known, RingSpot, on_ring, event_at, command_at, next_command, succeeded, stop_ended, finished, completed, event_read, learned, Binding, binding_in, binds, can_finish, may_be_taken, is_stopping_now, is_working, can_report, can_report_at, is_in_profile, is_impossible_transfer, is_impossible_completion, is_impossible_by_kind, is_past_room, is_impossible, event_tests, lenient_tests, lenient, changed_by, is_bad_command, names_disabled_endpoint, IsUnfinished, DriverKeeps}
+use Rattle.safety.proofs.Words.{[], ◌≡◌, ◌+◌, ◌==◌, ◌&&◌, ◌||◌, if◌then◌else◌, ◌∷◌, ◌∙◌, ℕ, not, Bool, true, false, List, map, All, Option, Some, None, nat_lt, option_and_then, slice_get, refl, sym, ap, subst, rules, or_parts, false≢true, cond-true, All-head, All-tail, Block, BlockKind, TransferEvent, CommandCompletion, kind, code, slot, endpoint, pointer, is_success, is_halting, is_trb_error, is_command_completion, Spot, after, floor_number, address_of, RingView, Reaches, ceiling, is_data_below, is_open, is_stop_spot, Command, NoOp, DisableSlot, AddressDevice, ConfigureEndpoint, EvaluateContext, StopEndpoint, SetTrDequeue, ResetDevice, command_of, is_stop_of, is_off, is_running, may_answer_slot, can_succeed, Config, register_or_zero, placed_by_context, changes, added_endpoints, Header, Read, IsHeader, Ring, shape_of, command_id, Known, RingSpot, on_ring, event_at, command_at, next_command, succeeded, stop_ended, finished, completed, event_read, learned, Binding, binding_in, binds, can_finish, may_be_taken, is_stopping_now, is_working, can_report, can_report_at, is_in_profile, is_impossible_transfer, is_impossible_completion, is_impossible_by_kind, is_past_room, is_impossible, event_tests, lenient_tests, lenient, changed_by, is_bad_command, names_disabled_endpoint, IsUnfinished, DriverKeeps, arith}
 use Rattle.safety.proofs.LowerLaws.{EventFacts, event_facts, transfer_slots, stop_seen_same, ChangesAlike, HasKept, HavesAlike, changes_alike, event_at_alike, event_kept, on_alike, other, transfer_alike}
 use Rattle.safety.proofs.KeptRings.{completion_facts, next_unfinished}
 use Rattle.safety.proofs.RingChanges.EventsAlike.{KeepsRings}
@@ -56,8 +56,7 @@ module _ (h : Header) (rings : List Ring) (over : (ℕ → RingView) → ℕ →
 
   report_at_alike : (k : Known) (b : Block) (q : Option RingSpot) → ((at : RingSpot) → q ≡ Some at → Kept at.ring) → can_report_at g (l k) b q ≡ can_report_at h k b q
   unfolding can_report_at
-  report_at_alike k b None kept = refl
-  report_at_alike k b (Some at) kept = report_alike k (code b) (slot b) (endpoint b) at.ring at.spot (kept at refl)
+  report_at_alike k b o kept = grind (arith, report_alike, code, slot, endpoint)
 
   transfer_possible : (k : Known) (b : Block) → Has k → is_impossible_transfer g (l k) b ≡ is_impossible_transfer h k b
   unfolding is_impossible_transfer
@@ -67,9 +66,7 @@ module _ (h : Header) (rings : List Ring) (over : (ℕ → RingView) → ℕ →
 
   finish_alike : (k : Known) (b : Block) (q : Option Command) → can_finish (l k) b q ≡ can_finish k b q
   unfolding can_finish
-  finish_alike k b None = refl
-  finish_alike k b (Some c) =
-      search (rules, may_answer_slot, slot, code, can_succeed, k.slot_state, k.endpoint_state, register_or_zero, k.register, not, stop_seen_same)
+  finish_alike k b o = grind (arith, may_answer_slot, slot, code, can_succeed, register_or_zero, not, stop_seen_same)
 
   completion_possible : (k : Known) (b : Block) → is_impossible_completion g (l k) b ≡ is_impossible_completion h k b
   unfolding is_impossible_completion
@@ -77,9 +74,7 @@ module _ (h : Header) (rings : List Ring) (over : (ℕ → RingView) → ℕ →
 
   kind_possible : (k : Known) (n : BlockKind) (b : Block) → Has k → is_impossible_by_kind g (l k) n b ≡ is_impossible_by_kind h k n b
   unfolding is_impossible_by_kind
-  kind_possible k TransferEvent b kept = transfer_possible k b kept
-  kind_possible k CommandCompletion b kept = completion_possible k b
-  kind_possible k _ b kept = refl
+  kind_possible k o b kept = grind (arith, transfer_possible, completion_possible)
 
   pub read_possible : (k : Known) (b : Block) → Has k → lenient g (l k) (Read b) ≡ lenient h k (Read b)
   unfolding lenient lenient_tests event_tests is_impossible is_past_room
@@ -123,13 +118,11 @@ module _ (h : Header) (rings : List Ring) (over : (ℕ → RingView) → ℕ →
 
     ended_alike : (x : Known) (c : Command) → stop_ended g (l x) c ≡ l (stop_ended h x c)
     unfolding stop_ended
-    ended_alike x (StopEndpoint s i) = refl
-    ended_alike x _ = refl
+    ended_alike x o = grind arith
 
     ended_has : (x : Known) (c : Command) → (stop_ended h x c).ring_of ≡ x.ring_of
     unfolding stop_ended
-    ended_has x (StopEndpoint s i) = refl
-    ended_has x _ = refl
+    ended_has x o = grind arith
 
     abbrev Alike : Known → Known → Type 0
     Alike x y = (y ≡ l x) × Has x

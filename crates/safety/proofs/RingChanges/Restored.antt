@@ -1,5 +1,5 @@
 -- A ring that a row starts or moves is restored first: all of it stands as declared, and nothing of it is free any more
-use Rattle.safety.proofs.Words.{[], ◌≡◌, ◌∷◌, ◌∙◌, ℕ, ◌≢◌, false, List, refl, sym, ap, Block, RingChange, Header, Read, IsHeader, command_id, World, Known, on_ring, learned, lenient, DriverKeeps, HeldMore, Agrees, ArePossible, Runs, all_read, ◌||◌, not, Bool, Option, None, Some, option_and_then, slice_get, subst, inl, inr, rules, is_not_restored, Restores, restores_keeps, is_left, restored, restored_on, ring_moved, ring_restored, some_flips, command_of, flat_map, or_parts, Ring, list_any, none-some, same_Some, block_at, IsRestored, address_of, cycle_of, positions_given, flips_passed, unrestored, is_declared_as, Command, SetTrDequeue, Row, Write, Bell, shape_of, driver_rings, command_at, command_given, MayCome, MovesRestored, KeepsPassed, IsTransferRing}
+use Rattle.safety.proofs.Words.{[], ◌≡◌, ◌∷◌, ◌∙◌, ℕ, ◌≢◌, false, List, refl, sym, ap, Block, RingChange, Header, Read, IsHeader, command_id, World, Known, on_ring, learned, lenient, DriverKeeps, HeldMore, Agrees, ArePossible, Runs, all_read, ◌||◌, not, Bool, Option, None, Some, option_and_then, slice_get, subst, inl, inr, rules, is_not_restored, Restores, restores_keeps, is_left, restored, restored_on, ring_moved, ring_restored, some_flips, command_of, flat_map, or_parts, Ring, list_any, none-some, same_Some, block_at, IsRestored, address_of, cycle_of, positions_given, flips_passed, unrestored, is_declared_as, Command, SetTrDequeue, Row, Write, Bell, shape_of, driver_rings, command_at, command_given, MayCome, MovesRestored, KeepsPassed, IsTransferRing, arith}
 use Rattle.safety.proofs.DriverHistories.{kept_driver}
 use Rattle.safety.proofs.MiddleLaws.{more_law, read_on, behind_kept, event_behind, read_same, none_fewer, quiet_keeps, restored_agrees}
 use Rattle.safety.proofs.LowerLaws.{held_more_same, held_more_twice, weaker, driver_test, ring_elsewhere, ring_here, ring_shape, transfer_driver, transfer_not_command, HasRing, has_ring, none_of_ring}
@@ -108,8 +108,7 @@ module _ (h : Header) (is : IsHeader h) (r : ℕ) (transfer : IsTransferRing h r
 
 pub stopped_still : (h : Header) (k : Known) (o : Option ℕ) → (restored_on h k o).stopped ≡ k.stopped
 unfolding restored_on on_ring
-stopped_still h k None = refl
-stopped_still h k (Some r) = refl
+stopped_still h k o = grind arith
 
 module _ (h : Header) (is : IsHeader h) (k : Known) (d : DriverKeeps h k) where
   -- the ring that a row starts or moves is the one of an endpoint
@@ -120,8 +119,7 @@ module _ (h : Header) (is : IsHeader h) (k : Known) (d : DriverKeeps h k) where
 
   moved_of : (o : Option Command) (r : ℕ) → ring_moved k o ≡ Some r → OfEndpoint r
   unfolding ring_moved
-  moved_of (Some (SetTrDequeue s i p cycle)) r at = record { slot = s; index = i; has = at }
-  moved_of _ r at = absurd (none-some r at)
+  moved_of o r at = grind (arith, none-some)
 
   restored_of : (row : Row) (r : ℕ) → ring_restored h k row ≡ Some r → OfEndpoint r
   unfolding ring_restored
@@ -154,14 +152,12 @@ module _ (h : Header) (is : IsHeader h) (k : Known) (d : DriverKeeps h k) where
 
   ring_of_same : (o : Option ℕ) → (restored_on h k o).ring_of ≡ k.ring_of
   unfolding restored_on on_ring
-  ring_of_same None = refl
-  ring_of_same (Some r) = refl
+  ring_of_same o = grind arith
 
   -- nothing is free of the ring
   none_free : (o : Option ℕ) (r : ℕ) → o ≡ Some r → IsRestored ((restored_on h k o).ring r)
   unfolding restored_on
-  none_free None r at = absurd (none-some r at)
-  none_free (Some q) r at = subst (λ n. IsRestored ((on_ring h k q Restores).ring n)) (same_Some q r at) (subst IsRestored (sym (ring_here h k q Restores)) (λ p. refl))
+  none_free o r at = grind (arith, none-some, on_ring, same_Some, ring_here)
 
   command_ring_same : (row : Row) → (restored h k row).ring (command_id h) ≡ k.ring (command_id h)
   unfolding restored_on

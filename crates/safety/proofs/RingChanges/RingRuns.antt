@@ -1,5 +1,5 @@
 -- Behind a ring that comes or goes the run goes on, whatever is unread
-use Rattle.safety.proofs.Words.{rules, [], ◌≡◌, ◌∷◌, ◌∙◌, ℕ, false, List, filter, Option, Some, None, option_and_then, slice_get, is_some, refl, sym, ap, subst, ◌||◌, ◌==◌, ◌*◌, eq-eqb, new_ring, IsComing, emptied, forgotten, is_bad_free, is_bad_ring, is_bad_segment, shows_first_lap, with_ring, without_ring, fun_ext, range_of_entry, entry_of, slots, cond-true, segment_ranges, table_range, entry_ranges, device_ranges, touches_ring, is_soiled, cases_option, false≢true, flat_map, list_any, or_parts, Block, RingView, due_positions, shape_of, command_of, Header, Read, Ring, IsHeader, ring_with, command_id, World, counted, Known, command_at, unfinished_positions, learned, lenient, open_ranges, context_ranges, range_of_command, covers, is_in_range_lease, DriverKeeps, Agrees, ArePossible, Runs, all_read}
+use Rattle.safety.proofs.Words.{rules, [], ◌≡◌, ◌∷◌, ◌∙◌, ℕ, false, List, filter, Option, Some, None, option_and_then, slice_get, is_some, refl, sym, ap, subst, ◌||◌, ◌==◌, ◌*◌, eq-eqb, new_ring, IsComing, emptied, forgotten, is_bad_free, is_bad_ring, is_bad_segment, shows_first_lap, with_ring, without_ring, fun_ext, range_of_entry, entry_of, slots, cond-true, segment_ranges, table_range, entry_ranges, device_ranges, touches_ring, is_soiled, cases_option, false≢true, flat_map, list_any, or_parts, Block, RingView, due_positions, shape_of, command_of, Header, Read, Ring, IsHeader, ring_with, command_id, World, counted, Known, command_at, unfinished_positions, learned, lenient, open_ranges, context_ranges, range_of_command, covers, is_in_range_lease, DriverKeeps, Agrees, ArePossible, Runs, all_read, arith}
 use Rattle.safety.proofs.DriverHistories.{kept_driver}
 use Rattle.safety.proofs.MiddleLaws.{read_on, gone_ring_agrees}
 use Rattle.safety.proofs.RingChanges.Forgotten.{forgotten_agrees, forgotten_keeps, forgotten_learned, forgotten_read}
@@ -34,8 +34,7 @@ module _ (h : Header) (is : IsHeader h) (r : Ring) (coming : IsComing r) where
 
     entry_same : (s : ℕ) (o : Option ℕ) → range_of_entry f s o ≡ range_of_entry k s o
     unfolding range_of_entry entry_of forgotten
-    entry_same s None = refl
-    entry_same s (Some d) = refl
+    entry_same s o = grind arith
 
     entries_same : entry_ranges f ≡ entry_ranges k
     unfolding entry_ranges forgotten
@@ -92,13 +91,9 @@ module _ (h : Header) (is : IsHeader h) (r : Ring) (coming : IsComing r) where
   unfolding emptied
   no_events w = cond-true (r.id == r.id) [] (w.events r.id) (eq-eqb r.id r.id refl)
 
-  stopped_same : (k : Known) → (forgotten k r.id).stopped ≡ k.stopped
-  unfolding forgotten
-  stopped_same k = refl
-
   -- the run goes on
   pub comes_runs : (k : Known) (w : World) → DriverKeeps h k → is_bad_ring h k r ≡ false → Runs h k w → Runs (with_ring h r) (forgotten k r.id) (counted h (emptied w r.id))
-  unfolding counted
+  unfolding counted forgotten
   comes_runs k w d good run =
       let c : Came k run.unread = came run.unread k d good run.possible run.on in
       let later : Known = all_read h k run.unread in
@@ -110,7 +105,7 @@ module _ (h : Header) (is : IsHeader h) (r : Ring) (coming : IsComing r) where
         unread = run.unread;
         possible = c.possible;
         blocks = run.blocks;
-        on = stopped_same k ∙ run.on;
+        on = refl ∙ run.on;
         agrees = subst (λ x. Agrees (with_ring h r) x run.unread (counted (with_ring h r) (emptied w r.id))) (sym c.same)
             (agrees_once_counted (with_ring h r) (forgotten later r.id) run.unread (emptied w r.id) there);
       }

@@ -10,9 +10,6 @@ use Rattle.safety.proofs.UnfinishedLists.{fails_in, in_range}
 segment_lies : (shape : Shape) → IsShape shape → shape.kind ≡ Xfer → (s : Segment) → IsIn s shape.segments → (s.base % 16 ≡ 0) × (0 < s.count)
 segment_lies shape is kind s at = search (rules, and_parts, nat_le, length, each_passes, nat_lt, leb-true, eqb-true)
 
-segment_aligned : (shape : Shape) → IsShape shape → shape.kind ≡ Xfer → (s : Segment) → IsIn s shape.segments → s.base % 16 ≡ 0
-segment_aligned shape is kind s at = (segment_lies shape is kind s at).0
-
 pub segment_some : (shape : Shape) → IsShape shape → shape.kind ≡ Xfer → (s : Segment) → IsIn s shape.segments → 0 < s.count
 segment_some shape is kind s at = (segment_lies shape is kind s at).1
 
@@ -46,7 +43,7 @@ module _ (h : Header) (k : Known) where
     pub words_clean : (a : ℕ) → a % 4 ≡ 0 → is_inside shape a ≡ true → k.soiled a ≡ false
     words_clean a word inside =
         let b = has_byte shape a inside in
-        let aligned = segment_aligned shape is kind b.segment b.at in
+        let aligned = (segment_lies shape is kind b.segment b.at).0 in
         let i : ℕ = (a - b.segment.base) / 4 in
         let from = b.from in
         let same : b.segment.base + 4 * i ≡ a = omega (arith, word, aligned, from) in
@@ -57,7 +54,7 @@ module _ (h : Header) (k : Known) where
     unfolding shows_first_lap
     block_shows a block inside =
         let b = has_byte shape a inside in
-        let aligned = segment_aligned shape is kind b.segment b.at in
+        let aligned = (segment_lies shape is kind b.segment b.at).0 in
         let i : ℕ = (a - b.segment.base) / 16 in
         let from = b.from in
         let low : i < b.segment.count = omega (arith, b.to, from, aligned, block) in
@@ -66,5 +63,4 @@ module _ (h : Header) (k : Known) where
 
     -- it touches no range that it doesn't overlap with a segment
     pub touches_none : (from len : ℕ) → ((s : Segment) → IsIn s shape.segments → overlap s.base (16 * s.count) from len ≡ false) → touches shape from len ≡ false
-    touches_none from len apart =
-        search (rules, false_from_ne_true, touches, some_of, overlap, shape.segments, and_parts, nat_lt, false≢true, overlap_turned)
+    touches_none from len apart = search (rules, false_from_ne_true, touches, some_of, overlap, and_parts, nat_lt, false≢true, overlap_turned)

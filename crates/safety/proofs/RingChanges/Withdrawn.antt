@@ -8,8 +8,7 @@ use Rattle.safety.proofs.StillRings.{untouched_behind}
 use Rattle.safety.proofs.RingChanges.Restored.{IsGood, quiet_runs}
 
 stopped_is : (e : EndpointState) → is_stopped e ≡ true → e ≡ Stopped
-stopped_is Stopped stopped = refl
-stopped_is _ stopped = absurd (false≢true stopped)
+stopped_is o stopped = grind (arith, false≢true)
 
 running_is_not : Running ≡ Stopped → ⊥
 running_is_not same = false≢true (ap is_stopped same)
@@ -99,13 +98,9 @@ module _ (h : Header) (r p : ℕ) where
               untouched = untouched_behind h is k d e may s.slot s.index s.untouched;
             }
 
-    cut_same : (v w : RingView) → w.lengths ≡ v.lengths → w.withdrawn ≡ v.withdrawn → cut v ≡ false → cut w ≡ false
-    unfolding descriptor_length
-    cut_same v w lengths withdrawn good = search (rules, length_from, list_any, range_with_len)
-
     behind : (k : Known) (e : Block) → DriverKeeps h k → lenient h k (Read e) ≡ [] → is_bad_withdraw h k r p ≡ false → is_bad_withdraw h (learned h k (Read e)) r p ≡ false
-    unfolding is_bad_withdraw
-    behind k e d may good = search (rules, parts, read_same, or_from, not_from_true, with_stopped, stopped_behind, cut_same)
+    unfolding is_bad_withdraw descriptor_length
+    behind k e d may good = search (rules, parts, read_same, or_from, not_from_true, with_stopped, stopped_behind, length_from, list_any, range_with_len)
 
     -- where it may be withdrawn
     pub may_withdraw : (k : Known) → DriverKeeps h k → is_bad_withdraw h k r p ≡ false → r ≢ command_id h
