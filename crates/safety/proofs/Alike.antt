@@ -1,6 +1,6 @@
 -- Two knowledges of which an event says the same: what it reads and what it changes is alike, but that in one more may be given,
 -- and rings may be held at greater numbers
-use Rattle.safety.proofs.Words.{◌≡◌, ◌≤◌, ℕ, true, nat_lt, Option, None, Some, unwrap_or, is_none, arith, refl, sym, ap, subst, inl, inr, ltb-true, lt-ltb, leb-true, le-leb, eqb-true, eq-eqb, rules, cases_eq, false≢true, and_parts, and_from, or_cases, or_left, or_right, Spot, Data, Link, Shape, number, RingView, RingChange, Reaches, Holds, changed, floor_number, given_count, ceiling, is_way_given, is_open, is_data_below, is_stop_spot, stopped_number, GivesMore, step_more, given_count_grows, Header, shape_of, Known, on_ring, IsHeldMore}
+use Rattle.safety.proofs.Words.{◌≡◌, ◌≤◌, ℕ, true, nat_lt, Option, unwrap_or, is_none, arith, refl, sym, ap, subst, inl, inr, ltb-true, lt-ltb, leb-true, le-leb, eqb-true, eq-eqb, rules, cases_eq, false≢true, and_parts, and_from, or_cases, or_left, or_right, Spot, Data, Link, Shape, number, RingView, RingChange, Reaches, Holds, changed, floor_number, given_count, ceiling, is_way_given, is_open, is_data_below, is_stop_spot, stopped_number, GivesMore, step_more, given_count_grows, Header, shape_of, Known, on_ring, IsHeldMore}
 use Rattle.safety.proofs.DriverRows.{ring_here, ring_elsewhere}
 use Rattle.safety.proofs.HeldTwice.{held_same as same_held}
 

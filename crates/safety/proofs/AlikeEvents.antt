@@ -1,5 +1,5 @@
 -- An event that may be read at one of two knowledges that are alike: it may be read at the other, and leaves both alike
-use Rattle.safety.proofs.Words.{[], ◌≡◌, ◌≤◌, ◌==◌, ◌&&◌, ℕ, false, not, Some, refl, ap, rules, or_parts, or_from, not-false, Block, BlockKind, TransferEvent, CommandCompletion, kind, is_transfer_event, Spot, named, Header, Read, Config, shape_of, register_or_zero, Known, event_read, learned, is_in_profile, is_impossible_by_kind, lenient, if◌then◌else◌, true, List, Option, None, arith, sym, subst, ltb-true, lt-ltb, false≢true, and_parts, and_from, not_from_true, code, slot, number, after, Reaches, ceiling, cases_option, Command, StopEndpoint, Change, changes, command_id, on_ring, command_at, next_command, changed_by_all, succeeded, stop_ended, finished, completed, was_stop_seen, can_finish, may_be_taken, is_stopping_now, is_impossible_completion}
+use Rattle.safety.proofs.Words.{[], ◌≡◌, ◌≤◌, ◌==◌, ◌&&◌, ℕ, false, not, Some, refl, ap, rules, or_parts, or_from, not-false, Block, BlockKind, TransferEvent, CommandCompletion, kind, is_transfer_event, Spot, named, Header, Read, Config, shape_of, register_or_zero, Known, event_read, learned, is_in_profile, is_impossible_by_kind, lenient, if◌then◌else◌, true, List, Option, None, arith, sym, subst, ltb-true, lt-ltb, false≢true, and_parts, and_from, not_from_true, code, slot, number, after, Reaches, ceiling, cases_option, Command, Change, changes, command_id, on_ring, command_at, next_command, changed_by_all, succeeded, stop_ended, finished, completed, was_stop_seen, can_finish, may_be_taken, is_stopping_now, is_impossible_completion}
 use Rattle.safety.proofs.LowerLaws.{EventFacts, event_facts, event_still, Alike, ceiling_more, reached_alike}
 use Rattle.safety.proofs.AlikeTransfers.{transfer_alike, both_sides, seen_put}
 use Rattle.safety.proofs.AlikeChanges.{TargetsAre, changes_alike}

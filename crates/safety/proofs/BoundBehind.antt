@@ -1,5 +1,5 @@
 -- A ring that waits for a binding behind an event waited for it before
-use Rattle.safety.proofs.Words.{[], ◌≡◌, if◌then◌else◌, ◌∷◌, ◌∙◌, ℕ, Bool, true, false, map, refl, sym, ap, inl, inr, list_any, and_parts, and_from, false≢true, cases_option, cases_Bool, Block, Command, AddressDevice, ConfigureEndpoint, is_off, is_open, added_endpoints, Header, Read, IsHeader, is_ring, Known, unfinished, learned, lenient, Binding, binding_in, binds, ring_bound, binds_ring, is_being_bound, awaits_binding, some_of, any_of, IsUnfinished, DriverKeeps, List, Option, None, Some, rules, cond_both, none-some, BlockKind, TransferEvent, CommandCompletion, kind, Spot, number, after, Reaches, Holds, ceiling, stopped_number, target, StopEndpoint, Stopped, Change, Places, Stops, shape_of, command_id, ring_having, RingSpot, on_ring, event_at, command_at, next_command, passed, broken_off, stopped_at, transferred, transferred_at, transfer_read, set_to, bound_to, moved_to, moved, pointed, disabled, in_state, held_at_ceiling, changed_by, changed_by_all, succeeded, stop_ended, finished, completed, event_read, arith}
+use Rattle.safety.proofs.Words.{[], ◌≡◌, if◌then◌else◌, ◌∷◌, ◌∙◌, ℕ, Bool, true, false, map, refl, sym, ap, inl, inr, list_any, and_parts, and_from, false≢true, cases_option, cases_Bool, Block, Command, AddressDevice, ConfigureEndpoint, is_off, is_open, added_endpoints, Header, Read, IsHeader, is_ring, Known, unfinished, learned, lenient, Binding, binding_in, binds, ring_bound, binds_ring, is_being_bound, awaits_binding, some_of, any_of, IsUnfinished, DriverKeeps, List, Option, None, rules, none-some, BlockKind, kind, Spot, number, after, Reaches, Holds, ceiling, stopped_number, target, Change, shape_of, command_id, ring_having, RingSpot, on_ring, event_at, command_at, next_command, passed, broken_off, stopped_at, transferred, transferred_at, transfer_read, set_to, bound_to, moved_to, moved, pointed, disabled, in_state, held_at_ceiling, changed_by, changed_by_all, succeeded, stop_ended, finished, completed, event_read, arith}
 use Rattle.safety.proofs.LowerLaws.{clean_tests, off_is, view_after, open_held, held_open}
 use Rattle.safety.proofs.DriverHistories.{kept_driver}
 use Rattle.safety.proofs.MiddleLaws.{read_on, Behind, event_behind, listed_unfinished, listed_before, rings_behind}

@@ -1,5 +1,5 @@
 -- A ring that a command binds is a transfer ring; what is dropped is of the command's slot
-use Rattle.safety.proofs.Words.{◌≡◌, ◌==◌, ◌∙◌, ℕ, true, false, Option, None, Some, sym, ap, eqb-true, Any-from_list_any, and_parts, false≢true, Command, ConfigureEndpoint, StopEndpoint, named_slot, is_dropped, Header, IsHeader, is_ring, Known, Binding, drops, binds, ring_bound, binds_ring, arith}
+use Rattle.safety.proofs.Words.{◌≡◌, ◌∙◌, ℕ, true, false, Option, Some, sym, ap, eqb-true, Any-from_list_any, and_parts, false≢true, Command, StopEndpoint, named_slot, is_dropped, Header, IsHeader, is_ring, Known, drops, binds, ring_bound, binds_ring, arith}
 use Rattle.safety.specs.EndpointsKeep as endpoints
 use Rattle.safety.proofs.RingIds.{having_transfer}
 use Rattle.safety.proofs.Concerned.{Concerns}

@@ -1,6 +1,6 @@
 -- A write that gives a command and an event that isn't read yet: the event stays possible, the command is unfinished behind it, and what
 -- is known is the same both ways but for the numbers at which rings are held
-use Rattle.safety.proofs.Words.{[], ◌≡◌, ◌≢◌, ◌⊎◌, ◌∙◌, ℕ, Bool, false, true, Option, None, Some, option_and_then, slice_get, arith, refl, sym, ap, subst, inl, inr, rules, MayCome, or_right, none-some, same_Some, Block, is_inside, RingView, Writes, changed, is_due, gives, positions_given, cases_option, gives_is, address_inside, position_given_is, Command, AddressDevice, Header, Write, Read, IsHeader, shape_of, command_id, Known, command_at, with_device, with_word, written, taken_device, device_named, no_device, command_given, learned, lenient, IsHeldMore, HeldMore, IsDriverRing, IsUnfinished, CommandKeeps, DriverKeeps, ◌==◌, ◌∷◌, List, cond_both, BlockKind, TransferEvent, CommandCompletion, kind, Spot, target, StopEndpoint, Stopped, is_off, Change, DeviceLeft, Places, Stops, ring_having, RingSpot, on_ring, event_at, next_command, passed, broken_off, stopped_at, transferred, transferred_at, transfer_read, set_to, bound_to, moved_to, moved, pointed, disabled, in_state, held_at_ceiling, changed_by, changed_by_all, succeeded, stop_ended, finished, completed, event_read}
+use Rattle.safety.proofs.Words.{[], ◌≡◌, ◌≢◌, ◌⊎◌, ◌∙◌, ℕ, Bool, false, true, Option, None, Some, option_and_then, slice_get, arith, refl, sym, ap, subst, inl, inr, rules, MayCome, or_right, none-some, same_Some, Block, is_inside, RingView, Writes, changed, is_due, gives, positions_given, cases_option, gives_is, address_inside, position_given_is, Command, AddressDevice, Header, Write, Read, IsHeader, shape_of, command_id, Known, command_at, with_device, with_word, written, taken_device, device_named, no_device, command_given, learned, lenient, IsHeldMore, HeldMore, IsDriverRing, IsUnfinished, CommandKeeps, DriverKeeps, ◌∷◌, List, BlockKind, kind, Spot, target, is_off, Change, ring_having, RingSpot, on_ring, event_at, next_command, passed, broken_off, stopped_at, transferred, transferred_at, transfer_read, set_to, bound_to, moved_to, moved, pointed, disabled, in_state, held_at_ceiling, changed_by, changed_by_all, succeeded, stop_ended, finished, completed, event_read}
 use Rattle.safety.proofs.LowerLaws.{clean_tests, fewer, event_facts, ring_shape, due_has_ring, at_number, taken, written_ring, written_device, SameGiven, SameDriver, both_drivers, Alike, held_twice}
 use Rattle.safety.proofs.MiddleLaws.{taking, contains_first, and_then_parts, read_on, ReadAlike, EverySlot, SameStates, held_more, counted, read_same, command_same, event_behind, word_read, Untaken, device_read, device_driver, devices_same, beyond}
 use Rattle.safety.proofs.DriverHistories.{kept_driver}

@@ -1,5 +1,5 @@
 -- Behind an event that is read before it, a command that a write gives has the same input context, and may move the same rings
-use Rattle.safety.proofs.Words.{[], ◌≡◌, ◌∙◌, ℕ, false, Bool, Option, Some, None, refl, ap, subst, MayCome, or_parts, or_from, Block, Command, SetTrDequeue, input_context_bytes, Header, Write, Read, IsHeader, Known, command_given, learned, is_bad_area, is_soiled, covers, device_ranges, is_bad_dequeue, is_bad_move, lenient, DriverKeeps, MovesIf, has_bad_context, rules, arith}
+use Rattle.safety.proofs.Words.{[], ◌≡◌, ◌∙◌, ℕ, false, Bool, Option, Some, ap, subst, MayCome, or_parts, or_from, Block, Command, SetTrDequeue, input_context_bytes, Header, Write, Read, IsHeader, Known, command_given, learned, is_bad_area, is_soiled, covers, device_ranges, is_bad_dequeue, is_bad_move, lenient, DriverKeeps, MovesIf, has_bad_context, rules, arith}
 use Rattle.safety.proofs.AreaFacts.{AreaParts, area_parts, area_from, clean_same}
 use Rattle.safety.proofs.MiddleLaws.{context_parts, context_from, Behind, devices_fewer, none_fewer, event_behind}
 use Rattle.safety.proofs.GivenBehind.{between, own_between}

@@ -1,6 +1,6 @@
 -- Behind an event that is read before it, a command that a write gives names a slot and an endpoint that are there, and its contexts lie and
 -- say what they may
-use Rattle.safety.proofs.Words.{[], ◌≡◌, ◌==◌, ◌&&◌, ◌||◌, ◌∙◌, ℕ, not, false, Option, None, Some, refl, MayCome, or_parts, or_from, Block, input_add_flag, Command, AddressDevice, ConfigureEndpoint, named_slot, named_endpoint, named_context, Header, Write, Read, IsHeader, Known, command_given, learned, lenient, DriverKeeps, has_bad_content, has_bad_context, is_bad_added, is_bad_command, names_disabled_endpoint, names_disabled_slot, takes_bad_device, type_in, arith}
+use Rattle.safety.proofs.Words.{[], ◌≡◌, ◌∙◌, ℕ, not, false, Option, Some, refl, MayCome, or_parts, or_from, Block, input_add_flag, Command, named_slot, named_endpoint, named_context, Header, Write, Read, IsHeader, Known, command_given, learned, lenient, DriverKeeps, has_bad_content, has_bad_context, is_bad_added, is_bad_command, names_disabled_endpoint, names_disabled_slot, takes_bad_device, type_in, arith}
 use Rattle.safety.proofs.GivenBehind.{between, own_between, facts}
 use Rattle.safety.proofs.CommandContext.{context_behind}
 use Rattle.safety.proofs.DeviceBehind.{device_behind}

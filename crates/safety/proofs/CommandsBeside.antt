@@ -1,5 +1,5 @@
 -- What the rules say of a command holds still where nothing that the command reads has changed
-use Rattle.safety.proofs.Words.{[], ◌≡◌, ◌≢◌, ◌<◌, ◌==◌, ◌&&◌, ◌||◌, if◌then◌else◌, ◌∷◌, ◌∙◌, ℕ, not, Bool, false, map, Option, None, Some, is_none, nat_lt, arith, refl, ap, nat_le, rules, list_any, or_parts, or_from, and_left, Command, AddressDevice, ConfigureEndpoint, ResetEndpoint, StopEndpoint, SetTrDequeue, named_slot, named_endpoint, named_context, is_disabled, is_off, added_endpoints, input_add_flag, Header, is_ring, Known, binding_in, binds, ring_bound, binds_ring, drops, adds_streams, has_bad_content, has_bad_context, is_bad_added, is_bad_command, names_disabled_endpoint, names_disabled_slot, streams_in, takes_bad_device, type_in}
+use Rattle.safety.proofs.Words.{[], ◌≡◌, ◌≢◌, ◌<◌, ◌==◌, ◌&&◌, ◌||◌, if◌then◌else◌, ◌∷◌, ◌∙◌, ℕ, not, Bool, false, map, Option, None, Some, is_none, nat_lt, arith, refl, ap, nat_le, rules, list_any, or_parts, or_from, and_left, Command, AddressDevice, ConfigureEndpoint, named_slot, named_endpoint, named_context, is_disabled, is_off, added_endpoints, input_add_flag, Header, is_ring, Known, binding_in, binds, ring_bound, binds_ring, drops, adds_streams, has_bad_content, has_bad_context, is_bad_added, is_bad_command, names_disabled_endpoint, names_disabled_slot, streams_in, takes_bad_device, type_in}
 use Rattle.safety.proofs.Concerned.{Concerns}
 use Rattle.safety.proofs.ContextReads.{AgreeIn, any_same, map_same, added_indices, added_same, add_flag_same, drop_flag_same, type_same, streams_same, pointer_same, cycle_same}
 

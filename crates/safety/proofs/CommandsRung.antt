@@ -1,5 +1,5 @@
 -- A doorbell keeps what is kept of unfinished commands: none of them touches the endpoint
-use Rattle.safety.proofs.Words.{[], ◌≡◌, ◌≢◌, ◌==◌, ◌&&◌, if◌then◌else◌, ◌∙◌, ℕ, not, Bool, true, false, Option, None, Some, refl, sym, ap, subst, eq-eqb, rules, cond_both, cond-false, or_parts, or_left, and_from, false≢true, put_pair, Opens, number, Command, ConfigureEndpoint, SetTrDequeue, EndpointState, Off, Running, is_off, is_stopped, is_at_rest, changes, Header, Bell, IsHeader, shape_of, command_id, Known, on_ring, endpoint_rung, rung, touches_endpoint, is_touched, is_bad_bell, is_bad_doorbell, doorbell_tests, lenient_tests, lenient, IsUnfinished, CommandKeeps, DriverKeeps, drops, is_dropped, arith}
+use Rattle.safety.proofs.Words.{[], ◌≡◌, ◌≢◌, ◌==◌, ◌&&◌, if◌then◌else◌, ◌∙◌, ℕ, not, Bool, true, false, Option, None, Some, refl, sym, ap, subst, eq-eqb, rules, cond_both, cond-false, or_parts, or_left, and_from, false≢true, put_pair, Opens, number, Command, SetTrDequeue, EndpointState, is_off, is_stopped, is_at_rest, changes, Header, Bell, IsHeader, shape_of, command_id, Known, on_ring, endpoint_rung, rung, touches_endpoint, is_touched, is_bad_bell, is_bad_doorbell, doorbell_tests, lenient_tests, lenient, IsUnfinished, CommandKeeps, DriverKeeps, drops, is_dropped, arith}
 use Rattle.safety.proofs.TestsPassed.{tests_fail}
 use Rattle.safety.proofs.DriverRows.{ring_here, ring_elsewhere}
 use Rattle.safety.proofs.Headers.{transfer_not_command}

@@ -1,5 +1,5 @@
 -- A Transfer Event keeps what is kept of unfinished commands
-use Rattle.safety.proofs.Words.{◌≡◌, ◌≢◌, ◌==◌, ◌||◌, ◌∙◌, ℕ, not, Bool, true, false, nat_lt, Option, None, Some, arith, refl, sym, ap, subst, inl, inr, eq-eqb, ltb-true, rules, cases_eq, and_parts, and_cases, or_parts, not-false, false≢true, Block, code, slot, endpoint, pointer, Spot, number, ceiling, is_data_below, cases_option, given_below, step_is, ceiling_within, below_is, IsAhead, named_ahead, Command, AddressDevice, StopEndpoint, is_stop_of, EndpointState, Stopped, Error, is_off, is_running, is_at_rest, Header, IsHeader, shape_of, command_id, Known, RingSpot, event_at, command_at, next_command, transferred, transferred_at, transfer_read, is_in_profile, may_be_taken, is_stopping_now, can_report, can_report_at, is_impossible_transfer, IsDriverRing, IsUnfinished, Stays, DriverKeeps, CommandsKeep, binds_ring, drops, same_Some, and_from}
+use Rattle.safety.proofs.Words.{◌≡◌, ◌≢◌, ◌==◌, ◌||◌, ◌∙◌, ℕ, not, Bool, true, false, nat_lt, Option, None, Some, arith, refl, sym, ap, subst, inl, inr, eq-eqb, ltb-true, rules, cases_eq, and_parts, and_cases, or_parts, not-false, false≢true, Block, code, slot, endpoint, pointer, Spot, number, ceiling, is_data_below, cases_option, given_below, step_is, ceiling_within, below_is, IsAhead, named_ahead, Command, AddressDevice, StopEndpoint, is_stop_of, EndpointState, is_off, is_running, is_at_rest, Header, IsHeader, shape_of, command_id, Known, RingSpot, event_at, command_at, next_command, transferred, transferred_at, transfer_read, is_in_profile, may_be_taken, is_stopping_now, can_report, can_report_at, is_impossible_transfer, IsDriverRing, IsUnfinished, Stays, DriverKeeps, CommandsKeep, binds_ring, drops, same_Some, and_from}
 use Rattle.safety.proofs.Headers.{ring_shape, transfer_driver, transfer_not_command}
 use Rattle.safety.proofs.NoWait.{ceiling_given}
 use Rattle.safety.proofs.SafeContext.{AtFloor, at_floor}

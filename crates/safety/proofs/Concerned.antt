@@ -1,5 +1,5 @@
 -- The endpoints that a command concerns: two commands that don't exclude each other concern none both
-use Rattle.safety.proofs.Words.{◌≡◌, ◌==◌, ◌&&◌, ◌∙◌, ℕ, not, Bool, true, false, Option, None, Some, refl, sym, ap, eq-eqb, eqb-true, and_from, not_from_true, false_from_ne_true, false≢true, same_Some, Command, ResetEndpoint, StopEndpoint, SetTrDequeue, named_slot, named_endpoint, same_slot, other_endpoint, exclude, rules, arith}
+use Rattle.safety.proofs.Words.{◌≡◌, ◌==◌, ℕ, not, true, false, Option, None, Some, refl, eq-eqb, eqb-true, and_from, not_from_true, false_from_ne_true, false≢true, same_Some, Command, ResetEndpoint, StopEndpoint, SetTrDequeue, named_slot, named_endpoint, same_slot, other_endpoint, exclude, rules, arith}
 
 abbrev pub IsEndpoint : Option (ℕ × ℕ) → ℕ → ℕ → Type 0
 IsEndpoint None s i = Unit {0}

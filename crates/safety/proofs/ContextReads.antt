@@ -1,5 +1,5 @@
 -- What is read of an input context is the same where its words are
-use Rattle.safety.proofs.Words.{[], ◌≡◌, ◌+◌, ◌<◌, ◌≤◌, ◌||◌, ◌∷◌, ◌∙◌, ℕ, suc, zero, Bool, List, map, filter, arith, refl, ap, rules, list_any, range_with_len, cond_both, ContextSize, Bytes32, Bytes64, input_context_bytes, input_endpoint, input_add_flag, input_drop_flag, has_flag, added_endpoints, endpoint_type, endpoint_streams, context_pointer, context_cycle}
+use Rattle.safety.proofs.Words.{[], ◌≡◌, ◌+◌, ◌<◌, ◌≤◌, ◌||◌, ◌∷◌, ◌∙◌, ℕ, suc, zero, Bool, List, map, filter, arith, refl, ap, rules, list_any, range_with_len, cond_both, ContextSize, input_context_bytes, input_endpoint, input_add_flag, input_drop_flag, has_flag, added_endpoints, endpoint_type, endpoint_streams, context_pointer, context_cycle}
 
 -- each is the index of an endpoint
 abbrev pub AreIndices : List ℕ → Type 0

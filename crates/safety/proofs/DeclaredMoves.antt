@@ -1,5 +1,5 @@
 -- Spots to which a ring may be moved stay such, behind a declaration too
-use Rattle.safety.proofs.Words.{◌≡◌, ℕ, Bool, true, List, unwrap_or, arith, sym, ap, length-append, rules, Block, Shape, RingView, Declares, changed, declared, floor_number, ceiling, is_move, given_count-declares, move-declares, is_placement}
+use Rattle.safety.proofs.Words.{◌≡◌, ℕ, Bool, true, List, unwrap_or, sym, ap, length-append, rules, Block, Shape, RingView, Declares, changed, declared, floor_number, ceiling, is_move, given_count-declares, move-declares, is_placement}
 
 -- spots to which a ring may be moved stay such: at the floor, where it stands still, and from the ceiling up to what is declared
 pub record MovesStay (shape : Shape) (v w : RingView) : Type 0 where

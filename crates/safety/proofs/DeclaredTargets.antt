@@ -1,5 +1,5 @@
 -- Where more is declared of rings, the targets to which an unfinished command moves them are the same
-use Rattle.safety.proofs.Words.{[], ◌≡◌, ◌+◌, ◌-◌, ◌≤◌, ◌&&◌, ◌∷◌, ◌∙◌, ℕ, zero, suc, Bool, true, List, find, Some, arith, sym, ap, inl, inr, list_any, range_with_len, flat_map, cases_Bool, cases_lt, cond-true, cond-false, false≢true, and_parts, or_cases, none-some, Spot, Data, Link, Shape, IsSpot, number, named_spot, RingView, declared, floor_number, named, is_target, spots_between, target, may_move_to, is_move, rank_least, rank_most, IsNamed, named_spot-Some, named_spot-is, move_more, rules}
+use Rattle.safety.proofs.Words.{[], ◌≡◌, ◌+◌, ◌≤◌, ◌&&◌, ◌∷◌, ◌∙◌, ℕ, zero, suc, Bool, true, List, find, Some, arith, sym, ap, inl, inr, list_any, range_with_len, flat_map, cases_Bool, cases_lt, cond-true, cond-false, false≢true, and_parts, or_cases, none-some, Spot, Data, Link, Shape, IsSpot, number, named_spot, RingView, declared, floor_number, named, is_target, spots_between, target, may_move_to, is_move, rank_least, rank_most, IsNamed, named_spot-Some, named_spot-is, move_more, rules}
 
 -- ---- one ring, of which more is declared
 

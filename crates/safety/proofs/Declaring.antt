@@ -1,6 +1,5 @@
 -- A declaration that breaks no rule is one that its ring allows
-use Rattle.safety.proofs.Words.{[], ◌≡◌, ◌<◌, ◌&&◌, ◌∷◌, ℕ, not, true, false, List, length, All, arith, refl, sym, rules, or_parts, not-false, false≢true, Block, BlockKind, RingKind, Cmd, kind, is_link, is_transfer, is_command, is_left_out_command, is_badly_formed, is_bad_descriptor, MayDeclare, Header, Sub, ring_with, shape_of, Known, is_driver_ring, declaration_tests, lenient_tests, lenient}
-use Rattle.trb.specs.declared.kind.BlockKind.TheVariants.{Link}
+use Rattle.safety.proofs.Words.{[], ◌≡◌, ◌<◌, ◌&&◌, ◌∷◌, ℕ, not, true, false, List, length, All, arith, sym, rules, or_parts, not-false, false≢true, Block, BlockKind, RingKind, Cmd, kind, is_link, is_transfer, is_command, is_left_out_command, is_badly_formed, is_bad_descriptor, MayDeclare, Header, Sub, ring_with, shape_of, Known, is_driver_ring, declaration_tests, lenient_tests, lenient}
 use Rattle.safety.proofs.TestsPassed.{AllFail, tests_fail, each_fails}
 
 command_no_link : (k : BlockKind) → (not (is_command k) && not (is_left_out_command k)) ≡ false → is_link k ≡ false

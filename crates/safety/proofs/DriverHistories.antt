@@ -1,5 +1,5 @@
 -- A clean history keeps what a driver keeps
-use Rattle.safety.proofs.Words.{[], ◌≡◌, ◌∷◌, ◌∙◌, false, List, ap, Block, kind, Header, Row, IsHeader, Read, World, Known, learned, known, IsLenient, DriverKeeps, KeptByRestoring, command_id, lenient, ArePossible, Runs, all_read, ◌&&◌, not, true, subst, sym, not-false, BlockKind, TransferEvent, CommandCompletion, is_transfer_event, Sub, Write, Reg, Bell, event_read, is_in_profile, is_impossible_by_kind, CommandsKeep, ℕ, refl, rules, Command, Register, IsUnfinished, Option, None, Some, option_and_then, none-some, command_of, on_ring, command_at, transfer_read, succeeded, finished, completed, Declares, written, register_written, rung, is_command_completion, StatesKeep, KeptByRows, arith}
+use Rattle.safety.proofs.Words.{[], ◌≡◌, ◌∷◌, ◌∙◌, false, List, ap, Block, kind, Header, Row, IsHeader, Read, World, Known, learned, known, IsLenient, DriverKeeps, KeptByRestoring, command_id, lenient, ArePossible, Runs, all_read, ◌&&◌, not, true, subst, sym, not-false, BlockKind, TransferEvent, CommandCompletion, is_transfer_event, Sub, Write, Reg, Bell, event_read, is_in_profile, is_impossible_by_kind, CommandsKeep, ℕ, refl, rules, Command, Register, IsUnfinished, Option, Some, option_and_then, none-some, command_of, on_ring, command_at, transfer_read, succeeded, finished, completed, Declares, written, register_written, rung, is_command_completion, StatesKeep, KeptByRows, arith}
 use Rattle.safety.proofs.LowerLaws.{event_same, SameGiven, clean_tests, learned_read, EventFacts, event_facts, with_reads, SameStates, ring_stays, same_stay, AreNumbered, IsNumbered, command_numbered, changes_numbered, same_numbered, all_numbered, endpoints_of, endpoints_part, slots_part, seen_part, from_parts, endpoints_same, slots_same, seen_same}
 use Rattle.safety.proofs.MiddleLaws.{kept_crcr, kept_crcr_written, kept_sized, kept_erstsz_written, kept_dequeued, kept_read_room, kept_unstarted, kept_clean, kept_rings, CompletionFacts, completion_facts, kept_command_ring, free_same, may_come, nothing_kept, rung_commands, register_leaves, states_rung, PartsStand, transfer_stands, completion_stands}
 use Rattle.safety.proofs.KeptDevices.{kept_devices}

@@ -1,5 +1,5 @@
 -- The doorbell of an endpoint whose ring is held wakes it; a Transfer Event that was possible before is so behind it, and leaves it woken
-use Rattle.safety.proofs.Words.{◌≡◌, ◌≢◌, ◌==◌, ◌&&◌, ◌||◌, ◌∙◌, ℕ, true, false, Some, nat_lt, slice_get, option_and_then, refl, sym, ap, eqb-true, rules, false≢true, and_parts, cond-false, or_cases, cond_both, put_pair, Opens, Running, is_running, is_stopped, Header, Known, on_ring, endpoint_rung, DriverKeeps, floor_number, ceiling, is_open, ceiling_within, Block, command_of, is_stop_of, IsHeader, shape_of, command_id, command_at, next_command, transfer_read, is_in_profile, may_be_taken, is_stopping_now, is_impossible_transfer}
+use Rattle.safety.proofs.Words.{◌≡◌, ◌≢◌, ◌==◌, ◌&&◌, ◌||◌, ◌∙◌, ℕ, true, false, Some, nat_lt, slice_get, option_and_then, sym, ap, eqb-true, rules, false≢true, and_parts, cond-false, or_cases, put_pair, Running, is_running, is_stopped, Header, Known, on_ring, endpoint_rung, DriverKeeps, floor_number, ceiling, is_open, ceiling_within, Block, command_of, is_stop_of, IsHeader, shape_of, command_id, command_at, next_command, transfer_read, is_in_profile, may_be_taken, is_stopping_now, is_impossible_transfer}
 use Rattle.safety.proofs.LowerLaws.{ring_here, ring_elsewhere, ring_shape, transfer_driver, transfer_not_command, at_pair, SameDriver, on_ring_same, Woken}
 use Rattle.safety.proofs.WokenTransfers.{transfer_woken}
 use Rattle.safety.proofs.StatesRung.{running_is}

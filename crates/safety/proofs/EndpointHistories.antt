@@ -1,5 +1,5 @@
 -- Any history keeps endpoints on transfer rings, and the command ring is none of them
-use Rattle.safety.proofs.Words.{[], ◌≡◌, ◌==◌, if◌then◌else◌, ◌∷◌, ◌∙◌, ℕ, List, Option, None, Some, refl, cond_both, none-some, Block, BlockKind, TransferEvent, CommandCompletion, kind, code, slot, Declares, Command, StopEndpoint, changes, Header, Row, Sub, Write, Reg, Bell, Read, IsHeader, command_id, Known, nothing, on_ring, command_at, next_command, written, register_written, rung, transfer_read, succeeded, stop_ended, finished, completed, event_read, learned, known, EndpointsKeep, arith}
+use Rattle.safety.proofs.Words.{[], ◌≡◌, ◌==◌, if◌then◌else◌, ◌∷◌, ◌∙◌, ℕ, List, Option, None, Some, refl, cond_both, none-some, Block, BlockKind, TransferEvent, CommandCompletion, kind, code, slot, Declares, Command, changes, Header, Row, Sub, Write, Reg, Bell, Read, IsHeader, command_id, Known, nothing, on_ring, command_at, next_command, written, register_written, rung, transfer_read, succeeded, stop_ended, finished, completed, event_read, learned, known, EndpointsKeep, arith}
 use Rattle.safety.proofs.RingIds.{command_not_transfer}
 use Rattle.safety.proofs.SameRings.{written_same, register_same, rung_same, transfer_same, stop_same}
 use Rattle.safety.proofs.Endpoints.{same_keeps, changes_keep, changes_elsewhere}

@@ -1,5 +1,5 @@
 -- A table of endpoints with another entry at one of them
-use Rattle.safety.proofs.Words.{◌≡◌, ◌==◌, ◌&&◌, ◌∙◌, ℕ, sym, eqb-true, eq-eqb, cond_both, and_parts, and_from, false≢true, put, put_pair, rules}
+use Rattle.safety.proofs.Words.{◌≡◌, ℕ, eqb-true, eq-eqb, and_parts, and_from, false≢true, put, put_pair, rules}
 
 pub at_pair : {A : Type 0} (P : A → Type 0) (f : ℕ → ℕ → A) (s i : ℕ) (x : A) (t j : ℕ) → (t ≡ s → j ≡ i → P x) → ((t ≡ s → j ≡ i → ⊥) → P (f t j)) → P (put_pair f s i x t j)
 at_pair P f s i x t j here there = search (rules, and_parts, eqb-true, false≢true, and_from, eq-eqb)

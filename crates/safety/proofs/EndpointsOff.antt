@@ -1,5 +1,5 @@
 -- A slot that a command names has a number above 0, and an endpoint that is off has no ring
-use Rattle.safety.proofs.Words.{◌≡◌, ◌<◌, ◌||◌, ◌∙◌, ℕ, true, false, Some, None, arith, refl, sym, ap, inl, inr, cases_lt, or_parts, false≢true, cases_option, Command, EndpointState, Off, named_slot, named_endpoint, named_context, is_disabled, is_off, Header, Known, is_bad_command, names_disabled_slot, names_disabled_endpoint, has_bad_context, has_bad_content, DriverKeeps, rules}
+use Rattle.safety.proofs.Words.{◌≡◌, ◌<◌, ◌||◌, ◌∙◌, ℕ, true, false, Some, None, arith, refl, sym, ap, inl, inr, cases_lt, or_parts, false≢true, Command, EndpointState, Off, named_slot, named_endpoint, named_context, is_disabled, is_off, Header, Known, is_bad_command, names_disabled_slot, names_disabled_endpoint, has_bad_context, has_bad_content, DriverKeeps, rules}
 
 pub off_is : (state : EndpointState) → is_off state ≡ true → state ≡ Off
 off_is Off off = refl

@@ -1,5 +1,5 @@
 -- What stands behind an event that may be read: rings whose floors moved on, and no device context more
-use Rattle.safety.proofs.Words.{[], ◌≡◌, ◌∷◌, ◌∙◌, ℕ, List, Option, None, Some, refl, sym, ap, subst, inl, inr, flips_passed, RingView, cond_both, none-some, Block, BlockKind, TransferEvent, CommandCompletion, kind, code, slot, is_command_completion, RingKeeps, Command, StopEndpoint, Change, DeviceLeft, Places, Stops, Resets, changes, Header, Read, IsHeader, shape_of, command_id, Known, on_ring, command_at, next_command, disabled, changed_by, changed_by_all, succeeded, stop_ended, finished, completed, event_read, learned, lenient, KeepsPassed, RingsKeep, RingsKept, EndpointsKeep, DriverKeeps, MayRead, ◌+◌, ◌≤◌, ◌⊎◌, Bool, arith, eqb-true, rules, pointer, endpoint, Spot, number, after, RingChange, Reaches, Holds, changed, floor_number, ceiling, target, IsAhead, named_ahead, target_ahead, number-after, EndpointState, Stopped, is_off, SlotGoesOn, Disables, ring_having, RingSpot, event_at, passed, broken_off, stopped_at, transferred, transferred_at, transfer_read, set_to, bound_to, moved_to, moved, pointed, in_state, held_at_ceiling, MayChange, MayChangeAll, MayFinish}
+use Rattle.safety.proofs.Words.{[], ◌≡◌, ◌∷◌, ◌∙◌, ℕ, List, Option, None, Some, refl, sym, ap, subst, inl, inr, flips_passed, RingView, cond_both, none-some, Block, BlockKind, TransferEvent, CommandCompletion, kind, code, slot, is_command_completion, RingKeeps, Command, Change, DeviceLeft, Places, Stops, Resets, changes, Header, Read, IsHeader, shape_of, command_id, Known, on_ring, command_at, next_command, disabled, changed_by, changed_by_all, succeeded, stop_ended, finished, completed, event_read, learned, lenient, KeepsPassed, RingsKeep, RingsKept, EndpointsKeep, DriverKeeps, MayRead, ◌≤◌, ◌⊎◌, Bool, arith, eqb-true, rules, pointer, endpoint, Spot, number, after, RingChange, Reaches, Holds, changed, floor_number, ceiling, target, IsAhead, named_ahead, target_ahead, number-after, Stopped, is_off, SlotGoesOn, Disables, ring_having, RingSpot, event_at, passed, broken_off, stopped_at, transferred, transferred_at, transfer_read, set_to, bound_to, moved_to, moved, pointed, in_state, held_at_ceiling, MayChange, MayChangeAll, MayFinish}
 use Rattle.safety.specs.RingsKeep.{IsDriverRing}
 use Rattle.safety.proofs.Histories.{row_kept}
 use Rattle.safety.proofs.StillPlacing.{still_reads}

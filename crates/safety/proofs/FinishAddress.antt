@@ -1,8 +1,7 @@
 -- The controller finishes an Address Device with success: the run goes on
-use Rattle.safety.proofs.Words.{[], ◌≡◌, ◌<◌, ◌≤◌, ◌==◌, ◌∷◌, ◌∙◌, ℕ, Bool, true, false, Some, arith, refl, sym, ap, subst, inl, inr, rules, cases_Bool, cases_lt, false≢true, Block, IsBlock, code, slot, Shape, IsShape, RingView, floor_number, given_count, RingKeeps, cases_option, given_below, step_is, floor_given, given_count_declared, ceiling_within, Command, AddressDevice, Running, command_of, SlotGoesOn, Places, changes, is_off, context_pointer, context_cycle, Header, IsHeader, shape_of, World, UnderWay, counted, Known, next_command, DriverKeeps, CommandKeeps, Stays, Stands, Runs, all_read, changed_by, changed_by_all, succeeded}
+use Rattle.safety.proofs.Words.{[], ◌≡◌, ◌<◌, ◌≤◌, ◌∷◌, ◌∙◌, ℕ, Bool, true, false, Some, arith, refl, sym, ap, subst, inl, inr, rules, cases_Bool, cases_lt, false≢true, Shape, IsShape, RingView, floor_number, given_count, RingKeeps, cases_option, given_below, step_is, floor_given, given_count_declared, ceiling_within, Command, AddressDevice, Running, SlotGoesOn, Places, changes, is_off, context_pointer, context_cycle, Header, IsHeader, shape_of, World, Known, next_command, DriverKeeps, CommandKeeps, Stays, Stands, changed_by, changed_by_all, succeeded}
 use Rattle.controller_model.specs.Bindings as bindings
-use Rattle.controller_model.specs.Finishes as finishes
-use Rattle.safety.proofs.LowerLaws.{ring_shape, transfer_driver, bad_context_parts, bad_command_context, slot_above, off_none, rings_of, address_ready, slot_keeps, command_numbered, StatesMatch, ChangeKeeps, states_match}
+use Rattle.safety.proofs.LowerLaws.{ring_shape, transfer_driver, bad_context_parts, bad_command_context, slot_above, off_none, rings_of, address_ready, slot_keeps, StatesMatch, ChangeKeeps}
 use Rattle.safety.proofs.ContextWords.{same_context, address_same}
 use Rattle.safety.proofs.KeptRings.{command_holds}
 use Rattle.safety.proofs.PlaceKeeps.{MayBind, MayMove, bind_keeps, move_keeps}

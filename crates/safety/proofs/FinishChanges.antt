@@ -1,5 +1,5 @@
 -- What the changes of a command's success keep: that states, endpoints and their rings are known as they are in the world
-use Rattle.safety.proofs.Words.{◌≡◌, ◌≢◌, ◌<◌, ◌∙◌, ℕ, true, Some, None, arith, sym, ap, inl, inr, none-some, Header, IsHeader, command_id, World, Known, DriverKeeps, state_of, EndpointRing, Matches, rules}
+use Rattle.safety.proofs.Words.{◌≡◌, ◌≢◌, ◌<◌, ◌∙◌, ℕ, true, Some, None, arith, sym, inl, inr, none-some, Header, IsHeader, command_id, World, Known, DriverKeeps, state_of, EndpointRing, Matches, rules}
 use Rattle.safety.proofs.Headers.{transfer_not_command}
 
 -- the endpoints that have rings have numbers of slots and endpoints: 8 and 5 bits

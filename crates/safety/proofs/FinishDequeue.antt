@@ -1,9 +1,8 @@
 -- The controller finishes a Set TR Dequeue with success: the run goes on
-use Rattle.safety.proofs.Words.{[], ◌≡◌, ◌==◌, ℕ, not, Bool, true, false, Option, Some, None, arith, refl, sym, or_parts, not-false, false≢true, Block, IsBlock, code, slot, ceiling, is_move, ceiling_within, Command, SetTrDequeue, EndpointState, Off, Stopped, command_of, Places, changes, is_off, is_at_rest, Header, IsHeader, shape_of, World, UnderWay, counted, Known, next_command, is_bad_dequeue, is_bad_move, DriverKeeps, CommandKeeps, Runs, all_read, effect, changed_by, succeeded, declared, rules}
-use Rattle.controller_model.specs.Finishes as finishes
+use Rattle.safety.proofs.Words.{[], ◌≡◌, ℕ, not, Bool, true, false, Option, Some, None, arith, refl, sym, or_parts, not-false, false≢true, ceiling, is_move, ceiling_within, Command, SetTrDequeue, EndpointState, Off, Stopped, Places, changes, is_off, is_at_rest, Header, IsHeader, shape_of, World, Known, next_command, is_bad_dequeue, is_bad_move, DriverKeeps, CommandKeeps, rules, all_read, effect, changed_by, succeeded, declared}
 use Rattle.safety.proofs.Headers.{ring_shape, transfer_driver}
 use Rattle.safety.proofs.PlaceKeeps.{MayMove, move_keeps}
-use Rattle.safety.proofs.FinishChanges.{StatesMatch, states_match}
+use Rattle.safety.proofs.FinishChanges.{StatesMatch}
 use Rattle.safety.proofs.FinishSuccess.{EffectKeeps}
 use Rattle.safety.proofs.FinishGiven.{nothing_keeps, change_then}
 

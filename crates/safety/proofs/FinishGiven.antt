@@ -1,11 +1,7 @@
 -- The command that succeeds is one that was given: what was tested of it then holds still
-use Rattle.safety.proofs.Words.{[], ◌≡◌, ◌==◌, ◌∷◌, ◌∙◌, true, false, List, Some, sym, ap, subst, same_Some, Block, IsBlock, code, slot, Command, command_of, Change, Header, IsHeader, World, UnderWay, counted, Known, next_command, DriverKeeps, CommandKeeps, Runs, all_read, changed_by, changed_by_all}
+use Rattle.safety.proofs.Words.{[], ◌≡◌, ◌∷◌, List, Some, subst, same_Some, Command, Change, Header, World, Known, changed_by, changed_by_all}
 use Rattle.controller_model.specs.Bindings as bindings
-use Rattle.controller_model.specs.Finishes as finishes
-use Rattle.safety.proofs.FinishKinds.{finish_is}
-use Rattle.safety.proofs.FinishFails.{floor, of_block, here_is}
 use Rattle.safety.proofs.FinishChanges.{StatesMatch, ChangeKeeps, none_keeps, both_keep}
-use Rattle.safety.proofs.FinishSuccess.{EffectKeeps}
 use Rattle.safety.proofs.FinishSlots.{some_then}
 
 -- ---- changes one after the other

@@ -1,6 +1,6 @@
 -- However the controller finishes the command under way, the run goes on
-use Rattle.std.proofs.Common.{◌≡◌, ◌==◌, ◌∙◌, true, false, Option, None, Some, option_map, refl, sym, ap, inl, inr, rules}
-use Rattle.safety.proofs.Words.{cases_Bool, cond-true, none-some, Block, IsBlock, code, slot, Command, NoOp, EnableSlot, DisableSlot, AddressDevice, ConfigureEndpoint, EvaluateContext, ResetEndpoint, StopEndpoint, SetTrDequeue, ResetDevice, command_of, Header, IsHeader, World, UnderWay, counted, DriverKeeps, CommandKeeps, IsUnfinished, next_command, Runs, all_read, Known}
+use Rattle.std.proofs.Common.{◌≡◌, ◌==◌, ◌∙◌, true, false, Option, None, Some, option_map, refl, sym, rules}
+use Rattle.safety.proofs.Words.{cond-true, none-some, Block, IsBlock, code, slot, Command, AddressDevice, ConfigureEndpoint, SetTrDequeue, command_of, Header, IsHeader, World, UnderWay, counted, DriverKeeps, CommandKeeps, IsUnfinished, next_command, Runs, all_read, Known}
 use Rattle.controller_model.specs.Finishes as finishes
 use Rattle.safety.proofs.FinishKinds.{IsFinish, finish_is}
 use Rattle.safety.proofs.LowerLaws.{StatesMatch, states_match, command_numbered}

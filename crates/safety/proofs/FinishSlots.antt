@@ -1,8 +1,7 @@
 -- The controller finishes with success a command that places no endpoint on a ring: the run goes on
-use Rattle.safety.proofs.Words.{[], ◌≡◌, ◌==◌, ◌∷◌, ◌∙◌, ℕ, true, false, List, Option, Some, None, option_and_then, refl, ap, subst, none-some, same_Some, Block, IsBlock, code, slot, Command, NoOp, EnableSlot, DisableSlot, AddressDevice, ConfigureEndpoint, EvaluateContext, ResetEndpoint, StopEndpoint, SetTrDequeue, ResetDevice, command_of, Change, SlotGoesOn, DeviceLeft, Disables, Places, Stops, Resets, changes, ContextSize, Header, IsHeader, World, UnderWay, counted, Known, DriverKeeps, Runs, all_read, changed_by, changed_by_all, succeeded, arith}
+use Rattle.safety.proofs.Words.{[], ◌≡◌, ◌∷◌, ◌∙◌, ℕ, true, false, List, Option, Some, option_and_then, ap, subst, none-some, same_Some, Command, AddressDevice, ConfigureEndpoint, SetTrDequeue, Change, SlotGoesOn, DeviceLeft, Disables, Places, Stops, Resets, changes, ContextSize, Header, World, Known, changed_by, changed_by_all, succeeded, arith}
 use Rattle.controller_model.specs.Bindings as bindings
-use Rattle.controller_model.specs.Finishes as finishes
-use Rattle.safety.proofs.FinishChanges.{StatesMatch, ChangeKeeps, none_keeps, both_keep, states_match}
+use Rattle.safety.proofs.FinishChanges.{StatesMatch, ChangeKeeps, none_keeps, both_keep}
 use Rattle.safety.proofs.FinishSuccess.{EffectKeeps}
 use Rattle.safety.proofs.SlotChanges.{slot_keeps, device_keeps, reset_keeps}
 use Rattle.safety.proofs.StopChange.{stop_keeps}

@@ -1,6 +1,6 @@
 -- The controller finishes the command under way with success: where its changes keep that states agree, the run goes on
-use Rattle.std.proofs.Common.{[], ◌≡◌, ◌+◌, ◌⊎◌, ◌==◌, ◌&&◌, ◌∷◌, ◌++◌, ◌∙◌, ℕ, Bool, true, false, not, List, Option, Some, None, is_some, option_map, unwrap_or, arith, refl, sym, ap, subst, inl, inr}
-use Rattle.safety.proofs.Words.{cases_Bool, and_left, or_left, or_right, or_parts, cond-true, not-false, none-some, same_Some, Block, IsBlock, code, kind, slot, is_transfer_event, is_command_completion, Reaches, floor_number, after, Command, StopEndpoint, EndpointState, command_of, is_stop_of, named_slot, named_endpoint, named_context, can_succeed, slot_success, endpoint_success, slot_meant, endpoint_meant, is_slot_enabled, Header, Read, Config, IsHeader, shape_of, command_id, register_or_zero, World, UnderWay, posted, counted, Known, event_read, learned, command_at, next_command, on_ring, is_in_profile, can_finish, was_stop_seen, DriverKeeps, state_of, UnderWayMatches, Agrees, Runs, all_read, stored, stored_block, completed, finished, stop_ended, succeeded, ◌≢◌, option_and_then, slice_get, rules, false≢true, IsUnfinished, Stands, EventsStand, RingMatches, BoundRing, FreeRing, EndpointRing, Matches}
+use Rattle.std.proofs.Common.{[], ◌≡◌, ◌+◌, ◌⊎◌, ◌==◌, ◌&&◌, ◌∷◌, ◌++◌, ◌∙◌, ℕ, Bool, true, false, not, List, Option, Some, is_some, option_map, unwrap_or, arith, refl, sym, ap, subst, inl, inr}
+use Rattle.safety.proofs.Words.{cases_Bool, and_left, or_left, or_right, or_parts, cond-true, not-false, none-some, Block, IsBlock, code, kind, slot, is_transfer_event, is_command_completion, Reaches, floor_number, after, Command, StopEndpoint, EndpointState, command_of, is_stop_of, named_slot, named_endpoint, named_context, can_succeed, slot_success, endpoint_success, slot_meant, endpoint_meant, is_slot_enabled, Header, Read, Config, IsHeader, shape_of, command_id, register_or_zero, World, UnderWay, posted, counted, Known, event_read, learned, command_at, next_command, on_ring, is_in_profile, can_finish, was_stop_seen, DriverKeeps, state_of, UnderWayMatches, Agrees, stored, stored_block, completed, finished, stop_ended, succeeded, ◌≢◌, option_and_then, slice_get, rules, false≢true, Stands, EventsStand, RingMatches, EndpointRing, Matches}
 use Rattle.controller_model.specs.Bindings as bindings
 use Rattle.controller_model.specs.Finishes as finishes
 use Rattle.safety.proofs.SafeContext.{next_is}
@@ -8,11 +8,11 @@ use Rattle.safety.proofs.Counted.{agrees_counted}
 use Rattle.safety.proofs.WithReads.{with_reads}
 use Rattle.safety.proofs.Posted.{post_keeps}
 use Rattle.safety.proofs.EventRead.{learned_read, event_clean}
-use Rattle.safety.proofs.ReportSuccess.{runs_more, ReportKeeps, mapped}
+use Rattle.safety.proofs.ReportSuccess.{ReportKeeps, mapped}
 use Rattle.safety.proofs.LookKinds.{cond_is, put_at, put_off}
-use Rattle.safety.proofs.FinishKinds.{IsFinish, finish_is, completion_kind, let_go, seen_after, next_known, stop_ended_is, reached_is, stopping_of, put_false, none_waits, none_after}
+use Rattle.safety.proofs.FinishKinds.{IsFinish, completion_kind, let_go, seen_after, next_known, stop_ended_is, reached_is, stopping_of, put_false, none_waits, none_after}
 use Rattle.safety.proofs.FinishNext.{stands_next, events_next, matches_next}
-use Rattle.safety.proofs.FinishFails.{no_transfer, posted_under_way, taken_now, can_end, completion_possible, floor, of_block, here_is, taken_is, answers_is}
+use Rattle.safety.proofs.FinishFails.{no_transfer, posted_under_way, taken_now, can_end, completion_possible, floor, here_is, taken_is, answers_is}
 use Rattle.safety.proofs.FinishChanges.{known_changed, world_changed, LeavesRest, ChangeKeeps}
 use Rattle.world_state.specs.World as of_world
 use Rattle.safety.proofs.FloorMoves.{floor_behind}

@@ -1,5 +1,5 @@
 -- An event that may be read moves no floor back
-use Rattle.safety.proofs.Words.{[], ◌≡◌, ◌+◌, ◌≤◌, ◌∷◌, ℕ, Bool, true, List, Option, None, Some, arith, refl, ap, eqb-true, rules, cond_both, none-some, same_Some, cases_option, Block, BlockKind, TransferEvent, CommandCompletion, kind, code, slot, endpoint, pointer, is_command_completion, Spot, number, after, Reaches, Holds, floor_number, ceiling, named, stopped_number, target, number-after, named_ahead, target_ahead, Command, StopEndpoint, EndpointState, Stopped, is_off, Change, Places, Stops, changes, Header, Read, IsHeader, shape_of, ring_having, Known, RingSpot, on_ring, spot_on, event_at, command_at, next_command, passed, broken_off, stopped_at, transferred, transferred_at, transfer_read, set_to, bound_to, moved_to, moved, pointed, disabled, in_state, held_at_ceiling, changed_by, changed_by_all, succeeded, stop_ended, finished, completed, event_read, learned, lenient, DriverKeeps, EndpointsKeep, MayChange, MayChangeAll}
+use Rattle.safety.proofs.Words.{[], ◌≡◌, ◌≤◌, ◌∷◌, ℕ, Bool, true, List, Option, None, Some, arith, refl, ap, eqb-true, rules, cond_both, none-some, same_Some, Block, BlockKind, TransferEvent, CommandCompletion, kind, code, slot, endpoint, pointer, is_command_completion, Spot, number, after, Reaches, Holds, floor_number, ceiling, named, stopped_number, target, number-after, named_ahead, target_ahead, Command, Stopped, is_off, Change, Places, Stops, changes, Header, Read, IsHeader, shape_of, ring_having, Known, RingSpot, on_ring, spot_on, event_at, command_at, next_command, passed, broken_off, stopped_at, transferred, transferred_at, transfer_read, set_to, bound_to, moved_to, moved, pointed, disabled, in_state, held_at_ceiling, changed_by, changed_by_all, succeeded, stop_ended, finished, completed, event_read, learned, lenient, DriverKeeps, EndpointsKeep, MayChange, MayChangeAll}
 use Rattle.safety.proofs.LowerLaws.{transfer_driver, rings_of, endpoints_of, view_after, still_places, EventFacts, event_facts}
 use Rattle.safety.proofs.EndpointHistories.{finish_elsewhere}
 use Rattle.safety.proofs.KeptRings.{completion_facts, next_unfinished, command_holds}

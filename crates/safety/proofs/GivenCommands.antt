@@ -1,5 +1,5 @@
 -- What the rules test of a command that a write gives: its bindings and its moves may be made
-use Rattle.safety.proofs.Words.{◌≡◌, ◌≤◌, ◌||◌, ◌+◌, ◌∙◌, ℕ, Bool, true, false, map, nat_le, All, Option, Some, suc, zero, arith, sym, ap, subst, get_or, eqb-true, le-leb, rules, range_with_len, or_parts, and_from, or_cases, or_left, or_right, not-false, All-nil, All-cons, All-filter, All-get_or, Any-from_list_any, floor_number, is_move, input_add_flag, added_endpoints, is_dropped, Command, ConfigureEndpoint, named_slot, named_endpoint, named_context, is_off, Header, shape_of, is_ring, Known, Binding, binds, ring_bound, binds_ring, is_placed, is_taken, is_kept, is_being_bound, is_bad_place, has_repeats, is_bad_binding, is_bad_stay, holds_of, AreFree, has_bad_content, has_bad_context, is_bad_added, is_bad_command, names_disabled_endpoint, names_disabled_slot}
+use Rattle.safety.proofs.Words.{◌≡◌, ◌≤◌, ◌||◌, ◌+◌, ◌∙◌, ℕ, Bool, true, false, map, nat_le, All, Option, Some, suc, zero, arith, sym, ap, subst, get_or, eqb-true, le-leb, rules, range_with_len, or_parts, and_from, or_cases, or_left, or_right, not-false, All-nil, All-cons, All-filter, All-get_or, Any-from_list_any, floor_number, is_move, input_add_flag, added_endpoints, is_dropped, Command, named_slot, named_endpoint, named_context, is_off, Header, shape_of, is_ring, Known, Binding, binds, ring_bound, binds_ring, is_placed, is_taken, is_kept, is_being_bound, is_bad_place, has_repeats, is_bad_binding, is_bad_stay, holds_of, AreFree, has_bad_content, has_bad_context, is_bad_added, is_bad_command, names_disabled_endpoint, names_disabled_slot}
 use Rattle.safety.proofs.TestsPassed.{each_fails}
 use Rattle.safety.proofs.BoundRings.{ring_is}
 

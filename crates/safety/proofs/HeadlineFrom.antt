@@ -1,5 +1,5 @@
 -- The headline, from a law for the driver's rows: each world of a run beside clean rows is safe
-use Rattle.safety.proofs.Words.{[], ◌≡◌, ◌∷◌, ◌++◌, ◌∙◌, false, List, Option, Some, All, reverse, refl, sym, ap, subst, inl, inr, append_assoc, append-nil, rules, cases_Bool, cond-false, cond-true, false≢true, reverse-append, All-head, All-tail, none-some, same_Some, Block, Header, Row, Sub, Write, Reg, Bell, Read, Step, NextRow, Look, Report, Finish, Other, Scribble, IsHeader, IsRow, IsStep, World, opening, IsSafe, Known, learned, known, MayCome, IsLenient, IsHarmless, DriverKeeps, IsDriverRow, Agrees, Runs, all_read, ◌||◌, if◌then◌else◌, ℕ, Bool, true, not, kind, Register, Usbcmd, run_bit, reset_bit, counted, Ended, harm_of, harms, has_changed_context, is_changed_since, is_context_changed, waits, register_written, run_or_stop, valued, arith}
+use Rattle.safety.proofs.Words.{[], ◌≡◌, ◌∷◌, ◌++◌, ◌∙◌, false, List, Option, Some, All, reverse, refl, sym, ap, subst, inl, inr, append_assoc, append-nil, rules, cases_Bool, cond-false, cond-true, false≢true, reverse-append, All-head, All-tail, none-some, same_Some, Block, Header, Row, Sub, Write, Reg, Bell, Read, Step, NextRow, Look, Report, Finish, Other, Scribble, IsHeader, IsRow, IsStep, World, opening, IsSafe, Known, learned, known, MayCome, IsLenient, IsHarmless, DriverKeeps, IsDriverRow, Runs, all_read, ◌||◌, if◌then◌else◌, ℕ, Bool, true, not, kind, Register, Usbcmd, run_bit, reset_bit, counted, Ended, harm_of, harms, has_changed_context, is_changed_since, is_context_changed, waits, register_written, run_or_stop, valued, arith}
 use Rattle.world_state.specs.World as of_world
 use Rattle.controller_model.specs.DriverRows as driver
 use Rattle.controller_model.specs.Steps as steps

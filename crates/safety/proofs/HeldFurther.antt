@@ -1,5 +1,5 @@
 -- Where rings are held at greater numbers, the same events are possible, and what they lead to is the same but for these numbers
-use Rattle.safety.proofs.Words.{[], ◌≡◌, ◌+◌, ◌∷◌, ◌∙◌, ℕ, List, length, Bool, find, option_and_then, slice_get, arith, sym, ap, rules, Block, number, named_spot, RingView, floor_number, named, is_target, spots_between, target, Command, command_of, Change, Places, changes, Header, Read, Config, shape_of, command_id, register_or_zero, Known, command_at, next_command, learned, changed_by, IsHeldMore, HeldMore, MoreLaw}
+use Rattle.safety.proofs.Words.{[], ◌≡◌, ◌+◌, ◌∷◌, ◌∙◌, ℕ, List, length, Bool, find, option_and_then, slice_get, arith, sym, ap, rules, Block, number, named_spot, RingView, floor_number, named, is_target, spots_between, target, Command, command_of, Change, changes, Header, Read, Config, shape_of, command_id, register_or_zero, Known, command_at, next_command, learned, changed_by, IsHeldMore, HeldMore, MoreLaw}
 use Rattle.safety.proofs.LowerLaws.{SameDriver, both_drivers, change_same, event_same, Alike}
 use Rattle.safety.proofs.AlikeChanges.{TargetIs, TargetsAre, change_alike}
 use Rattle.safety.proofs.AlikeEvents.{EventAlike, ReadAlike, read_alike}

@@ -1,5 +1,5 @@
 -- Held at greater numbers, and again at greater ones
-use Rattle.safety.proofs.Words.{ℕ, Option, None, Some, arith, refl, RingView, Known, IsHeldMore, RingHeldMore, HeldMore, rules}
+use Rattle.safety.proofs.Words.{ℕ, Option, arith, refl, Known, IsHeldMore, HeldMore, rules}
 
 pub held_same : (o : Option ℕ) → IsHeldMore o o
 held_same o = grind arith

@@ -1,5 +1,5 @@
 -- How many events were read and where ERDP stands, behind each row
-use Rattle.safety.proofs.Words.{◌≡◌, ◌+◌, ◌-◌, ◌<◌, ◌≤◌, ◌∙◌, ℕ, false, arith, refl, sym, ap, ltb-false, rules, cond_both, cond-false, false≢true, Block, kind, shape_facts, place_count, Header, Register, Usbcmd, Sub, Write, Reg, Bell, Read, event_shape, event_size, Known, run_or_stop, valued, register_written, learned, may_pass, is_bad_erdp, is_past_room, Unstarted, KeptByRows}
+use Rattle.safety.proofs.Words.{◌≡◌, ◌+◌, ◌-◌, ◌<◌, ◌≤◌, ◌∙◌, ℕ, false, arith, refl, sym, ap, ltb-false, rules, cond_both, cond-false, false≢true, Block, kind, shape_facts, place_count, Header, Register, Sub, Write, Reg, Bell, Read, event_shape, event_size, Known, run_or_stop, valued, register_written, learned, may_pass, is_bad_erdp, is_past_room, Unstarted, KeptByRows}
 use Rattle.safety.proofs.Headers.{event_ring_is}
 use Rattle.safety.proofs.ErdpMoves.{erdp_within}
 use Rattle.safety.proofs.SameDriver.{event_same}

@@ -1,5 +1,5 @@
 -- What the rules keep of each ring is kept by each row: of a command that succeeds holds still what was tested when it was given
-use Rattle.safety.proofs.Words.{[], ◌≡◌, ◌<◌, ◌∙◌, ℕ, true, false, Some, arith, sym, ap, ltb-true, rules, or_parts, not-false, Block, kind, is_command_completion, ceiling, RingKeeps, Command, AddressDevice, SetTrDequeue, Header, Row, Read, IsHeader, shape_of, command_id, Known, command_at, next_command, may_be_taken, can_finish, is_impossible_completion, is_impossible_by_kind, lenient, IsDriverRing, IsUnfinished, CommandKeeps, MovesIf, StaysIf, DriverKeeps, KeptByRestoring, StillReads, MovesOn, StillHolds, RingsKeep}
+use Rattle.safety.proofs.Words.{[], ◌≡◌, ◌<◌, ◌∙◌, ℕ, true, false, Some, arith, sym, ap, ltb-true, rules, or_parts, not-false, Block, kind, is_command_completion, ceiling, RingKeeps, Command, Header, Row, Read, IsHeader, shape_of, command_id, Known, command_at, next_command, may_be_taken, can_finish, is_impossible_completion, is_impossible_by_kind, lenient, IsDriverRing, IsUnfinished, CommandKeeps, MovesIf, StaysIf, DriverKeeps, KeptByRestoring, StillReads, MovesOn, StillHolds, RingsKeep}
 use Rattle.safety.proofs.Headers.{ring_shape}
 use Rattle.safety.proofs.GivenCommands.{content_good, are_free}
 use Rattle.safety.proofs.NoWait.{ceiling_given}

@@ -1,6 +1,6 @@
 -- A write changes no word under lease: each given block and Link keeps the Cycle bit that it shows, and a word that is written as it
 -- stands gives nothing
-use Rattle.safety.proofs.Words.{◌≡◌, ◌%◌, ◌+◌, ◌-◌, ◌<◌, ◌≤◌, ◌==◌, ◌&&◌, ◌||◌, ◌∙◌, ℕ, not, Bool, true, false, nat_lt, arith, lt-ltb, eq-eqb, eqb-true, refl, sym, ap, subst, inl, inr, rules, none_passes_at, unrestored_position, crossing_due_is, kept_cycle, fun_ext, and_from, cases_Bool, not-false, false_from_ne_true, ceiling, floor_number, flips_passed, unrestored, crossed_link, due_is, false≢true, put, put_here, put_elsewhere, Shape, IsShape, address_of, cycle_of, link_address, overlap, RingView, Writes, changed, is_due, is_crossing_due, gives, gives_crossing, gives_is, gives_crossing_is, leased_position, leased_crossing, RingKeeps, MayWrite}
+use Rattle.safety.proofs.Words.{◌≡◌, ◌%◌, ◌+◌, ◌-◌, ◌<◌, ◌==◌, ◌&&◌, ◌||◌, ◌∙◌, ℕ, not, Bool, true, false, nat_lt, lt-ltb, eq-eqb, eqb-true, refl, sym, ap, subst, rules, none_passes_at, unrestored_position, crossing_due_is, kept_cycle, fun_ext, and_from, not-false, false_from_ne_true, ceiling, flips_passed, unrestored, crossed_link, false≢true, put, put_here, put_elsewhere, Shape, IsShape, address_of, cycle_of, link_address, RingView, Writes, changed, is_due, is_crossing_due, gives, gives_crossing, gives_is, gives_crossing_is, leased_position, leased_crossing, RingKeeps, MayWrite}
 
 -- what is written to the control word of a given block, or of a given Link, has the Cycle bit with which it was given; of a block that is
 -- free only where the controller may have passed it

@@ -1,5 +1,5 @@
 -- One ring behind a look: a Link that is followed, a block that is taken
-use Rattle.safety.proofs.Words.{[], ◌≡◌, ◌+◌, ◌-◌, ◌≤◌, ◌==◌, if◌then◌else◌, ◌∷◌, ◌++◌, ◌∙◌, ℕ, suc, zero, Bool, true, false, not, List, length, drop, map, Option, Some, arith, refl, sym, ap, inl, inr, length-append, eqb-true, eq-eqb, rules, way_without, range_with_len, cases_Bool, false≢true, cond-true, cond-false, or_parts, or_from, or_right, not_from_true, not-false, and_from, map-range_with_len_more, Evt, Block, is_set, aligned, block_at, kind, pointer, same_words, with_cycle, word, is_link, Data, Link, Shape, address_of, cycle_of, is_crossing, link_target, toggles, number, after, IsShape, DeclaredBlock, declared_at, is_border, RingView, floor_number, ceiling, is_way_given, is_wrong_link, same, cycle_of-crossed, link_target-crossed, next_is_spot, next_later, spot_address-after, spot_cycle-after, rank_least, RingEvent, Took, takes_of, next_take, was_placed, is_as_declared, is_right_place, is_out_of_order, has_other_words, Newest, RingState, RingMatches, Unreported, is_step_given}
+use Rattle.safety.proofs.Words.{[], ◌≡◌, ◌+◌, ◌-◌, ◌≤◌, if◌then◌else◌, ◌∷◌, ◌++◌, ◌∙◌, ℕ, suc, zero, Bool, true, false, not, List, length, drop, map, Option, Some, arith, refl, sym, ap, length-append, eqb-true, eq-eqb, rules, way_without, range_with_len, false≢true, cond-true, cond-false, or_parts, or_from, or_right, not_from_true, not-false, and_from, map-range_with_len_more, Evt, Block, is_set, aligned, block_at, kind, pointer, same_words, with_cycle, word, is_link, Data, Link, Shape, address_of, cycle_of, is_crossing, link_target, toggles, number, after, IsShape, DeclaredBlock, declared_at, is_border, RingView, floor_number, ceiling, is_way_given, is_wrong_link, same, cycle_of-crossed, link_target-crossed, next_is_spot, next_later, spot_address-after, spot_cycle-after, rank_least, RingEvent, Took, takes_of, next_take, was_placed, is_as_declared, is_right_place, is_out_of_order, has_other_words, Newest, RingState, RingMatches, Unreported, is_step_given}
 use Rattle.safety.proofs.AtSpots.{Takeable, Crossable}
 use Rattle.safety.proofs.NoWait.{declared_some, end_is}
 

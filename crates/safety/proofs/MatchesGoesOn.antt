@@ -1,5 +1,5 @@
 -- Where more is known of rings whose pointers stay, and the controller did nothing, what it did is still what is known of it
-use Rattle.safety.proofs.Words.{◌≡◌, ◌≢◌, ◌∙◌, ℕ, None, Some, refl, sym, ap, subst, inl, inr, arith, address_of, number, Command, named_context, Header, shape_of, command_id, World, UnderWay, Known, IsUnfinished, state_of, RingMatches, BoundRing, FreeRing, EndpointRing, UnderWayMatches, CommandMatches, IsUnchanged, Matches, ◌+◌, Option, option_and_then, slice_get, rules, Spot, StopEndpoint, command_of, command_at, next_command, was_stop_seen, TakenCommand}
+use Rattle.safety.proofs.Words.{◌≡◌, ◌≢◌, ◌∙◌, ℕ, None, Some, refl, sym, ap, subst, arith, address_of, number, Command, named_context, Header, shape_of, command_id, World, UnderWay, Known, IsUnfinished, state_of, RingMatches, EndpointRing, UnderWayMatches, CommandMatches, IsUnchanged, Matches, ◌+◌, Option, option_and_then, slice_get, rules, Spot, command_of, command_at, next_command, was_stop_seen, TakenCommand}
 use Rattle.safety.proofs.RingGoesOn.{RingGoesOn, bound_on, matches_on}
 
 -- Where the command ring's pointer stays and its next command is the same, so is what is said of the command under way

@@ -1,5 +1,5 @@
 -- Inside a descriptor the controller never waits: all of a descriptor whose first block is given is given
-use Rattle.safety.proofs.Words.{◌≡◌, ◌+◌, ◌≤◌, ◌∷◌, ℕ, true, false, List, Some, None, slice_get, arith, refl, inl, inr, false≢true, not-true, Block, block_at, cycle, Spot, Data, Link, Shape, number, spot_address, spot_cycle, IsShape, DeclaredBlock, is_border, declared_at, length_from, RingView, ceiling, given_count, is_step_given, descriptor_length, RingKeeps, cases_option, given_below, step_is, whole_is, given_count_declared, RingEvent, Took, is_end, is_inside_descriptor, Newest}
+use Rattle.safety.proofs.Words.{◌≡◌, ◌+◌, ◌≤◌, ℕ, true, false, List, Some, None, slice_get, arith, refl, inl, inr, false≢true, not-true, Block, block_at, cycle, Spot, Data, Link, Shape, number, spot_address, spot_cycle, IsShape, DeclaredBlock, is_border, declared_at, length_from, RingView, ceiling, given_count, is_step_given, descriptor_length, RingKeeps, cases_option, given_below, step_is, whole_is, given_count_declared, RingEvent, is_end, is_inside_descriptor, Newest}
 use Rattle.safety.proofs.Descriptors.{Surrounds, surrounded}
 use Rattle.safety.proofs.AtSpots.{MayStand, takeable, crossable}
 

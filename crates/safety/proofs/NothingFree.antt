@@ -1,5 +1,5 @@
 -- No row of a trace makes anything free: so nothing is free behind any history of rows, and each row restores what it has to
-use Rattle.safety.proofs.Words.{[], ◌≡◌, ◌==◌, ◌∷◌, ◌∙◌, ℕ, List, Option, None, Some, option_and_then, refl, sym, ap, rules, cond_both, no_flips, Block, Declares, Opens, IsRestored, Header, Register, Usbcmd, Row, Sub, Write, Reg, Bell, Read, IsHeader, shape_of, command_id, Known, nothing, on_ring, with_device, with_word, written, command_given, taken_device, run_or_stop, valued, register_written, endpoint_rung, rung, learned, known, lenient, MayCome, AreRestored, IsRestoring, EndpointsKeep, kind, arith}
+use Rattle.safety.proofs.Words.{[], ◌≡◌, ◌∷◌, ◌∙◌, ℕ, List, Option, option_and_then, refl, sym, ap, rules, no_flips, Block, Declares, Opens, IsRestored, Header, Register, Row, IsHeader, shape_of, command_id, Known, nothing, on_ring, with_device, with_word, written, command_given, taken_device, run_or_stop, valued, register_written, endpoint_rung, rung, learned, known, lenient, MayCome, AreRestored, IsRestoring, EndpointsKeep, kind, arith}
 use Rattle.safety.proofs.RingIds.{transfer_driver}
 use Rattle.safety.proofs.EndpointHistories.{keeps_endpoints}
 use Rattle.safety.proofs.SameDriver.{view_after, on_ring_same, event_same}

@@ -1,5 +1,5 @@
 -- Before the first row a driver keeps everything
-use Rattle.safety.proofs.Words.{[], rules, false≢true, none-some, slice_get_past, Header, IsHeader, nothing, known, CommandRingKeeps, StatesKeep, Unstarted, DriverKeeps, EndpointsKeep}
+use Rattle.safety.proofs.Words.{rules, false≢true, none-some, slice_get_past, Header, IsHeader, nothing, known, Unstarted, DriverKeeps}
 use Rattle.safety.proofs.LowerLaws.{nothing_keeps, driver_test, from_parts}
 use Rattle.safety.proofs.EndpointHistories.{keeps_endpoints}
 

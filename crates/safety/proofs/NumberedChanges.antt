@@ -1,6 +1,5 @@
 -- The endpoints that a command names have numbers of slots and endpoints, and so has each endpoint that a success gives a ring
-use Rattle.safety.proofs.Words.{[], ◌≡◌, ◌+◌, ◌<◌, ◌≤◌, ◌==◌, ◌&&◌, if◌then◌else◌, ◌∷◌, ◌∙◌, ℕ, suc, zero, Bool, true, false, List, map, filter, Option, None, Some, arith, refl, sym, ap, subst, inl, inr, eqb-true, range_with_len, cond_both, and_parts, none-some, same_Some, Block, BlockKind, kind, endpoint, is_command_left_out, Command, NoOp, DisableSlot, AddressDevice, ConfigureEndpoint, EvaluateContext, SetTrDequeue, ResetDevice, Stopped, is_off, command_by_kind, command_of, Change, SlotGoesOn, DeviceLeft, Disables, Places, Stops, Resets, changes, placed_by_context, ContextSize, input_add_flag, added_endpoints, Header, ring_having, Known, bound_to, moved, pointed, disabled, in_state, held_at_ceiling, changed_by, changed_by_all, rules}
-use Rattle.trb.specs.declared.kind.BlockKind.TheVariants as kinds
+use Rattle.safety.proofs.Words.{[], ◌≡◌, ◌+◌, ◌<◌, ◌≤◌, if◌then◌else◌, ◌∷◌, ◌∙◌, ℕ, suc, zero, Bool, true, false, List, map, filter, Option, Some, arith, sym, ap, eqb-true, range_with_len, and_parts, none-some, same_Some, Block, BlockKind, kind, is_command_left_out, Command, NoOp, DisableSlot, AddressDevice, ConfigureEndpoint, EvaluateContext, SetTrDequeue, ResetDevice, is_off, command_by_kind, command_of, Change, Places, changes, placed_by_context, ContextSize, input_add_flag, added_endpoints, Header, ring_having, Known, bound_to, moved, pointed, disabled, in_state, held_at_ceiling, changed_by, changed_by_all, rules}
 use Rattle.safety.proofs.LookKinds.{cond_is}
 use Rattle.safety.proofs.Endpoints.{moved_rings, held_rings}
 use Rattle.safety.proofs.FinishChanges.{AreNumbered}

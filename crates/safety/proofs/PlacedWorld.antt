@@ -1,5 +1,5 @@
 -- An endpoint whose ring is placed at an address: what changes in the world
-use Rattle.safety.proofs.Words.{◌≡◌, ◌≢◌, if◌then◌else◌, ◌∷◌, ◌∙◌, ℕ, Bool, false, List, length, Option, Some, None, refl, ap, inl, inr, none-some, same_Some, put, put_pair, EndpointState, World, RingEvent, Placed, takes_of, is_had_by_another, inactive, placed, placed_on, RingState, state_of, rules, arith}
+use Rattle.safety.proofs.Words.{◌≡◌, ◌≢◌, if◌then◌else◌, ◌∷◌, ℕ, Bool, false, length, Option, Some, None, none-some, same_Some, put, put_pair, EndpointState, World, Placed, takes_of, is_had_by_another, inactive, placed, placed_on, state_of, rules, arith}
 use Rattle.safety.proofs.LookKinds.{cond_is, put_at, put_off}
 use Rattle.safety.proofs.PlacedRing.{placed_state}
 

@@ -1,5 +1,5 @@
 -- An event that is posted: it lies behind the unread ones, and nothing else that the driver or the controller did changes
-use Rattle.safety.proofs.Words.{[], ◌≡◌, ◌≢◌, ◌+◌, ◌%◌, ◌<◌, ◌==◌, ◌&&◌, ◌∷◌, ◌∙◌, ℕ, true, List, length, nat_lt, slice_index, arith, refl, sym, ap, inr, add-zero, ltb-true, eqb-true, and_parts, Block, IsBlock, block_at, cycle, word, place_count, address_of, cycle_of, is_inside, address_aligned, place_count_pos, same_in_lap, same_place_of, address_inside, touches-word, has_room, Header, event_shape, event_size, input_context_bytes, World, stored, stored_block, can_post, Known, DriverKeeps, Stands, touches_events, Matches, rules}
+use Rattle.safety.proofs.Words.{[], ◌≡◌, ◌≢◌, ◌+◌, ◌%◌, ◌<◌, ◌∷◌, ◌∙◌, ℕ, true, List, length, nat_lt, slice_index, arith, refl, sym, ap, inr, add-zero, ltb-true, eqb-true, and_parts, Block, IsBlock, block_at, cycle, word, place_count, address_of, cycle_of, is_inside, address_aligned, place_count_pos, same_in_lap, same_place_of, address_inside, touches-word, has_room, Header, event_shape, event_size, input_context_bytes, World, stored, stored_block, can_post, Known, DriverKeeps, Stands, touches_events, Matches, rules}
 use Rattle.safety.proofs.Headers.{EventRing}
 use Rattle.safety.proofs.Stored.{Late, IsInNoContext, late_stored, matches_stored, stands_stored, memory_stored, memory_here}
 use Rattle.safety.proofs.Areas.{byte_apart, context_lies, ring_untouched}

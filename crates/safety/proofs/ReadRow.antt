@@ -1,5 +1,5 @@
 -- The driver reads an event: it is the oldest unread one, and the run goes on
-use Rattle.safety.proofs.Words.{[], ◌≡◌, ◌+◌, ◌<◌, ◌&&◌, ◌∷◌, ◌∙◌, ℕ, true, false, List, nat_lt, Some, All, slice_get, arith, refl, ap, subst, eqb-true, ltb-true, rules, and_parts, All-head, All-tail, cond_some, Block, IsBlock, kind, same_words, Header, Read, World, counted, Known, learned, EventsStand, Agrees, ArePossible, Runs, all_read}
+use Rattle.safety.proofs.Words.{[], ◌≡◌, ◌+◌, ◌<◌, ◌∷◌, ◌∙◌, ℕ, true, false, List, nat_lt, Some, All, slice_get, arith, refl, ap, subst, eqb-true, ltb-true, rules, and_parts, All-head, All-tail, cond_some, Block, IsBlock, kind, same_words, Header, Read, World, counted, Known, learned, EventsStand, Agrees, ArePossible, Runs, all_read}
 use native.Mathlib.Numerals.{unary_clauses}
 use Rattle.world_state.specs.World.{event_at}
 use Rattle.world_state.specs.World as of_world

@@ -1,5 +1,5 @@
 -- Whatever the controller reports of a take, the run goes on
-use Rattle.safety.proofs.Words.{[], ◌≡◌, ◌∙◌, false, List, Some, sym, inl, inr, cases_Bool, cond-false, none-some, Block, IsBlock, code, endpoint, pointer, slot, is_success, is_halting, is_trb_error, is_stopping, Header, IsHeader, World, posted, report_code, reported, counted, DriverKeeps, Agrees, Runs, all_read, Known, ◌≢◌, ◌+◌, ◌-◌, ◌<◌, ◌==◌, ◌&&◌, ◌||◌, ◌∷◌, ◌++◌, ℕ, Bool, true, not, length, Option, None, arith, refl, ap, subst, eq-eqb, lt-ltb, false≢true, and_right, and_from, or_left, cond-true, not_from_true, put_pair, kind, is_transfer_event, is_command_completion, is_other_event, Spot, Data, Shape, RingView, Reaches, Holds, floor_number, ceiling, given_count, is_stop_spot, named, stopped_number, cycle_of_bit, rank_least, command_of, is_stop_of, is_running, shape_of, command_id, UnderWay, is_stop_under_way, with_stopped, report_stop, command_at, next_command, on_ring, is_in_profile, RingState, state_of, BoundRing, RingMatches, Unreported, UnderWayMatches, CommandMatches, ◌≤◌, ◌⊎◌, nat_lt, nat_le, drop, eqb-true, le-leb, rules, and_parts, not-false, cases_lt, or_right, same_Some, Link, number, is_way_given, Command, StopEndpoint, unreported, is_last, with_reported, stopped_with, was_stop_seen, Stands, EventsStand, TakenCommand, Matches, map, min, length-drop, drop-drop, range_with_len, address_of, rank, IsShape, declared, RingKeeps, rank_most, named_spot-near, given_count_declared, given_count_near, takes_of}
+use Rattle.safety.proofs.Words.{[], ◌≡◌, ◌∙◌, false, List, Some, sym, inl, inr, cases_Bool, cond-false, none-some, Block, IsBlock, code, endpoint, pointer, slot, is_success, is_halting, is_trb_error, is_stopping, Header, IsHeader, World, posted, report_code, reported, counted, DriverKeeps, Agrees, Runs, all_read, Known, ◌≢◌, ◌+◌, ◌-◌, ◌<◌, ◌==◌, ◌&&◌, ◌||◌, ◌∷◌, ◌++◌, ℕ, Bool, true, not, length, Option, arith, refl, ap, subst, eq-eqb, lt-ltb, false≢true, and_right, and_from, or_left, cond-true, not_from_true, put_pair, kind, is_transfer_event, is_command_completion, is_other_event, Spot, Data, Shape, RingView, Reaches, Holds, floor_number, ceiling, given_count, is_stop_spot, named, stopped_number, cycle_of_bit, rank_least, command_of, is_stop_of, is_running, shape_of, command_id, UnderWay, is_stop_under_way, with_stopped, report_stop, command_at, next_command, on_ring, is_in_profile, RingState, state_of, BoundRing, RingMatches, Unreported, UnderWayMatches, CommandMatches, ◌≤◌, ◌⊎◌, nat_lt, nat_le, drop, eqb-true, le-leb, rules, and_parts, not-false, or_right, same_Some, Link, number, is_way_given, Command, unreported, is_last, with_reported, stopped_with, was_stop_seen, Stands, EventsStand, TakenCommand, Matches, map, min, length-drop, drop-drop, range_with_len, address_of, rank, IsShape, declared, RingKeeps, rank_most, named_spot-near, given_count_declared, given_count_near, takes_of}
 use Rattle.safety.proofs.ReportSuccess.{IsReport, ReportKeeps, report_is, runs_more, success_keeps, where_bound, spot_named, in_profile_is}
 use Rattle.safety.proofs.ReportError.{halted_keeps, erred_keeps, ended_ring, only_ended, works}
 use Rattle.safety.proofs.StopRead.{StopCode, stop_transfer_code, stop_read, stop_possible}

@@ -1,6 +1,6 @@
 -- The controller reports that a take has succeeded: the run goes on
-use Rattle.std.proofs.Common.{[], ◌≡◌, ◌≢◌, ◌+◌, ◌<◌, ◌==◌, ◌||◌, ◌∷◌, ◌++◌, ◌∙◌, ℕ, Bool, true, false, not, List, drop, Option, Some, None, position, option_map, arith, refl, sym, ap, subst, inl, inr, lt-ltb, rules}
-use Rattle.safety.proofs.Words.{false≢true, and_parts, and_from, and_right, or_from, or_left, cond-true, not-true, not_from_true, not_from_false, none-some, same_Some, Block, BlockKind, is_set, IsBlock, code, endpoint, kind, pointer, slot, word, is_transfer_event, is_command_completion, is_other_event, is_success, is_transfer_code, Spot, Data, after, number, floor_number, ceiling, named, is_data_below, Off, is_off, Header, Read, IsHeader, shape_of, command_id, World, RingEvent, takes_of, unreported, can_post, posted, with_reported, report_success, report_code, reported_on, reported, counted, Known, event_read, learned, RingSpot, event_at, on_ring, spot_on, passed, transferred, transferred_at, transfer_read, lenient, is_in_profile, is_impossible_by_kind, is_impossible_transfer, can_report, can_report_at, DriverKeeps, RingState, state_of, BoundRing, Agrees, Runs, all_read, TransferEvent}
+use Rattle.std.proofs.Common.{[], ◌≡◌, ◌≢◌, ◌+◌, ◌<◌, ◌==◌, ◌||◌, ◌∷◌, ◌++◌, ◌∙◌, ℕ, true, false, not, List, drop, Option, Some, position, option_map, arith, refl, sym, ap, subst, inl, inr, lt-ltb, rules}
+use Rattle.safety.proofs.Words.{false≢true, and_parts, and_from, and_right, or_from, or_left, cond-true, not-true, not_from_true, not_from_false, none-some, same_Some, Block, BlockKind, is_set, IsBlock, code, endpoint, kind, pointer, slot, word, is_transfer_event, is_command_completion, is_other_event, is_success, is_transfer_code, Spot, Data, after, number, floor_number, ceiling, named, is_data_below, Off, is_off, Header, Read, IsHeader, shape_of, command_id, World, takes_of, unreported, can_post, posted, with_reported, report_success, report_code, reported_on, reported, counted, Known, event_read, learned, RingSpot, event_at, on_ring, spot_on, passed, transferred, transferred_at, transfer_read, lenient, is_in_profile, is_impossible_by_kind, is_impossible_transfer, can_report, can_report_at, DriverKeeps, state_of, BoundRing, Agrees, Runs, all_read, TransferEvent}
 use Rattle.safety.proofs.Headers.{transfer_driver, transfer_not_command, ring_shape}
 use Rattle.safety.proofs.Counted.{agrees_counted}
 use Rattle.safety.proofs.WithReads.{with_reads}

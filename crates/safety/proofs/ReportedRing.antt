@@ -1,6 +1,6 @@
 -- A take that is reported: what the event names, and the ring behind it
-use Rattle.safety.proofs.Words.{◌≡◌, ◌+◌, ◌-◌, ◌<◌, ◌≤◌, ◌==◌, ◌∙◌, ℕ, suc, zero, true, List, length, drop, map, Some, position, arith, refl, sym, ap, inl, inr, get_or, length-drop, eqb-true, drop-drop, range_with_len, position-Some, length-map-range_with_len, get_or-map-range_with_len, Spot, Data, Shape, address_of, rank, number, after, IsShape, RingView, declared, floor_number, ceiling, is_way_given, is_step_given, named, RingKeeps, cases_option, rank_least, rank_most, next_least, named_spot-near, given_count_grows, given_count_declared, given_count_near, takes_of, RingState, RingMatches, Unreported}
-use Rattle.safety.proofs.NoWait.{ceiling_given, ceiling_open, ceiling_held}
+use Rattle.safety.proofs.Words.{◌≡◌, ◌+◌, ◌-◌, ◌<◌, ◌≤◌, ◌==◌, ◌∙◌, ℕ, suc, zero, List, length, drop, map, Some, position, arith, refl, sym, ap, get_or, length-drop, eqb-true, drop-drop, range_with_len, position-Some, length-map-range_with_len, get_or-map-range_with_len, Spot, Data, Shape, address_of, rank, number, after, IsShape, RingView, declared, floor_number, named, RingKeeps, rank_least, rank_most, next_least, named_spot-near, given_count_declared, given_count_near, takes_of, RingState, RingMatches, Unreported}
+use Rattle.safety.proofs.NoWait.{ceiling_given}
 use Rattle.safety.proofs.LookedRing.{number_after}
 use Rattle.safety.proofs.RingGoesOn.{held_from}
 use Rattle.safety.proofs.FloorMoves.{ceiling_grows}

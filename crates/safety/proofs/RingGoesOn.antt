@@ -1,5 +1,5 @@
 -- A ring of which more is known while its pointer stays: what is said of it in the world stays
-use Rattle.safety.proofs.Words.{Bool, [], ◌≡◌, ◌≤◌, ◌∷◌, ℕ, true, List, map, Option, None, Some, arith, refl, ap, rules, range_with_len, Shape, Spot, address_of, number, rank, is_border, RingView, floor_number, ceiling, is_way_given, is_step_given, given_count_same, RingEvent, Took, Newest, RingState, RingMatches, Unreported, BoundRing, IsHeldMore, GivesMore, step_more}
+use Rattle.safety.proofs.Words.{Bool, ◌≡◌, ◌≤◌, ℕ, true, List, map, Option, None, arith, refl, ap, rules, range_with_len, Shape, Spot, address_of, number, rank, is_border, RingView, floor_number, ceiling, is_way_given, is_step_given, given_count_same, RingEvent, Newest, RingState, RingMatches, BoundRing, IsHeldMore, GivesMore, step_more}
 use Rattle.safety.proofs.NoWait.{ceiling_open, ceiling_held}
 
 -- the floor is the same, no less is given, and where descriptors begin, they still do

@@ -1,5 +1,5 @@
 -- The blocks and Links of a ring stand in the world as the driver wrote them
-use Rattle.safety.proofs.Words.{[], ◌≡◌, ◌+◌, ◌%◌, ◌^◌, ◌<◌, ◌≤◌, ◌∷◌, ◌∙◌, ℕ, true, arith, sym, ap, add-zero, Block, block_at, Spot, Data, Link, Shape, is_inside, IsSpot, spot_address, IsShape, link_aligned, link_ends, address_aligned, address_ends, crossed_link, crosses, link_address_is, address_inside, link_address_inside, Header, IsHeader, shape_of, World, Known, IsDriverRing, DriverKeeps, Stands}
+use Rattle.safety.proofs.Words.{◌≡◌, ◌+◌, ◌%◌, ◌^◌, ◌<◌, ◌≤◌, ◌∙◌, ℕ, true, arith, sym, ap, add-zero, block_at, Spot, Data, Link, Shape, is_inside, IsSpot, spot_address, IsShape, link_aligned, link_ends, address_aligned, address_ends, crossed_link, crosses, link_address_is, address_inside, link_address_inside, Header, IsHeader, shape_of, World, Known, IsDriverRing, DriverKeeps, Stands}
 use Rattle.safety.proofs.Headers.{ring_shape, ring_not_event}
 
 -- blocks of two memories with the same four words

@@ -1,6 +1,6 @@
 -- A driver's row beneath the events that aren't read yet: they stay possible, and what is known when they are read differs from what
 -- the row adds to it at the end in the numbers at which rings are held, if at all
-use Rattle.safety.proofs.Words.{[], ◌≡◌, ◌+◌, ◌≤◌, ◌∷◌, ◌∙◌, ℕ, false, List, length, Some, arith, refl, sym, ap, subst, inl, inr, same_Some, Block, kind, erdp_address, is_reached_within, Header, Row, Sub, Write, Reg, Bell, Read, Register, Erdp, IsHeader, event_shape, IsRow, World, stored, counted, Known, learned, may_pass, is_bad_erdp, lenient, DriverKeeps, KeptByRestoring, MayCome, IsDriverRow, Agrees, ArePossible, Runs, all_read, HeldMore, is_idle, Square, SquareLaw, MoreLaw, ◌≢◌, ◌<◌, ◌++◌, true, Option, None, option_and_then, slice_get, cases_Bool, none-some, put, address_of, RingView, Declares, changed, declared, is_due, slice_get-append, ceiling_within, given_count_declared, Command, command_of, named_context, shape_of, command_id, UnderWay, on_ring, command_at, next_command, IsDriverRing, IsUnfinished, Stands, EventsStand, UnderWayMatches, IsUnchanged, Matches, rules}
+use Rattle.safety.proofs.Words.{[], ◌≡◌, ◌+◌, ◌≤◌, ◌∷◌, ◌∙◌, ℕ, false, List, length, Some, arith, refl, sym, ap, subst, inl, inr, same_Some, Block, kind, erdp_address, is_reached_within, Header, Row, Sub, Write, Reg, Bell, Read, Register, Erdp, IsHeader, event_shape, IsRow, World, stored, counted, Known, learned, may_pass, is_bad_erdp, lenient, DriverKeeps, KeptByRestoring, MayCome, IsDriverRow, Agrees, ArePossible, Runs, all_read, HeldMore, is_idle, Square, SquareLaw, MoreLaw, ◌≢◌, ◌<◌, ◌++◌, true, Option, option_and_then, slice_get, cases_Bool, none-some, put, address_of, RingView, Declares, changed, declared, is_due, slice_get-append, ceiling_within, given_count_declared, Command, command_of, named_context, shape_of, command_id, UnderWay, on_ring, command_at, next_command, IsDriverRing, IsUnfinished, Stands, EventsStand, UnderWayMatches, IsUnchanged, Matches, rules}
 use Rattle.controller_model.specs.DriverRows as driver
 use Rattle.safety.proofs.LowerLaws.{clean_tests, register_facts, event_same, view_after, held_more_same, held_more_twice, weaker, erdp_says, ring_shape, due_has_ring, put_at, put_off, command_is_ring, Late, agrees_counted, RingGoesOn, goes_same, declares_goes_on, KnownGoesOn, SameController, matches_go_on}
 use Rattle.safety.proofs.KeptCounts.{passable, read_counts}

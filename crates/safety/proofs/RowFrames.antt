@@ -1,5 +1,5 @@
 -- What each row of the driver leaves as it is
-use Rattle.safety.proofs.Words.{◌≡◌, ◌==◌, ℕ, List, Option, None, Some, option_and_then, refl, rules, cond_both, Block, RingView, Opens, Writes, changed, Header, Register, Erdp, Usbcmd, Sub, Write, Reg, Bell, shape_of, command_id, Known, on_ring, with_device, with_word, written, command_given, taken_device, run_or_stop, valued, register_written, endpoint_rung, rung, learned, arith}
+use Rattle.safety.proofs.Words.{◌≡◌, ℕ, List, Option, option_and_then, refl, rules, Block, RingView, Writes, changed, Header, Register, Sub, Write, Reg, Bell, shape_of, command_id, Known, on_ring, with_device, with_word, written, command_given, taken_device, run_or_stop, valued, register_written, endpoint_rung, rung, learned, arith}
 use Rattle.safety.proofs.SameDriver.{view_after}
 
 pub record SameRegisters (k l : Known) : Type 0 where

@@ -1,11 +1,11 @@
 -- A write of a register where all events are read: what is known agrees with the world
-use Rattle.safety.proofs.Words.{◌≡◌, ◌+◌, ◌*◌, ◌≤◌, ◌==◌, if◌then◌else◌, ℕ, nat_lt, true, false, List, Option, None, Some, option_and_then, slice_get, arith, refl, sym, ap, subst, ltb-true, rules, list_any, range_with_len, some_of, and_parts, cond-true, cond-false, Block, Command, named_context, Shape, Header, Register, shape_of, command_id, event_shape, event_size, with_register, same_register, address_of, place_count, AreInOrder, position_from, is_reached_within, is_event_place, World, counted, Known, IsUnfinished, IsUnchanged, Matches, Agrees, command_at, next_command, valued}
+use Rattle.safety.proofs.Words.{◌≡◌, ◌+◌, ◌≤◌, if◌then◌else◌, ℕ, nat_lt, true, false, List, Option, Some, option_and_then, slice_get, arith, ap, ltb-true, rules, list_any, range_with_len, some_of, and_parts, cond-true, cond-false, Block, Command, named_context, Shape, Header, Register, shape_of, command_id, event_shape, event_size, with_register, same_register, address_of, place_count, AreInOrder, position_from, is_reached_within, is_event_place, World, counted, Known, IsUnfinished, IsUnchanged, Matches, Agrees, command_at, next_command, valued}
 use Rattle.world_state.specs.World as of_world
 use Rattle.controller_model.specs.DriverRows as driver
 use Rattle.safety.proofs.DriverGoesOn.{goes_same}
 use Rattle.safety.proofs.ErdpMoves.{no_place_stays, place_of, position_within}
 use Rattle.safety.proofs.Counted.{agrees_counted}
-use Rattle.safety.proofs.MatchesGoesOn.{KnownGoesOn, SameController, matches_go_on}
+use Rattle.safety.proofs.MatchesGoesOn.{SameController, matches_go_on}
 
 pub agrees_once_counted : (h : Header) (k : Known) (unread : List Block) (w : World) → Agrees h k unread w → Agrees h k unread (counted h w)
 agrees_once_counted h k unread w g = agrees_counted h k unread w g.stands g.events g.matches g.read (λ a. omega (arith, g.stamps a))

@@ -1,5 +1,5 @@
 -- A write of memory where all events are read: what is known agrees with the world
-use Rattle.safety.proofs.Words.{[], ◌≡◌, ◌≢◌, ◌+◌, ◌*◌, ◌/◌, ◌<◌, ◌⊎◌, ◌∙◌, ℕ, false, List, Option, None, Some, option_and_then, slice_get, arith, refl, sym, ap, inl, inr, add-zero, ne_eqb, rules, list_any, cases_eq, or_parts, or_cases, false≢true, not_from_false, slice_get_within, put, Block, address_of, is_in, is_inside, Writes, changed, put_here, put_elsewhere, gives_is, address_inside, Command, named_context, device_context_bytes, input_context_bytes, Header, Write, IsHeader, shape_of, command_id, event_shape, World, stored, counted, Known, learned, command_at, next_command, with_device, with_word, written, command_given, taken_device, covers, lease_start, lease_bytes, segment_ranges, device_ranges, lenient, IsUnfinished, DriverKeeps, Stands, EventsStand, touches_events, IsUnchanged, Matches, Agrees, is_the_controllers}
+use Rattle.safety.proofs.Words.{[], ◌≡◌, ◌≢◌, ◌+◌, ◌*◌, ◌/◌, ◌<◌, ◌⊎◌, ◌∙◌, ℕ, false, List, Option, None, Some, option_and_then, slice_get, arith, refl, sym, ap, inl, inr, add-zero, ne_eqb, rules, list_any, or_parts, or_cases, false≢true, not_from_false, slice_get_within, put, Block, address_of, is_in, is_inside, Writes, changed, put_here, put_elsewhere, gives_is, address_inside, Command, named_context, device_context_bytes, input_context_bytes, Header, Write, IsHeader, shape_of, command_id, event_shape, World, stored, counted, Known, learned, command_at, next_command, with_device, with_word, written, command_given, taken_device, covers, lease_start, lease_bytes, segment_ranges, device_ranges, lenient, IsUnfinished, DriverKeeps, Stands, EventsStand, touches_events, IsUnchanged, Matches, Agrees, is_the_controllers}
 use Rattle.world_state.specs.World.{event_at}
 use Rattle.safety.proofs.LowerLaws.{any_of_map, EventRing, event_ring_is, byte_apart, clean_word, context_lies, context_free, word_elsewhere, word_free, free_or_same, not_the_controllers, none_of_both, same_block_at, at_number, Late, late_stored, memory_stored, unchanged_stored, agrees_counted, writes_goes_on, KnownGoesOn, SameController, matches_go_on}
 use Rattle.safety.proofs.RowFrames.{WriteLeaves, write_leaves}

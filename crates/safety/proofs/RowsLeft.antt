@@ -1,6 +1,6 @@
 -- The rows still to come are those that no row was made of: no step of the controller touches them, and a row takes the first
-use Rattle.std.proofs.Common.{[], ◌≡◌, ◌+◌, ◌==◌, ◌&&◌, if◌then◌else◌, ◌∷◌, ◌||◌, ◌∙◌, ℕ, Bool, true, false, not, List, Option, Some, None, option_map, option_and_then, position, refl, sym, ap, rules, arith}
-use Rattle.safety.proofs.Words.{list_any, range_with_len, none-some, same_Some, Block, is_set, block_at, code, cycle, endpoint, kind, pointer, slot, word, is_command_completion, is_other_event, is_transfer_event, put_pair, Command, EndpointState, Running, named_context, can_succeed, is_running, is_stopped, Change, Places, Stops, changes, Header, Row, Reg, Bell, Read, Register, Usbcmd, Config, Erdp, command_id, register_or_zero, World, UnderWay, unreported, stored, stored_block, command_begun, crossed, looked, looked_at, seen_by_look, taken, taken_on, can_post, other_posted, posted, report_code, report_error, report_stop, report_success, reported, reported_on, stopped_with, with_reported, is_scribbled, scribbled}
+use Rattle.std.proofs.Common.{[], ◌≡◌, ◌==◌, ◌&&◌, if◌then◌else◌, ◌∷◌, ◌||◌, ◌∙◌, ℕ, Bool, true, false, not, List, Option, Some, None, option_map, option_and_then, position, refl, sym, ap, rules, arith}
+use Rattle.safety.proofs.Words.{list_any, range_with_len, none-some, same_Some, Block, is_set, block_at, code, cycle, endpoint, kind, pointer, slot, word, is_command_completion, is_other_event, is_transfer_event, put_pair, Command, EndpointState, named_context, can_succeed, is_running, is_stopped, Change, changes, Header, Row, Register, Config, command_id, register_or_zero, World, UnderWay, unreported, stored, stored_block, command_begun, crossed, looked, looked_at, seen_by_look, taken, taken_on, can_post, other_posted, posted, report_code, report_error, report_stop, report_success, reported, reported_on, stopped_with, with_reported, is_scribbled, scribbled}
 use Rattle.controller_model.specs.DriverRows as driver
 use Rattle.controller_model.specs.Finishes as finishes
 use Rattle.controller_model.specs.Bindings as bindings

@@ -1,6 +1,5 @@
 -- A block is the same command with either Cycle bit
-use Rattle.safety.proofs.Words.{◌≡◌, ◌<◌, ℕ, refl, rules, Block, BlockKind, with_cycle, has_left_out_field, kind-with_cycle, slot-with_cycle, endpoint-with_cycle, is_set-with_cycle, command_of, command_by_kind, arith}
-use Rattle.trb.specs.declared.kind.BlockKind.TheVariants as kinds
+use Rattle.safety.proofs.Words.{◌≡◌, ◌<◌, ℕ, rules, Block, BlockKind, with_cycle, has_left_out_field, kind-with_cycle, slot-with_cycle, endpoint-with_cycle, is_set-with_cycle, command_of, command_by_kind, arith}
 
 module _ (b : Block) (c : ℕ) (is_bit : c < 2) where
   fields_same : (k : BlockKind) → has_left_out_field k (with_cycle b c) ≡ has_left_out_field k b

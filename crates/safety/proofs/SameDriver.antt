@@ -1,5 +1,5 @@
 -- What events leave as it is: registers, memory, and what is declared and given of each ring
-use Rattle.safety.proofs.Words.{[], ◌≡◌, ◌≢◌, ◌∷◌, ◌∙◌, ℕ, Bool, List, Option, None, Some, refl, sym, subst, rules, cond_both, Block, BlockKind, TransferEvent, CommandCompletion, code, slot, endpoint, Spot, number, after, RingView, RingChange, Reaches, Opens, Holds, changed, ceiling, target, Command, StopEndpoint, EndpointState, is_off, Change, Resets, Header, shape_of, command_id, ring_having, Known, RingSpot, on_ring, event_at, command_at, next_command, passed, broken_off, stopped_at, transferred, transferred_at, transfer_read, set_to, bound_to, moved_to, moved, pointed, disabled, in_state, held_at_ceiling, changed_by, changed_by_all, succeeded, stop_ended, finished, completed, event_read, arith}
+use Rattle.safety.proofs.Words.{[], ◌≡◌, ◌≢◌, ◌∷◌, ℕ, Bool, List, Option, refl, sym, subst, rules, cond_both, Block, BlockKind, code, slot, endpoint, Spot, number, after, RingView, RingChange, Reaches, Opens, Holds, changed, ceiling, target, Command, EndpointState, is_off, Change, Header, shape_of, command_id, ring_having, Known, RingSpot, on_ring, event_at, command_at, next_command, passed, broken_off, stopped_at, transferred, transferred_at, transfer_read, set_to, bound_to, moved_to, moved, pointed, disabled, in_state, held_at_ceiling, changed_by, changed_by_all, succeeded, stop_ended, finished, completed, event_read, arith}
 use Rattle.safety.proofs.DriverRows.{ring_here, ring_elsewhere}
 
 -- what is declared and given of a ring

@@ -1,5 +1,5 @@
 -- The changes of a success that touch no ring: a slot's state goes on, its device context is left, an endpoint is reset
-use Rattle.safety.proofs.Words.{◌≡◌, ◌==◌, ◌&&◌, if◌then◌else◌, ◌∙◌, ℕ, false, Some, unwrap_or, ap, subst, rules, false≢true, same_Some, put, put_pair, Command, EndpointState, Stopped, SlotGoesOn, DeviceLeft, Resets, slot_gone_on, Header, World, Known, changed_by, in_state}
+use Rattle.safety.proofs.Words.{◌≡◌, ◌==◌, ◌&&◌, if◌then◌else◌, ℕ, Some, unwrap_or, ap, subst, rules, false≢true, same_Some, put_pair, Command, EndpointState, Stopped, SlotGoesOn, DeviceLeft, Resets, Header, World, Known, changed_by, in_state}
 use Rattle.controller_model.specs.Bindings as bindings
 use Rattle.safety.proofs.LookKinds.{put_at, put_off}
 use Rattle.safety.proofs.FinishChanges.{StatesMatch, ChangeKeeps}

@@ -1,5 +1,5 @@
 -- The success of an unfinished command changes its own slot alone, or its own endpoint, and binds only rings that it names
-use Rattle.safety.proofs.Words.{[], ◌≡◌, if◌then◌else◌, ◌∷◌, ◌∙◌, ℕ, not, Bool, true, false, List, map, Some, refl, ap, inl, inr, eq-eqb, Option, None, list_any, or_parts, or_left, not-false, Command, NoOp, EnableSlot, DisableSlot, AddressDevice, ConfigureEndpoint, EvaluateContext, ResetEndpoint, StopEndpoint, SetTrDequeue, ResetDevice, is_off, is_at_rest, changes, placed_by_context, added_endpoints, context_pointer, Header, command_id, is_ring, ring_having, Known, changed_by, succeeded, binding_in, binds, ring_bound, binds_ring, is_bad_dequeue, is_bad_move, IsIn, any_of, MovesIf, rules, arith}
+use Rattle.safety.proofs.Words.{[], ◌≡◌, ◌∷◌, ℕ, not, Bool, true, false, List, map, Some, refl, inl, inr, eq-eqb, Option, None, list_any, or_parts, or_left, not-false, Command, NoOp, EnableSlot, DisableSlot, AddressDevice, ConfigureEndpoint, EvaluateContext, ResetEndpoint, StopEndpoint, SetTrDequeue, ResetDevice, is_off, is_at_rest, changes, placed_by_context, added_endpoints, context_pointer, Header, command_id, is_ring, ring_having, Known, changed_by, succeeded, binding_in, binds, ring_bound, binds_ring, is_bad_dequeue, is_bad_move, IsIn, any_of, MovesIf, rules, arith}
 use Rattle.safety.proofs.LowerLaws.{any_of_map, IsPart, OtherSlots, Within, AllOnly, changes_others, at_rest_on}
 
 -- the slot that the success of a command changes; n is that of its completion

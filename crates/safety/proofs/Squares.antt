@@ -1,5 +1,5 @@
 -- A driver's row and an event that isn't read yet may change places, whatever kind of row it is
-use Rattle.safety.proofs.Words.{[], Header, Sub, Write, Reg, Bell, Read, SquareLaw, ◌≡◌, ℕ, false, inl, inr, MayCome, Block, cases_option, IsHeader, IsRow, Known, command_given, learned, lenient, DriverKeeps, IsDriverRow, is_idle, Square, ◌==◌, is_none, rules, cases_Bool, cond-true, false≢true, is_open, ◌∙◌, Some, refl, sym, subst, MovesRestored, same_Some, Command, ◌∷◌, Bool, ap, cond-false, or_from, broken_of, AfterStop, some_command, holds_of, write_tests, lenient_tests, ◌+◌, ◌≤◌, ◌<◌, ◌++◌, true, List, length, option_and_then, slice_get, arith, length-append, ltb-true, ltb-false, le-ltb, none-some, slice_get_within, RingView, Declares, changed, declared, floor_number, place_count, ceiling, has_no_room, slice_get-append, command_of, shape_of, command_id, on_ring, command_at, next_command, declaration_tests, may_be_taken, IsHeldMore, HeldMore, ◌||◌, zero, suc, not, nat_lt, unwrap_or, ◌&&◌, list_any, range_with_len, and_parts, and_from, or_parts, or_cases, or_left, or_right, not_from_true, position_from, erdp_address, Register, Usbcmd, Crcr, Dcbaap, Config, Erstsz, Erstba, Erdp, event_shape, with_register, same_register, run_bit, reset_bit, run_or_stop, valued, register_written, changes, may_pass, is_bad_register, is_bad_erdp, register_tests, BadRegister, BadErdp, is_late_reset, is_early_start, is_wrong_start, is_bad_command}
+use Rattle.safety.proofs.Words.{[], Header, Sub, Write, Reg, Bell, Read, SquareLaw, ◌≡◌, ℕ, false, inl, inr, MayCome, Block, cases_option, IsHeader, IsRow, Known, command_given, learned, lenient, DriverKeeps, IsDriverRow, is_idle, Square, ◌==◌, is_none, rules, cases_Bool, cond-true, false≢true, is_open, ◌∙◌, Some, refl, sym, subst, MovesRestored, same_Some, Command, ◌∷◌, Bool, ap, cond-false, or_from, broken_of, AfterStop, some_command, holds_of, write_tests, lenient_tests, ◌+◌, ◌≤◌, ◌<◌, ◌++◌, true, List, length, option_and_then, slice_get, arith, length-append, ltb-true, ltb-false, le-ltb, none-some, slice_get_within, RingView, Declares, changed, declared, floor_number, place_count, ceiling, has_no_room, slice_get-append, command_of, shape_of, command_id, on_ring, command_at, next_command, declaration_tests, may_be_taken, IsHeldMore, HeldMore, ◌||◌, zero, suc, not, nat_lt, unwrap_or, list_any, range_with_len, and_parts, and_from, or_parts, or_cases, or_left, or_right, not_from_true, position_from, erdp_address, Register, Usbcmd, Config, Erdp, event_shape, with_register, same_register, run_bit, reset_bit, run_or_stop, valued, register_written, changes, may_pass, is_bad_register, is_bad_erdp, register_tests, is_late_reset, is_early_start, is_wrong_start, is_bad_command}
 use Rattle.safety.proofs.WriteBeneath.{write_square}
 use Rattle.safety.proofs.BellBeneath.{command_square}
 use Rattle.safety.proofs.RungBeneath.{rung_ring, bell_square}

@@ -1,5 +1,5 @@
 -- A pointer and a cycle state that name a spot at the floor's number
-use Rattle.safety.proofs.Words.{[], ◌≡◌, ◌+◌, ◌≤◌, ◌&&◌, ◌||◌, ◌∷◌, ◌∙◌, ℕ, suc, Bool, true, false, List, find, Some, arith, refl, sym, subst, rules, list_any, range_with_len, flat_map, cond-true, cond-false, false≢true, same_Some, Spot, Data, Link, Shape, number, RingView, declared, floor_number, ceiling, spots_between, target, is_move, is_placement, placement_still}
+use Rattle.safety.proofs.Words.{◌≡◌, ◌≤◌, ◌∷◌, ◌∙◌, ℕ, Bool, true, false, List, find, Some, arith, sym, subst, rules, cond-true, cond-false, false≢true, same_Some, Spot, Shape, number, RingView, declared, floor_number, ceiling, spots_between, target, is_move, is_placement, placement_still}
 
 find_here : (test : Spot → Bool) (u t : Spot) (rest : List Spot) → find test (u ∷ rest) ≡ Some t → test u ≡ true → u ≡ t
 find_here test u t rest found here = same_Some u t (sym (cond-true (test u) (Some u) (find test rest) here) ∙ found)

@@ -1,5 +1,5 @@
 -- What is kept of states, in three parts: endpoints and their rings, slots, and Stopped events that were read
-use Rattle.safety.proofs.Words.{◌≡◌, ◌≢◌, ◌<◌, ◌⊎◌, ◌∙◌, ℕ, nat_lt, true, Option, None, Some, refl, sym, ap, ltb-true, lt-ltb, eqb-true, eq-eqb, and_parts, and_from, false≢true, ceiling, Command, StopEndpoint, SlotState, Disabled, Enabled, Configured, Off, Running, is_stop_of, Header, shape_of, command_id, Known, command_at, next_command, may_be_taken, is_stopping_now, StatesKeep, EndpointsKeep, rules}
+use Rattle.safety.proofs.Words.{◌≡◌, ◌≢◌, ◌<◌, ◌⊎◌, ℕ, nat_lt, true, Option, None, Some, ltb-true, lt-ltb, eqb-true, eq-eqb, and_parts, and_from, false≢true, ceiling, Command, StopEndpoint, SlotState, Disabled, Enabled, Configured, Off, Running, is_stop_of, Header, shape_of, command_id, Known, command_at, next_command, may_be_taken, is_stopping_now, StatesKeep, EndpointsKeep, rules}
 use Rattle.safety.proofs.DriverRings.{transfer_ring}
 
 pub record EndpointsStand (k : Known) : Type 0 where

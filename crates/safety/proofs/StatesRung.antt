@@ -1,5 +1,5 @@
 -- A doorbell keeps what is known of states
-use Rattle.safety.proofs.Words.{[], ◌≡◌, ◌≢◌, ◌==◌, ◌&&◌, ◌||◌, ◌∙◌, ℕ, not, nat_lt, true, false, Option, None, Some, refl, sym, ap, subst, eq-eqb, rules, cond_both, cond-false, or_parts, or_cases, or_left, and_from, not-false, false≢true, put_pair, Shape, RingView, Opens, changed, is_step_given, is_way_given, given_count_same, ceiling_open, StopEndpoint, EndpointState, Off, Running, changes, is_running, is_stopped, Header, Bell, IsHeader, shape_of, command_id, Known, on_ring, next_command, endpoint_rung, rung, learned, touches_endpoint, is_touched, is_bad_bell, lenient, StatesKeep, DriverKeeps, arith}
+use Rattle.safety.proofs.Words.{[], ◌≡◌, ◌≢◌, ◌==◌, ◌&&◌, ◌||◌, ◌∙◌, ℕ, not, nat_lt, true, false, Option, None, Some, refl, sym, ap, subst, eq-eqb, rules, cond_both, cond-false, or_parts, or_cases, or_left, and_from, not-false, false≢true, put_pair, Shape, RingView, Opens, changed, is_step_given, is_way_given, given_count_same, ceiling_open, StopEndpoint, EndpointState, Running, changes, is_running, is_stopped, Header, Bell, IsHeader, shape_of, command_id, Known, on_ring, next_command, endpoint_rung, rung, learned, touches_endpoint, is_touched, is_bad_bell, lenient, StatesKeep, DriverKeeps, arith}
 use Rattle.safety.proofs.LowerLaws.{command_not_transfer, ring_here, ring_elsewhere, at_pair, unfinished_fails, endpoints_of, BellFacts, bell_facts, EndpointsStand, StopsNext, SeenStand, endpoints_part, slots_part, seen_part, from_parts, slots_same, OneEndpoint, OneSeen, one_stands, one_seen}
 use Rattle.safety.proofs.EndpointHistories.{row_keeps}
 use Rattle.safety.proofs.RowFrames.{BellLeaves, bell_leaves}

@@ -1,5 +1,5 @@
 -- A Transfer Event keeps what is known of states
-use Rattle.safety.proofs.Words.{◌≡◌, ◌≢◌, ◌+◌, ◌&&◌, ◌||◌, if◌then◌else◌, ◌∙◌, ℕ, Bool, true, false, Option, None, Some, is_none, refl, ap, rules, cond_both, and_parts, and_cases, or_parts, or_left, or_right, or_from, not-false, false≢true, none-some, put_pair, Block, code, slot, endpoint, is_success, is_halting, is_trb_error, is_stopping, Spot, number, after, Reaches, Holds, ceiling, is_open, is_data_below, is_stop_spot, stopped_number, EndpointState, Off, Running, Halted, Error, is_running, Header, IsHeader, shape_of, command_id, Known, RingSpot, on_ring, event_at, passed, broken_off, stopped_at, transferred, transferred_at, transfer_read, is_in_profile, is_working, is_stopping_now, can_report, can_report_at, is_impossible_transfer, DriverKeeps}
+use Rattle.safety.proofs.Words.{◌≡◌, ◌≢◌, ◌+◌, ◌∙◌, ℕ, Bool, true, false, Option, None, Some, is_none, refl, ap, rules, and_parts, and_cases, or_parts, not-false, false≢true, none-some, put_pair, Block, code, slot, endpoint, is_success, is_halting, is_trb_error, is_stopping, Spot, number, after, Reaches, Holds, is_open, stopped_number, EndpointState, Off, Running, Halted, Error, is_running, Header, IsHeader, shape_of, command_id, Known, RingSpot, on_ring, event_at, passed, broken_off, stopped_at, transferred, transferred_at, transfer_read, is_in_profile, is_working, can_report, can_report_at, is_impossible_transfer, DriverKeeps}
 use Rattle.safety.proofs.LowerLaws.{by_code, ring_here, ring_elsewhere, at_pair, endpoints_of, LeavesSlots, event_ring_of, transfer_command, transfer_slots, EndpointsStand, SlotsStand, StopsNext, SeenStand, endpoints_part, slots_part, seen_part, stops_is, slots_same, OneEndpoint, OneSeen, one_stands, one_seen, none_is}
 use Rattle.safety.proofs.StatesDriver.{view_same, stops_on}
 use Rattle.safety.proofs.StatesRung.{running_is}

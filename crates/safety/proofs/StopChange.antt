@@ -1,5 +1,5 @@
 -- The change of a Stop Endpoint's success: the endpoint is Stopped, and its ring held at its ceiling and inactive
-use Rattle.safety.proofs.Words.{◌≡◌, ◌≢◌, ℕ, false, Option, Some, None, refl, sym, ap, subst, inl, inr, rules, cases_eq, false≢true, same_Some, put, Spot, Shape, ceiling, is_way_given, Command, Stopped, Stops, Header, shape_of, command_id, World, Known, RingState, state_of, RingMatches, BoundRing, EndpointRing, on_ring, changed_by, held_at_ceiling, in_state, RingView, arith}
+use Rattle.safety.proofs.Words.{◌≡◌, ◌≢◌, ℕ, false, Option, Some, None, refl, sym, ap, subst, inl, inr, rules, arith, cases_eq, false≢true, same_Some, put, Spot, Shape, ceiling, is_way_given, Command, Stopped, Stops, Header, shape_of, command_id, World, Known, RingState, state_of, RingMatches, BoundRing, EndpointRing, on_ring, changed_by, held_at_ceiling, in_state, RingView}
 use Rattle.controller_model.specs.Bindings as bindings
 use Rattle.safety.proofs.NoWait.{ceiling_held}
 use Rattle.safety.proofs.RingGoesOn.{newest_still}

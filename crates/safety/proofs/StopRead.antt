@@ -1,5 +1,5 @@
 -- When a Stopped event is possible where it will be read, and what reading it adds
-use Rattle.safety.proofs.Words.{◌≡◌, ◌≢◌, ◌||◌, ◌∙◌, ℕ, true, false, Some, ap, and_from, or_from, or_right, cond-true, cond-false, put_pair, Block, code, endpoint, kind, slot, is_transfer_event, is_success, is_halting, is_trb_error, is_stopping, is_transfer_code, Spot, Reaches, Holds, is_stop_spot, stopped_number, Off, is_stop_of, Header, shape_of, Known, event_read, event_at, command_at, next_command, on_ring, stopped_at, transferred, transferred_at, transfer_read, is_working, is_stopping_now, may_be_taken, is_impossible_by_kind, can_report, can_report_at, rules}
+use Rattle.safety.proofs.Words.{◌≡◌, ◌≢◌, ◌∙◌, ℕ, true, false, Some, ap, and_from, or_from, or_right, cond-true, cond-false, put_pair, Block, code, endpoint, kind, slot, is_transfer_event, is_success, is_halting, is_trb_error, is_stopping, is_transfer_code, Spot, Reaches, Holds, is_stop_spot, stopped_number, Off, is_stop_of, Header, shape_of, Known, event_read, event_at, command_at, next_command, on_ring, stopped_at, transferred, transferred_at, transfer_read, is_working, is_stopping_now, may_be_taken, is_impossible_by_kind, can_report, can_report_at, rules}
 use Rattle.safety.proofs.ReportSuccess.{possible, transfer_kind}
 
 -- the code is that of a Stopped event alone

@@ -1,5 +1,5 @@
 -- A row that breaks no rule fails none of its tests
-use Rattle.safety.proofs.Words.{[], ◌≡◌, ◌||◌, ◌∷◌, ◌∙◌, Bool, true, false, List, map, All, refl, sym, ap, inl, inr, get_or, list_any, cases_Bool, cond-true, cond-false, false≢true, false_from_ne_true, list_any_at, Header, Row, Known, AfterStop, Test, broken_of, lenient_tests, lenient, rules}
+use Rattle.safety.proofs.Words.{[], ◌≡◌, ◌||◌, ◌∷◌, ◌∙◌, Bool, true, false, List, map, All, refl, sym, ap, get_or, list_any, cond-true, cond-false, false≢true, false_from_ne_true, list_any_at, Header, Row, Known, Test, broken_of, lenient_tests, lenient, rules}
 use Rattle.safety.proofs.Lenient.{some_none}
 
 -- before a stop, and with no test failed

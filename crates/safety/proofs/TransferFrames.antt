@@ -1,5 +1,5 @@
 -- What a Transfer Event leaves as it is: all rings but that of its endpoint, and all slots
-use Rattle.safety.proofs.Words.{◌≡◌, ◌≢◌, ◌+◌, if◌then◌else◌, ◌∙◌, ℕ, true, Option, None, Some, refl, sym, ap, option_map, cond_both, none-some, same_Some, put_pair, Block, pointer, code, slot, endpoint, is_success, is_halting, is_trb_error, is_stopping, Spot, number, after, Reaches, Holds, named, stopped_number, EndpointState, Halted, Error, Header, IsHeader, shape_of, command_id, Known, RingSpot, on_ring, spot_on, event_at, passed, broken_off, stopped_at, transferred, transferred_at, transfer_read, EndpointsKeep, rules, arith}
+use Rattle.safety.proofs.Words.{◌≡◌, ◌≢◌, ◌+◌, if◌then◌else◌, ◌∙◌, ℕ, true, Option, Some, refl, sym, ap, option_map, cond_both, none-some, same_Some, put_pair, Block, pointer, code, slot, endpoint, is_success, is_halting, is_trb_error, is_stopping, Spot, number, after, Reaches, Holds, named, stopped_number, Halted, Error, Header, IsHeader, shape_of, command_id, Known, RingSpot, on_ring, spot_on, event_at, passed, broken_off, stopped_at, transferred, transferred_at, transfer_read, EndpointsKeep, rules, arith}
 use Rattle.safety.proofs.RingIds.{command_not_transfer}
 use Rattle.safety.proofs.DriverRows.{ring_elsewhere}
 

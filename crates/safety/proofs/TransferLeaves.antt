@@ -1,5 +1,5 @@
 -- What a Transfer Event leaves as it is
-use Rattle.safety.proofs.Words.{◌≡◌, ◌≢◌, ◌∙◌, ℕ, true, false, refl, rules, and_parts, or_left, or_right, or_from, false≢true, put_pair, Spot, RingChange, EndpointState, is_off, is_running, Header, Known, on_ring, passed, broken_off, stopped_at, transferred, is_working, can_report}
+use Rattle.safety.proofs.Words.{◌≡◌, ◌≢◌, ℕ, true, false, rules, and_parts, or_left, or_right, or_from, false≢true, put_pair, Spot, EndpointState, is_off, is_running, Header, Known, on_ring, passed, broken_off, stopped_at, transferred, is_working, can_report}
 use Rattle.safety.proofs.DriverRows.{ring_here, ring_elsewhere}
 use Rattle.safety.proofs.EndpointPut.{at_pair}
 use Rattle.safety.proofs.Transfers.{chain}

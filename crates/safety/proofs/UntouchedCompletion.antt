@@ -1,5 +1,5 @@
 -- A Command Completion Event leaves an endpoint that no unfinished command touches
-use Rattle.safety.proofs.Words.{◌≡◌, ◌==◌, if◌then◌else◌, ◌∙◌, ℕ, true, false, Option, None, Some, refl, ap, list_any, cond_both, Block, code, slot, Spot, after, Reaches, ContextSize, Command, NoOp, StopEndpoint, changes, touches, Header, Config, IsHeader, shape_of, command_id, register_or_zero, Known, on_ring, command_at, next_command, succeeded, stop_ended, finished, completed, touches_endpoint, is_touched, can_finish, IsUnfinished, CommandKeeps, DriverKeeps, rules, arith}
+use Rattle.safety.proofs.Words.{◌≡◌, ◌==◌, if◌then◌else◌, ◌∙◌, ℕ, true, false, Option, None, Some, refl, list_any, cond_both, Block, code, slot, Spot, after, Reaches, ContextSize, Command, changes, touches, Header, Config, IsHeader, shape_of, command_id, register_or_zero, Known, on_ring, command_at, next_command, succeeded, stop_ended, finished, completed, touches_endpoint, is_touched, can_finish, IsUnfinished, CommandKeeps, DriverKeeps, rules, arith}
 use Rattle.safety.proofs.LowerLaws.{endpoints_of, rings_of, endpoints_part, unfinished_fails}
 use Rattle.safety.proofs.MiddleLaws.{CompletionFacts, next_unfinished, command_holds, success_fits, reached_fields, reached_held, can_be, EndpointHolds, same_holds, both_hold, changes_hold}
 

@@ -1,5 +1,5 @@
 -- Two knowledges of which one is the other behind a doorbell of a ring that was held: the ring is open, the endpoints that have it run
-use Rattle.safety.proofs.Words.{◌≡◌, ◌≢◌, ℕ, Bool, true, false, refl, rules, false≢true, put_pair, Spot, RingChange, Reaches, Opens, changed, EndpointState, Running, Header, shape_of, Known, on_ring}
+use Rattle.safety.proofs.Words.{◌≡◌, ◌≢◌, ℕ, Bool, true, false, rules, false≢true, put_pair, Spot, RingChange, Reaches, Opens, changed, EndpointState, Running, Header, shape_of, Known, on_ring}
 use Rattle.safety.proofs.DriverRows.{ring_here, ring_elsewhere}
 use Rattle.safety.proofs.EndpointPut.{at_pair}
 

@@ -1,5 +1,5 @@
 -- What the success of a command changes, where it doesn't touch the endpoint that was woken: its ring stays woken
-use Rattle.safety.proofs.Words.{[], ◌≡◌, ◌≢◌, ◌==◌, ◌&&◌, if◌then◌else◌, ◌∷◌, ◌∙◌, ℕ, Bool, true, false, List, Option, None, Some, refl, sym, ap, subst, eq-eqb, eqb-true, rules, list_any, false≢true, or_parts, and_parts, and_from, cond-false, same_Some, put, put_pair, Spot, number, Reaches, Holds, ceiling, target, Command, EndpointState, Stopped, is_off, Change, SlotGoesOn, DeviceLeft, Disables, Places, Stops, Resets, slot_gone_on, touches, Header, IsHeader, shape_of, ring_having, Known, on_ring, set_to, bound_to, moved_to, moved, pointed, disabled, in_state, held_at_ceiling, changed_by, changed_by_all, EndpointsKeep}
+use Rattle.safety.proofs.Words.{[], ◌≡◌, ◌≢◌, ◌==◌, ◌&&◌, if◌then◌else◌, ◌∷◌, ◌∙◌, ℕ, Bool, true, false, List, Option, None, Some, sym, ap, subst, eq-eqb, eqb-true, rules, list_any, false≢true, or_parts, and_parts, and_from, cond-false, same_Some, put, put_pair, Spot, number, ceiling, target, Command, EndpointState, Stopped, is_off, Change, SlotGoesOn, DeviceLeft, Disables, Places, Stops, Resets, slot_gone_on, touches, Header, IsHeader, shape_of, ring_having, Known, on_ring, set_to, bound_to, moved_to, moved, pointed, disabled, in_state, held_at_ceiling, changed_by, changed_by_all, EndpointsKeep}
 use Rattle.safety.proofs.AlikeChanges.{both_sides_if}
 use Rattle.safety.proofs.LowerLaws.{change_keeps, EndpointsStand, MayPlace, untouched_stays, Woken, woken_reach, woken_elsewhere, woken_state}
 use Rattle.safety.proofs.StatesChanges.{Fits, FitAll, change_stands}

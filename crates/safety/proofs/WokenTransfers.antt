@@ -1,5 +1,5 @@
 -- A Transfer Event that is possible where a ring is held: it is so where the ring was woken, and leaves it woken
-use Rattle.safety.proofs.Words.{◌≡◌, ◌≢◌, ◌+◌, ◌≤◌, ◌&&◌, ◌||◌, if◌then◌else◌, ◌∙◌, ℕ, Bool, true, false, not, Option, None, Some, arith, refl, sym, ap, subst, ltb-true, lt-ltb, rules, false≢true, and_parts, and_from, or_parts, or_from, not-false, not_from_true, same_Some, option_map, Block, pointer, code, slot, endpoint, is_success, is_halting, is_trb_error, is_stopping, Spot, Data, Link, Shape, number, after, RingView, Opens, Holds, changed, given_count, ceiling, is_data_below, is_open, is_stop_spot, is_step_given, is_way_given, given_count_same, ceiling_open, EndpointState, Halted, Error, is_off, is_running, Header, shape_of, Known, RingSpot, on_ring, spot_on, event_at, passed, broken_off, stopped_at, transferred, transferred_at, transfer_read, is_in_profile, is_working, is_stopping_now, can_report, can_report_at, is_impossible_transfer}
+use Rattle.safety.proofs.Words.{◌≡◌, ◌≢◌, ◌≤◌, ◌&&◌, ◌||◌, if◌then◌else◌, ◌∙◌, ℕ, Bool, true, false, not, Option, None, Some, arith, refl, sym, ap, subst, ltb-true, lt-ltb, rules, false≢true, and_parts, and_from, or_parts, or_from, not-false, not_from_true, same_Some, option_map, Block, pointer, code, slot, endpoint, is_success, is_halting, is_trb_error, is_stopping, Spot, number, after, changed, given_count, ceiling, is_data_below, is_open, is_stop_spot, is_step_given, is_way_given, given_count_same, ceiling_open, EndpointState, Halted, Error, is_off, is_running, Header, shape_of, Known, RingSpot, on_ring, spot_on, event_at, passed, broken_off, stopped_at, transferred, transferred_at, transfer_read, is_in_profile, is_working, is_stopping_now, can_report, can_report_at, is_impossible_transfer}
 use Rattle.safety.proofs.AlikeTransfers.{both_sides, chain_from}
 use Rattle.safety.proofs.AlikeChanges.{both_sides_if}
 use Rattle.safety.proofs.LowerLaws.{SameDriver, event_ring_of, Woken, woken_floor, woken_reach, woken_elsewhere, woken_state, woken_move, woken_seen}

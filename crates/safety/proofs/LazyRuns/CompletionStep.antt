@@ -1,5 +1,5 @@
 -- The step of a row with a Command Completion Event: the looks for it, and what follows where the controller can finish its command
-use Rattle.safety.proofs.LazyRuns.Words.{[], ◌≡◌, ◌∷◌, ◌++◌, ◌∙◌, ℕ, true, List, reverse, Some, sym, ap, subst, eq-eqb, rules, and_from, cond-true, not_from_false, Block, kind, pointer, is_command_completion, Spot, cycle_of, is_open, cycle_of_bit, command_of, Header, Read, TraceRow, Plain, Step, IsHeader, shape_of, command_id, World, UnderWay, can_post, Known, lenient, next_command, was_stop_seen, DriverKeeps, Agrees, next_at_floor, AtFloor, command_at_is, command_of-with_cycle, ◌≢◌, ◌⊎◌, ◌+◌, ◌≤◌, ◌==◌, if◌then◌else◌, suc, Option, None, arith, refl, inl, inr, flat_map, cases_Bool, cases_eq, cases_lt, cond-false, put, code, Data, Link, Shape, IsSpot, number, rank, after, ceiling, MayReach, crossing_positive, after_reached, number-after, rank_least, rank_most, Command, StopEndpoint, changes, RingSpot, command_at, event_read, learned, UnderWayMatches, TakenCommand, ring_here, ring_elsewhere, completion_kind, transfer_not_command, put_at, put_off, next_is, need, ended_with, finish_finished, finished_as, behind_taken, brought, command_taken, further as lazy_further, goals as lazy_goals, looks_to, open_goals, stopped_goals, taken_up_to, known_changed_by, known_changed_by_all, completed, known_finished, held_at_ceiling, known_in_state, stop_ended, known_succeeded, false, false≢true, IsBlock, RingView, Finish, RingState, state_of, Runs, kept_driver, run_keeps, finish_is, finish_runs, posted as posts_posted, counted, made, brought as lazy_brought, goals, pointers_after, post_of, is_placed}
+use Rattle.safety.proofs.LazyRuns.Words.{[], ◌≡◌, ◌∷◌, ◌++◌, ◌∙◌, ℕ, true, List, reverse, Some, sym, ap, subst, eq-eqb, rules, and_from, cond-true, not_from_false, Block, kind, pointer, is_command_completion, Spot, cycle_of, is_open, cycle_of_bit, command_of, Header, Read, TraceRow, Plain, Step, IsHeader, shape_of, command_id, World, UnderWay, can_post, Known, lenient, next_command, was_stop_seen, DriverKeeps, Agrees, next_at_floor, AtFloor, command_at_is, command_of-with_cycle, ◌≢◌, ◌⊎◌, ◌+◌, ◌≤◌, ◌==◌, if◌then◌else◌, suc, Option, None, arith, refl, inl, inr, flat_map, cases_Bool, cases_eq, cases_lt, cond-false, put, code, Data, Shape, IsSpot, number, rank, after, ceiling, MayReach, crossing_positive, after_reached, number-after, rank_least, rank_most, Command, StopEndpoint, changes, RingSpot, command_at, event_read, learned, UnderWayMatches, TakenCommand, ring_here, ring_elsewhere, completion_kind, transfer_not_command, put_at, put_off, next_is, need, ended_with, finish_finished, finished_as, behind_taken, brought, command_taken, further as lazy_further, goals as lazy_goals, looks_to, open_goals, stopped_goals, taken_up_to, known_changed_by, known_changed_by_all, completed, known_finished, held_at_ceiling, known_in_state, stop_ended, known_succeeded, false, false≢true, IsBlock, RingView, Finish, RingState, state_of, Runs, kept_driver, run_keeps, finish_is, finish_runs, posted as posts_posted, counted, made, brought as lazy_brought, goals, pointers_after, post_of, is_placed}
 use Rattle.safety.proofs.UpperLaws.{agrees_now, CompletionSays, completion_says, commands_open, CommandsOpen, AreTimely, IsHeld, need_of_held, timely_then, StandsAt, Follows, Leads, Past, may_post, AtFloors, Traced, traced_behind, looks_for, MayBring, commands_stand, IsActiveIfOpen, Carries, HadBefore, RingsGo}
 use Rattle.safety.proofs.LazyRuns.LooksRun.{AllBrought, Fits, AllFit, AreApart, goals_reached, stands_same, further_then, further_not}
 use Rattle.safety.proofs.LazyRuns.PostStep.{IsPosted, behind_read, posts_last, running_now, runs_behind, all_read_behind, event_step}

@@ -1,5 +1,5 @@
 -- The step of a row that reads a Command Completion Event, whatever its command and its code
-use Rattle.safety.proofs.LazyRuns.Words.{[], ◌≡◌, ◌+◌, ◌==◌, ◌∙◌, ℕ, not, true, false, List, Option, Some, None, is_some, option_map, unwrap_or, refl, sym, ap, rules, or_parts, cond-false, cond-true, Block, IsBlock, kind, code, slot, is_command_completion, after, Reaches, Command, changes, command_of, named_context, can_succeed, Header, Read, TraceRow, Config, IsHeader, shape_of, command_id, register_or_zero, World, posted, Known, event_read, learned, lenient, on_ring, command_at, next_command, is_bad_area, has_bad_context, CommandKeeps, Agrees, bad_command_context, ring_elsewhere, StatesMatch, ChangeKeeps, LeavesRest, states_match, let_go, completion_kind, seen_after, stop_ended_is, next_unfinished, stored, stored_block, world_changed_by_all, effect as bindings_effect, ended, ended_with, passes_end, finish_succeeded, completed, known_finished, stop_ended, known_succeeded, is_placed, is_placed_by, is_placed_by_all, ◌≢◌, ◌<◌, ◌∷◌, Bool, map, All, get_or, eq-eqb, list_any, All-head, All-tail, ConfigureEndpoint, Running, Change, SlotGoesOn, Disables, Places, placed_by_context, added_endpoints, is_dropped, context_pointer, context_cycle, is_ring, is_among, has_repeats, ring_bound, binding_in, DriverKeeps, Stands, bad_context_parts, same_context, configure_same, slot_above, may_add, have_none, numbered, apart, ReadyAt, HasNone, ring_at, ready_next, placed_there, none_there, false≢true, each_fails, any_of_map, known_changed_by, subst, inl, inr, cases_Bool, PlacesNone, command_numbered, SetTrDequeue, Stopped, may_move, MayMove, ContextSize, AreNoPlacings, arith, AddressDevice, is_off, address_same, first_binds, second_moves, slot_binds, slot_moves, and_left, and_right, not-true, Plain, was_stop_seen, learned_read, next_known, failed_read, put_off}
+use Rattle.safety.proofs.LazyRuns.Words.{[], ◌≡◌, ◌+◌, ◌==◌, ◌∙◌, ℕ, not, true, false, List, Option, Some, is_some, option_map, unwrap_or, refl, sym, ap, rules, or_parts, cond-false, cond-true, Block, IsBlock, kind, code, slot, is_command_completion, Command, changes, command_of, named_context, can_succeed, Header, Read, TraceRow, Config, IsHeader, command_id, register_or_zero, World, posted, Known, event_read, learned, lenient, on_ring, command_at, next_command, is_bad_area, has_bad_context, CommandKeeps, Agrees, bad_command_context, ring_elsewhere, StatesMatch, ChangeKeeps, states_match, let_go, completion_kind, seen_after, stop_ended_is, next_unfinished, stored, stored_block, world_changed_by_all, effect as bindings_effect, ended, ended_with, passes_end, finish_succeeded, completed, known_finished, known_succeeded, is_placed, is_placed_by, ◌≢◌, ◌<◌, ◌∷◌, Bool, map, All, get_or, eq-eqb, list_any, All-head, All-tail, ConfigureEndpoint, Running, Change, SlotGoesOn, Disables, Places, placed_by_context, added_endpoints, is_dropped, context_pointer, context_cycle, is_ring, is_among, has_repeats, ring_bound, binding_in, DriverKeeps, Stands, bad_context_parts, same_context, configure_same, slot_above, may_add, have_none, numbered, apart, ReadyAt, HasNone, ring_at, ready_next, placed_there, none_there, false≢true, each_fails, any_of_map, known_changed_by, subst, inl, inr, cases_Bool, PlacesNone, command_numbered, SetTrDequeue, Stopped, may_move, MayMove, ContextSize, AreNoPlacings, arith, AddressDevice, is_off, address_same, first_binds, second_moves, slot_binds, slot_moves, and_left, and_right, not-true, Plain, was_stop_seen, learned_read, next_known, failed_read, put_off}
 use Rattle.safety.proofs.LazyRuns.ChangesGo.{ListGoes, ChangeGoes, no_change_goes, change_then_goes, change_goes, changes_go, bind_goes, move_goes}
 use Rattle.safety.proofs.LazyRuns.CompletionStep.{ReadyToFinish, finish_posted, spots_then, ready_to_finish, floors_then, CompletionLearns, FinishLeaves, completion_step}
 use Rattle.safety.proofs.UpperLaws.{Carries, Past, RingsGo, AtFloors, Follows, Leads, AreTimely}

@@ -1,5 +1,5 @@
 -- Each position before a ring's floor was given by a write of its own: floors, summed, and events that are read are no more than rows
-use Rattle.safety.proofs.LazyRuns.Words.{[], ◌≡◌, ◌≢◌, ◌+◌, ◌<◌, ◌≤◌, ◌∷◌, ◌∙◌, ℕ, suc, true, false, List, All, length, Option, Some, None, arith, refl, sym, ap, inl, inr, rules, cases_eq, cond_both, All-head, All-tail, is_inside, put, put_at, put_off, Opens, Restores, RingChange, RingView, new_ring, floor_number, Header, Row, Sub, Write, Reg, Bell, Read, TraceRow, Comes, Goes, Plain, Withdraws, IsHeader, shape_of, command_id, Register, Known, on_ring, nothing, endpoint_rung, rung, learned, AreKept, FitsFields, header_now, known_now, forgotten, restored, restored_on, ring_restored, with_ring, without_ring, register_leaves, view_after, kind, Block, DriverKeeps, IsDriverRing, ring_shape, Declares, Writes, changed, ring_with, is_driver_ring, driver_ring, endpoints_of, rings_of, nothing_keeps, row_keeps, still_of, not_in_both, transfer_driver, written_view, event_same, still_reads, RingsKeep, RingWithdraws}
+use Rattle.safety.proofs.LazyRuns.Words.{[], ◌≡◌, ◌≢◌, ◌+◌, ◌<◌, ◌≤◌, ◌∷◌, ◌∙◌, ℕ, suc, true, List, All, length, Option, arith, refl, sym, ap, inl, inr, rules, cases_eq, cond_both, All-head, All-tail, is_inside, put, put_at, put_off, Opens, RingChange, RingView, new_ring, floor_number, Header, Row, Sub, Write, Reg, Bell, Read, TraceRow, Comes, Goes, Plain, Withdraws, IsHeader, shape_of, command_id, Register, Known, on_ring, nothing, endpoint_rung, rung, learned, AreKept, FitsFields, header_now, known_now, forgotten, restored, restored_on, ring_restored, with_ring, without_ring, register_leaves, view_after, kind, Block, DriverKeeps, IsDriverRing, ring_shape, Declares, changed, ring_with, is_driver_ring, driver_ring, endpoints_of, rings_of, nothing_keeps, row_keeps, still_of, not_in_both, transfer_driver, written_view, event_same, still_reads, RingsKeep, RingWithdraws}
 use Rattle.safety.proofs.RingChanges.GoneRings as rings_gone
 use Rattle.safety.proofs.RingChanges.Restored.{row_comes, row_keeps as kept_row}
 use Rattle.safety.proofs.UpperLaws.{Keeps, now_keeps, given_among, all_given, none_given, same_given, one_more, no_more, of_driver, on_driver, off_driver, none_of_driver, driver_le, OthersStay, comes_stay, goes_stay, total, total_grows, total_le, total_none, total_one}

@@ -1,5 +1,5 @@
 -- The lazy law by induction over the rows, from the step of a row that reads an event
-use Rattle.safety.proofs.LazyRuns.Words.{[], ◌≡◌, ◌≢◌, ◌⊎◌, ◌≤◌, ◌∷◌, ◌∙◌, ℕ, true, false, List, Some, arith, sym, ap, subst, inl, inr, rules, cases_Bool, false≢true, Spot, Data, Link, Shape, number, rank, Header, Row, TraceRow, Plain, IsHeader, command_id, IsRow, World, RingEvent, next_take, counted, Known, learned, MayCome, DriverKeeps, IsDriverRow, Agrees, Runs, kept_driver, transfer_not_command, more_law, row_runs, square_law, still_rings, pointers_after, AreAtFloors, ◌++◌, All, reverse, option_and_then, refl, append_assoc, reverse-append, All-cons, All-head, All-nil, All-tail, Read, Comes, Goes, Withdraws, NextRow, opening, emptied, with_ring, without_ring, without_descriptor, scene_reached, step_made, scene_with, AreKept, FitsFields, IsKept, header_after, header_now, known_now, restored, restored_on, ring_restored, clean_tests, IsTimely, lazy_run, pointers_at, pointers_for, steps_for, LazyLaw, AllAreRead, none-some, is_open, nothing, opens}
+use Rattle.safety.proofs.LazyRuns.Words.{[], ◌≡◌, ◌≢◌, ◌⊎◌, ◌≤◌, ◌∷◌, ◌∙◌, ℕ, true, false, List, Some, arith, sym, ap, subst, inl, inr, rules, cases_Bool, false≢true, Spot, Data, number, rank, Header, Row, TraceRow, Plain, IsHeader, command_id, IsRow, World, next_take, counted, Known, learned, MayCome, DriverKeeps, IsDriverRow, Agrees, Runs, kept_driver, transfer_not_command, more_law, row_runs, square_law, still_rings, pointers_after, AreAtFloors, ◌++◌, All, reverse, option_and_then, refl, append_assoc, reverse-append, All-cons, All-head, All-nil, All-tail, Read, Comes, Goes, Withdraws, NextRow, opening, emptied, with_ring, without_ring, without_descriptor, scene_reached, step_made, scene_with, AreKept, FitsFields, IsKept, header_after, header_now, known_now, restored, restored_on, ring_restored, clean_tests, IsTimely, lazy_run, pointers_at, pointers_for, steps_for, LazyLaw, AllAreRead, none-some, is_open, nothing, opens}
 use Rattle.safety.proofs.UpperLaws.{agrees_now, pointers_same, driver_reached, StandsAt, IsActiveIfOpen, Follows, Carries, Leads, Past, RowLearns, row_learns, row_active, row_starts, Keeps, now_keeps, all_are_read, EventLaw, AreTimely, comes_follows, comes_stay, goes_follows, goes_stay, restored_follows, withdrawn_follows}
 use Rattle.safety.proofs.LazyRuns.RowsLearn.{PointerStays, RowLeaves, row_leaves, done, row_is_done}
 use Rattle.safety.proofs.RingChanges.Restored.{row_comes, row_keeps, stopped_still}

@@ -1,5 +1,5 @@
 -- The need of a ring that is held is 0, where no event is late: until its doorbell no success of its blocks is read
-use Rattle.safety.proofs.LazyRuns.Words.{rules, [], ◌≡◌, ◌≢◌, ◌+◌, ◌==◌, ◌&&◌, if◌then◌else◌, ◌∷◌, ◌∙◌, ℕ, not, max, Bool, false, List, Option, Some, None, option_map, refl, sym, ap, subst, ne_eqb, eq-eqb, cond_both, cond-false, false≢true, not_from_false, Block, BlockKind, TransferEvent, CommandCompletion, kind, code, pointer, slot, endpoint, is_success, is_halting, is_trb_error, is_stopping, Spot, number, after, RingView, RingChange, changed, new_ring, Shape, put, put_at, put_off, cases_eq, Opens, Holds, Reaches, Restores, is_open, ceiling, named, stopped_number, target, Command, StopEndpoint, is_off, Change, Places, Stops, changes, Header, Row, Read, TraceRow, Plain, IsDriverRow, shape_of, command_id, is_ring, ring_having, Known, RingSpot, on_ring, spot_on, command_at, next_command, endpoint_rung, rung, event_read, learned, declaration_leaves, write_leaves, register_leaves, view_after, is_report_of_success, is_held_ring, is_late, is_late_row, number_behind, begins_anew, number_reported, ends_need, number_needed, need, header_after, known_after, forgotten, restored, restored_on, ring_restored, broken_off, passed as transfers_passed, stopped_at, transfer_read, transferred, transferred_at, bound_to, known_changed_by, known_changed_by_all, completed, known_disabled, known_finished, held_at_ceiling, known_in_state, moved, moved_to, pointed, set_to, stop_ended, known_succeeded, arith}
+use Rattle.safety.proofs.LazyRuns.Words.{rules, [], ◌≡◌, ◌≢◌, ◌==◌, ◌&&◌, ◌∷◌, ◌∙◌, ℕ, not, max, Bool, false, List, Option, option_map, refl, ap, subst, ne_eqb, eq-eqb, cond_both, cond-false, false≢true, not_from_false, Block, BlockKind, TransferEvent, CommandCompletion, kind, code, pointer, slot, endpoint, is_success, is_halting, is_trb_error, is_stopping, Spot, number, after, RingView, RingChange, changed, new_ring, Shape, put, put_at, put_off, cases_eq, Opens, Holds, Reaches, is_open, ceiling, named, stopped_number, target, Command, is_off, Change, changes, Header, Row, Read, TraceRow, Plain, IsDriverRow, shape_of, command_id, is_ring, ring_having, Known, RingSpot, on_ring, spot_on, command_at, next_command, endpoint_rung, rung, event_read, learned, declaration_leaves, write_leaves, register_leaves, view_after, is_report_of_success, is_held_ring, is_late, is_late_row, number_behind, begins_anew, number_reported, ends_need, number_needed, need, header_after, known_after, forgotten, restored, restored_on, ring_restored, broken_off, passed as transfers_passed, stopped_at, transfer_read, transferred, transferred_at, bound_to, known_changed_by, known_changed_by_all, completed, known_disabled, known_finished, held_at_ceiling, known_in_state, moved, moved_to, pointed, set_to, stop_ended, known_succeeded, arith}
 use Rattle.ring_knowledge.specs.Rings.{event_at}
 
 abbrev pub IsHeld : Known → ℕ → Type 0

@@ -1,5 +1,5 @@
 -- The step of a row that reads an event: the lazy run posts it directly before, whichever step it is that posts it
-use Rattle.safety.proofs.LazyRuns.Words.{[], ◌≡◌, ◌+◌, ◌<◌, ◌∷◌, ◌++◌, ◌∙◌, true, false, List, reverse, Some, arith, refl, sym, ap, subst, inl, reverse-append, Block, IsBlock, block_at, kind, same_words, address_of, Header, Read, Step, NextRow, TraceRow, Plain, IsHeader, event_shape, World, event_at, read_made, learned, Runs, words_itself, post_keeps, read_runs, Option, stored, stored_block, driver_event_read, row_done, can_post, posted as posts_posted, counted, made as steps_made, while_running, pointers_after, post_of, steps_before, ◌≢◌, ◌&&◌, ℕ, inr, cases_eq, cond-false, false≢true, code, slot, is_transfer_event, is_command_completion, Spot, is_open, Report, command_id, Known, command_at, next_command, lenient, event_facts, run_keeps, report_runs, report_is, transfer_kind, reported, made, brought, goals, is_placed, is_placed_by, ◌||◌, Bool, or_cases, BlockKind, is_other_event, None, rules, and_from, cond-true, Other, learned_read, says_nothing, other_runs, with_reads, PortStatusChange, other_posted, goals as lazy_goals}
+use Rattle.safety.proofs.LazyRuns.Words.{[], ◌≡◌, ◌+◌, ◌∷◌, ◌++◌, ◌∙◌, true, false, List, reverse, Some, arith, refl, sym, ap, subst, inl, reverse-append, Block, IsBlock, block_at, kind, same_words, address_of, Header, Read, Step, NextRow, TraceRow, Plain, IsHeader, event_shape, World, event_at, read_made, learned, Runs, words_itself, post_keeps, read_runs, Option, stored, stored_block, driver_event_read, row_done, can_post, posted as posts_posted, counted, made as steps_made, while_running, pointers_after, post_of, steps_before, ◌≢◌, ◌&&◌, ℕ, inr, cond-false, false≢true, code, slot, is_transfer_event, is_command_completion, Spot, is_open, Report, command_id, Known, command_at, next_command, lenient, event_facts, run_keeps, report_runs, report_is, transfer_kind, reported, made, brought, goals, is_placed, is_placed_by, ◌||◌, Bool, or_cases, BlockKind, is_other_event, None, rules, and_from, cond-true, Other, learned_read, says_nothing, other_runs, with_reads, other_posted, goals as lazy_goals}
 use Rattle.safety.proofs.UpperLaws.{step_reached, agrees_now, next_reached, Follows, Carries, Leads, Past, looks_for, StandsAt, IsActiveIfOpen, Traced, AreTimely, EventLaw, is_event_read, may_post}
 
 module _ (h : Header) where

@@ -1,5 +1,5 @@
 -- What a Transfer Event says that breaks no rule, by its code: the spot that it names, and what the controller did there
-use Rattle.safety.proofs.LazyRuns.Words.{[], ◌≡◌, ◌<◌, ◌&&◌, ◌||◌, ◌∙◌, ℕ, not, Bool, true, false, Option, Some, None, option_map, refl, sym, ap, ltb-true, rules, and_cases, and_parts, or_parts, or_cases, or_from, not-false, not-true, false≢true, none-some, same_Some, Block, is_set, word, kind, code, pointer, slot, endpoint, is_transfer_event, is_success, is_halting, is_trb_error, is_transfer_code, Spot, Data, Link, ceiling, named, is_data_below, is_open, is_stop_spot, is_running, Header, Read, shape_of, Known, RingSpot, spot_on, is_in_profile, is_working, is_stopping_now, can_report, can_report_at, is_impossible_by_kind, is_impossible_transfer, lenient, event_facts, transfer_kind, StopCode, chain, spot_is, arith}
+use Rattle.safety.proofs.LazyRuns.Words.{[], ◌≡◌, ◌<◌, ◌&&◌, ◌||◌, ◌∙◌, ℕ, not, Bool, true, false, Option, Some, None, option_map, sym, ap, ltb-true, rules, and_cases, and_parts, or_parts, or_cases, or_from, not-false, not-true, false≢true, none-some, same_Some, Block, is_set, word, kind, code, pointer, slot, endpoint, is_transfer_event, is_success, is_halting, is_trb_error, is_transfer_code, Spot, Data, ceiling, named, is_data_below, is_open, is_stop_spot, is_running, Header, Read, shape_of, Known, RingSpot, spot_on, is_in_profile, is_working, is_stopping_now, can_report, can_report_at, is_impossible_by_kind, is_impossible_transfer, lenient, event_facts, transfer_kind, StopCode, chain, spot_is, arith}
 use Rattle.ring_knowledge.specs.Rings.{event_at}
 
 module _ (h : Header) where

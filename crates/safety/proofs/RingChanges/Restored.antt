@@ -1,5 +1,5 @@
 -- A ring that a row starts or moves is restored first: all of it stands as declared, and nothing of it is free any more
-use Rattle.safety.proofs.Words.{[], ◌≡◌, ◌∷◌, ◌∙◌, ℕ, ◌≢◌, false, List, refl, sym, ap, Block, RingChange, Header, Read, IsHeader, command_id, World, Known, on_ring, learned, lenient, DriverKeeps, HeldMore, Agrees, ArePossible, Runs, all_read, ◌||◌, not, Bool, Option, None, Some, option_and_then, slice_get, subst, inl, inr, rules, is_not_restored, Restores, restores_keeps, is_left, restored, restored_on, ring_moved, ring_restored, some_flips, command_of, flat_map, or_parts, Ring, list_any, none-some, same_Some, block_at, IsRestored, address_of, cycle_of, positions_given, flips_passed, unrestored, is_declared_as, Command, SetTrDequeue, Row, Write, Bell, shape_of, driver_rings, command_at, command_given, MayCome, MovesRestored, KeepsPassed, IsTransferRing, arith}
+use Rattle.safety.proofs.Words.{[], ◌≡◌, ◌∷◌, ◌∙◌, ℕ, ◌≢◌, false, List, refl, sym, ap, Block, RingChange, Header, Read, IsHeader, command_id, World, Known, on_ring, learned, lenient, DriverKeeps, HeldMore, Agrees, ArePossible, Runs, all_read, ◌||◌, not, Bool, Option, None, Some, option_and_then, slice_get, inl, inr, rules, is_not_restored, Restores, restores_keeps, is_left, restored, restored_on, ring_moved, ring_restored, some_flips, command_of, flat_map, or_parts, Ring, list_any, none-some, same_Some, block_at, IsRestored, address_of, cycle_of, positions_given, flips_passed, unrestored, is_declared_as, Command, Row, Write, Bell, shape_of, driver_rings, command_at, command_given, MayCome, MovesRestored, KeepsPassed, IsTransferRing, arith}
 use Rattle.safety.proofs.DriverHistories.{kept_driver}
 use Rattle.safety.proofs.MiddleLaws.{more_law, read_on, behind_kept, event_behind, read_same, none_fewer, quiet_keeps, restored_agrees}
 use Rattle.safety.proofs.LowerLaws.{held_more_same, held_more_twice, weaker, driver_test, ring_elsewhere, ring_here, ring_shape, transfer_driver, transfer_not_command, HasRing, has_ring, none_of_ring}
