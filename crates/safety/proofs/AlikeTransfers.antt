@@ -66,13 +66,9 @@ module _ (h : Header) (P : ℕ → Type 0) (k l : Known) (a : Alike P k l) where
 
     -- each spot that is named on an endpoint's ring is so at the other too
     module _ (names : (s i r p : ℕ) (t : Spot) → k.ring_of s i ≡ Some r → named (shape_of h r) (k.ring r) p ≡ Some t → named (shape_of h r) (l.ring r) p ≡ Some t) where
-      spot_alike : (s i p : ℕ) (o : Option ℕ) → k.ring_of s i ≡ o → (at : RingSpot) → spot_on h k p o ≡ Some at → spot_on h l p o ≡ Some at
-      unfolding spot_on
-      spot_alike s i p o has at e = grind (arith, none-some)
-
       event_alike : (b : Block) (at : RingSpot) → event_at h k b ≡ Some at → event_at h l b ≡ Some at
-      unfolding event_at
-      event_alike b at e = search (rules, spot_on, pointer, slot, endpoint, spot_alike, k.ring_of)
+      unfolding event_at spot_on
+      event_alike b at e = search (rules, spot_on, pointer, slot, endpoint, none-some, k.ring_of)
 
       pub transfer_alike : (b : Block) → is_impossible_transfer h k b ≡ false → is_in_profile b ≡ true →
           (is_impossible_transfer h l b ≡ false) × Alike P (transfer_read h k b) (transfer_read h l b)

@@ -17,51 +17,35 @@ none_left k s x at = at
 module _ (h : Header) where
   -- ---- a Transfer Event
 
-  at_left : (k : Known) (b : Block) (o : Option RingSpot) → DevicesLeft k (transferred_at h k b o)
-  unfolding transferred_at transferred passed broken_off stopped_at on_ring
-  at_left k b o = grind (arith, none_left)
-
   -- ---- a completion
 
-  target_left : (k : Known) (r : ℕ) (o : Option Spot) → DevicesLeft k (moved_to h k r o)
-  unfolding moved_to set_to on_ring
-  target_left k r o = grind (arith, none_left)
-
   moved_left : (k : Known) (o : Option ℕ) (p : ℕ) (cycle : Bool) → DevicesLeft k (moved h k o p cycle)
-  unfolding moved
-  moved_left k o p cycle = grind (arith, none_left, target_left, target, shape_of, k.ring)
-
-  bound_left : (k : Known) (s i : ℕ) (o : Option ℕ) (p : ℕ) (cycle : Bool) → DevicesLeft k (bound_to h k s i o p cycle)
-  unfolding bound_to
-  bound_left k s i o p cycle = grind (arith, none_left, moved_left)
+  unfolding moved moved_to set_to on_ring
+  moved_left k o p cycle = grind (arith, none_left, target, shape_of, k.ring)
 
   held_left : (k : Known) (o : Option ℕ) → DevicesLeft k (held_at_ceiling h k o)
   unfolding held_at_ceiling on_ring
   held_left k o = grind (arith, none_left)
 
   change_left : (c : Command) (k : Known) (change : Change) → DevicesLeft k (changed_by h c k change)
-  unfolding changed_by disabled in_state pointed
+  unfolding changed_by disabled in_state pointed bound_to
   change_left c k o =
-      grind (arith, fewer, k.device, is_off, bound_to, ring_having, moved, bound_left, moved_left, held_left, in_state, k.ring_of, none_left)
+      grind (arith, fewer, k.device, is_off, bound_to, ring_having, moved, moved_left, held_left, in_state, k.ring_of, none_left)
 
   changes_left : (c : Command) (k : Known) (all : List Change) → DevicesLeft k (changed_by_all h c k all)
   unfolding changed_by_all
   changes_left c k [] = none_left k
   changes_left c k (change ∷ rest) = λ s x at. change_left c k change s x (changes_left c (changed_by h c k change) rest s x at)
 
-  stop_left : (k : Known) (c : Command) → DevicesLeft k (stop_ended h k c)
-  unfolding stop_ended
-  stop_left k o = grind (arith, none_left)
-
   finish_left : (k : Known) (b : Block) (o : Option Command) → DevicesLeft k (finished h k b o)
-  unfolding finished succeeded
-  finish_left k b o = grind (arith, none_left, changes_left, stop_left)
+  unfolding finished succeeded stop_ended
+  finish_left k b o = grind (arith, none_left, changes_left)
 
   -- ---- any event
 
   kind_left : (k : Known) (b : Block) (n : BlockKind) → DevicesLeft k (event_read h k n b)
-  unfolding event_read transfer_read completed on_ring
-  kind_left k b o = grind (arith, at_left, event_at, finish_left, command_at, next_command, none_left)
+  unfolding event_read transfer_read completed on_ring transferred_at transferred passed broken_off stopped_at
+  kind_left k b o = grind (arith, event_at, finish_left, command_at, next_command, none_left)
 
   pub devices_left : (k : Known) (e : Block) → DevicesLeft k (learned h k (Read e))
   unfolding learned

@@ -29,13 +29,9 @@ module _ (h : Header) (is : IsHeader h) (k : Known) (d : DriverKeeps h k) (e : B
     abbrev x : Known
     x = between h is k d a w e clean may c given
 
-    dequeue_same : (o : Option ℕ) (p : ℕ) (cycle : Bool) → is_bad_dequeue h l o p cycle ≡ is_bad_dequeue h x o p cycle
-    unfolding is_bad_dequeue
-    dequeue_same o p cycle = grind arith
-
     set_by : (s i p : ℕ) (cycle : Bool) → is_bad_move h x (SetTrDequeue s i p cycle) ≡ false → is_bad_move h l (SetTrDequeue s i p cycle) ≡ false
-    unfolding is_bad_move
-    set_by s i p cycle good = search (rules, or_parts, is_bad_dequeue, or_from, dequeue_same)
+    unfolding is_bad_move is_bad_dequeue
+    set_by s i p cycle good = search (rules, or_parts, is_bad_dequeue, or_from)
 
     -- a Set TR Dequeue may move the ring as before
     pub set_behind : (s i p : ℕ) (cycle : Bool) → c ≡ SetTrDequeue s i p cycle → is_bad_move h l c ≡ false

@@ -26,14 +26,9 @@ module _ (h : Header) (is : IsHeader h) (k : Known) (d : DriverKeeps h k) (a w :
   unfolding has_bad_context
   context_of o good = grind (arith, context_behind)
 
-  -- so are the words of the input context; where a device context may lie is tested of what is leased, hence told apart
-  content_of : (f : Command) → c ≡ f → has_bad_content h x f ≡ false → has_bad_content h k f ≡ false → has_bad_content h l f ≡ false
-  unfolding has_bad_content is_bad_added type_in
-  content_of o at there before = grind (arith, or_parts, not, input_add_flag, type_in, takes_bad_device, k.memory, or_from, device_behind, false)
-
   -- the command breaks BadCommand behind the event no more than before it
   pub good_behind : is_bad_command h l c ≡ false
-  unfolding is_bad_command
+  unfolding is_bad_command has_bad_content is_bad_added type_in
   good_behind =
       let there_content = or_parts _ (has_bad_content h x c) (own_between h is k d a w e clean may c given).good in
       let there_context = or_parts _ (has_bad_context h x (named_context c)) there_content.0 in
@@ -43,4 +38,4 @@ module _ (h : Header) (is : IsHeader h) (k : Known) (d : DriverKeeps h k) (a w :
       (or_from _ (has_bad_context h l (named_context c))
       (or_from (names_disabled_slot l (named_slot c)) (names_disabled_endpoint l (named_endpoint c)) (slot_same (named_slot c) ∙ there_names.0) (endpoint_same (named_endpoint c) ∙ there_names.1))
       (context_of (named_context c) (or_parts _ (has_bad_context h k (named_context c)) content.0).1))
-      (content_of c refl there_content.1 content.1)
+      (grind (arith, or_parts, not, input_add_flag, type_in, takes_bad_device, k.memory, or_from, device_behind, false))

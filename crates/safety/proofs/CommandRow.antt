@@ -64,24 +64,17 @@ module _ (h : Header) (is : IsHeader h) (k : Known) (d : DriverKeeps h k) (a w :
       (λ same. false≢true (sym (there h is k d a w e clean may c given).fresh ∙ ap (λ p. (l.ring (command_id h)).given p) (sym same) ∙ now.1.given)) in
       false≢true (sym apart ∙ sym (binds_ring_beside h beneath x found.0 beside_f r) ∙ sym (ap (λ bs. list_any (λ b. is_ring r (ring_bound h b)) bs) (binds_same found.0)) ∙ found.2))
 
-  drops_same : (f : Command) (s i : ℕ) → drops l f s i ≡ drops x f s i
-  unfolding drops
-  drops_same o t i = grind (arith, false)
-
   -- nor has an endpoint one of them that isn't dropped
   unkept_behind : (r : ℕ) → binds_ring h x r c ≡ true → is_kept h l c r ≡ false
-  unkept_behind r bound = none_kept h l c r (λ s i has. drops_same c s i ∙ (own_between h is k d a w e clean may c given).unkept r s i bound has)
-
-  placed_same : (o : Option ℕ) (b : Binding) → is_placed h l o b ≡ is_placed h x o b
-  unfolding is_placed
-  placed_same o b = grind arith
+  unfolding drops
+  unkept_behind r bound = none_kept h l c r (λ s i has. (grind (arith, false)) ∙ (own_between h is k d a w e clean may c given).unkept r s i bound has)
 
   place_behind : (b : Binding) → IsIn b (binds h x c) → is_bad_place h l c b ≡ false
-  unfolding is_bad_place binds_ring is_taken is_being_bound
+  unfolding is_bad_place binds_ring is_taken is_being_bound is_placed
   place_behind b at =
       let placed = each_in (λ b. is_placed h x (ring_bound h b) b ≡ true) (binds h x c) b (own_between h is k d a w e clean may c given).placed at in
       or_from (is_taken h l c (ring_bound h b)) (not (is_placed h l (ring_bound h b) b)) (search (rules, x, l, cases_option, any_of, eq-eqb, or_from, unkept_behind, unnamed))
-      (not_from_true (is_placed h l (ring_bound h b) b) (placed_same (ring_bound h b) b ∙ placed))
+      (not_from_true (is_placed h l (ring_bound h b) b) ((grind arith) ∙ placed))
 
   pub bindings_behind : is_bad_binding h l c ≡ false
   unfolding is_bad_binding

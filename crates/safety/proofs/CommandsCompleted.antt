@@ -5,13 +5,10 @@ use Rattle.safety.proofs.TakenDevices.{slot_above, slot_named}
 use Rattle.safety.proofs.SlotCommands.{changed_slot, changed_part, OfCommand, Commands, of_slot, success_others}
 use Rattle.safety.proofs.CommandsFinished.{beside_finished, rings_finished, unfinished_before}
 
-enabled_before : (s : SlotState) → is_some (slot_success EnableSlot s) ≡ true → is_disabled s ≡ true
-enabled_before o can = grind (arith, false≢true)
-
 -- an Enable Slot succeeds with a slot that was Disabled
 enabled_slot : (k : Known) (n : ℕ) → can_succeed k.slot_state k.endpoint_state (register_or_zero k.register Config) n EnableSlot ≡ true → is_disabled (k.slot_state n) ≡ true
 unfolding can_succeed
-enabled_slot k n can = enabled_before (k.slot_state n) (and_parts (is_some (slot_success EnableSlot (k.slot_state n))) _ (and_parts _ _ can).0).0
+enabled_slot k n can = grind (arith, false≢true)
 
 stop_others : (h : Header) (k x : Known) (s : ℕ) (part : Option ℕ) (B : ℕ → Type 0) (e : Command) → OtherSlots k x s part B → OtherSlots k (stop_ended h x e) s part B
 unfolding stop_ended

@@ -14,9 +14,6 @@ use Rattle.safety.proofs.MovesSame.{standing_same, unfinished_view}
 use Rattle.safety.proofs.CommandsStay.{PlacesStay, MovesAhead, still_restored}
 use Rattle.safety.proofs.CommandsSame.{SameStates, RingsStay, ring_stays, same_stay}
 
-stopped_on : (e : EndpointState) → is_stopped e ≡ true → false ≡ is_off e
-stopped_on o stopped = grind (arith, false≢true)
-
 opened_states : (h : Header) (k : Known) (r : ℕ) → SameStates k (on_ring h k r Opens)
 unfolding on_ring
 opened_states h k r = record { memory = refl; soiled = refl; device = refl; slot_state = refl; off = λ s i. refl; ring_of = refl; was_bound = refl }
@@ -65,7 +62,7 @@ module _ (h : Header) (is : IsHeader h) (k : Known) (d : DriverKeeps h k) where
 
     rung_states : SameStates k l
     unfolding l endpoint_rung on_ring
-    rung_states = search (rules, l, at_pair, stopped_on)
+    rung_states = search (rules, l, at_pair, false≢true)
 
     ring_is : l.ring ≡ opened.ring
     unfolding l opened endpoint_rung

@@ -16,23 +16,17 @@ some_concerned (StopEndpoint t i) s named = (i, (named, (same_Some t s named, re
 some_concerned (SetTrDequeue t i p cycle) s named = (i, (named, (same_Some t s named, refl)))
 some_concerned _ s named = (0, (named, tt))
 
-one_endpoint : (a b : Option (ℕ × ℕ)) (s i : ℕ) → IsEndpoint a s i → IsEndpoint b s i → other_endpoint a b ≡ false
-one_endpoint o b s i here there = grind (arith, not_from_true, and_from, eq-eqb)
-
 pub not_both : (c d : Command) (s i : ℕ) → exclude c d ≡ false → Concerns c s i → Concerns d s i → ⊥
 not_both c d s i apart here there =
-    search (rules, false≢true, and_from, same_slot, named_slot, not, other_endpoint, named_endpoint, eq-eqb, one_endpoint, here.1)
+    search (rules, false≢true, and_from, same_slot, named_slot, not, other_endpoint, named_endpoint, eq-eqb, not_from_true, here.1)
 
 -- ---- neither excludes the other
 
 eqb_turned : (s t : ℕ) → (s == t) ≡ (t == s)
 eqb_turned s t = search (rules, true, eq-eqb, eqb-true, false, false_from_ne_true, false≢true)
 
-slots_turned : (x y : Option ℕ) → same_slot x y ≡ same_slot y x
-slots_turned o x = grind (arith, eqb_turned)
-
 endpoints_turned : (a b : Option (ℕ × ℕ)) → other_endpoint a b ≡ other_endpoint b a
 endpoints_turned o x = grind (arith, not, eqb_turned)
 
 pub excludes_turned : (c d : Command) → exclude c d ≡ exclude d c
-excludes_turned c d = search (rules, not, other_endpoint, named_endpoint, slots_turned, named_slot, same_slot, endpoints_turned)
+excludes_turned c d = search (rules, not, other_endpoint, named_endpoint, eqb_turned, named_slot, same_slot, endpoints_turned)

@@ -5,10 +5,6 @@ use Rattle.safety.proofs.SameRings.{written_same, register_same, rung_same, tran
 use Rattle.safety.proofs.Endpoints.{same_keeps, changes_keep, changes_elsewhere}
 
 module _ (h : Header) (is : IsHeader h) where
-  stop_elsewhere : (k : Known) (c : Command) (q : ℕ) → (stop_ended h k c).ring q ≡ k.ring q
-  unfolding stop_ended
-  stop_elsewhere k o q = grind arith
-
   finish_keeps : (k : Known) (b : Block) (o : Option Command) → EndpointsKeep h k → EndpointsKeep h (finished h k b o)
   unfolding finished succeeded
   finish_keeps k b None keeps = keeps
@@ -19,10 +15,10 @@ module _ (h : Header) (is : IsHeader h) where
 
   -- what a command's success does leaves the command ring as it is
   pub finish_elsewhere : (k : Known) (b : Block) (o : Option Command) → EndpointsKeep h k → (finished h k b o).ring (command_id h) ≡ k.ring (command_id h)
-  unfolding finished succeeded
+  unfolding finished succeeded stop_ended
   finish_elsewhere k b None keeps = refl
   finish_elsewhere k b (Some c) keeps =
-      stop_elsewhere (if code b == 1 then succeeded h k (slot b) c else k) c (command_id h)
+      grind arith
       ∙ cond_both (code b == 1) (succeeded h k (slot b) c) k (λ l. l.ring (command_id h) ≡ k.ring (command_id h))
       (λ _. changes_elsewhere h is (command_id h) (command_not_transfer h is) c k (changes h.context_size k.memory (slot b) c) keeps) (λ _. refl)
 
@@ -35,9 +31,7 @@ module _ (h : Header) (is : IsHeader h) where
 
   event_keeps : (k : Known) (b : Block) (n : BlockKind) → EndpointsKeep h k → EndpointsKeep h (event_read h k n b)
   unfolding event_read
-  event_keeps k b TransferEvent keeps = same_keeps h k (transfer_read h k b) (transfer_same h k b) keeps
-  event_keeps k b CommandCompletion keeps = completion_keeps k b keeps
-  event_keeps k b _ keeps = keeps
+  event_keeps k b o keeps = grind (arith, same_keeps, transfer_read, transfer_same, completion_keeps)
 
   pub row_keeps : (k : Known) (row : Row) → EndpointsKeep h k → EndpointsKeep h (learned h k row)
   unfolding learned on_ring

@@ -31,14 +31,10 @@ module _ (h : Header) where
   unfolding set_to
   set_elsewhere k r q t other = ring_elsewhere h (on_ring h k r (Reaches t)) r q (Holds (number t)) other ∙ ring_elsewhere h k r q (Reaches t) other
 
-  bound_keeps : (k : Known) → EndpointsKeep h k → (s i : ℕ) (o : Option ℕ) (p : ℕ) (cycle : Bool) → ((r : ℕ) → o ≡ Some r → IsTransferRing h r) → EndpointsKeep h (bound_to h k s i o p cycle)
-  unfolding bound_to
-  bound_keeps k keeps s i o p cycle transfers = grind (arith, same_Some)
-
   pointed_keeps : IsHeader h → (k : Known) → EndpointsKeep h k → (s i p : ℕ) (cycle : Bool) → EndpointsKeep h (pointed h k s i p cycle)
-  unfolding pointed
+  unfolding pointed bound_to
   pointed_keeps is k keeps s i p cycle =
-      search (rules, is_off, k.endpoint_state, bound_to, ring_having, moved, k.ring_of, bound_keeps, having_transfer, same_keeps, moved_rings)
+      search (rules, is_off, k.endpoint_state, bound_to, ring_having, moved, k.ring_of, same_Some, having_transfer, same_keeps, moved_rings)
 
   -- ---- the success of a command
 
@@ -64,10 +60,6 @@ module _ (h : Header) where
     other_ring : (k : Known) → EndpointsKeep h k → (s i r : ℕ) → k.ring_of s i ≡ Some r → q ≢ r
     other_ring k keeps s i r at same = not_transfer (subst (λ n. IsTransferRing h n) (sym same) (keeps.transfer s i r at))
 
-    moved_elsewhere : (k : Known) → EndpointsKeep h k → (s i p : ℕ) (cycle : Bool) (o : Option ℕ) → k.ring_of s i ≡ o → (moved h k o p cycle).ring q ≡ k.ring q
-    unfolding moved moved_to
-    moved_elsewhere k keeps s i p cycle o at = grind (arith, set_elsewhere, other_ring)
-
     bound_elsewhere : (k : Known) (s i : ℕ) (o : Option ℕ) (p : ℕ) (cycle : Bool) → ((r : ℕ) → o ≡ Some r → q ≢ r) → (bound_to h k s i o p cycle).ring q ≡ k.ring q
     unfolding bound_to moved moved_to
     bound_elsewhere k s i None p cycle others = refl
@@ -78,20 +70,16 @@ module _ (h : Header) where
         by (Some t) = set_elsewhere k r q t (others r refl)
 
     pointed_elsewhere : (k : Known) → EndpointsKeep h k → (s i p : ℕ) (cycle : Bool) → (pointed h k s i p cycle).ring q ≡ k.ring q
-    unfolding pointed
+    unfolding pointed moved moved_to
     pointed_elsewhere k keeps s i p cycle =
         cond_both (is_off (k.endpoint_state s i)) (bound_to h k s i (ring_having h p) p cycle) (moved h k (k.ring_of s i) p cycle) (λ l. l.ring q ≡ k.ring q)
         (λ off. bound_elsewhere k s i (ring_having h p) p cycle (λ r at same. not_transfer (subst (λ n. IsTransferRing h n) (sym same) (having_transfer h is p r at))))
-        (λ on. moved_elsewhere k keeps s i p cycle (k.ring_of s i) refl)
-
-    held_elsewhere : (k : Known) → EndpointsKeep h k → (s i : ℕ) (o : Option ℕ) → k.ring_of s i ≡ o → (held_at_ceiling h k o).ring q ≡ k.ring q
-    unfolding held_at_ceiling
-    held_elsewhere k keeps s i o at = grind (arith, ring_elsewhere, ceiling, shape_of, k.ring, other_ring)
+        (λ on. (grind (arith, set_elsewhere, other_ring)))
 
     change_elsewhere : (c : Command) (k : Known) (change : Change) → EndpointsKeep h k → (changed_by h c k change).ring q ≡ k.ring q
-    unfolding changed_by disabled in_state
+    unfolding changed_by disabled in_state held_at_ceiling
     change_elsewhere c k (Places s i p cycle state) keeps = pointed_elsewhere k keeps s i p cycle
-    change_elsewhere c k (Stops s i) keeps = held_elsewhere (in_state h k s i Stopped) (same_keeps k (in_state h k s i Stopped) refl keeps) s i (k.ring_of s i) refl
+    change_elsewhere c k (Stops s i) keeps = grind (arith, ring_elsewhere, ceiling, shape_of, (in_state h k s i Stopped).ring, other_ring)
     change_elsewhere c k _ keeps = refl
 
     -- stays as it is

@@ -151,14 +151,11 @@ module _ (h : Header) where
 
   finish_fewer : (k : Known) (b : Block) (o : Option Command) → FewerDevices k (finished h k b o)
   unfolding finished succeeded
-  finish_fewer k b None t d at = at
-  finish_fewer k b (Some c) t d at = search (rules, ended_fewer, code, succeeded, slot, cond_both, changes_fewer, changes)
+  finish_fewer k b o t d at = grind (arith, ended_fewer, code, succeeded, slot, changes_fewer, changes)
 
   kind_fewer : (k : Known) (b : Block) (n : BlockKind) → FewerDevices k (event_read h k n b)
   unfolding event_read completed on_ring
-  kind_fewer k b TransferEvent t d at = ap (λ f. f t) (sym (transfer_slots h k b).device) ∙ at
-  kind_fewer k b CommandCompletion t d at = finish_fewer k b (command_at h k (next_command h k)) t d at
-  kind_fewer k b _ t d at = at
+  kind_fewer k b o t d at = grind (arith, transfer_slots, finish_fewer, command_at, next_command)
 
   -- ---- rings
 

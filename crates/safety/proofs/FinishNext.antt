@@ -38,16 +38,13 @@ module _ (h : Header) (is : IsHeader h) (k : Known) (d : DriverKeeps h k) (on : 
     unfolding command_at
     command_kept p = ap (λ l. option_and_then command_of (slice_get l p)) (sym (queue_same (command_id h)))
 
-    other_ring : (u : World) (q : ℕ) → q ≢ command_id h → EndpointRing h k u q → EndpointRing h (next_known h k seen n) (let_go u) q
-    other_ring u q other o = grind (arith, shape_of, k.ring_of, state_of, ring_same)
-
     pub matches_next : (u : World) → Matches h k u → (t : Spot) → RingMatches (shape_of h (command_id h)) (k.ring (command_id h)) (state_of u (command_id h)) t →
         number t ≡ next_command h k + 1 → ((s i : ℕ) → seen s i ≡ false) → Matches h (next_known h k seen n) (let_go u)
     matches_next u y t r at none = record {
       slots = y.slots;
       endpoints = y.endpoints;
       ring_of = y.ring_of;
-      rings = λ q other. other_ring u q other (y.rings q other);
+      rings = λ q other. (grind (arith, shape_of, k.ring_of, state_of, ring_same));
       before = λ off. let b = y.before off in record { inactive = b.inactive; no_events = b.no_events; none = refl };
       command = λ started. record {
         spot = t;

@@ -42,15 +42,6 @@ together (y ∷ ys) r q may a b =
 pub clash_apart : (r q : Ring) (x : ℕ) → clash r q ≡ false → is_inside r.shape x ≡ true → is_inside q.shape x ≡ true → ⊥
 clash_apart r q x none a b = search (rules, or_parts, rings_apart)
 
-kinds_apart : (kind : RingKind) → is_transfer_kind kind ≡ true → is_command_kind kind ≡ true → ⊥
-kinds_apart o a b = grind (arith, false≢true)
-
-driver_not_event : (kind : RingKind) → is_driver_kind kind ≡ true → kind ≡ Evt → ⊥
-driver_not_event o h e = grind (arith, false≢true)
-
-transfer_is_driver : (kind : RingKind) → is_transfer_kind kind ≡ true → is_driver_kind kind ≡ true
-transfer_is_driver o h = grind (arith, false≢true)
-
 -- the event ring of a header that has one
 pub record EventRing (h : Header) : Type 0 where
   pub ring : Ring
@@ -64,7 +55,7 @@ pub record IsAllowed (shape : Shape) : Type 0 where
 
 module _ (h : Header) where
   pub transfer_driver : (r : ℕ) → IsTransferRing h r → IsDriverRing h r
-  transfer_driver r t = record { ring = t.ring; found = t.found; kind = transfer_is_driver t.ring.shape.kind t.kind }
+  transfer_driver r t = record { ring = t.ring; found = t.found; kind = (grind (arith, false≢true)) }
 
   pub shape_is : (r : ℕ) (ring : Ring) → ring_with h r ≡ Some ring → shape_of h r ≡ ring.shape
   unfolding shape_of
@@ -79,7 +70,7 @@ module _ (h : Header) where
 
     -- a command or transfer ring has an allowed shape with Links
     pub ring_shape : (r : ℕ) → IsDriverRing h r → IsAllowed (shape_of h r)
-    ring_shape r d = search (rules, found_in, shape_is, ring_allowed, driver_not_event)
+    ring_shape r d = search (rules, found_in, shape_is, ring_allowed, false≢true)
 
     events_of : (e : Option Ring) → event_ring h ≡ e → event_shape h ≡ shape_or Evt e
     unfolding event_shape
@@ -172,7 +163,7 @@ module _ (h : Header) where
               let found = command_found c some.1 in
               let both : t.ring.id ≡ c.id = id ∙ same ∙ command_named (Some c) some.1 in
               elim (together h.rings t.ring c header_parts.1 mine.0 found.0) [
-                | inl one ↦ kinds_apart c.shape.kind (ap (λ x. is_transfer_kind x.shape.kind) (sym one) ∙ t.kind) found.1
+                | inl one ↦ grind (arith, false≢true)
                 | inr apart ↦ elim apart [
                   | inl first ↦ ids_apart t.ring c first both
                   | inr second ↦ ids_apart c t.ring second (sym both)

@@ -35,13 +35,9 @@ module _ (h : Header) where
   neither true p q one two = one
   neither false p q one two = two
 
-  run_stops : (k : Known) (x : ℕ) → k.stopped ≡ false → (run_or_stop (valued k Usbcmd x) x).stopped ≡ true → (k.started ≡ true) × (is_stop x ≡ true)
-  unfolding run_or_stop valued
-  run_stops k x on stopped = search (rules, cond-false, false≢true, cond-true, neither)
-
   register_stop : (k : Known) (r : Register) (x : ℕ) → k.stopped ≡ false → (register_written h k r x).stopped ≡ true → IsStopRow k (Reg r x)
-  unfolding register_written valued
-  register_stop k o x on stopped = grind (arith, run_stops, false≢true)
+  unfolding register_written valued run_or_stop
+  register_stop k o x on stopped = grind (arith, cond-false, cond-true, neither, false≢true)
 
   stop_row : (k : Known) (row : Row) → k.stopped ≡ false → (learned h k row).stopped ≡ true → IsStopRow k row
   unfolding learned

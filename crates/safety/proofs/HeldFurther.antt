@@ -48,13 +48,10 @@ module _ (h : Header) where
   unfolding named
   named_same r p v w floor queue = search (rules, named_spot, shape_of, length, v.floor)
 
-  target_same : (r p : ℕ) (cycle : Bool) (v w : RingView) → w.floor ≡ v.floor → w.queue ≡ v.queue → target (shape_of h r) w p cycle ≡ target (shape_of h r) v p cycle
-  unfolding target
-  target_same r p cycle v w floor queue = search (rules, find, is_target, shape_of, spots_between, number, length, floor_number)
-
   module _ (P : ℕ → Type 0) where
     target_is : (k l : Known) → Alike P k l → ((r : ℕ) → (l.ring r).queue ≡ (k.ring r).queue) → (change : Change) → TargetIs h k l change
-    target_is k l a queues o = grind (arith, target_same)
+    unfolding target
+    target_is k l a queues o = grind (arith, find, is_target, shape_of, spots_between, number, length, floor_number)
 
     pub targets_are : (c : Command) (k l : Known) → Alike P k l → ((r : ℕ) → (l.ring r).queue ≡ (k.ring r).queue) → (all : List Change) → TargetsAre h c k l all
     targets_are c k l a queues [] = tt
@@ -84,12 +81,9 @@ module _ (h : Header) where
     };
   }
 
-  more_alike : (k m : Known) → HeldMore k m → Alike EverySlot k m
-  more_alike k m more = search rules
-
   pub more_law : MoreLaw h
   more_law k m e keeps keeps_more more clean =
-      let a : Alike EverySlot k m = more_alike k m more in
+      let a : Alike EverySlot k m = search rules in
       let d : SameDriver k m = search rules in
       let read : ReadAlike h EverySlot k m e = read_alike h EverySlot k m a (queues_alike EverySlot k m a d) e clean in (
         read.possible,

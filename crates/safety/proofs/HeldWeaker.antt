@@ -13,15 +13,12 @@ module _ (h : Header) (k m : Known) (more : HeldMore k m) where
   ring_more : (r : ℕ) → SameButHeld (k.ring r) (m.ring r)
   ring_more r = subst (λ y. SameButHeld (k.ring r) y) (more.rings r).rest (record { queue = refl; given = refl; floor = refl })
 
-  before : (p : ℕ) (c : Command) → IsUnfinished h m p c → IsUnfinished h k p c
-  unfolding command_at
-  before p c u = search (rules, ring_more, option_and_then, slice_get)
-
   pub weaker_matches : (w : World) → Matches h k w → Matches h m w
+  unfolding command_at
   weaker_matches w y =
       matches_go_on h k m w w (search (rules, held_goes_on)) (same_controller w)
       (λ u at. ap (λ q. slice_get q (next_command h k)) (ring_more (command_id h)).queue)
-      (λ p c u. y.contexts p c (before p c u)) y
+      (λ p c u. y.contexts p c (search (rules, ring_more, option_and_then, slice_get))) y
 
   -- what agrees with the world
   pub weaker : (unread : List Block) (w : World) → Agrees h k unread w → Agrees h m unread w

@@ -15,13 +15,9 @@ pub record TakesDevice (k : Known) (s d : ℕ) (c : Command) : Type 0 where
   pub fresh : k.device s ≡ None
   pub named : device_named k s ≡ d
 
-none_before : (o : Option ℕ) (s x : ℕ) (e : ℕ × ℕ) → no_device o s x ≡ Some e → (o ≡ None) × (s ≡ e.0) × (x ≡ e.1)
-unfolding no_device
-none_before o s x e at = grind (arith, same_Some, none-some)
-
 takes_is : (k : Known) (c : Command) (e : ℕ × ℕ) → taken_device k c ≡ Some e → TakesDevice k e.0 e.1 c
-unfolding taken_device
-takes_is k o e at = grind (arith, none_before, device_named, none-some)
+unfolding taken_device no_device
+takes_is k o e at = grind (arith, same_Some, device_named, none-some)
 
 given_some : (k : Known) (o : Option Command) (e : ℕ × ℕ) → option_and_then (taken_device k) o ≡ Some e → (c : Command) × (o ≡ Some c) × (taken_device k c ≡ Some e)
 given_some k o e at = grind (arith, none-some)
@@ -63,15 +59,10 @@ module _ (h : Header) where
       byte_apart ring.ring.shape d len a (ring_untouched h d len apart ring.ring found.0) (ap (λ s. is_inside s a) (sym (shape_is h r ring.ring ring.found)) ∙ inside)
       (leb-true d a parts.0) (ltb-true a (d + len) parts.1))
 
-  soiled_by : (k : Known) (a w x : ℕ) (o : Option (ℕ × ℕ)) → ((e : ℕ × ℕ) → o ≡ Some e → is_in x e.1 (device_context_bytes h.context_size) ≡ false) → k.soiled x ≡ false →
-      (with_device h (with_word h k a w) o).soiled x ≡ false
-  unfolding with_device with_word
-  soiled_by k a w x o apart clean = grind (arith, and_left, not, or_from, is_in, device_context_bytes)
-
   clean_written : (k : Known) (a w x : ℕ) → ((e : ℕ × ℕ) → option_and_then (taken_device k) (command_given h k a w) ≡ Some e → is_in x e.1 (device_context_bytes h.context_size) ≡ false) →
       k.soiled x ≡ false → (learned h k (Write a w)).soiled x ≡ false
-  unfolding learned written
-  clean_written k a w x apart clean = soiled_by k a w x (option_and_then (taken_device k) (command_given h k a w)) apart clean
+  unfolding learned written with_device with_word
+  clean_written k a w x apart clean = grind (arith, and_left, not, or_from, is_in, device_context_bytes)
 
   read_soiled : (k : Known) (b : Block) → (learned h k (Read b)).soiled ≡ k.soiled
   unfolding learned

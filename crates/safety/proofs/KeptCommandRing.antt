@@ -41,13 +41,10 @@ module _ (h : Header) where
     crcr_by k Crcr v named good x at = named_by x (ap (is_bad_crcr h) (sym (same_Some v x at)) ∙ (or_parts k.started (is_bad_crcr h v) good).1)
     crcr_by k r v named good x at = named x at
 
-    some_ring : (o : Option Ring) → event_ring h ≡ o → is_none o ≡ false → 0 < event_size h
-    some_ring o at some = grind (arith, false≢true, event_ring_size)
-
     sized_by : (k : Known) (r : Register) (v : ℕ) → (is_some (k.register Erstsz) ≡ true → 0 < event_size h) → is_bad_register h k r v ≡ false →
         is_some (with_register k.register r v Erstsz) ≡ true → 0 < event_size h
     unfolding is_bad_register
-    sized_by k r v sized good at = grind (arith, some_ring, event_ring, or_parts, k.started, is_none)
+    sized_by k r v sized good at = grind (arith, false≢true, event_ring_size, event_ring, or_parts, k.started, is_none)
 
   -- CRCR names the command ring
   pub kept_crcr : KeptByRows h (λ k. (v : ℕ) → k.register Crcr ≡ Some v → CommandRingNamed h v)

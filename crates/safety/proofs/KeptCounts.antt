@@ -9,10 +9,6 @@ use Rattle.safety.proofs.CleanRows.{register_facts, bell_facts, event_facts}
 module _ (h : Header) where
   -- ---- a register write
 
-  run_counts : (k : Known) (x : ℕ) → ((run_or_stop k x).dequeue ≡ k.dequeue) × ((run_or_stop k x).started ≡ false → k.started ≡ false)
-  unfolding run_or_stop
-  run_counts k x = search (rules, false≢true)
-
   -- the pointer goes on, no further than what may be passed
   pub record Dequeues (k l : Known) : Type 0 where
     pub from : k.dequeue ≤ l.dequeue
@@ -20,8 +16,8 @@ module _ (h : Header) where
     pub before : l.started ≡ false → k.started ≡ false
 
   dequeues_by : (k : Known) (r : Register) (x : ℕ) → is_bad_erdp h k r x ≡ false → Dequeues k (register_written h k r x)
-  unfolding register_written valued
-  dequeues_by k r x good = grind (arith, run_counts, erdp_within)
+  unfolding register_written valued run_or_stop
+  dequeues_by k r x good = grind (arith, false≢true, erdp_within)
 
   pub dequeues : (k : Known) (r : Register) (x : ℕ) → is_bad_erdp h k r x ≡ false → Dequeues k (learned h k (Reg r x))
   unfolding learned

@@ -11,14 +11,10 @@ pub some_is : (o : Option ℕ) → is_none o ≡ false → is_some o ≡ true
 some_is o e = grind (arith, false≢true)
 
 module _ (h : Header) where
-  registered_by : (k : Known) (r : Register) (v : ℕ) → (register_written h k r v).register ≡ with_register k.register r v
-  unfolding register_written valued run_or_stop
-  registered_by k r v = grind arith
-
   -- the last value of each register
   pub registered : (k : Known) (r : Register) (v : ℕ) → (learned h k (Reg r v)).register ≡ with_register k.register r v
-  unfolding learned
-  registered k r v = registered_by k r v
+  unfolding learned register_written valued run_or_stop
+  registered k r v = grind arith
 
   -- a write of USBCMD may start the controller
   pub record Starts (k : Known) (r : Register) (v : ℕ) : Type 0 where
@@ -26,13 +22,9 @@ module _ (h : Header) where
     pub register : r ≡ Usbcmd
     pub runs : (run_bit v && not (reset_bit v)) ≡ true
 
-  run_starts : (k : Known) (x : ℕ) → (run_or_stop k x).started ≡ true → (k.started ≡ true) ⊎ ((k.started ≡ false) × ((run_bit x && not (reset_bit x)) ≡ true))
-  unfolding run_or_stop
-  run_starts k x on = search (rules, cond-true, not_from_false, cond-false)
-
   starts_by : (k : Known) (r : Register) (v : ℕ) → (register_written h k r v).started ≡ true → (k.started ≡ true) ⊎ Starts k r v
-  unfolding register_written valued
-  starts_by k r v on = grind (arith, run_starts, valued)
+  unfolding register_written valued run_or_stop
+  starts_by k r v on = grind (arith, cond-true, not_from_false, cond-false, valued)
 
   pub register_starts : (k : Known) (r : Register) (v : ℕ) → (learned h k (Reg r v)).started ≡ true → (k.started ≡ true) ⊎ Starts k r v
   unfolding learned

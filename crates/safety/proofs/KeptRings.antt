@@ -36,12 +36,9 @@ module _ (h : Header) where
         IsUnfinished h k (next_command h k) c
     next_unfinished started below c at = let floor = next_at_floor started below in record { due = floor.due; given = floor.given; command = at }
 
-  moves_still : (k : Known) (c : Command) → MovesIf h k c → StaysIf h k c → MovesOn h k c
-  moves_still k o moves stays = grind arith
-
   -- so what was tested of an unfinished command holds still
   pub command_holds : (k : Known) (p : ℕ) (c : Command) → CommandKeeps h k p c → StillHolds h k c
-  command_holds k p c keeps = search (rules, are_free, content_good, moves_still)
+  command_holds k p c keeps = search (rules, are_free, content_good)
 
   pub still_of : IsHeader h → (k : Known) (row : Row) → DriverKeeps h k → lenient h k row ≡ [] → StillReads h k row
   still_of is k (Read b) d clean = λ completion c at success.

@@ -40,23 +40,15 @@ LookEnds h w v r = Waits h w v r ⊎ Crosses h w v r ⊎ TakesBlock h w v r
 none_is : {A : Type 0} (x : A) → None ≡ Some x → ⊥
 none_is x e = cc
 
-looked_at_is : (h : Header) (w v : World) (r : ℕ) → looked_at h w r (seen w r) ≡ Some v → LookEnds h w v r
-unfolding looked_at
-looked_at_is h w v r at = search (rules, cond_is, same_Some, eqb-true, not-false, is_some, none_is)
-
 pub looked_is : (h : Header) (w v : World) (r : ℕ) → looked h w r ≡ Some v → (w.is_active r ≡ true) × LookEnds h w v r
-unfolding looked
+unfolding looked looked_at
 looked_is h w v r at =
     elim (cond_is (w.is_active r) _ _ (Some v) at) [
-      | inl on ↦ (on.0, looked_at_is h w v r on.1)
+      | inl on ↦ (on.0, search (rules, cond_is, same_Some, eqb-true, not-false, is_some, none_is))
       | inr off ↦ absurd (none_is v off.1)
     ]
 
 -- ---- what each changes
-
-state_eq : (p q c d : ℕ) (a : Bool) (e f : List RingEvent) (n : ℕ) → p ≡ q → c ≡ d → e ≡ f →
-    ◌≡◌ {A = RingState} (record { pointer = p; cycle = c; active = a; events = e; reported = n }) (record { pointer = q; cycle = d; active = a; events = f; reported = n })
-state_eq p q c d a e f n x y z = cc
 
 module _ (h : Header) (w : World) (r : ℕ) where
   pub only_seen : OnlyRing w (seen_by_look h w r) r (state_of w r)
@@ -69,7 +61,7 @@ module _ (h : Header) (w : World) (r : ℕ) where
 
   pub only_crossed : (b : Block) → OnlyRing w (crossed h (seen_by_look h w r) r b) r (behind_link b)
   unfolding seen_by_look crossed
-  only_crossed b = search (rules, behind_link, state_eq, put_at, chosen_at, put_off)
+  only_crossed b = search (rules, behind_link, put_at, chosen_at, put_off)
 
   -- the pointer behind a taken block
   abbrev pub behind_block : Block → RingState
@@ -80,7 +72,7 @@ module _ (h : Header) (w : World) (r : ℕ) where
 
   pub only_taken : (b : Block) → OnlyRing w (taken_on h (seen_by_look h w r) r b) r (behind_block b)
   unfolding seen_by_look taken_on declared_next
-  only_taken b = search (rules, behind_block, state_eq, put_at, put_off)
+  only_taken b = search (rules, behind_block, put_at, put_off)
 
   pub only_begun : (u : World) (s : RingState) (a : ℕ) (b : Block) → OnlyRing w u r s → OnlyRing w (command_begun h u a b) r s
   unfolding command_begun

@@ -47,10 +47,6 @@ record IsTarget (shape : Shape) (address : ℕ) (cycle : Bool) (t : Spot) : Type
   pub at : spot_address shape t ≡ address
   pub cycle_is : spot_cycle shape t ≡ (if cycle then 1 else 0)
 
-target_is : (shape : Shape) (address : ℕ) (cycle : Bool) (t : Spot) → is_target shape address cycle t ≡ true → IsTarget shape address cycle t
-unfolding is_target
-target_is shape address cycle t is = search (rules, and_parts, is_spot, spot_address, spot_cycle, eqb-true)
-
 -- the way to a block up to which all is given is given
 way_reached : (shape : Shape) (v : RingView) (t : Spot) → IsSpot shape t → floor_number v ≤ number t → is_reached shape v t ≡ true → (q : ℕ) → t ≡ Data q → is_way_given shape v q ≡ true
 way_reached shape v t is later reached q e = search (rules, is_spot, rank, way_crossed, move_reached, way_without)
@@ -59,11 +55,11 @@ module _ (shape : Shape) (is : IsShape shape) (memory : ℕ → ℕ) (v : RingVi
   -- the spot that passes is the one that is found
   module _ (address : ℕ) (cycle : Bool) (u : Spot) (here : IsTarget shape address cycle u) (from : floor_number v ≤ number u) (to : number u ≤ declared v) where
     found_spot : (t : Spot) → target shape v address cycle ≡ Some t → t ≡ u
-    unfolding target
+    unfolding target is_target
     found_spot t at =
         let also = found_is (is_target shape address cycle) (λ x. (floor_number v ≤ number x) × (number x ≤ declared v)) (spots_between (floor_number v) (declared v)) t at
         (between (floor_number v) (declared v)) in
-        let there : IsTarget shape address cycle t = target_is shape address cycle t also.0 in
+        let there : IsTarget shape address cycle t = search (rules, and_parts, is_spot, spot_address, spot_cycle, eqb-true) in
         search (rules, cases_lt, same_spot, rank_least, rank_most)
 
     named_spot : is_target shape address cycle u ≡ true → target shape v address cycle ≡ Some u
@@ -75,7 +71,7 @@ module _ (shape : Shape) (is : IsShape shape) (memory : ℕ → ℕ) (v : RingVi
   -- where a move passes its test, its spot is the one that is named
   pub move_spot : (address : ℕ) (cycle : Bool) (least most : ℕ) → floor_number v ≤ least → most ≤ declared v → is_move shape v address cycle least most ≡ true →
       MoveSpot shape v address cycle least most
-  unfolding is_move may_move_to
+  unfolding is_move may_move_to is_target
   move_spot address cycle least most low high moves =
       let any = Any-from_list_any (λ u. is_target shape address cycle u && may_move_to shape v u) (spots_between least most) moves in
       let u : Spot = any.1 in
@@ -84,7 +80,7 @@ module _ (shape : Shape) (is : IsShape shape) (memory : ℕ → ℕ) (v : RingVi
       let bounds : (least ≤ number u) × (number u ≤ most) =
       subst (λ (x : Spot). (least ≤ number x) × (number x ≤ most)) any.3
       (All-get_or (λ x. (least ≤ number x) × (number x ≤ most)) (spots_between least most) any.0 u any.2 (between least most)) in
-      let here : IsTarget shape address cycle u = target_is shape address cycle u passes.0 in
+      let here : IsTarget shape address cycle u = search (rules, and_parts, is_spot, spot_address, spot_cycle, eqb-true) in
       record {
         spot = u;
         named = named_spot address cycle u here (omega arith) (omega arith) passes.0;

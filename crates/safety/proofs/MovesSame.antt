@@ -4,16 +4,13 @@ use Rattle.safety.proofs.CommandsStay.{Standing, MovesAhead}
 use Rattle.safety.proofs.SameDriver.{SameGiven}
 
 module _ (shape : Shape) (v w : RingView) (same : SameGiven v w) where
-  move_same : (p : ℕ) (cycle : Bool) (least most low high : ℕ) → low ≤ least → most ≤ high → is_move shape v p cycle least most ≡ true → is_move shape w p cycle low high ≡ true
-  move_same p cycle least most low high below above moves = search (rules, move_more, is_border)
-
   -- the floor is where it was
   pub standing_same : floor_number w ≡ floor_number v → Standing shape v w
-  standing_same floor = search (rules, move_same)
+  standing_same floor = search (rules, move_more, is_border)
 
   -- the ring is held where it was
   pub ahead_held : (m : ℕ) → v.held ≡ Some m → w.held ≡ Some m → MovesAhead shape v w
-  ahead_held m at still p cycle moves = search (rules, move_same, ceiling, declared, ceiling_held, length)
+  ahead_held m at still p cycle moves = search (rules, move_more, is_border, ceiling, declared, ceiling_held, length)
 
 module _ (h : Header) (k l : Known) where
   -- the same commands are unfinished where the command ring shows the same of them

@@ -14,29 +14,17 @@ module _ (h : Header) where
   pub opened_free : (k : Known) (r : ℕ) → SameFree k (on_ring h k r Opens)
   opened_free k r q = ((on_ring_same h k r Opens tt).rings q).free
 
-  device_free : (k : Known) (taken : Option (ℕ × ℕ)) → SameFree k (with_device h k taken)
-  unfolding with_device
-  device_free k o r = grind arith
-
   written_free : (k : Known) (a w : ℕ) → SameFree k (written h k a w)
-  unfolding written with_word
-  written_free k a w r = device_free (with_word h k a w) (option_and_then (taken_device k) (command_given h k a w)) r ∙ refl
-
-  run_free : (k : Known) (x : ℕ) → SameFree k (run_or_stop k x)
-  unfolding run_or_stop
-  run_free k x = search rules
+  unfolding written with_word with_device
+  written_free k a w r = (grind arith) ∙ refl
 
   register_free : (k : Known) (q : Register) (x : ℕ) → SameFree k (register_written h k q x)
-  unfolding register_written valued
-  register_free k o x r = grind (arith, run_free, valued)
-
-  endpoint_free : (k : Known) (s t : ℕ) (o : Option ℕ) → SameFree k (endpoint_rung h k s t o)
-  unfolding endpoint_rung
-  endpoint_free k s t o r = grind (arith, opened_free)
+  unfolding register_written valued run_or_stop
+  register_free k o x r = grind (arith, valued)
 
   rung_free : (k : Known) (s t : ℕ) → SameFree k (rung h k s t)
-  unfolding rung
-  rung_free k s t = search (rules, on_ring, command_id, endpoint_rung, k.ring_of, opened_free, endpoint_free)
+  unfolding rung endpoint_rung
+  rung_free k s t = search (rules, on_ring, command_id, endpoint_rung, k.ring_of, opened_free)
 
   -- what is free stays so, and nothing more is
   pub free_same : (k : Known) (row : Row) → SameFree k (learned h k row)

@@ -4,11 +4,7 @@ use Rattle.safety.proofs.LowerLaws.{nothing_keeps, driver_test, from_parts}
 use Rattle.safety.proofs.EndpointHistories.{keeps_endpoints}
 
 module _ (h : Header) where
-  unstarted_at_start : Unstarted h nothing
-  unfolding nothing
-  unstarted_at_start = search rules
-
   -- nothing is known
   pub nothing_kept : IsHeader h → DriverKeeps h nothing
   unfolding nothing known
-  nothing_kept is = search (rules, nothing_keeps, driver_test, slice_get_past, from_parts, keeps_endpoints, none-some, unstarted_at_start, false≢true)
+  nothing_kept is = search (rules, nothing_keeps, driver_test, slice_get_past, from_parts, keeps_endpoints, none-some, false≢true)

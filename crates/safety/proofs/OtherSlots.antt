@@ -44,20 +44,16 @@ module _ (s : ℕ) (part : Option ℕ) (B : ℕ → Type 0) where
         both_others k (on_ring h k r (Reaches t)) (on_ring h (on_ring h k r (Reaches t)) r (Holds (number t))) (on_others k within r (Reaches t) named)
         (on_others (on_ring h k r (Reaches t)) (within) r (Holds (number t)) named)
 
-    target_others : (k : Known) → Within k → (r : ℕ) (o : Option Spot) → B r → OtherSlots k (moved_to h k r o) s part B
-    unfolding moved_to
-    target_others k within r o named = grind (arith, same_others, set_others)
-
     bound_others : (k : Known) → Within k → (i : ℕ) → IsPart part i → (o : Option ℕ) (p : ℕ) (cycle : Bool) → ((r : ℕ) → o ≡ Some r → B r) → OtherSlots k (bound_to h k s i o p cycle) s part B
-    unfolding bound_to moved
+    unfolding bound_to moved moved_to
     bound_others k within i mine None p cycle named = same_others k within
     bound_others k within i mine (Some r) p cycle named =
-        let set : OtherSlots k (moved_to h k r (target (shape_of h r) (k.ring r) p cycle)) s part B = target_others k within r (target (shape_of h r) (k.ring r) p cycle) (named r refl) in
+        let set : OtherSlots k (moved_to h k r (target (shape_of h r) (k.ring r) p cycle)) s part B = grind (arith, same_others, set_others) in
         search (rules, at_pair, part_is, at_number)
 
     moved_others : (k : Known) → Within k → (i p : ℕ) → IsPart part i → (cycle : Bool) (o : Option ℕ) → k.ring_of s i ≡ o → OtherSlots k (moved h k o p cycle) s part B
-    unfolding moved
-    moved_others k within i p mine cycle o at = grind (arith, same_others, target_others, target, shape_of, k.ring)
+    unfolding moved moved_to
+    moved_others k within i p mine cycle o at = grind (arith, same_others, set_others, target, shape_of, k.ring)
 
     pointed_others : (k : Known) → Within k → (i p : ℕ) → IsPart part i → (cycle : Bool) → (is_off (k.endpoint_state s i) ≡ true → (r : ℕ) → ring_having h p ≡ Some r → B r) →
         OtherSlots k (pointed h k s i p cycle) s part B
@@ -69,10 +65,6 @@ module _ (s : ℕ) (part : Option ℕ) (B : ℕ → Type 0) where
     state_others : (k : Known) → Within k → (i : ℕ) → IsPart part i → (state : EndpointState) → OtherSlots k (in_state h k s i state) s part B
     unfolding in_state
     state_others k within i mine state = search (rules, at_pair, part_is)
-
-    held_others : (k : Known) → Within k → (i : ℕ) → IsPart part i → (o : Option ℕ) → k.ring_of s i ≡ o → OtherSlots k (held_at_ceiling h k o) s part B
-    unfolding held_at_ceiling
-    held_others k within i mine o at = grind (arith, same_others, on_others, ceiling, shape_of, k.ring)
 
     must_others : (k l : Known) (f : ℕ → ℕ → Bool) → OtherSlots k l s part B → OtherSlots k (let m : Known = record l { must_move = f } in m) s part B
     must_others k l f o = search rules
@@ -107,11 +99,11 @@ module _ (s : ℕ) (part : Option ℕ) (B : ℕ → Type 0) where
         must_others k (in_state h l s i state) (put_pair k.must_move s i false) (both_others k l (in_state h l s i state) pointing (state_others l pointing.within i mine state))
 
     stops : (c : Command) (k : Known) (i : ℕ) → Within k → IsPart part i → OtherSlots k (changed_by h c k (Stops s i)) s part B
-    unfolding changed_by in_state
+    unfolding changed_by in_state held_at_ceiling
     stops c k i within mine =
         let l : Known = in_state h k s i Stopped in
         let stopped : OtherSlots k (in_state h k s i Stopped) s part B = state_others k within i mine Stopped in
-        both_others k l (held_at_ceiling h l (k.ring_of s i)) stopped (held_others l stopped.within i mine (k.ring_of s i) (refl))
+        both_others k l (held_at_ceiling h l (k.ring_of s i)) stopped (grind (arith, same_others, on_others, ceiling, shape_of, l.ring))
 
     resets : (c : Command) (k : Known) (i : ℕ) → Within k → IsPart part i → OtherSlots k (changed_by h c k (Resets s i)) s part B
     unfolding changed_by

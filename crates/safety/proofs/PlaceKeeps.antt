@@ -42,7 +42,6 @@ bound_spot h is k s i p cycle b =
     let r : ℕ = e.ring in
     let allowed = (ring_shape h is r (transfer_driver h r (transfer_ring h r (having_transfer h is p r e.named)))).is in
     let within = ceiling_within (shape_of h r) allowed b.memory (k.ring r) e.keeps in
-    let low = floor_given (shape_of h r) allowed b.memory (k.ring r) e.keeps in
     let high = given_count_declared (shape_of h r) allowed b.memory (k.ring r) e.keeps in
     move_spot (shape_of h r) allowed b.memory (k.ring r) e.keeps p cycle (ceiling (shape_of h r) (k.ring r)) (floor_number (k.ring r)) within.0 (omega arith) e.placed
 

@@ -9,14 +9,10 @@ abbrev pub in_place : Header → Known → ℕ → ℕ → EndpointState → (�
 in_place h k s i state must = record (in_state h k s i state) { must_move = must }
 
 module _ (h : Header) (k : Known) (s i r : ℕ) (t : Spot) where
-  set_elsewhere : (q : ℕ) → q ≢ r → (set_to h k r t).ring q ≡ k.ring q
-  unfolding set_to on_ring
-  set_elsewhere q other = search (rules, k.ring, put_off, put, number)
-
   -- its ring is moved
   moved_placed : (state : EndpointState) (must : ℕ → ℕ → Bool) → k.ring_of s i ≡ Some r → PlacedTo k (in_place h (set_to h k r t) s i state must) s i r t state
   unfolding set_to on_ring in_state
-  moved_placed state must had = search (rules, k.ring, put_at, put, number, set_elsewhere, and_parts, eqb-true, cond-true, cond-false)
+  moved_placed state must had = search (rules, k.ring, put_at, put, number, put_off, and_parts, eqb-true, cond-true, cond-false)
 
   -- a ring is bound
   abbrev bound : Known
@@ -24,7 +20,7 @@ module _ (h : Header) (k : Known) (s i r : ℕ) (t : Spot) where
 
   bound_placed : (state : EndpointState) (must : ℕ → ℕ → Bool) → PlacedTo k (in_place h bound s i state must) s i r t state
   unfolding set_to on_ring in_state
-  bound_placed state must = search (rules, k.ring, put_at, put, number, set_elsewhere)
+  bound_placed state must = search (rules, k.ring, put_at, put, number, put_off)
 
   bound_is : (p : ℕ) (cycle : Bool) → target (shape_of h r) (k.ring r) p cycle ≡ Some t → bound_to h k s i (Some r) p cycle ≡ bound
   unfolding bound_to moved moved_to

@@ -63,7 +63,6 @@ module _ (h : Header) (is : IsHeader h) where
   unfolding is_placement
   ready_reached l memory s i p cycle b r t at named =
       let allowed = shape_allowed h is b.ring (having_driver p b.ring b.named) in
-      let low = floor_given (shape_of h b.ring) allowed memory (l.ring b.ring) b.keeps in
       let high = given_count_declared (shape_of h b.ring) allowed memory (l.ring b.ring) b.keeps in
       let within = ceiling_within (shape_of h b.ring) allowed memory (l.ring b.ring) b.keeps in
       subst (λ n. target (shape_of h n) (l.ring n) p cycle ≡ Some t → is_reached (shape_of h n) (l.ring n) t ≡ true) (same_Some b.ring r (sym b.named ∙ at))
@@ -165,7 +164,6 @@ module _ (h : Header) (is : IsHeader h) where
   pub ready_next : (c : Command) (l : Known) (memory : ℕ → ℕ) (s a i r j : ℕ) → is_off (l.endpoint_state s i) ≡ true → ring_at memory a i ≡ Some r → ReadyAt l memory s a j →
       is_ring r (ring_at memory a j) ≡ false → ReadyAt (changed_by h c l (placed_by_context h.context_size memory s a i)) memory s a j
   ready_next c l memory s a i r j off at ready apart =
-      let other : j ≢ i = λ same. false≢true (sym apart ∙ ap (is_ring r) (ap (ring_at memory a) same ∙ at) ∙ eq-eqb r r refl) in
       let not_r : ready.ring ≢ r = λ same. false≢true (sym apart ∙ ap (is_ring r) ready.named ∙ eq-eqb ready.ring r same) in
       let there : BoundThere l (changed_by h c l (placed_by_context h.context_size memory s a i)) s i r = placed_there c l s i (context_pointer h.context_size memory a i) r (context_cycle h.context_size memory a i) off at in
       search (rules, is_off, cond-false, and_right, ne_eqb, same_Some, cond-true, shape_of, is_placement, context_pointer, context_cycle)

@@ -26,13 +26,9 @@ pub record IsReport (h : Header) (w v : World) (b : Block) : Type 0 where
   pub had : w.ring_of (slot b) (endpoint b) ≡ Some ring
   pub by_code : report_code h (posted h w b) (code b) (slot b) (endpoint b) ring (pointer b) ≡ Some v
 
-on_ring_is : (h : Header) (w v : World) (b : Block) (o : Option ℕ) → reported_on h w b o ≡ Some v → (r : ℕ) × (o ≡ Some r) × (report_code h (posted h w b) (code b) (slot b) (endpoint b) r (pointer b) ≡ Some v)
-unfolding reported_on
-on_ring_is h w v b o at = grind (arith, none-some)
-
 pub report_is : (h : Header) (w v : World) (b : Block) → reported h w b ≡ Some v → IsReport h w v b
-unfolding reported
-report_is h w v b at = search (rules, cond_is, and_parts, on_ring_is, not-true, none-some)
+unfolding reported reported_on
+report_is h w v b at = search (rules, cond_is, and_parts, not-true, none-some)
 
 -- ---- a success
 

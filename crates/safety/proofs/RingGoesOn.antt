@@ -10,9 +10,6 @@ pub record RingGoesOn (shape : Shape) (v x : RingView) : Type 0 where
   pub borders : (q : ℕ) → is_border v.lengths 0 q ≡ true → is_border x.lengths 0 q ≡ true
   pub held : v.held ≡ None → x.held ≡ None
 
-newest_on : (shape : Shape) (v x : RingView) → RingGoesOn shape v x → (n : ℕ) (events : List RingEvent) → Newest shape v n events → Newest shape x n events
-newest_on shape v x g n o y = grind (arith, step_more, g.more, g.borders)
-
 -- wherever the floor is, and wherever the ring is held
 pub newest_still : (shape : Shape) (v : RingView) (f : Spot) (o : Option ℕ) (n : ℕ) (events : List RingEvent) →
     Newest shape v n events → Newest shape (record v { floor = f; held = o }) n events
@@ -37,7 +34,7 @@ module _ (shape : Shape) (v x : RingView) (g : RingGoesOn shape v x) (s : RingSt
     way = λ q at. (search rules);
     opened = λ on. g.held (m.opened on);
     next = m.next;
-    newest = newest_on shape v x g (number t) s.events m.newest;
+    newest = grind (arith, step_more, g.more, g.borders);
     in_order = m.in_order;
     as_declared = m.as_declared;
   }
@@ -45,16 +42,9 @@ module _ (shape : Shape) (v x : RingView) (g : RingGoesOn shape v x) (s : RingSt
   pub bound_on : (ring_of : ℕ → ℕ → Option ℕ) (r : ℕ) → BoundRing shape ring_of v s r → BoundRing shape ring_of x s r
   bound_on ring_of r b = search (rules, matches_on, map, address_of, range_with_len, floor_number, number)
 
--- held at a greater number
-steps_same : (shape : Shape) (v : RingView) (o : Option ℕ) (q : ℕ) → is_step_given shape v q ≡ is_step_given shape (record v { held = o }) q
-unfolding is_step_given is_way_given
-steps_same shape v o q = refl
-
 held_ceiling : (shape : Shape) (v : RingView) (a o : Option ℕ) → v.held ≡ a → IsHeldMore a o → ceiling shape v ≤ ceiling shape (record v { held = o })
-held_ceiling shape v o x at more = grind (arith, ceiling_open, given_count_same, steps_same, ceiling_held)
-
-still_open : (o : Option ℕ) → IsHeldMore None o → o ≡ None
-still_open o more = grind arith
+unfolding is_step_given is_way_given
+held_ceiling shape v o x at more = grind (arith, ceiling_open, given_count_same, ceiling_held)
 
 pub held_goes_on : (shape : Shape) (v : RingView) (o : Option ℕ) → IsHeldMore v.held o → RingGoesOn shape v (record v { held = o })
-held_goes_on shape v o more = search (rules, held_ceiling, still_open)
+held_goes_on shape v o more = search (rules, held_ceiling)

@@ -70,10 +70,6 @@ module _ (h : Header) (is : IsHeader h) where
   unfolding command_id command_ring
   command_not_transfer transfer = not_transfer (find (λ q. is_command_kind q.shape.kind) h.rings) refl transfer
 
--- a transfer ring is one of the driver's
-transfer_is_driver : (o : Option Ring) → is_transfer_ring o ≡ true → is_driver_ring o ≡ true
-unfolding is_driver_ring
-transfer_is_driver o t = grind (arith, false≢true)
-
 pub transfer_driver : (h : Header) (r : ℕ) → IsTransferRing h r → IsDriverRing h r
-transfer_driver h r t = transfer_is_driver (ring_with h r) t
+unfolding is_driver_ring
+transfer_driver h r t = grind (arith, false≢true)

@@ -59,43 +59,27 @@ module _ (h : Header) where
   unfolding learned on_ring
   declaration_leaves k r blocks = search (rules, view_after, same_pointer)
 
-  device_leaves : (k l : Known) (taken : Option (ℕ × ℕ)) → WriteLeaves k l → WriteLeaves k (with_device h l taken)
-  unfolding with_device
-  device_leaves k l o leaves = grind arith
-
   pub write_leaves : (k : Known) (a w : ℕ) → WriteLeaves k (learned h k (Write a w))
-  unfolding learned written with_word
-  write_leaves k a w = device_leaves k (with_word h k a w) (option_and_then (taken_device k) (command_given h k a w)) (search rules)
-
-  view_by : (k : Known) (a w : ℕ) (taken : Option (ℕ × ℕ)) (r : ℕ) → (with_device h (with_word h k a w) taken).ring r ≡ changed (shape_of h r) (k.ring r) (Writes a w)
-  unfolding with_device with_word
-  view_by k a w o r = grind arith
+  unfolding learned written with_word with_device
+  write_leaves k a w = grind arith
 
   -- what it changes of a ring
   pub written_view : (k : Known) (a w r : ℕ) → (learned h k (Write a w)).ring r ≡ changed (shape_of h r) (k.ring r) (Writes a w)
-  unfolding learned written
-  written_view k a w r = view_by k a w (option_and_then (taken_device k) (command_given h k a w)) r
-
-  run_leaves : (k l : Known) (x : ℕ) → RegisterLeaves k l → RegisterLeaves k (run_or_stop l x)
-  unfolding run_or_stop
-  run_leaves k l x leaves = search rules
+  unfolding learned written with_device with_word
+  written_view k a w r = grind arith
 
   value_leaves : (k : Known) (r : Register) (x : ℕ) → RegisterLeaves k (valued k r x)
   unfolding valued
   value_leaves k r x = search rules
 
   register_leaves_by : (k : Known) (r : Register) (x : ℕ) → RegisterLeaves k (register_written h k r x)
-  unfolding register_written valued
-  register_leaves_by k r x = grind (arith, run_leaves, value_leaves)
+  unfolding register_written valued run_or_stop
+  register_leaves_by k r x = grind (arith, value_leaves)
 
   pub register_leaves : (k : Known) (r : Register) (x : ℕ) → RegisterLeaves k (learned h k (Reg r x))
   unfolding learned
   register_leaves k r x = register_leaves_by k r x
 
-  rung_leaves : (k : Known) (s t : ℕ) (o : Option ℕ) → BellLeaves k (endpoint_rung h k s t o)
-  unfolding endpoint_rung on_ring
-  rung_leaves k s t o = grind arith
-
   pub bell_leaves : (k : Known) (s t : ℕ) → BellLeaves k (learned h k (Bell s t))
-  unfolding learned rung on_ring
-  bell_leaves k s t = search (rules, on_ring, command_id, endpoint_rung, k.ring_of, rung_leaves)
+  unfolding learned rung on_ring endpoint_rung
+  bell_leaves k s t = search (rules, on_ring, command_id, endpoint_rung, k.ring_of)

@@ -3,12 +3,9 @@ use Rattle.safety.proofs.Words.{[], ◌≡◌, ◌==◌, ◌||◌, ◌∙◌, �
 use Rattle.safety.proofs.LowerLaws.{bell_facts, agrees_once_counted, put_at, put_off, open_held}
 use Rattle.safety.proofs.RowRings.{endpoint_agrees, command_agrees}
 
-rings_same : (h : Header) (k : Known) (r : ℕ) → (k.ring r).held ≡ None → (q : ℕ) → put k.ring r (changed (shape_of h r) (k.ring r) Opens) q ≡ k.ring q
-rings_same h k r none q = search (rules, put_at, put_off)
-
 pub opens_same : (h : Header) (k : Known) (r : ℕ) → (k.ring r).held ≡ None → on_ring h k r Opens ≡ k
 unfolding on_ring
-opens_same h k r none = search (rules, rings_same)
+opens_same h k r none = search (rules, put_at, put_off)
 
 rung_same : (h : Header) (k : Known) (s t r : ℕ) → (k.ring r).held ≡ None → k.endpoint_state s t ≡ Running → endpoint_rung h k s t (Some r) ≡ k
 unfolding endpoint_rung
@@ -25,17 +22,9 @@ failed_rests : (e : EndpointState) → e ≡ Error → AtRest e
 failed_rests e is = subst (λ x. AtRest x) (sym is) (record { waits = refl })
 
 module _ (h : Header) (k : Known) (d : DriverKeeps h k) (s t : ℕ) where
-  ring_open : (o : Option ℕ) (r : ℕ) → o ≡ Some r → is_open_if k o ≡ true → (k.ring r).held ≡ None
-  ring_open o r at is = open_held (k.ring r) (sym (ap (λ x. is_open_if k x) at) ∙ is)
-
-  -- nothing is learned
-  endpoint_idle : (o : Option ℕ) → k.ring_of s t ≡ o → is_open_if k o ≡ true → endpoint_rung h k s t o ≡ k
-  unfolding endpoint_rung
-  endpoint_idle o at is = grind (arith, open_held, k.ring, rung_same, d.states.open_runs)
-
   pub idle : is_idle h k (Bell s t) ≡ true → learned h k (Bell s t) ≡ k
-  unfolding learned rung
-  idle is = search (rules, cond-true, opens_same, open_held, cond-false, endpoint_idle)
+  unfolding learned rung endpoint_rung
+  idle is = search (rules, cond-true, opens_same, open_held, cond-false, k.ring, rung_same, d.states.open_runs)
 
   pub bell_untouched : is_bad_bell h k s t ≡ false → is_touched h k s t ≡ false
   unfolding is_bad_bell
@@ -48,7 +37,7 @@ module _ (h : Header) (k : Known) (d : DriverKeeps h k) (s t : ℕ) where
   -- the endpoint may be rung, and works
   may_ring_by : (o : Option ℕ) → k.ring_of s t ≡ o → is_open_if k o ≡ true → is_bad_bell h k s t ≡ false → MayRing h k s t
   may_ring_by o at is good =
-      grind (arith, false≢true, d.states.off, bell_state, open_held, k.ring, bell_untouched, d.states.open_runs, ring_open, k.ring_of, is_open_if)
+      grind (arith, false≢true, d.states.off, bell_state, open_held, k.ring, bell_untouched, d.states.open_runs, k.ring_of, is_open_if)
 
   pub rings : is_idle h k (Bell s t) ≡ true → lenient h k (Bell s t) ≡ [] → (s == 0) ≡ false → MayRing h k s t
   rings is clean endpoint =

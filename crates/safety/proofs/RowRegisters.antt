@@ -12,10 +12,6 @@ border_first (n ∷ rest) = refl
 newest_none : (shape : Shape) (v : RingView) (events : List RingEvent) → events ≡ [] → Newest shape v 0 events
 newest_none shape v events none = subst (λ e. Newest shape v 0 e) (sym none) (border_first v.lengths)
 
-next_none : (shape : Shape) (events : List RingEvent) → events ≡ [] → next_take shape events ≡ 0
-unfolding next_take
-next_none shape events none = ap (λ e. next_take shape e) none
-
 order_none : (shape : Shape) (events : List RingEvent) → events ≡ [] → is_out_of_order shape events ≡ false
 unfolding is_out_of_order
 order_none shape events none = ap (λ e. is_out_of_order shape e) none
@@ -36,10 +32,6 @@ module _ (h : Header) (is : IsHeader h) (k : Known) (unread : List Block) (w : W
 
   value : register_or_zero w.register Crcr ≡ x
   value = rw at refl
-
-  others : (q : ℕ) → q ≢ command_id h → state_of v q ≡ state_of w q
-  unfolding v driver.started_with
-  others q other = search (rules, put_off, command_id, base_address, register_or_zero, ring_cycle_state)
 
   pointer : v.pointer_of (command_id h) ≡ address_of (shape_of h (command_id h)) 0
   unfolding v driver.started_with
@@ -62,8 +54,8 @@ module _ (h : Header) (is : IsHeader h) (k : Known) (unread : List Block) (w : W
   none = before.none
 
   first : RingMatches (shape_of h (command_id h)) (k.ring (command_id h)) (state_of v (command_id h)) (Data 0)
-  unfolding is_way_given
-  first = search (rules, v, pointer, cycle, is_way_given, true, number, false≢true, inactive, next_none, events_none, newest_none, order_none, words_none)
+  unfolding is_way_given next_take
+  first = search (rules, v, pointer, cycle, is_way_given, true, number, false≢true, inactive, next_take, events_none, newest_none, order_none, words_none)
 
   next_zero : next_command h m ≡ 0
   unfolding next_command m
@@ -78,14 +70,11 @@ module _ (h : Header) (is : IsHeader h) (k : Known) (unread : List Block) (w : W
   command = record { spot = Data 0; ring = first; under_way = subst (λ o. UnderWayMatches h m (Data 0) o) (sym none) (sym next_zero, seen) }
 
   endpoint_ring : (r : ℕ) → r ≢ command_id h → EndpointRing h k w r → EndpointRing h k v r
-  endpoint_ring r other o = grind (arith, shape_of, k.ring_of, k.ring, others)
-
-  given_before : (p : ℕ) (c : Command) → IsUnfinished h m p c → IsUnfinished h k p c
-  unfolding m command_at
-  given_before p c f = record { due = f.due; given = f.given; command = f.command }
+  unfolding v driver.started_with
+  endpoint_ring r other o = grind (arith, shape_of, k.ring_of, k.ring, put_off, command_id, base_address, register_or_zero, ring_cycle_state)
 
   matches : Matches h m v
-  unfolding m v driver.started_with
+  unfolding m v driver.started_with command_at
   matches =
       let y = g.matches in
       record {
@@ -96,7 +85,7 @@ module _ (h : Header) (is : IsHeader h) (k : Known) (unread : List Block) (w : W
         before = λ waits. absurd (false≢true (sym waits));
         command = λ on. command;
         scribbles = y.scribbles;
-        contexts = λ p c f. y.contexts p c (given_before p c f);
+        contexts = λ p c f. y.contexts p c (record { due = f.due; given = f.given; command = f.command });
         inside = y.inside;
       }
 

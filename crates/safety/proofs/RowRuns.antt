@@ -5,13 +5,9 @@ use Rattle.safety.proofs.MiddleLaws.{read_counts, awake_runs, read_on, idle, rin
 
 -- No event holds the command ring
 module _ (h : Header) (is : IsHeader h) (k : Known) (keeps : EndpointsKeep h k) (b : Block) where
-  event_held : (t : BlockKind) → (k.ring (command_id h)).held ≡ None → ((event_read h k t b).ring (command_id h)).held ≡ None
-  unfolding event_read
-  event_held o none = grind (arith, transfer_command, completed_view)
-
   read_held : (k.ring (command_id h)).held ≡ None → ((learned h k (Read b)).ring (command_id h)).held ≡ None
-  unfolding learned
-  read_held none = event_held (kind b) none
+  unfolding learned event_read
+  read_held none = grind (arith, transfer_command, completed_view)
 
 -- behind an event it is open still
 pub still_open : (h : Header) → IsHeader h → (k : Known) (b : Block) → DriverKeeps h k → is_open (k.ring (command_id h)) ≡ true → is_open ((learned h k (Read b)).ring (command_id h)) ≡ true

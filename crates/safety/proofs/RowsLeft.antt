@@ -54,27 +54,19 @@ module _ (h : Header) where
   unfolding looked looked_at seen_by_look crossed
   looked_left w r = only_if w (w.is_active r) (looked_at h w r (block_at w.memory (w.pointer_of r))) (search (rules, either, nowhere, to, taken_left))
 
-  posted_left : (w : World) (b : Block) → (posted h w b).rows ≡ w.rows
-  unfolding posted stored stored_block
-  posted_left w b = refl
-
   pub other_left : (w : World) (b : Block) → RowsLeft w (other_posted h w b)
-  unfolding other_posted
-  other_left w b = only_if w (can_post h w b && is_other_event (kind b)) (Some (posted h w b)) (to w (posted h w b) (posted_left w b))
-
-  stop_left : (w : World) (s i r a : ℕ) → RowsLeft w (report_stop h w s i r a)
-  unfolding report_stop stopped_with with_reported
-  stop_left w s i r a = search (rules, either, nowhere, only_if, to)
+  unfolding other_posted posted stored stored_block
+  other_left w b = only_if w (can_post h w b && is_other_event (kind b)) (Some (posted h w b)) (to w (posted h w b) (refl))
 
   report_left : (w : World) (c s i r a : ℕ) → RowsLeft w (report_code h w c s i r a)
-  unfolding report_code report_success with_reported report_error
-  report_left w c s i r a = search (rules, either, over, with_reported, position, unreported, to, only_if, stop_left)
+  unfolding report_code report_success with_reported report_error report_stop stopped_with
+  report_left w c s i r a = search (rules, either, over, with_reported, position, unreported, to, only_if, nowhere)
 
   reported_on_left : (w : World) (b : Block) (o : Option ℕ) → RowsLeft w (reported_on h w b o)
-  unfolding reported_on
+  unfolding reported_on posted stored stored_block
   reported_on_left w b None = nowhere w
   reported_on_left w b (Some r) =
-      from_start (posted h w b) w (report_code h (posted h w b) (code b) (slot b) (endpoint b) r (pointer b)) (posted_left w b)
+      from_start (posted h w b) w (report_code h (posted h w b) (code b) (slot b) (endpoint b) r (pointer b)) (refl)
       (report_left (posted h w b) (code b) (slot b) (endpoint b) r (pointer b))
 
   pub reported_left : (w : World) (b : Block) → RowsLeft w (reported h w b)
@@ -87,13 +79,9 @@ module _ (h : Header) where
   unfolding bindings.inactive
   inactive_left w o = grind arith
 
-  placed_left : (w : World) (s i a : ℕ) (cycle : Bool) (state : EndpointState) (o : Option ℕ) → RowsLeft w (bindings.placed_on w s i a cycle state o)
-  unfolding bindings.placed_on bindings.placed
-  placed_left w s i a cycle state o = grind (arith, nowhere, either, to, inactive_left)
-
   changed_left : (c : Command) (w : World) (change : Change) → RowsLeft w (bindings.changed_by h c w change)
-  unfolding bindings.changed_by bindings.disabled bindings.in_state
-  changed_left c w o = grind (arith, cycle, placed_left, to, inactive_left)
+  unfolding bindings.changed_by bindings.disabled bindings.in_state bindings.placed_on bindings.placed
+  changed_left c w o = grind (arith, cycle, nowhere, either, to, inactive_left)
 
   all_left : (c : Command) (l : List Change) (w : World) → RowsLeft w (bindings.changed_by_all h c w l)
   unfolding bindings.changed_by_all
@@ -110,8 +98,8 @@ module _ (h : Header) where
       (bindings.changed_by_all h c w (changes h.context_size w.memory n c)) (nowhere w) (all_left c (changes h.context_size w.memory n c) w)
 
   finished_as_left : (w : World) (b : Block) (o : Option UnderWay) → RowsLeft w (finishes.finished_as h w b o)
-  unfolding finishes.finished_as finishes.ended_with finishes.ended
-  finished_as_left w b o = grind (arith, nowhere, only_if, either, after, succeeded_left, posted_left, to)
+  unfolding finishes.finished_as finishes.ended_with finishes.ended posted stored stored_block
+  finished_as_left w b o = grind (arith, nowhere, only_if, either, after, succeeded_left, to)
 
   pub finished_left : (w : World) (b : Block) → RowsLeft w (finishes.finished h w b)
   unfolding finishes.finished
@@ -124,18 +112,10 @@ module _ (h : Header) where
 
   -- ---- a row
 
-  run_left : (w : World) (v : ℕ) → (driver.run_or_stop h w v).rows ≡ w.rows
-  unfolding driver.run_or_stop driver.started_with
-  run_left w v = search (rules, one_of, kept)
-
   register_left : (w : World) (r : Register) (v : ℕ) → (driver.register_row h w r v).rows ≡ w.rows
-  unfolding driver.register_row driver.with_dequeue driver.valued
-  register_left w o v = grind (arith, run_left, one_of, kept)
-
-  bell_on_left : (w : World) (s t : ℕ) (o : Option ℕ) → (driver.endpoint_bell h w s t o).rows ≡ w.rows
-  unfolding driver.endpoint_bell driver.activated
-  bell_on_left w s t o = grind (arith, put_pair, one_of, is_running, is_stopped, kept)
+  unfolding driver.register_row driver.with_dequeue driver.valued driver.run_or_stop driver.started_with
+  register_left w o v = grind (arith, one_of, kept)
 
   pub row_left : (w : World) (row : Row) → RowsLeft w (driver.row_done h w row)
-  unfolding driver.row_done driver.declared stored driver.event_read driver.bell_row driver.activated
-  row_left w o = grind (arith, to, register_left, one_of, kept, bell_on_left, only_if)
+  unfolding driver.row_done driver.declared stored driver.event_read driver.bell_row driver.activated driver.endpoint_bell
+  row_left w o = grind (arith, to, register_left, one_of, kept, put_pair, is_running, is_stopped, only_if)

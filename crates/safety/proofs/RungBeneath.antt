@@ -16,19 +16,13 @@ use Rattle.safety.proofs.UntouchedCompletion.{touches_any}
 -- A Command Completion Event that is possible where an endpoint's ring is held and no unfinished command touches it: it is so where the
 -- ring was woken, and leaves it woken
 module _ (h : Header) (r s i : ℕ) (k l : Known) (w : Woken h r (one_of s i) k l) (d : SameDriver k l) where
-  -- the endpoint that a command names is another one
-  endpoint_same : (c : Command) → touches_endpoint h k s i c ≡ false → is_some (endpoint_success c (endpoint_meant k.endpoint_state (named_endpoint c))) ≡ true →
-      is_some (endpoint_success c (endpoint_meant l.endpoint_state (named_endpoint c))) ≡ true
-  unfolding touches_endpoint changes
-  endpoint_same o apart may = grind (arith, is_some, flipped, or_parts)
-
   seen_same : (c : Command) → was_stop_seen l c ≡ was_stop_seen k c
   unfolding was_stop_seen
   seen_same o = grind arith
 
   pub finish_same : (b : Block) (c : Command) → touches_endpoint h k s i c ≡ false → can_finish k b (Some c) ≡ true → can_finish l b (Some c) ≡ true
-  unfolding can_finish can_succeed
-  finish_same b c apart may = search (rules, and_parts, and_from, cond-true, is_some, endpoint_same, cond-false, seen_same)
+  unfolding can_finish can_succeed touches_endpoint changes
+  finish_same b c apart may = search (rules, and_parts, and_from, cond-true, is_some, flipped, or_parts, cond-false, seen_same)
 
   stop_woken : (m n : Known) → Woken h r (one_of s i) m n → (c : Command) → Woken h r (one_of s i) (stop_ended h m c) (stop_ended h n c)
   unfolding stop_ended
@@ -119,11 +113,8 @@ module _ (h : Header) (k : Known) (s t r : ℕ) (has : k.ring_of s t ≡ Some r)
 module _ (h : Header) (s t : ℕ) (endpoint : (s == 0) ≡ false) where
   -- ---- a doorbell that isn't idle has a ring, and it is held
 
-  ring_held : (k : Known) (o : Option ℕ) → k.ring_of s t ≡ o → is_open_if k o ≡ false → (r : ℕ) × (k.ring_of s t ≡ Some r) × (is_open (k.ring r) ≡ false)
-  ring_held k o has held = grind (arith, false≢true)
-
   pub rung_ring : (k : Known) → is_idle h k (Bell s t) ≡ false → (r : ℕ) × (k.ring_of s t ≡ Some r) × (is_open (k.ring r) ≡ false)
-  rung_ring k awake = ring_held k (k.ring_of s t) refl (sym (cond-false (s == 0) (is_open (k.ring (command_id h))) (is_open_if k (k.ring_of s t)) endpoint) ∙ awake)
+  rung_ring k awake = grind (arith, false≢true)
 
   -- ---- what the doorbell of an endpoint does
 

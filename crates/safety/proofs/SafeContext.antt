@@ -49,7 +49,6 @@ pub record AtFloor (h : Header) (k : Known) : Type 0 where
 module _ (h : Header) (is : IsHeader h) (k : Known) (d : DriverKeeps h k) where
   pub at_floor : IsDriverRing h (command_id h) → next_command h k < given_count (shape_of h (command_id h)) (k.ring (command_id h)) → AtFloor h k
   at_floor ring below =
-      let shape = shape_of h (command_id h) in
       let allowed = (ring_shape h is (command_id h) ring).is in
       let keeps = d.rings (command_id h) ring in
       let high = given_count_declared (shape_of h (command_id h)) allowed k.memory (k.ring (command_id h)) keeps in

@@ -43,13 +43,10 @@ module _ (h : Header) where
       P ((on_ring h k r change).ring q)
   view_after P k r change q here there = search (rules, ring_here, ring_elsewhere)
 
-  pointer_same : (r : ℕ) (v : RingView) (change : RingChange) → IsPointerChange change → SameGiven v (changed (shape_of h r) v change)
-  pointer_same r v o is = grind arith
-
   on_rings : (k : Known) (r : ℕ) (change : RingChange) → IsPointerChange change → (q : ℕ) → SameGiven (k.ring q) ((on_ring h k r change).ring q)
   on_rings k r change is q =
       view_after (SameGiven (k.ring q)) k r change q
-      (λ same. subst (λ n. SameGiven (k.ring n) (changed (shape_of h r) (k.ring r) change)) (sym same) (pointer_same r (k.ring r) change is)) (λ other. same_given (k.ring q))
+      (λ same. subst (λ n. SameGiven (k.ring n) (changed (shape_of h r) (k.ring r) change)) (sym same) (grind arith)) (λ other. same_given (k.ring q))
 
   pub on_ring_same : (k : Known) (r : ℕ) (change : RingChange) → IsPointerChange change → SameDriver k (on_ring h k r change)
   unfolding on_ring
@@ -58,25 +55,17 @@ module _ (h : Header) where
 
   -- ---- a Transfer Event
 
-  passed_same : (k : Known) (r : ℕ) (t : Spot) → SameDriver k (passed h k r t)
-  unfolding passed
-  passed_same k r t = on_ring_same k r (Reaches (after (shape_of h r) (number t))) tt
-
   stopped_same : (k : Known) (s i r : ℕ) (t : Spot) → SameDriver k (stopped_at h k s i r t)
   unfolding stopped_at
   stopped_same k s i r t = search (rules, both_drivers, on_ring_same, same_given)
 
   transferred_same : (k : Known) (c s i r : ℕ) (t : Spot) → SameDriver k (transferred h k c s i r t)
-  unfolding transferred broken_off
-  transferred_same k c s i r t = search (rules, passed_same, both_drivers, on_ring_same, same_given, stopped_same, same_driver)
-
-  at_same : (k : Known) (b : Block) (o : Option RingSpot) → SameDriver k (transferred_at h k b o)
-  unfolding transferred_at
-  at_same k b o = grind (arith, same_driver, transferred_same, code, slot, endpoint)
+  unfolding transferred broken_off passed
+  transferred_same k c s i r t = search (rules, after, shape_of, number, both_drivers, on_ring_same, same_given, stopped_same, same_driver)
 
   pub transfer_same : (k : Known) (b : Block) → SameDriver k (transfer_read h k b)
-  unfolding transfer_read
-  transfer_same k b = at_same k b (event_at h k b)
+  unfolding transfer_read transferred_at
+  transfer_same k b = grind (arith, same_driver, transferred_same, code, slot, endpoint)
 
   -- ---- a completion
 
@@ -86,23 +75,15 @@ module _ (h : Header) where
       let l : Known = on_ring h k r (Reaches t) in
       both_drivers k l (on_ring h l r (Holds (number t))) (on_ring_same k r (Reaches t) tt) (on_ring_same l r (Holds (number t)) tt)
 
-  target_same : (k : Known) (r : ℕ) (o : Option Spot) → SameDriver k (moved_to h k r o)
-  unfolding moved_to
-  target_same k r o = grind (arith, same_driver, set_same)
-
   moved_same : (k : Known) (o : Option ℕ) (p : ℕ) (cycle : Bool) → SameDriver k (moved h k o p cycle)
-  unfolding moved
-  moved_same k o p cycle = grind (arith, same_driver, target_same, target, shape_of, k.ring)
-
-  bound_same : (k : Known) (s i : ℕ) (o : Option ℕ) (p : ℕ) (cycle : Bool) → SameDriver k (bound_to h k s i o p cycle)
-  unfolding bound_to
-  bound_same k s i o p cycle = grind (arith, same_driver, both_drivers, moved_same, same_given)
+  unfolding moved moved_to
+  moved_same k o p cycle = grind (arith, same_driver, set_same, target, shape_of, k.ring)
 
   pointed_same : (k : Known) (s i p : ℕ) (cycle : Bool) → SameDriver k (pointed h k s i p cycle)
-  unfolding pointed
+  unfolding pointed bound_to
   pointed_same k s i p cycle =
       cond_both (is_off (k.endpoint_state s i)) (bound_to h k s i (ring_having h p) p cycle) (moved h k (k.ring_of s i) p cycle) (SameDriver k)
-      (λ _. bound_same k s i (ring_having h p) p cycle) (λ _. moved_same k (k.ring_of s i) p cycle)
+      (λ _. (grind (arith, same_driver, both_drivers, moved_same, same_given))) (λ _. moved_same k (k.ring_of s i) p cycle)
 
   state_same : (k : Known) (s i : ℕ) (state : EndpointState) → SameDriver k (in_state h k s i state)
   unfolding in_state

@@ -9,25 +9,17 @@ either_same : (k : Known) (b : Bool) (l m : Known) → SameRings k l → SameRin
 either_same k b l m one other = cond_both b l m (SameRings k) (λ x. one) (λ x. other)
 
 module _ (h : Header) where
-  device_same : (k : Known) (taken : Option (ℕ × ℕ)) → SameRings k (with_device h k taken)
-  unfolding with_device
-  device_same k o = grind arith
-
   pub written_same : (k : Known) (a w : ℕ) → SameRings k (written h k a w)
-  unfolding written with_word
-  written_same k a w = device_same (with_word h k a w) (option_and_then (taken_device k) (command_given h k a w))
+  unfolding written with_word with_device
+  written_same k a w = grind arith
 
   pub register_same : (k : Known) (r : Register) (x : ℕ) → SameRings k (register_written h k r x)
   unfolding register_written valued run_or_stop
   register_same k r x = grind (arith, either_same)
 
-  endpoint_same : (k : Known) (s t : ℕ) (o : Option ℕ) → SameRings k (endpoint_rung h k s t o)
-  unfolding endpoint_rung on_ring
-  endpoint_same k s t o = grind arith
-
   pub rung_same : (k : Known) (s t : ℕ) → SameRings k (rung h k s t)
-  unfolding rung on_ring
-  rung_same k s t = either_same k (s == 0) (on_ring h k (command_id h) Opens) (endpoint_rung h k s t (k.ring_of s t)) refl (endpoint_same k s t (k.ring_of s t))
+  unfolding rung on_ring endpoint_rung
+  rung_same k s t = either_same k (s == 0) (on_ring h k (command_id h) Opens) (endpoint_rung h k s t (k.ring_of s t)) refl (grind arith)
 
   pub transfer_same : (k : Known) (b : Block) → SameRings k (transfer_read h k b)
   unfolding transfer_read transferred_at transferred passed broken_off stopped_at on_ring

@@ -40,24 +40,16 @@ module _ (h : Header) where
   unfolding moved moved_to set_to on_ring
   moved_tables k r p cycle = search (rules, target, shape_of, k.ring, moved_to)
 
-  bound_leaves : (k : Known) (s i : ℕ) (o : Option ℕ) (p : ℕ) (cycle : Bool) → GetsRing k (bound_to h k s i o p cycle) s i
-  unfolding bound_to
-  bound_leaves k s i o p cycle = grind (arith, moved_tables, same_pair, at_pair, none-some)
-
-  target_leaves : (k : Known) (s i r : ℕ) (o : Option Spot) → GetsRing k (moved_to h k r o) s i
-  unfolding moved_to set_to on_ring
-  target_leaves k s i r o = grind arith
-
   moved_leaves : (k : Known) (s i : ℕ) (o : Option ℕ) (p : ℕ) (cycle : Bool) → GetsRing k (moved h k o p cycle) s i
-  unfolding moved
+  unfolding moved moved_to set_to on_ring
   moved_leaves k s i None p cycle = record { slot_state = refl; device = refl; rings = λ u j. inr refl; some = λ u j has. has }
-  moved_leaves k s i (Some r) p cycle = target_leaves k s i r (target (shape_of h r) (k.ring r) p cycle)
+  moved_leaves k s i (Some r) p cycle = grind arith
 
   pointed_leaves : (k : Known) (s i p : ℕ) (cycle : Bool) → GetsRing k (pointed h k s i p cycle) s i
-  unfolding pointed
+  unfolding pointed bound_to
   pointed_leaves k s i p cycle =
       cond_both (is_off (k.endpoint_state s i)) (bound_to h k s i (ring_having h p) p cycle) (moved h k (k.ring_of s i) p cycle) (λ m. GetsRing k m s i)
-      (λ off. bound_leaves k s i (ring_having h p) p cycle) (λ on. moved_leaves k s i (k.ring_of s i) p cycle)
+      (λ off. (grind (arith, moved_tables, same_pair, at_pair, none-some))) (λ on. moved_leaves k s i (k.ring_of s i) p cycle)
 
   pub placed_leaves : (c : Command) (k : Known) (s i p : ℕ) (cycle : Bool) (state : EndpointState) → GetsRing k (changed_by h c k (Places s i p cycle state)) s i
   unfolding changed_by in_state
@@ -65,20 +57,16 @@ module _ (h : Header) where
       let leaves : GetsRing k (pointed h k s i p cycle) s i = pointed_leaves k s i p cycle in
       record { slot_state = leaves.slot_state; device = leaves.device; rings = leaves.rings; some = leaves.some }
 
-  held_slot : (k : Known) (o : Option ℕ) (t : ℕ) → SameSlot k (held_at_ceiling h k o) t
-  unfolding held_at_ceiling on_ring
-  held_slot k o t = grind (arith, same_slot)
-
   in_state_slot : (k : Known) (s i : ℕ) (state : EndpointState) (t : ℕ) → SameSlot k (in_state h k s i state) t
   unfolding in_state
   in_state_slot k s i state t = record { state = refl; device = refl; rings = λ j. refl }
 
   -- where an endpoint is stopped or reset all slots stay
   pub stops_slot : (c : Command) (k : Known) (s i t : ℕ) → SameSlot k (changed_by h c k (Stops s i)) t
-  unfolding changed_by
+  unfolding changed_by held_at_ceiling on_ring
   stops_slot c k s i t =
       let l : Known = in_state h k s i Stopped in
-      both_slots k l (held_at_ceiling h l (k.ring_of s i)) t (in_state_slot k s i Stopped t) (held_slot l (k.ring_of s i) t)
+      both_slots k l (held_at_ceiling h l (k.ring_of s i)) t (in_state_slot k s i Stopped t) (grind (arith, same_slot))
 
   pub resets_slot : (c : Command) (k : Known) (s i t : ℕ) → SameSlot k (changed_by h c k (Resets s i)) t
   unfolding changed_by

@@ -42,10 +42,6 @@ module _ (h : Header) where
   abbrev with_value : Known → Register → ℕ → Known
   with_value k r v = record k { register = with_register k.register r v; dequeue = dequeue_after k.dequeue r v }
 
-  goes_on : (k : Known) (r : Register) (v : ℕ) → k.started ≡ true → (learned h k (Reg r v)).stopped ≡ false → stops r v ≡ false
-  unfolding learned register_written valued run_or_stop
-  goes_on k o v on still = grind (arith, false≢true, cond-false, not_from_true, cond-true)
-
   value_is : (k : Known) (r : Register) (v : ℕ) → k.started ≡ true → stops r v ≡ false → learned h k (Reg r v) ≡ with_value k r v
   unfolding learned register_written valued run_or_stop
   value_is k o v on goes = grind (arith, cond-false, not_from_true)
@@ -92,10 +88,11 @@ module _ (h : Header) where
 
   pub register_square : (k : Known) (r : Register) (v : ℕ) (e : Block) → lenient h k (Reg r v) ≡ [] → lenient h k (Read e) ≡ [] → (learned h k (Reg r v)).stopped ≡ false →
       Square h k (Reg r v) e
+  unfolding learned register_written valued run_or_stop
   register_square k r v e clean may still =
       let on : k.started ≡ true = (event_facts h k e may).started in
       let facts = register_facts h k r v clean in
-      let goes : stops r v ≡ false = goes_on k r v on still in
+      let goes : stops r v ≡ false = grind (arith, false≢true, cond-false, not_from_true, cond-true) in
       let l : Known = with_value k r v in
       let k_read : Known = learned h k (Read e) in
       let l_read : Known = learned h l (Read e) in

@@ -1,9 +1,6 @@
 -- A pointer and a cycle state that name a spot at the floor's number
 use Rattle.safety.proofs.Words.{◌≡◌, ◌≤◌, ◌∷◌, ◌∙◌, ℕ, Bool, true, false, List, find, Some, arith, sym, subst, rules, cond-true, cond-false, false≢true, same_Some, Spot, Shape, number, RingView, declared, floor_number, ceiling, spots_between, target, is_move, is_placement, placement_still}
 
-find_here : (test : Spot → Bool) (u t : Spot) (rest : List Spot) → find test (u ∷ rest) ≡ Some t → test u ≡ true → u ≡ t
-find_here test u t rest found here = same_Some u t (sym (cond-true (test u) (Some u) (find test rest) here) ∙ found)
-
 find_later : (test : Spot → Bool) (u t : Spot) (rest : List Spot) → find test (u ∷ rest) ≡ Some t → test u ≡ false → find test rest ≡ Some t
 find_later test u t rest found none = sym (cond-false (test u) (Some u) (find test rest) none) ∙ found
 
@@ -11,7 +8,7 @@ find_later test u t rest found none = sym (cond-false (test u) (Some u) (find te
 pub target_here : (shape : Shape) (v : RingView) (p : ℕ) (cycle : Bool) (t : Spot) → floor_number v ≤ declared v → is_move shape v p cycle (floor_number v) (floor_number v) ≡ true →
     target shape v p cycle ≡ Some t → number t ≡ floor_number v
 unfolding is_move target spots_between
-target_here shape v p cycle t low moves named = search (rules, find_here, find_later, false≢true, find)
+target_here shape v p cycle t low moves named = search (rules, same_Some, cond-true, find_later, false≢true, find)
 
 -- and where they stand still
 pub target_placed : (shape : Shape) (v : RingView) (p : ℕ) (cycle : Bool) (t : Spot) → floor_number v ≤ ceiling shape v → floor_number v ≤ declared v → is_placement shape v p cycle ≡ true →

@@ -138,25 +138,17 @@ module _ (h : Header) (is : IsHeader h) where
 
 -- Behind a completion no Stopped event is known: that of the finished Stop Endpoint was the only one
 module _ (h : Header) where
-  target_seen : (k : Known) (r : ℕ) (o : Option Spot) → (moved_to h k r o).stop_seen ≡ k.stop_seen
-  unfolding moved_to set_to on_ring
-  target_seen k r o = grind arith
-
   moved_seen : (k : Known) (o : Option ℕ) (p : ℕ) (cycle : Bool) → (moved h k o p cycle).stop_seen ≡ k.stop_seen
-  unfolding moved
-  moved_seen k o p cycle = grind (arith, target_seen, target, shape_of, k.ring)
-
-  bound_seen : (k : Known) (s i : ℕ) (o : Option ℕ) (p : ℕ) (cycle : Bool) → (bound_to h k s i o p cycle).stop_seen ≡ k.stop_seen
-  unfolding bound_to
-  bound_seen k s i o p cycle = grind (arith, moved_seen)
+  unfolding moved moved_to set_to on_ring
+  moved_seen k o p cycle = grind (arith, target, shape_of, k.ring)
 
   held_seen : (k : Known) (o : Option ℕ) → (held_at_ceiling h k o).stop_seen ≡ k.stop_seen
   unfolding held_at_ceiling on_ring
   held_seen k o = grind arith
 
   change_seen : (c : Command) (k : Known) (change : Change) → (changed_by h c k change).stop_seen ≡ k.stop_seen
-  unfolding changed_by disabled in_state pointed
-  change_seen c k o = grind (arith, is_off, bound_to, ring_having, moved, bound_seen, moved_seen, held_seen, in_state, k.ring_of)
+  unfolding changed_by disabled in_state pointed bound_to
+  change_seen c k o = grind (arith, is_off, bound_to, ring_having, moved, moved_seen, held_seen, in_state, k.ring_of)
 
   pub changes_seen : (c : Command) (k : Known) (all : List Change) → (changed_by_all h c k all).stop_seen ≡ k.stop_seen
   unfolding changed_by_all

@@ -40,10 +40,6 @@ pub on_is : (e : EndpointState) → e ≢ Off → is_off e ≡ false
 on_is o on = grind arith
 
 module _ (h : Header) where
-  set_here : (k : Known) (r : ℕ) (t : Spot) → ((set_to h k r t).ring r).held ≡ Some (number t)
-  unfolding set_to
-  set_here k r t = ap (λ v. v.held) (ring_here h (on_ring h k r (Reaches t)) r (Holds (number t)))
-
   set_other : (k : Known) (r : ℕ) (t : Spot) (q : ℕ) → q ≢ r → ((set_to h k r t).ring q).held ≡ (k.ring q).held
   unfolding set_to
   set_other k r t q other = search (rules, ring_elsewhere, on_ring, number)
@@ -53,8 +49,8 @@ module _ (h : Header) where
   set_rest k r t = (refl, refl)
 
   target_is : (k : Known) (r : ℕ) (o : Option Spot) → IsMoved k (moved_to h k r o) r
-  unfolding moved_to
-  target_is k r o = grind (arith, set_rest, none-some, set_here, set_other)
+  unfolding moved_to set_to
+  target_is k r o = grind (arith, set_rest, none-some, ring_here, on_ring, number, set_other)
 
   pub pointed_off : (k : Known) (s i p r : ℕ) (cycle : Bool) → is_off (k.endpoint_state s i) ≡ true → ring_having h p ≡ Some r → IsBound k (pointed h k s i p cycle) s i r
   unfolding pointed bound_to moved

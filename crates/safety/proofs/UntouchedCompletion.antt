@@ -9,11 +9,6 @@ unfolding changes
 touches_any size memory n s i o = grind arith
 
 module _ (h : Header) (s i : ℕ) where
-  -- neither the end of a Stop Endpoint nor the pointer of a ring changes a state or where a ring is held
-  stop_holds : (m : Known) (c : Command) → EndpointHolds m (stop_ended h m c) s i
-  unfolding stop_ended
-  stop_holds m o = grind (arith, same_holds)
-
   reached_holds : (m : Known) (r : ℕ) (t : Spot) → EndpointHolds m (on_ring h m r (Reaches t)) s i
   unfolding on_ring
   reached_holds m r t = search (rules, reached_fields, reached_held)
@@ -30,14 +25,14 @@ module _ (h : Header) (s i : ℕ) where
         (touches_any h.context_size k.memory (slot b) s i c ∙ unfinished_fails h k (touches_endpoint h k s i) (next_command h k) c untouched u)
 
     finished_holds : (o : Option Command) → command_at h k (next_command h k) ≡ o → can_finish k b o ≡ true → EndpointHolds k (finished h k b o) s i
-    unfolding finished
+    unfolding finished stop_ended
     finished_holds None at can = same_holds k s i
     finished_holds (Some c) at can =
         let m : Known = if code b == 1 then succeeded h k (slot b) c else k in
         both_hold k m (stop_ended h m c) s i
         (cond_both (code b == 1) (succeeded h k (slot b) c) k (λ l. EndpointHolds k l s i)
         (λ success. success_holds c (next_unfinished h is k d started facts.below c at) can success) (λ fails. same_holds k s i))
-        (stop_holds m c)
+        (grind (arith, same_holds))
 
     pub completion_holds : EndpointHolds k (completed h k b) s i
     unfolding completed

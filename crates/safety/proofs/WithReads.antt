@@ -8,13 +8,9 @@ module _ (h : Header) where
   pub stands_with_reads : (n : ℕ) (k : Known) (w : World) → Stands h k w → Stands h (with_reads k n) w
   stands_with_reads n k w s = record { started = s.started; stopped = s.stopped; registers = s.registers; queues = s.queues; lengths = s.lengths; dequeue = s.dequeue; quiet = s.quiet }
 
-  seen_with_reads : (n : ℕ) (k : Known) (c : Command) → was_stop_seen (with_reads k n) c ≡ was_stop_seen k c
-  unfolding was_stop_seen
-  seen_with_reads n k o = grind arith
-
   taken_with_reads : (n : ℕ) (k : Known) (u : UnderWay) → TakenCommand h k u → TakenCommand h (with_reads k n) u
-  unfolding next_command command_at
-  taken_with_reads n k u t = record { address = t.address; words = t.words; stopped = λ c at. t.stopped c at ∙ sym (seen_with_reads n k c) }
+  unfolding next_command command_at was_stop_seen
+  taken_with_reads n k u t = record { address = t.address; words = t.words; stopped = λ c at. t.stopped c at ∙ sym (grind arith) }
 
   under_way_with_reads : (n : ℕ) (k : Known) (t : Spot) (o : Option UnderWay) → UnderWayMatches h k t o → UnderWayMatches h (with_reads k n) t o
   unfolding next_command

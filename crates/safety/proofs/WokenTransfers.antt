@@ -5,10 +5,6 @@ use Rattle.safety.proofs.AlikeChanges.{both_sides_if}
 use Rattle.safety.proofs.LowerLaws.{SameDriver, event_ring_of, Woken, woken_floor, woken_reach, woken_elsewhere, woken_state, woken_move, woken_seen}
 use Rattle.safety.proofs.HeldFurther.{named_same}
 
-below_further : (m n : ℕ) (t : Spot) → m ≤ n → is_data_below m t ≡ true → is_data_below n t ≡ true
-unfolding is_data_below
-below_further m n o further below = grind (arith, lt-ltb, ltb-true)
-
 -- an event that is no success comes from an endpoint that works
 pub works_there : (b c low works stops spot : Bool) → b ≡ false → (if b then low else if c then low && works else works && stops && spot) ≡ true → works ≡ true
 works_there true c low works stops spot out can = absurd (false≢true (sym out))
@@ -41,8 +37,8 @@ module _ (h : Header) (r : ℕ) (S : ℕ → ℕ → Bool) (k l : Known) (w : Wo
   module _ (held : is_open (k.ring r) ≡ false) (within : ceiling (shape_of h r) (k.ring r) ≤ given_count (shape_of h r) (k.ring r))
       (mine : (s i : ℕ) → S s i ≡ true → k.ring_of s i ≡ Some r) (stopping : (s i : ℕ) → is_stopping_now h k s i ≡ true → is_stopping_now h l s i ≡ true) where
     below_woken : (q : ℕ) (t : Spot) → is_data_below (ceiling (shape_of h q) (k.ring q)) t ≡ true → is_data_below (ceiling (shape_of h q) (l.ring q)) t ≡ true
-    unfolding is_step_given is_way_given
-    below_woken q t below = search (rules, below_further, ceiling_open, changed, given_count_same)
+    unfolding is_step_given is_way_given is_data_below
+    below_woken q t below = search (rules, lt-ltb, ltb-true, ceiling_open, changed, given_count_same)
 
     -- an endpoint that works hasn't the ring that is held
     works_apart : (s i q : ℕ) → k.ring_of s i ≡ Some q → is_working k s i q ≡ true → (q ≢ r) × (S s i ≡ false)
@@ -77,13 +73,9 @@ module _ (h : Header) (r : ℕ) (S : ℕ → ℕ → Bool) (k l : Known) (w : Wo
     off_woken s i on = search rules
 
     module _ (d : SameDriver k l) where
-      spot_same : (p : ℕ) (o : Option ℕ) → spot_on h l p o ≡ spot_on h k p o
-      unfolding spot_on
-      spot_same p o = grind (arith, option_map, named_same, woken_floor)
-
       event_same : (b : Block) → event_at h l b ≡ event_at h k b
-      unfolding event_at
-      event_same b = ap (λ f. spot_on h l (pointer b) (f (slot b) (endpoint b))) w.ring_of ∙ spot_same (pointer b) (k.ring_of (slot b) (endpoint b))
+      unfolding event_at spot_on
+      event_same b = ap (λ f. spot_on h l (pointer b) (f (slot b) (endpoint b))) w.ring_of ∙ (grind (arith, option_map, named_same, woken_floor))
 
       pub transfer_woken : (b : Block) → is_impossible_transfer h k b ≡ false → is_in_profile b ≡ true →
           (is_impossible_transfer h l b ≡ false) × Woken h r S (transfer_read h k b) (transfer_read h l b)

@@ -12,15 +12,11 @@ slot_or (Some c) = unwrap_or (named_slot c) 0
 pub slot_low : (b : Block) → slot b < 256
 slot_low b = mod_below _ 256 (omega arith)
 
-by_kind : (b : Block) (t : BlockKind) → slot_or (command_by_kind t b) < 256
-unfolding slot_or
-by_kind b o = grind (arith, slot_low)
-
 pub command_slot_low : (b : Block) (c : Command) (s : ℕ) → command_of b ≡ Some c → named_slot c ≡ Some s → s < 256
 unfolding slot_or
 command_slot_low b c s of is =
     let low : slot_or (command_of b) < 256 =
-    cond_both (is_command_left_out b) None (command_by_kind (kind b) b) (λ o. slot_or o < 256) (λ out. omega arith) (λ here. by_kind b (kind b)) in
+    cond_both (is_command_left_out b) None (command_by_kind (kind b) b) (λ o. slot_or o < 256) (λ out. omega arith) (λ here. (grind (arith, slot_low))) in
     omega (arith, low, ap slot_or of, ap (λ o. unwrap_or o 0) is)
 
 module _ (h : Header) (k : Known) (a w : ℕ) where
@@ -43,29 +39,17 @@ module _ (h : Header) (k : Known) (a w : ℕ) where
   unfolding learned written with_word
   written_memory = (kept_by_device (with_word h k a w) taken).1
 
-  device_by : (m : Known) (o : Option (ℕ × ℕ)) → o ≡ None → (with_device h m o).device ≡ m.device
-  unfolding with_device
-  device_by m o none = grind (arith, none-some)
-
-  device_with : (m : Known) (o : Option (ℕ × ℕ)) (e : ℕ × ℕ) → o ≡ Some e → (with_device h m o).device ≡ put m.device e.0 (Some e.1)
-  unfolding with_device
-  device_with m o e some = grind (arith, none-some, put, m.device, same_Some)
-
   pub written_device_none : taken ≡ None → after_write.device ≡ k.device
-  unfolding learned written with_word
-  written_device_none none = device_by (with_word h k a w) taken none
+  unfolding learned written with_word with_device
+  written_device_none none = grind (arith, none-some)
 
   pub written_device : (e : ℕ × ℕ) → taken ≡ Some e → after_write.device ≡ put k.device e.0 (Some e.1)
-  unfolding learned written with_word
-  written_device e some = device_with (with_word h k a w) taken e some
-
-  soiled_with : (m : Known) (o : Option (ℕ × ℕ)) (e : ℕ × ℕ) → o ≡ Some e → (x : ℕ) → (with_device h m o).soiled x ≡ (is_in x e.1 (device_context_bytes h.context_size) || m.soiled x)
-  unfolding with_device
-  soiled_with m o e some x = grind (arith, none-some, is_in, device_context_bytes, m.soiled, same_Some)
+  unfolding learned written with_word with_device
+  written_device e some = grind (arith, none-some, put, (with_word h k a w).device, same_Some)
 
   pub written_soiled : (e : ℕ × ℕ) → taken ≡ Some e → (x : ℕ) → after_write.soiled x ≡ (is_in x e.1 (device_context_bytes h.context_size) || (k.soiled x && not (x == a)))
-  unfolding learned written with_word
-  written_soiled e some x = soiled_with (with_word h k a w) taken e some x
+  unfolding learned written with_word with_device
+  written_soiled e some x = grind (arith, none-some, is_in, device_context_bytes, (with_word h k a w).soiled, same_Some)
 
   soiled_none : (m : Known) (o : Option (ℕ × ℕ)) → o ≡ None → (with_device h m o).soiled ≡ m.soiled
   unfolding with_device

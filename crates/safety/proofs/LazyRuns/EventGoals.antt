@@ -112,13 +112,9 @@ module _ (h : Header) (k : Known) (b : Block) (clean : lenient h k (Read b) ≡ 
           (λ _. (command_within, (stop_within (need h l f.ring later) (top_need f.ring), tt)))
           (λ goes_on. (taken_within (number f.spot + 1) f.ring (top_floor f.ring (number f.spot + 1) ((is_passed transfer f).block goes_on)), tt))
 
-    open_within : (o : Option ℕ) → AreWithin top (open_goals h k later b o)
-    unfolding open_goals
-    open_within o = grind (arith, is_open, taken_up_to, need, taken_within, top_need)
-
     stopped_within : (o : Option Command) → AreWithin top (stopped_goals h k later b o)
-    unfolding stopped_goals
-    stopped_within o = grind (arith, code, open_goals, open_within)
+    unfolding stopped_goals open_goals
+    stopped_within o = grind (arith, code, open_goals, is_open, taken_up_to, need, taken_within, top_need)
 
     kind_within : (n : BlockKind) → kind b ≡ n → AreWithin top (lazy_goals h k later n b)
     unfolding lazy_goals
@@ -179,13 +175,9 @@ module _ (h : Header) (k : Known) (b : Block) (clean : lenient h k (Read b) ≡ 
       abbrev AreFewThen : List RingSpot → Type 0
       AreFewThen goals = AreFew h pointers (command_taken h k ∷ goals)
 
-      open_few : (s i : ℕ) (o : Option ℕ) → k.ring_of s i ≡ o → AreFewThen (open_goals h k later b o)
-      unfolding open_goals
-      open_few s i o has = grind (arith, command_few, is_open, taken_up_to, need, both_few, taken_on)
-
       stopped_few : (o : Option Command) → AreFewThen (stopped_goals h k later b o)
-      unfolding stopped_goals
-      stopped_few o = grind (arith, code, open_goals, open_few, command_few)
+      unfolding stopped_goals open_goals
+      stopped_few o = grind (arith, code, open_goals, is_open, taken_up_to, need, both_few, taken_on, command_few)
 
       kind_few : (n : BlockKind) → kind b ≡ n → AreFew h pointers (lazy_goals h k later n b)
       unfolding lazy_goals

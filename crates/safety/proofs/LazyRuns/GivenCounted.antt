@@ -25,13 +25,9 @@ module _ (h : Header) where
   opens_none : (k : Known) (r : ℕ) → GivesNone k (on_ring h k r Opens)
   opens_none k r q = view_after h (λ v. v.given ≡ (k.ring q).given) k r Opens q (λ same. ap (λ n. (k.ring n).given) (sym same)) (λ other. refl)
 
-  endpoint_none : (k : Known) (s t : ℕ) (o : Option ℕ) → GivesNone k (endpoint_rung h k s t o)
-  unfolding endpoint_rung
-  endpoint_none k s t o q = grind (arith, opens_none)
-
   rung_none : (k : Known) (s t : ℕ) → GivesNone k (learned h k (Bell s t))
-  unfolding learned rung
-  rung_none k s t = search (rules, cond_both, on_ring, command_id, endpoint_rung, opens_none, endpoint_none)
+  unfolding learned rung endpoint_rung
+  rung_none k s t = search (rules, cond_both, on_ring, command_id, endpoint_rung, opens_none)
 
   register_none : (k : Known) (r : Register) (x : ℕ) → GivesNone k (learned h k (Reg r x))
   register_none k r x q = ap (λ f. (f q).given) (register_leaves h k r x).ring

@@ -6,10 +6,6 @@ use Rattle.safety.proofs.RingChanges.Restored.{row_comes, row_keeps, stopped_sti
 
 -- The induction's step for a row of the driver
 
--- a spot of number 0 that is no Link
-zero_spot : (t : Spot) → number t ≡ 0 → 1 ≤ rank t → t ≡ Data 0
-zero_spot o zero some = grind arith
-
 module _ (h : Header) where
   stands_still : (w v : World) (r : ℕ) (t : Spot) → StandsAt h w r t → PointerStays w v r → v.events r ≡ w.events r → StandsAt h v r t
   stands_still w v r t s p events = search rules
@@ -84,7 +80,7 @@ module _ (h : Header) where
       -- the row starts it: nothing is taken yet
       begins : past.known.started ≡ false → l.started ≡ true → StandsAt h (counted h v) (command_id h) (past.pointers (command_id h))
       unfolding counted next_take
-      begins waits started = search (rules, l, v, agrees_then, leaves, agrees, before, next_take, learns, floors, past.keeps, zero_spot)
+      begins waits started = search (rules, l, v, agrees_then, leaves, agrees, before, next_take, learns, floors, past.keeps)
 
       command : l.started ≡ true → StandsAt h (counted h v) (command_id h) (pointers_after h past.known past.pointers row later (command_id h))
       command started =

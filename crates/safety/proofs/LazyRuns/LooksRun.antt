@@ -55,13 +55,9 @@ module _ (h : Header) where
   stands_from k w v r x t o m = search (rules, shape_of, state_of, cycle, next)
 
   module _ (is : IsHeader h) (k : Known) (w : World) (d : DriverKeeps h k) (g : Agrees h k [] w) (r : ℕ) where
-    -- no command is under way where the next one isn't taken
-    none_yet : (q : ℕ) (o : Option UnderWay) → q < next_command h k + 1 → UnderWayMatches h k (Data q) o → is_some o ≡ false
-    none_yet q o low u = grind arith
-
     free_ring : (q : ℕ) (t : Spot) → q < number t → w.is_active r ≡ true → StandsAt h w r (Data q) → (r ≡ command_id h → number t ≤ next_command h k + 1) →
         (r == command_id h && is_some w.under_way) ≡ false
-    free_ring q t before active at one = search (rules, arith, cases_eq, command_id, and_left, is_some, ne_eqb, cases_Bool, commands_stand, and_right, none_yet)
+    free_ring q t before active at one = search (rules, arith, cases_eq, command_id, and_left, is_some, ne_eqb, cases_Bool, commands_stand, and_right)
 
     take_look : (q : ℕ) (t : Spot) → rank (Data q) < rank t → StandsAt h w r (Data q) → MayBring h k w r t → LookDone w r (Data q)
     take_look q t before at may =

@@ -29,29 +29,17 @@ module _ (h : Header) where
   unfolding transferred broken_off transfers_passed stopped_at
   transfer_held k c s i q r t held = search (rules, on_ring, after, shape_of, number, reaches_held, stopped_number, cond_both, is_success, is_halting, holds_held, is_trb_error, is_stopping)
 
-  transfer_at_held : (k : Known) (b : Block) (o : Option RingSpot) (r : ℕ) → StaysHeld k (transferred_at h k b o) r
-  unfolding transferred_at
-  transfer_at_held k b o r held = grind (arith, transfer_held, code, slot, endpoint)
-
-  moved_to_held : (k : Known) (q : ℕ) (o : Option Spot) (r : ℕ) → StaysHeld k (moved_to h k q o) r
-  unfolding moved_to set_to
-  moved_to_held k q o r held = grind (arith, holds_held, on_ring, number, reaches_held)
-
   moved_held : (k : Known) (o : Option ℕ) (p : ℕ) (cycle : Bool) (r : ℕ) → StaysHeld k (moved h k o p cycle) r
-  unfolding moved
-  moved_held k o p cycle r held = grind (arith, moved_to_held, target, shape_of, k.ring)
-
-  bound_held : (k : Known) (s i : ℕ) (o : Option ℕ) (p : ℕ) (cycle : Bool) (r : ℕ) → StaysHeld k (bound_to h k s i o p cycle) r
-  unfolding bound_to
-  bound_held k s i o p cycle r held = grind (arith, moved_held)
+  unfolding moved moved_to set_to
+  moved_held k o p cycle r held = grind (arith, holds_held, on_ring, number, reaches_held, target, shape_of, k.ring)
 
   ceiling_held : (k : Known) (o : Option ℕ) (r : ℕ) → StaysHeld k (held_at_ceiling h k o) r
   unfolding held_at_ceiling
   ceiling_held k o r held = grind (arith, holds_held, ceiling, shape_of, k.ring)
 
   pointed_held : (k : Known) (s i p : ℕ) (cycle : Bool) (r : ℕ) → StaysHeld k (pointed h k s i p cycle) r
-  unfolding pointed
-  pointed_held k s i p cycle r held = search (rules, cond_both, is_off, bound_held, ring_having, moved_held)
+  unfolding pointed bound_to
+  pointed_held k s i p cycle r held = search (rules, cond_both, is_off, ring_having, moved_held)
 
   change_held : (c : Command) (k : Known) (change : Change) (r : ℕ) → StaysHeld k (known_changed_by h c k change) r
   unfolding known_changed_by known_disabled known_in_state
@@ -62,17 +50,13 @@ module _ (h : Header) where
   changes_held c k [] r held = held
   changes_held c k (change ∷ rest) r held = changes_held c (known_changed_by h c k change) rest r (change_held c k change r held)
 
-  ended_held : (k : Known) (c : Command) (r : ℕ) → StaysHeld k (stop_ended h k c) r
-  unfolding stop_ended
-  ended_held k o r held = grind arith
-
   finished_held : (k : Known) (b : Block) (o : Option Command) (r : ℕ) → StaysHeld k (known_finished h k b o) r
-  unfolding known_finished known_succeeded
-  finished_held k b o r held = grind (arith, ended_held, code, known_succeeded, slot, changes_held, changes, h.context_size, k.memory)
+  unfolding known_finished known_succeeded stop_ended
+  finished_held k b o r held = grind (arith, code, known_succeeded, slot, changes_held, changes, h.context_size, k.memory)
 
   event_held : (k : Known) (t : BlockKind) (b : Block) (r : ℕ) → StaysHeld k (event_read h k t b) r
-  unfolding event_read transfer_read completed
-  event_held k TransferEvent b r held = transfer_at_held k b (event_at h k b) r held
+  unfolding event_read transfer_read completed transferred_at
+  event_held k TransferEvent b r held = grind (arith, transfer_held, code, slot, endpoint)
   event_held k CommandCompletion b r held =
       reaches_held (known_finished h k b (command_at h k (next_command h k))) (command_id h) (after (shape_of h (command_id h)) (next_command h k)) r
       (finished_held k b (command_at h k (next_command h k)) r held)
@@ -83,13 +67,9 @@ module _ (h : Header) where
   opens_other : (k : Known) (q r : ℕ) → r ≢ q → StaysHeld k (on_ring h k q Opens) r
   opens_other k q r other held = view_after h (λ v. is_open v ≡ false) k q Opens r (λ same. absurd (other same)) (λ _. held)
 
-  endpoint_held : (k : Known) (s t : ℕ) (o : Option ℕ) (r : ℕ) → is_ring r o ≡ false → StaysHeld k (endpoint_rung h k s t o) r
-  unfolding endpoint_rung
-  endpoint_held k s t o r other held = grind (arith, opens_other, false≢true, eq-eqb)
-
   bell_held : (k : Known) (s t r : ℕ) → r ≢ command_id h → (not (s == 0) && is_ring r (k.ring_of s t)) ≡ false → StaysHeld k (rung h k s t) r
-  unfolding rung
-  bell_held k s t r no_command quiet held = search (rules, cond_both, opens_other, command_id, endpoint_held, is_ring, not_from_false)
+  unfolding rung endpoint_rung
+  bell_held k s t r no_command quiet held = search (rules, cond_both, opens_other, command_id, false≢true, eq-eqb, is_ring, not_from_false)
 
   -- ring r is held behind a row, if it was before: but for its doorbell
   pub row_held : (k : Known) (row : Row) (r : ℕ) → r ≢ command_id h → begins_anew h k r row ≡ false → StaysHeld k (learned h k row) r
@@ -99,13 +79,9 @@ module _ (h : Header) where
 
   -- ---- no success of its blocks is read
 
-  at_spot : (k : Known) (r q : ℕ) (o : Option Spot) → (q == r) ≡ false → number_behind r (option_map (λ t. let at : RingSpot = record { ring = q; spot = t } in at) o) ≡ 0
-  unfolding number_behind
-  at_spot k r q o other = grind (arith, cond-false, number)
-
   on_open_ring : (k : Known) (r a : ℕ) (o : Option ℕ) → IsHeld k r → is_held_ring k o ≡ false → number_behind r (spot_on h k a o) ≡ 0
   unfolding spot_on is_held_ring number_behind
-  on_open_ring k r a o held opened = grind (arith, at_spot, named, shape_of, ne_eqb, false≢true, not_from_false, is_open, false)
+  on_open_ring k r a o held opened = grind (arith, cond-false, number, named, shape_of, ne_eqb, false≢true, not_from_false, is_open, false)
 
   none_reported : (k : Known) (r : ℕ) (row : Row) → IsHeld k r → is_late k row ≡ false → number_reported h k r row ≡ 0
   unfolding number_reported is_late event_at
@@ -122,19 +98,11 @@ unfolding ring_restored restored_on
 timely_then h k b later timely = timely.1
 
 module _ (h : Header) where
-  forgotten_held : (k : Known) (id r : ℕ) → StaysHeld k (forgotten k id) r
-  unfolding forgotten is_open
-  forgotten_held k id r held = search (rules, cases_eq, is_open, put, new_ring, put_at, put_off)
-
   -- what restores or withdraws leaves the ring held
   quiet_held : (k : Known) (q : ℕ) (change : RingChange) → ((v : RingView) (shape : Shape) → (changed shape v change).held ≡ v.held) → (r : ℕ) → StaysHeld k (on_ring h k q change) r
   quiet_held k q change same r held =
       view_after h (λ v. is_open v ≡ false) k q change r
       (λ here. held_as_before (k.ring q) (changed (shape_of h q) (k.ring q) change) (same (k.ring q) (shape_of h q)) (subst (λ n. is_open (k.ring n) ≡ false) here held)) (λ other. held)
-
-  restored_held : (k : Known) (o : Option ℕ) (r : ℕ) → StaysHeld k (restored_on h k o) r
-  unfolding restored_on
-  restored_held k o r held = grind (arith, quiet_held)
 
   anew_same : (k : Known) (o : Option ℕ) (r : ℕ) (row : Row) → IsDriverRow row → begins_anew h k r row ≡ false → begins_anew h (restored_on h k o) r row ≡ false
   unfolding begins_anew restored_on on_ring
@@ -142,12 +110,12 @@ module _ (h : Header) where
 
   plain_held : (k : Known) (row : Row) (r : ℕ) → r ≢ command_id h → begins_anew h k r row ≡ false → StaysHeld k (learned h (restored h k row) row) r
   unfolding ring_restored restored_on
-  plain_held k row r other quiet held = grind (arith, row_held, ring_restored, restored_on, anew_same, restored_held)
+  plain_held k row r other quiet held = grind (arith, row_held, ring_restored, restored_on, anew_same, quiet_held)
 
   -- ring r is held behind a row of any kind, if it was before: but for its doorbell
   any_held : (k : Known) (row : TraceRow) (r : ℕ) → r ≢ command_id h → ends_need h k r row ≡ false → StaysHeld k (known_after h k row) r
-  unfolding ends_need
-  any_held k o r other quiet held = grind (arith, plain_held, forgotten_held, quiet_held)
+  unfolding ends_need forgotten is_open
+  any_held k o r other quiet held = grind (arith, plain_held, cases_eq, is_open, put, new_ring, put_at, put_off, quiet_held)
 
   none_needed : (k : Known) (r : ℕ) (row : TraceRow) → IsHeld k r → is_late_row k row ≡ false → number_needed h k r row ≡ 0
   unfolding number_needed

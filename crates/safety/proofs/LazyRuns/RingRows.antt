@@ -44,18 +44,13 @@ module _ (h : Header) where
         command_active = still (command_id h) f.command_active;
       }
 
-  -- of one ring neither the floor nor the number at which it is held changes
-  one_learns : (k : Known) (r : ℕ) (change : RingChange) → ((v : RingView) → (changed (shape_of h r) v change).floor ≡ v.floor) → ((v : RingView) → (changed (shape_of h r) v change).held ≡ v.held) →
-      Learns k (on_ring h k r change)
-  unfolding on_ring
-  one_learns k r change floor held = search (rules, view_after)
-
   pub restored_learns : (k : Known) (o : Option ℕ) → Learns k (restored_on h k o)
-  unfolding restored_on
-  restored_learns k o = grind (arith, one_learns)
+  unfolding restored_on on_ring
+  restored_learns k o = grind (arith, view_after)
 
   pub withdrawn_learns : (k : Known) (r p : ℕ) → Learns k (on_ring h k r (RingWithdraws p))
-  withdrawn_learns k r p = one_learns k r (RingWithdraws p) (λ v. refl) (λ v. refl)
+  unfolding on_ring
+  withdrawn_learns k r p = search (rules, view_after)
 
   pub restored_follows : IsHeader h → (k : Known) (pointers : ℕ → Spot) (w : World) (row : Row) → DriverKeeps h k → is_left h k (ring_restored h k row) ≡ false → Follows h k pointers w →
       Follows h (restored h k row) pointers w
@@ -144,9 +139,6 @@ module _ (h : Header) (is : IsHeader h) (k : Known) (d : DriverKeeps h k) where
     abbrev z : Known
     z = forgotten k r.id
 
-    z_new : z.ring r.id ≡ new_ring
-    z_new = runs.fresh h is r coming k d absent
-
     z_good : is_bad_ring h z r ≡ false
     z_good = runs.bad_same h is r coming k d absent ∙ good
 
@@ -154,9 +146,9 @@ module _ (h : Header) (is : IsHeader h) (k : Known) (d : DriverKeeps h k) where
     unfolding with_ring
     comes_stay = record {
       listed = λ q other. new.found_before (λ (x : Ring). x.id == q) h.rings r (ne_eqb r.id q (λ same. other (sym same)));
-      shapes = λ q other. new.shape_same h is z (runs.f_keeps h is r coming k d absent) r coming z_new z_good q other;
-      command = new.command_same h is z (runs.f_keeps h is r coming k d absent) r coming z_new z_good;
-      no_command = new.no_command h is z (runs.f_keeps h is r coming k d absent) r coming z_new z_good;
+      shapes = λ q other. new.shape_same h is z (runs.f_keeps h is r coming k d absent) r coming (runs.fresh h is r coming k d absent) z_good q other;
+      command = new.command_same h is z (runs.f_keeps h is r coming k d absent) r coming (runs.fresh h is r coming k d absent) z_good;
+      no_command = new.no_command h is z (runs.f_keeps h is r coming k d absent) r coming (runs.fresh h is r coming k d absent) z_good;
       not_had = λ s i q has same.
           let t : IsTransferRing h q = d.states.transfer s i q has in
           none-some t.ring (sym absent ∙ ap (λ n. ring_with h n) (sym same) ∙ t.found);

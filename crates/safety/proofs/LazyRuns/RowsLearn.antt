@@ -57,13 +57,9 @@ module _ (h : Header) where
   unfolding activated
   still_active w r q on = search (rules, cases_eq, put, put_at, put_off)
 
-  endpoint_rings : (w : World) (s t : ℕ) (o : Option ℕ) → RowLeaves w (driver_endpoint_bell h w s t o)
-  unfolding driver_endpoint_bell activated
-  endpoint_rings w s t o = grind (arith, leaves_all, activated, put_pair, still_active, is_running, is_stopped)
-
   rings : (w : World) (s t : ℕ) → RowLeaves w (bell_row h w s t)
-  unfolding bell_row activated
-  rings w s t = search (rules, w.started, activated, command_id, driver_endpoint_bell, w.ring_of, still_active, leaves_all, endpoint_rings)
+  unfolding bell_row activated driver_endpoint_bell
+  rings w s t = search (rules, w.started, activated, command_id, driver_endpoint_bell, w.ring_of, still_active, leaves_all, put_pair, is_running, is_stopped)
 
   -- ---- all of them
 
@@ -108,13 +104,9 @@ module _ (h : Header) where
       view_after h (λ v. v.floor ≡ (k.ring q).floor) k r Opens q
       (λ same. ap (λ n. (k.ring n).floor) (sym same)) (λ other. refl)
 
-  rung_floor : (k : Known) (s t : ℕ) (o : Option ℕ) (q : ℕ) → ((endpoint_rung h k s t o).ring q).floor ≡ (k.ring q).floor
-  unfolding endpoint_rung
-  rung_floor k s t o q = grind (arith, opens_floor)
-
   bell_floor : (k : Known) (s t q : ℕ) → ((learned h k (Bell s t)).ring q).floor ≡ (k.ring q).floor
-  unfolding learned rung
-  bell_floor k s t q = search (rules, cond_both, on_ring, command_id, endpoint_rung, opens_floor, rung_floor)
+  unfolding learned rung endpoint_rung
+  bell_floor k s t q = search (rules, cond_both, on_ring, command_id, endpoint_rung, opens_floor)
 
   -- ---- any row of the driver
 
@@ -197,13 +189,9 @@ module _ (h : Header) where
 
   -- ---- the start
 
-  register_starts : (k : Known) (r : Register) (x : ℕ) → k.started ≡ true → (register_written h k r x).started ≡ true
-  unfolding register_written valued run_or_stop
-  register_starts k r x on = grind arith
-
   register_started : (k : Known) (r : Register) (x : ℕ) → k.started ≡ true → (learned h k (Reg r x)).started ≡ true
-  unfolding learned
-  register_started k r x on = register_starts k r x on
+  unfolding learned register_written valued run_or_stop
+  register_started k r x on = grind arith
 
   -- no row takes the start back
   pub row_starts : (k : Known) (row : Row) → IsDriverRow row → k.started ≡ true → (learned h k row).started ≡ true

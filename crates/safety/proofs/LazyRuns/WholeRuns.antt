@@ -139,10 +139,9 @@ module _ (h : Header) where
       near : rank (at_first e.ring) ≤ rank (after (shape_of h e.ring) n.position)
       near =
           let named = names h is past.known w b block past.keeps now clean transfer e in
-          let from : rank (past.known.ring e.ring).floor ≤ rank (Data n.position) = subst (λ t. rank (past.known.ring e.ring).floor ≤ rank t) n.is named.from in
           let past_it = next_later (shape_of h e.ring) (Data n.position) in
           let same : rank (at_first e.ring) ≡ rank (past.known.ring e.ring).floor = ap rank (f.traced (slot b) (endpoint b) e.ring e.bound) in
-          omega (arith, from, past_it, same)
+          omega (arith, (subst (λ t. rank (past.known.ring e.ring).floor ≤ rank t) n.is named.from), past_it, same)
 
       reach : MayReach (shape_of h e.ring) (past.known.ring e.ring) (after (shape_of h e.ring) n.position)
       reach =

@@ -6,12 +6,9 @@ use Rattle.safety.proofs.KeptCommandRing.{command_with}
 
 -- ---- one ring more in a list
 
-or_none : {X : Type 0} (o : Option X) → option_or o None ≡ o
-or_none o = grind arith
-
 module _ (p : Ring → Bool) (rs : List Ring) (r : Ring) where
   pub found_before : p r ≡ false → find p (rs ++ r ∷ []) ≡ find p rs
-  found_before fails = find-append p rs (r ∷ []) ∙ ap (option_or (find p rs)) (cond-false (p r) (Some r) None fails) ∙ or_none (find p rs)
+  found_before fails = find-append p rs (r ∷ []) ∙ ap (option_or (find p rs)) (cond-false (p r) (Some r) None fails) ∙ (grind arith)
 
   pub found_still : (q : Ring) → find p rs ≡ Some q → find p (rs ++ r ∷ []) ≡ Some q
   found_still q found = find-append p rs (r ∷ []) ∙ ap (λ o. option_or o (find p (r ∷ []))) found
@@ -127,12 +124,9 @@ module _ (h : Header) (is : IsHeader h) (k : Known) (d : DriverKeeps h k) (r : R
 
   -- ---- what a binding names
 
-  having_still : (test : Ring → Bool) (o : Option Ring) (s : ℕ) → find test h.rings ≡ o → id_of o ≡ Some s → id_of (find test (h.rings ++ r ∷ [])) ≡ Some s
-  having_still test o s found names = grind (arith, none-some, id_of, found_still, h.rings)
-
   pub having_same : (p s : ℕ) → ring_having h p ≡ Some s → ring_having g p ≡ Some s
   unfolding ring_having
-  having_same p s names = having_still (λ q. is_transfer_kind q.shape.kind && is_inside q.shape p) (find (λ q. is_transfer_kind q.shape.kind && is_inside q.shape p) h.rings) s refl names
+  having_same p s names = grind (arith, none-some, id_of, found_still, h.rings)
 
   bound_same : (b : Binding) → BindsAsBefore h (h.rings ++ r ∷ []) k k.ring b
   unfolding ring_bound

@@ -291,9 +291,6 @@ module _ (h : Header) (rings : List Ring) (k : Known) (views : ℕ → RingView)
       command_state : state_of v (command_id g) ≡ state_of w (command_id h)
       command_state = ap (λ n. state_of v n) o.command ∙ state_same (command_id h) x.command.0 x.command.1
 
-      stands_still : Stands h k w → Stands g l v
-      stands_still s = search (rules, g, l, v)
-
       events_stand_still : (unread : List Block) → EventsStand h w unread → EventsStand g v unread
       unfolding event_at
       events_stand_still unread e = search (rules, block_at, w.memory, address_of, e.places, e.ring)
@@ -344,7 +341,7 @@ module _ (h : Header) (rings : List Ring) (k : Known) (views : ℕ → RingView)
       }
 
       pub other_worlds_agree : (unread : List Block) → Agrees h k unread w → Agrees g l unread v
-      other_worlds_agree unread a = search (rules, stands_still, events_stand_still, matches_still)
+      other_worlds_agree unread a = search (rules, g, l, v, events_stand_still, matches_still)
 
 -- ---- a world that forgets a ring, of which nothing is known any more
 

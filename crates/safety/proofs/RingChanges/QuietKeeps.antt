@@ -27,10 +27,6 @@ quiet_same v = record { rest = refl; many = refl; borders = λ q border. border 
 pub quiet_view : (shape : Shape) (v : RingView) (change : RingChange) → IsQuiet change → Quiet v (changed shape v change)
 quiet_view shape v o quiet = grind (arith, length-no_ops, split_border)
 
--- the same on two views that are given the same
-pub quiet_given : (shape : Shape) (v w : RingView) (change : RingChange) → IsQuiet change → SameGiven v w → SameGiven (changed shape v change) (changed shape w change)
-quiet_given shape v w o quiet g = grind arith
-
 module _ (v w : RingView) (q : Quiet v w) where
   pub quiet_floor : w.floor ≡ v.floor
   quiet_floor = sym (ap (λ (x : RingView). x.floor) q.rest)
@@ -38,18 +34,15 @@ module _ (v w : RingView) (q : Quiet v w) where
   pub quiet_held : w.held ≡ v.held
   quiet_held = sym (ap (λ (x : RingView). x.held) q.rest)
 
-  pub quiet_crosses : w.crossed ≡ v.crossed
-  quiet_crosses = sym (ap (λ (x : RingView). x.crossed) q.rest)
-
   pub quiet_alike : RingAlike v w
-  quiet_alike = search (rules, quiet_floor, held_same, quiet_held, quiet_crosses)
+  quiet_alike = search (rules, quiet_floor, held_same, quiet_held)
 
   gives_more : GivesMore v w
   gives_more = quiet_alike.more
 
   module _ (shape : Shape) where
     ceiling_down : ceiling shape w ≤ ceiling shape v
-    ceiling_down = ceiling_more shape w v (search (rules, quiet_floor, held_same, quiet_held, quiet_crosses))
+    ceiling_down = ceiling_more shape w v (search (rules, quiet_floor, held_same, quiet_held))
 
     pub quiet_goes_on : RingGoesOn shape v w
     quiet_goes_on = search (rules, quiet_floor, ceiling_more, quiet_alike, gives_more, quiet_held)
@@ -118,7 +111,7 @@ module _ (h : Header) (r : ℕ) (change : RingChange) (quiet : IsQuiet change) w
     rings_given : (k l : Known) → SameDriver k l → (q : ℕ) → SameGiven ((quieted k).ring q) ((quieted l).ring q)
     rings_given k l d q =
         view_after h (λ v. SameGiven v ((quieted l).ring q)) k r change q
-        (λ same. view_after h (SameGiven (changed (shape_of h r) (k.ring r) change)) l r change q (λ _. quiet_given (shape_of h r) (k.ring r) (l.ring r) change quiet (d.rings r))
+        (λ same. view_after h (SameGiven (changed (shape_of h r) (k.ring r) change)) l r change q (λ _. (grind arith))
         (λ away. absurd (away same)))
         (λ away. view_after h (SameGiven (k.ring q)) l r change q (λ same. absurd (away same)) (λ _. d.rings q))
 
@@ -130,10 +123,6 @@ module _ (h : Header) (r : ℕ) (change : RingChange) (quiet : IsQuiet change) w
     unfolding on_ring
     counted_quieted k = refl
 
-    states_quieted : (k l : Known) → AlikeStates k l → AlikeStates (quieted k) l
-    unfolding on_ring
-    states_quieted k l s = search (rules, quieted)
-
     -- ---- the event behind the change, and before it
 
     pub record QuietSquare (k : Known) (e : Block) : Type 0 where
@@ -141,6 +130,7 @@ module _ (h : Header) (r : ℕ) (change : RingChange) (quiet : IsQuiet change) w
       pub after : HeldMore (quieted (learned h k (Read e))) (learned h (quieted k) (Read e))
 
     pub quiet_square : IsHeader h → (k : Known) → DriverKeeps h k → (e : Block) → lenient h k (Read e) ≡ [] → QuietSquare k e
+    unfolding on_ring
     quiet_square is k d e may =
         let l : Known = quieted k in
         let k_read : Known = learned h k (Read e) in
@@ -153,7 +143,7 @@ module _ (h : Header) (r : ℕ) (change : RingChange) (quiet : IsQuiet change) w
         let held_same : (q : ℕ) → ((quieted k_read).ring q).held ≡ (k_read.ring q).held = λ q. quiet_held (k_read.ring q) ((quieted k_read).ring q) (quiet_rings k_read q) in
         record {
           event = read.possible;
-          after = held_more (quieted k_read) l_read driver (states_quieted k_read l_read (states_from k_read l_read read.after))
+          after = held_more (quieted k_read) l_read driver (search (rules, quieted))
               (λ q. (read.after.rings q).floor ∙ sym (floor_same q)) (λ q. subst (λ o. IsHeldMore o (l_read.ring q).held) (sym (held_same q)) (read.after.rings q).held);
         }
 
@@ -177,10 +167,6 @@ module _ (h : Header) (r : ℕ) (change : RingChange) (quiet : IsQuiet change) (
     command_ring_keeps : CommandRingKeeps h l
     command_ring_keeps = search (rules, l, slice_get, same)
 
-    states_keep : StatesKeep h l
-    unfolding on_ring is_stopping_now may_be_taken next_command command_at
-    states_keep = search (rules, l, held_is, nat_lt, floor_number, ceiling, shape_of, command_id, is_stop_of, option_and_then, command_of, slice_get, same)
-
     device_keeps : (s e : ℕ) → DeviceKeeps h k s e → DeviceKeeps h l s e
     unfolding on_ring entry_of device_named is_soiled
     device_keeps s e old = search (rules, l)
@@ -200,13 +186,13 @@ module _ (h : Header) (r : ℕ) (change : RingChange) (quiet : IsQuiet change) (
 
     pub quiet_keeps : (IsDriverRing h r → RingKeeps (shape_of h r) k.memory (changed (shape_of h r) (k.ring r) change)) →
         ((p : ℕ) (f : Command) → IsUnfinished h k p f → MovesRestored k f → MovesRestored (on_ring h k r change) f) → DriverKeeps h (on_ring h k r change)
-    unfolding on_ring
+    unfolding on_ring is_stopping_now may_be_taken next_command command_at
     quiet_keeps here moved = record {
       rings = ring_keeps here;
       commands_stay = subst IsRestored (sym same) d.commands_stay;
       clean = d.clean;
       command_ring = command_ring_keeps;
-      states = states_keep;
+      states = search (rules, l, held_is, nat_lt, floor_number, ceiling, shape_of, command_id, is_stop_of, option_and_then, command_of, slice_get, same);
       numbered = d.numbered;
       unstarted = λ off. (search (rules, l, floor_is, held_is));
       crcr = d.crcr;

@@ -32,13 +32,9 @@ module _ (h : Header) (is : IsHeader h) (r : Ring) (coming : IsComing r) where
     unfolding forgotten
     fresh = cleared_here r.id k.ring
 
-    entry_same : (s : ℕ) (o : Option ℕ) → range_of_entry f s o ≡ range_of_entry k s o
-    unfolding range_of_entry entry_of forgotten
-    entry_same s o = grind arith
-
     entries_same : entry_ranges f ≡ entry_ranges k
-    unfolding entry_ranges forgotten
-    entries_same = ap (λ e. flat_map e slots) (fun_ext (λ s. entry_same s (k.device s)))
+    unfolding entry_ranges forgotten range_of_entry entry_of
+    entries_same = ap (λ e. flat_map e slots) (fun_ext (λ s. (grind arith)))
 
     ranges_same : open_ranges h f ≡ open_ranges h k
     unfolding open_ranges forgotten device_ranges

@@ -7,9 +7,6 @@ use Rattle.safety.proofs.HeldBehind.{read_holds}
 use Rattle.safety.proofs.StillRings.{untouched_behind}
 use Rattle.safety.proofs.RingChanges.Restored.{IsGood, quiet_runs}
 
-stopped_is : (e : EndpointState) → is_stopped e ≡ true → e ≡ Stopped
-stopped_is o stopped = grind (arith, false≢true)
-
 running_is_not : Running ≡ Stopped → ⊥
 running_is_not same = false≢true (ap is_stopped same)
 
@@ -63,7 +60,7 @@ module _ (h : Header) (r p : ℕ) where
 
       -- its ring is held
       pub stopped_held : (k.ring r).held ≢ None
-      stopped_held none = running_is_not (sym (d.states.open_runs s.slot s.index r s.has none) ∙ stopped_is (k.endpoint_state s.slot s.index) s.stopped)
+      stopped_held none = running_is_not (sym (d.states.open_runs s.slot s.index r s.has none) ∙ (grind (arith, false≢true)))
 
       -- no unfinished command moves it
       unmoved : (u : ℕ) (c : Command) → IsUnfinished h k u c → MovesRestored k c → MovesRestored (on_ring h k r (Withdraws p)) c
