@@ -8,6 +8,7 @@ use std::simd::prelude::*;
 
 /// A small number from 2 hex digits of either case.
 #[tactic(auto, unfolding(crate::specs::Numbers::number_of))]
+#[inline(always)]
 pub fn u8_of(field: &[u8]) -> Option<u8>
     ensures { result ≡ number_of w8 field.now }
 {

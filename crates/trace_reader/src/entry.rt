@@ -332,6 +332,7 @@ fn register_value_of(register: Register, field: &[u8]) -> Option<u64>
 
 /// The block of four words, each in 8 hex digits of either case.
 #[tactic(auto, unfolding(crate::specs::Values::block_of))]
+#[inline(always)]
 pub fn block_of(a: &[u8], b: &[u8], c: &[u8], d: &[u8]) -> Option<Block>
     ensures { result ≡ block_of a.now b.now c.now d.now }
 {

@@ -17,6 +17,7 @@ use std::alloc::{AllocError, Global};
 use traces::{BoxedRing, Ring, TraceRow};
 
 /// The row that a line says, among the rings of the header and the IDs of those that came before.
+#[inline(always)]
 pub fn placed_row(
     alloc: Global,
     rings: &[Ring],
