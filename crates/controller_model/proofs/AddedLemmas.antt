@@ -1,25 +1,18 @@
 -- The endpoints that an input context adds, one after another
-use Rattle.controller_model.proofs.Words.{◌≡◌, ◌+◌, ◌-◌, ◌<◌, ◌∙◌, ◌∷◌, ℕ, suc, true, false, List, [], Option, Some, None, map, filter, refl, ap, arith, option_and_then, range_with_len, cond-true, cond-false, ContextSize, context_cycle, context_pointer, input_add_flag, Command, Running, Change, placed_by_context, Header, ring_having, World, changed_by, changed_by_all, placed_on, places_from}
+use Rattle.controller_model.proofs.Words.{◌≡◌, ◌+◌, ◌-◌, ◌<◌, ◌∷◌, ℕ, suc, true, false, List, [], Option, Some, refl, ap, arith, option_and_then, range_with_len, cond-true, cond-false, ContextSize, context_cycle, context_pointer, input_add_flag, Command, Running, Change, placed_by_context, Header, ring_having, World, changed_by, changed_by_all, placed_on, places_from}
 
 module _ (size : ContextSize) (memory : ℕ → ℕ) (s a i : ℕ) where
   range_is : i < 32 → range_with_len i (32 - i) ≡ i ∷ range_with_len (i + 1) (32 - (i + 1))
   range_is below = ap (λ n. range_with_len i n) (let e : 32 - i ≡ suc (32 - (i + 1)) = omega arith in e)
 
   pub adds_next : i < 32 → input_add_flag memory a i ≡ true → places_from size memory s a i ≡ placed_by_context size memory s a i ∷ places_from size memory s a (i + 1)
-  adds_next below e =
-      ap (λ xs. map (placed_by_context size memory s a) (filter (input_add_flag memory a) xs)) (range_is below)
-      ∙ ap (λ xs. map (placed_by_context size memory s a) xs)
-      (cond-true (input_add_flag memory a i) (i ∷ filter (input_add_flag memory a) (range_with_len (i + 1) (32 - (i + 1)))) (filter (input_add_flag memory a) (range_with_len (i + 1) (32 - (i + 1)))) e)
+  adds_next below e = grind (arith, range_is, cond-true)
 
   pub adds_later : i < 32 → input_add_flag memory a i ≡ false → places_from size memory s a i ≡ places_from size memory s a (i + 1)
-  adds_later below e =
-      ap (λ xs. map (placed_by_context size memory s a) (filter (input_add_flag memory a) xs)) (range_is below)
-      ∙ ap (λ xs. map (placed_by_context size memory s a) xs)
-      (cond-false (input_add_flag memory a i) (i ∷ filter (input_add_flag memory a) (range_with_len (i + 1) (32 - (i + 1)))) (filter (input_add_flag memory a) (range_with_len (i + 1) (32 - (i + 1)))) e)
+  adds_later below e = grind (arith, range_is, cond-false)
 
 pub adds_end : (size : ContextSize) (memory : ℕ → ℕ) (s a i : ℕ) → i ≡ 32 → places_from size memory s a i ≡ []
-adds_end size memory s a i e =
-    ap (λ n. map (placed_by_context size memory s a) (filter (input_add_flag memory a) (range_with_len i n))) (let none : 32 - i ≡ 0 = omega arith in none)
+adds_end size memory s a i e = grind arith
 
 module _ (h : Header) (c : Command) where
   -- where the rest succeeds, the next one did
@@ -29,8 +22,7 @@ module _ (h : Header) (c : Command) where
     pub goes_on : changed_by_all h c world rest ≡ Some final
 
   pub next_of : (o : Option World) (rest : List Change) (final : World) → option_and_then (λ v. changed_by_all h c v rest) o ≡ Some final → Next o rest final
-  next_of None rest final e = absurd (cc)
-  next_of (Some v) rest final e = record { world = v; made = refl; goes_on = e }
+  next_of o rest final e = grind arith
 
   pub first_of : (w final : World) (s i a : ℕ) (size : ContextSize) (memory : ℕ → ℕ) (rest : List Change) →
       changed_by_all h c w (placed_by_context size memory s a i ∷ rest) ≡ Some final →

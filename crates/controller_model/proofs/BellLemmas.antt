@@ -16,10 +16,7 @@ pub found_by_id : (test : Ring → Bool) (rings : List Ring) (x : Ring) → find
 found_by_id test [] x e = absurd (cc)
 found_by_id test (r ∷ rings) x e =
     elim (cases_Bool (test r)) [
-      | inl passes ↦
-          let first : Some r ≡ Some x = sym (cond-true (test r) (Some r) (find test rings) passes) ∙ e in
-          let same : r ≡ x = cc in
-          ap (λ o. is_some o) (cond-true (r.id == x.id) (Some r) (find (λ q. q.id == x.id) rings) (eq-eqb r.id x.id (ap (λ (z : Ring). z.id) same)))
+      | inl passes ↦ grind (arith, cond-true, is_some, eq-eqb)
       | inr fails ↦
           let rest : find test rings ≡ Some x = sym (cond-false (test r) (Some r) (find test rings) fails) ∙ e in
           let there = found_by_id test rings x rest in

@@ -1,7 +1,5 @@
 -- When an endpoint gets a ring
-use Rattle.std.proofs.Common.{rules}
-use Rattle.controller_model.proofs.Words.{◌≡◌, ◌==◌, ◌&&◌, ◌∙◌, ℕ, Bool, true, false, List, Option, Some, None, find, is_some, sym, ap, refl, cond-true, cond-false, EndpointState, is_inside, Ring, Header, id_of, is_transfer_kind, ring_having, ring_with, World, is_had_by_another, placed, placed_on, may_get}
-use Rattle.controller_model.proofs.BellLemmas.{found_by_id}
+use Rattle.controller_model.proofs.LowerLaws.{arith, ◌≡◌, ◌==◌, ◌&&◌, ◌∙◌, ℕ, Bool, true, false, List, Option, Some, None, find, is_some, sym, ap, refl, cond-true, cond-false, EndpointState, is_inside, Ring, Header, id_of, is_transfer_kind, ring_having, ring_with, World, is_had_by_another, placed, placed_on, may_get, found_by_id}
 
 id_known : (test : Ring → Bool) (rings : List Ring) (r : ℕ) (o : Option Ring) → find test rings ≡ o → id_of o ≡ Some r → is_some (find (λ x. x.id == r) rings) ≡ true
 id_known test rings r None e d = absurd (cc)
@@ -17,24 +15,16 @@ having_known h a r e = id_known (λ x. is_transfer_kind x.shape.kind && is_insid
 module _ (w : World) (s i a : ℕ) (c : Bool) (state : EndpointState) where
   pub placed_none : (o : Option ℕ) (v : World) → o ≡ None → placed_on w s i a c state o ≡ Some v → ⊥
   unfolding placed_on
-  placed_none None v none e = absurd (cc)
-  placed_none (Some r) v none e = absurd (cc)
+  placed_none o v none e = grind arith
 
   pub record Got (r : ℕ) (v : World) : Type 0 where
     pub free : is_had_by_another w s i r ≡ false
     pub is : placed w s i r a c state ≡ v
 
-  got : (r : ℕ) (v : World) (b : Bool) → is_had_by_another w s i r ≡ b → placed_on w s i a c state (Some r) ≡ Some v → Got r v
-  unfolding placed_on
-  got r v true has e = let none : None ≡ Some v = sym (cond-true (is_had_by_another w s i r) None _ has) ∙ e in absurd (cc)
-  got r v false has e =
-      let made : Some (placed w s i r a c state) ≡ Some v = sym (cond-false (is_had_by_another w s i r) None _ has) ∙ e in
-      record { free = has; is = cc }
-
   pub placed_some : (o : Option ℕ) (r : ℕ) (v : World) → o ≡ Some r → placed_on w s i a c state o ≡ Some v → Got r v
-  placed_some o r v some e = got r v (is_had_by_another w s i r) refl (ap (λ p. placed_on w s i a c state p) (sym some) ∙ e)
+  unfolding placed_on
+  placed_some o r v some e = grind (arith, cond-true, cond-false)
 
   pub may_get_is : (o : Option ℕ) → is_some (placed_on w s i a c state o) ≡ may_get w s i o
   unfolding placed_on
-  may_get_is None = search (rules, is_some, cond-true, cond-false)
-  may_get_is (Some r) = search (rules, is_some, cond-true, cond-false)
+  may_get_is o = grind (arith, is_some, cond-true, cond-false)

@@ -1,8 +1,5 @@
 -- What letting a ring go and getting one do to what the world has of each ring
-use Rattle.std.proofs.Common.{rules}
-use Rattle.controller_model.proofs.Words.{◌≡◌, ◌≢◌, ◌∷◌, ◌∙◌, if◌then◌else◌, ℕ, Bool, true, false, Option, Some, None, length, refl, sym, ap, eq-eqb, ne_eqb, cond-true, put_pair, EndpointState, is_ring, World, Placed, takes_of, inactive, is_had_by_another, placed, ring_held, released, freed, bound, ◌==◌, ◌&&◌, not}
-use Rattle.controller_model.proofs.RingLemmas.{put_same, put_other}
-use Rattle.controller_model.proofs.HolderLemmas.{put_pair_id, put_pair_twice, put_pair_map}
+use Rattle.controller_model.proofs.MiddleLaws.{arith, rules, ◌≡◌, ◌≢◌, ◌∷◌, ◌∙◌, if◌then◌else◌, ℕ, Bool, true, false, Option, Some, None, length, refl, ap, eq-eqb, ne_eqb, cond-true, put_pair, EndpointState, is_ring, World, Placed, takes_of, inactive, is_had_by_another, placed, ring_held, released, freed, bound, ◌==◌, ◌&&◌, not, put_same, put_other, put_pair_id, put_pair_twice, put_pair_map}
 use Rattle.controller_model.proofs.HadByAnother.{any_same}
 
 module _ (w : World) (s i : ℕ) where
@@ -20,10 +17,7 @@ module _ (w : World) (s i : ℕ) where
   released_here r = (λ k. record (ring_held w r) { is_active = put_same w.is_active r false k; had_by = had_after r None k })
 
   pub released_other : (r q : ℕ) → w.ring_of s i ≡ Some r → q ≢ r → ring_held (released w s i r) q ≡ ring_held w q
-  released_other r q has apart = (λ k. record (ring_held w q) {
-    is_active = put_other w.is_active r q false apart k;
-    had_by = had_same q None (ap (is_ring q) has ∙ ne_eqb r q (λ e. apart (sym e))) k;
-  })
+  released_other r q has apart = grind (arith, put_other, had_same, ne_eqb)
 
   module _ (r a : ℕ) (c : Bool) (state : EndpointState) where
     pub bound_here : ring_held (bound w s i r a c state) r ≡ record (ring_held w r) {
@@ -48,12 +42,10 @@ module _ (w : World) (s i : ℕ) where
 
     pub placed_is : (o : Option ℕ) → w.ring_of s i ≡ o → placed w s i r a c state ≡ bound (freed w s i o) s i r a c state
     unfolding placed inactive
-    placed_is None has = search (rules, length, put_pair_twice)
-    placed_is (Some q) has = search (rules, length, put_pair_twice)
+    placed_is o has = grind (arith, put_pair_twice)
 
   pub freed_has : (o : Option ℕ) → w.ring_of s i ≡ o → (freed w s i o).ring_of s i ≡ None
-  freed_has None has = search (rules, cond-true, eq-eqb)
-  freed_has (Some q) has = search (rules, cond-true, eq-eqb)
+  freed_has o has = grind (arith, cond-true, eq-eqb)
 
   pub freed_had : (o : Option ℕ) (r : ℕ) → is_had_by_another (freed w s i o) s i r ≡ is_had_by_another w s i r
   unfolding is_had_by_another

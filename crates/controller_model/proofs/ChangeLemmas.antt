@@ -1,5 +1,5 @@
 -- Changes that the definitions allow as told
-use Rattle.controller_model.proofs.Words.{◌≡◌, true, false, Option, Some, None, refl, World, IsChange}
+use Rattle.controller_model.proofs.Words.{arith, ◌≡◌, true, false, Option, Some, None, World, IsChange}
 
 -- what a change says
 pub record Made (o : Option World) (P : World → Type 0) : Type 0 where
@@ -8,9 +8,7 @@ pub record Made (o : Option World) (P : World → Type 0) : Type 0 where
   pub holds : P after
 
 pub made_of : (o : Option World) (P : World → Type 0) → IsChange true o P → Made o P
-made_of None P made = absurd made
-made_of (Some w) P made = record { after = w; is = refl; holds = made }
+made_of o P made = grind arith
 
 pub none_of : (o : Option World) (P : World → Type 0) → IsChange false o P → o ≡ None
-none_of None P made = refl
-none_of (Some w) P made = absurd made
+none_of o P made = grind arith

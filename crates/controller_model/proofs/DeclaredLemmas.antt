@@ -1,7 +1,5 @@
 -- What is declared by position once one more descriptor is declared
-use Rattle.std.proofs.Common.{rules}
-use Rattle.controller_model.proofs.Words.{◌≡◌, ◌+◌, ◌-◌, ◌<◌, ◌==◌, ◌++◌, ◌∷◌, ◌∙◌, ℕ, zero, suc, [], List, Some, length, refl, sym, ap, arith, inl, inr, slice_get, option_map, length-append, append_assoc, subst, take, get_or, eq-eqb, ne_eqb, length-take-le, cases_lt, All-push, slice_get_within, take_at_read, Block, declared_at, is_border, Declared, Declarations, Declares, as_declared, entries, blocks_of}
-use Rattle.controller_model.proofs.Borders.{is_border-append, is_border-past, is_border-end}
+use Rattle.controller_model.proofs.LowerLaws.{rules, ◌≡◌, ◌+◌, ◌-◌, ◌<◌, ◌==◌, ◌++◌, ◌∷◌, ◌∙◌, ℕ, zero, suc, [], List, Some, length, refl, sym, ap, arith, inl, inr, slice_get, option_map, length-append, append_assoc, subst, take, get_or, eq-eqb, ne_eqb, length-take-le, cases_lt, All-push, slice_get_within, take_at_read, Block, declared_at, Declared, Declarations, Declares, as_declared, entries, blocks_of, is_border-append, is_border-past, is_border-end}
 
 slice_get-left : {X : Type 0} (xs ys : List X) (p : ℕ) → p < length xs → slice_get (xs ++ ys) p ≡ slice_get xs p
 slice_get-left [] ys p h = absurd (omega arith)
@@ -10,8 +8,7 @@ slice_get-left (x ∷ xs) ys (suc p) h = slice_get-left xs ys p (omega arith)
 
 slice_get-right : {X : Type 0} (xs ys : List X) (k : ℕ) → slice_get (xs ++ ys) (length xs + k) ≡ slice_get ys k
 slice_get-right [] ys k = ap (λ n. slice_get ys n) (let e : 0 + k ≡ k = omega arith in e)
-slice_get-right (x ∷ xs) ys k =
-    ap (λ n. slice_get (x ∷ (xs ++ ys)) n) (let e : length (x ∷ xs) + k ≡ suc (length xs + k) = omega arith in e) ∙ slice_get-right xs ys k
+slice_get-right (x ∷ xs) ys k = grind (arith, slice_get-right xs ys k)
 
 abbrev entry : ℕ → ℕ → Block → Declared
 entry k last b = record { block = b; begins = k == 0; ends = k == last }
@@ -19,14 +16,11 @@ entry k last b = record { block = b; begins = k == 0; ends = k == last }
 slice_get-entries : (j last : ℕ) (bs : List Block) (k : ℕ) → slice_get (entries j last bs) k ≡ option_map (entry (j + k) last) (slice_get bs k)
 slice_get-entries j last [] k = refl
 slice_get-entries j last (b ∷ bs) zero = ap (λ n. Some (entry n last b)) (let e : j ≡ j + 0 = omega arith in e)
-slice_get-entries j last (b ∷ bs) (suc k) =
-    slice_get-entries (j + 1) last bs k ∙ ap (λ n. option_map (entry n last) (slice_get bs k)) (let e : j + 1 + k ≡ j + suc k = omega arith in e)
+slice_get-entries j last (b ∷ bs) (suc k) = grind (arith, option_map, slice_get-entries (j + 1) last bs k)
 
 pub entries-append : (j last : ℕ) (xs ys : List Block) → entries j last (xs ++ ys) ≡ entries j last xs ++ entries (j + length xs) last ys
 entries-append j last [] ys = ap (λ n. entries n last ys) (let e : j ≡ j + 0 = omega arith in e)
-entries-append j last (x ∷ xs) ys =
-    ap (λ es. entry j last x ∷ es) (entries-append (j + 1) last xs ys
-    ∙ ap (λ n. entries (j + 1) last xs ++ entries n last ys) (let e : j + 1 + length xs ≡ j + length (x ∷ xs) = omega arith in e))
+entries-append j last (x ∷ xs) ys = grind (arith, entries-append (j + 1) last xs ys)
 
 pub length-entries : (j last : ℕ) (bs : List Block) → length (entries j last bs) ≡ length bs
 length-entries j last [] = refl
@@ -36,23 +30,11 @@ blocks_of-append : (lengths : List ℕ) (n : ℕ) → blocks_of (lengths ++ n �
 blocks_of-append [] n = omega arith
 blocks_of-append (m ∷ lengths) n = omega (arith, blocks_of-append lengths n)
 
--- the positions before the new descriptor
-before : (d : Declarations) (queue bs : List Block) (lengths : List ℕ) (new : List Declared) → 0 < length bs → Declares d queue lengths → (p : ℕ) → p < length queue →
-    option_map as_declared (slice_get (d.blocks.items ++ new) p) ≡ declared_at (queue ++ bs) (lengths ++ length bs ∷ []) p
-unfolding declared_at
-before d queue bs lengths new some old p h = search (rules, length, option_map, slice_get, slice_get-left, is_border-append, ne_eqb)
-
-begins_at : (lengths : List ℕ) (n k : ℕ) → k < n → (0 + k == 0) ≡ is_border (lengths ++ n ∷ []) 0 (blocks_of lengths + k)
-begins_at lengths n k h = search (rules, eq-eqb, is_border-append, is_border-end, ne_eqb, is_border-past)
-
-ends_at : (lengths : List ℕ) (n k : ℕ) → k < n → (0 + k == n - 1) ≡ is_border (lengths ++ n ∷ []) 0 (blocks_of lengths + k + 1)
-ends_at lengths n k h = search (rules, eq-eqb, is_border-append, is_border-past, ne_eqb)
-
 -- the positions of the new descriptor
 behind : (bs queue : List Block) (lengths : List ℕ) (k : ℕ) → blocks_of lengths ≡ length queue →
     option_map as_declared (slice_get (entries 0 (length bs - 1) bs) k) ≡ declared_at (queue ++ bs) (lengths ++ length bs ∷ []) (length queue + k)
 unfolding declared_at
-behind bs queue lengths k whole = search (rules, length, option_map, slice_get, slice_get-entries, slice_get-right, slice_get_within, begins_at, ends_at)
+behind bs queue lengths k whole = search (rules, length, option_map, slice_get, slice_get-entries, slice_get-right, slice_get_within, eq-eqb, is_border-append, is_border-end, ne_eqb, is_border-past)
 
 -- the positions of the new descriptor, behind those of the older ones
 behind_old : (old : List Declared) (bs queue : List Block) (lengths : List ℕ) (k : ℕ) → length old ≡ length queue → blocks_of lengths ≡ length queue →
@@ -64,9 +46,10 @@ behind_old old bs queue lengths k many whole =
 
 pub declares_more : (d e : Declarations) (queue bs : List Block) (lengths : List ℕ) → 0 < length bs →
     e.blocks.items ≡ d.blocks.items ++ entries 0 (length bs - 1) bs → Declares d queue lengths → Declares e (queue ++ bs) (lengths ++ length bs ∷ [])
+unfolding declared_at
 declares_more d e queue bs lengths some made old = record {
   at = λ p. rw made (elim (cases_lt p (length queue)) [
-    | inl h ↦ before d queue bs lengths (entries 0 (length bs - 1) bs) some old p h
+    | inl h ↦ search (rules, length, option_map, slice_get, slice_get-left, is_border-append, ne_eqb)
     | inr h ↦
         let P : ℕ → Type 0 = λ q. option_map as_declared (slice_get (d.blocks.items ++ entries 0 (length bs - 1) bs) q) ≡ declared_at (queue ++ bs) (lengths ++ length bs ∷ []) q in
         let same : length queue + (p - length queue) ≡ p = omega arith in

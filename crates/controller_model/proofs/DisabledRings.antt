@@ -1,11 +1,5 @@
 -- What is kept of rings while endpoints are disabled
-use Rattle.std.proofs.Common.{rules}
-use Rattle.controller_model.proofs.Words.{◌≡◌, ◌<◌, ◌==◌, ◌&&◌, ◌∙◌, if◌then◌else◌, ℕ, not, Bool, true, false, List, Option, Some, None, refl, sym, ap, subst, arith, put_pair, Header, is_ring, World, Holder, RingState, disabled, has_one_of, Kept, Row, Off, Follows, FollowsEndpoints, FollowsHolder, FollowsRings, IsEndpoint, ring_held, turned_off}
-use Rattle.controller_model.proofs.HolderLemmas.{here, elsewhere, place_of, put_pair_here, put_pair_there, put_pair_map}
-use Rattle.controller_model.proofs.WatchLemmas.{any_alike}
-
-holder_still : (had : ℕ → ℕ → Bool) (o : Option Holder) (s i : ℕ) → (IsEndpoint s i → had s i ≡ false) → FollowsHolder had o → FollowsHolder (put_pair had s i false) o
-holder_still had o s i nothing f = search (rules, place_of, elsewhere, put_pair_there, here, put_pair_here)
+use Rattle.controller_model.proofs.MiddleLaws.{rules, ◌≡◌, ◌<◌, ◌==◌, ◌&&◌, ◌∙◌, if◌then◌else◌, ℕ, not, Bool, true, false, List, Option, Some, None, refl, sym, ap, subst, arith, Header, is_ring, World, RingState, disabled, has_one_of, Kept, Row, Off, Follows, FollowsEndpoints, FollowsHolder, FollowsRings, IsEndpoint, ring_held, turned_off, here, elsewhere, place_of, put_pair_here, put_pair_there, put_pair_map, any_alike}
 
 -- an endpoint that has no ring is disabled
 pub rings_off : (h : Header) (w : World) (s i : ℕ) (rings : List RingState) → ((r : ℕ) → IsEndpoint s i → is_ring r (w.ring_of s i) ≡ false) →
@@ -15,7 +9,7 @@ rings_off h w s i rings nothing f = record {
       let old = f.each r x at in
       let had = λ (t j : ℕ). is_ring r (w.ring_of t j) in
       let P : (ℕ → ℕ → Bool) → Type 0 = λ test. FollowsHolder test x.holder in
-      assumption (subst P (sym (put_pair_map (is_ring r) w.ring_of s i None)) (holder_still had x.holder s i (nothing r) old.holder));
+      assumption (subst P (sym (put_pair_map (is_ring r) w.ring_of s i None)) (search (rules, place_of, elsewhere, put_pair_there, here, put_pair_here)));
 }
 
 -- only the endpoints below 32 matter

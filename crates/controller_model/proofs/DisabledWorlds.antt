@@ -1,31 +1,21 @@
 -- Endpoints are disabled one after another
-use Rattle.std.proofs.Common.{rules}
-use Rattle.controller_model.proofs.Words.{◌≡◌, ◌+◌, ◌<◌, ◌≤◌, ◌==◌, ◌&&◌, ◌||◌, ◌∙◌, if◌then◌else◌, ◌∷◌, ℕ, suc, zero, not, Bool, true, false, List, [], Option, Some, None, refl, ap, inl, inr, arith, nat_lt, eq-eqb, ne_eqb, lt-ltb, le-ltb, list_any, range_with_len, cases_eq, cases_lt, is_ring, World, disabled, has_one_of, freed, turned_off}
-use Rattle.controller_model.proofs.HolderLemmas.{put_pair_twice}
-use Rattle.controller_model.proofs.LookBranches.{or_false}
-use Rattle.controller_model.proofs.ScribbleLemmas.{none_in_range}
-use Rattle.controller_model.proofs.SafetyLemmas.{and_true}
+use Rattle.controller_model.proofs.MiddleLaws.{rules, ◌≡◌, ◌+◌, ◌<◌, ◌≤◌, ◌==◌, ◌&&◌, ◌||◌, ◌∙◌, if◌then◌else◌, ◌∷◌, ℕ, suc, zero, not, Bool, true, false, List, [], Option, None, refl, ap, inl, inr, arith, nat_lt, eq-eqb, ne_eqb, lt-ltb, le-ltb, list_any, range_with_len, cases_eq, cases_lt, is_ring, World, disabled, has_one_of, freed, turned_off, put_pair_twice, or_false, none_in_range, and_true}
 
 -- of a range with i, the test holds at most there
 any_at : (m : Bool) (i from n : ℕ) → from ≤ i → i < from + n → list_any (λ j. j == i && m) (range_with_len from n) ≡ m
 any_at m i from zero low high = absurd (omega arith)
 any_at m i from (suc n) low high =
     elim (cases_eq from i) [
-      | inl same ↦
-          (λ k. (eq-eqb from i same k && m) || list_any (λ j. j == i && m) (range_with_len (from + 1) n))
-          ∙ ap (λ b. m || b) (none_in_range (λ j. j == i && m) (from + 1) n (λ j above below. ap (λ b. b && m) (ne_eqb j i (λ e. omega arith)))) ∙ or_false m
+      | inl same ↦ grind (arith, eq-eqb, none_in_range, ne_eqb, or_false)
       | inr apart ↦
           (λ k. (ne_eqb from i apart k && m) || list_any (λ j. j == i && m) (range_with_len (from + 1) n))
           ∙ any_at m i (from + 1) n (omega arith) (omega arith)
     ]
 
 module _ (w : World) (s i r : ℕ) where
-  at_i : (g : ℕ → Option ℕ) (xs : List ℕ) → list_any (λ j. j == i && is_ring r (g j)) xs ≡ list_any (λ j. j == i && is_ring r (g i)) xs
-  at_i g xs = search (rules, ne_eqb)
-
   one_of : 0 < i → i < 32 → has_one_of w s (λ j. j == i) r ≡ is_ring r (w.ring_of s i)
   unfolding has_one_of
-  one_of low high = at_i (w.ring_of s) (range_with_len 1 31) ∙ any_at (is_ring r (w.ring_of s i)) i 1 31 (omega arith) (omega arith)
+  one_of low high = (search (rules, ne_eqb)) ∙ any_at (is_ring r (w.ring_of s i)) i 1 31 (omega arith) (omega arith)
 
   none_of : i ≡ 0 → has_one_of w s (λ j. j == i) r ≡ false
   unfolding has_one_of
@@ -36,22 +26,14 @@ module _ (w : World) (s i : ℕ) where
   unfolding disabled
   disabled_first none = (λ k. record (turned_off w s i) { is_active = λ r. ((λ k. w.is_active r && not (none_of w s i r none k)) ∙ and_true (w.is_active r)) k })
 
-  active_after : (r : ℕ) (o : Option ℕ) → w.ring_of s i ≡ o → (w.is_active r && not (is_ring r (w.ring_of s i))) ≡ (freed w s i o).is_active r
-  active_after r None has = search (rules, and_true, eq-eqb, ne_eqb)
-  active_after r (Some q) has = search (rules, and_true, eq-eqb, ne_eqb)
-
   pub disabled_later : (o : Option ℕ) → w.ring_of s i ≡ o → 0 < i → i < 32 → disabled w s (λ j. j == i) ≡ turned_off (freed w s i o) s i
   unfolding disabled
-  disabled_later None has low high = search (rules, one_of, active_after, put_pair_twice)
-  disabled_later (Some q) has low high = search (rules, one_of, active_after, put_pair_twice)
+  disabled_later o has low high = grind (arith, one_of, and_true, eq-eqb, ne_eqb, put_pair_twice)
 
 -- the endpoints that one of two tests names
 module _ (w : World) (s : ℕ) (p q : ℕ → Bool) where
   off : {A : Type 0} (b x y : Bool) (a z : A) → (if b && y then a else if b && x then a else z) ≡ (if b && (x || y) then a else z)
-  off false x y a z = refl
-  off true true true a z = refl
-  off true true false a z = refl
-  off true false y a z = refl
+  off b x y a z = grind arith
 
   step : (r : ℕ) (x y : Bool) (o : Option ℕ) (P Q R : Bool) → (not P && not Q) ≡ not R →
       (not (x && is_ring r o || P) && not (y && is_ring r (if x then None else o) || Q)) ≡ not ((x || y) && is_ring r o || R)
@@ -66,8 +48,7 @@ module _ (w : World) (s : ℕ) (p q : ℕ → Bool) where
   rest r (x ∷ xs) = step r (p x) (q x) (w.ring_of s x) _ _ _ (rest r xs)
 
   three : (x y z : Bool) → (x && y && z) ≡ (x && (y && z))
-  three true y z = refl
-  three false y z = refl
+  three x y z = grind arith
 
   after : (r : ℕ) → ((disabled w s p).is_active r && not (has_one_of (disabled w s p) s q r)) ≡ (w.is_active r && not (has_one_of w s (λ i. p i || q i) r))
   unfolding disabled has_one_of

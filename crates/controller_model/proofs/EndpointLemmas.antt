@@ -1,6 +1,5 @@
 -- One endpoint is changed, and what a doorbell does
-use Rattle.controller_model.proofs.Words.{◌≡◌, ◌≢◌, ◌+◌, ◌*◌, ◌<◌, ◌==◌, ◌&&◌, ◌∙◌, ℕ, ap, sym, subst, refl, true, false, Bool, List, Option, Some, length, slice_get, get_or, set, inl, inr, arith, eq-eqb, ne_eqb, cases_eq, cond-true, cond-false, put_pair, EndpointState, Endpoint, FollowsEndpoints}
-use Rattle.controller_model.proofs.RingLemmas.{read_at, slice_get-set_same, slice_get-set_other}
+use Rattle.controller_model.proofs.LowerLaws.{◌≡◌, ◌≢◌, ◌+◌, ◌*◌, ◌<◌, ◌==◌, ◌&&◌, ◌∙◌, ℕ, ap, sym, subst, refl, Bool, List, Option, Some, length, slice_get, get_or, set, inl, inr, arith, eq-eqb, ne_eqb, cases_eq, cond-true, cond-false, put_pair, EndpointState, Endpoint, FollowsEndpoints, read_at, slice_get-set_same, slice_get-set_other}
 
 pub put_pair_same : {A : Type 0} (f : ℕ → ℕ → A) (s i : ℕ) (x : A) → put_pair f s i x s i ≡ x
 put_pair_same f s i x = cond-true (s == s && i == i) x (f s i) (λ k. eq-eqb s s refl k && eq-eqb i i refl k)
@@ -9,11 +8,7 @@ pub put_pair_slot : {A : Type 0} (f : ℕ → ℕ → A) (s i t j : ℕ) (x : A)
 put_pair_slot f s i t j x apart = cond-false (t == s && j == i) x (f t j) (ap (λ b. b && j == i) (ne_eqb t s apart))
 
 pub put_pair_index : {A : Type 0} (f : ℕ → ℕ → A) (s i t j : ℕ) (x : A) → j ≢ i → put_pair f s i x t j ≡ f t j
-put_pair_index f s i t j x apart = cond-false (t == s && j == i) x (f t j) (ap (λ b. t == s && b) (ne_eqb j i apart) ∙ and_false (t == s))
-  where
-    and_false : (b : Bool) → (b && false) ≡ false
-    and_false true = refl
-    and_false false = refl
+put_pair_index f s i t j x apart = grind (arith, cond-false, ne_eqb, Bool)
 
 -- the state of an endpoint is replaced
 pub endpoints_state : (endpoints : List Endpoint) (state : ℕ → ℕ → EndpointState) (ring_of : ℕ → ℕ → Option ℕ) (n s i : ℕ) (x new : Endpoint) →
@@ -65,11 +60,5 @@ endpoints_set endpoints state ring_of n s i new index below ring f = record {
     ]
   ];
   no_more = λ t j many. put_pair_index ring_of s i t j new.ring (λ e. omega arith) ∙ f.no_more t j many;
-  low = λ t j r has. elim (cases_eq t s) [
-    | inr apart ↦ f.low t j r (sym (put_pair_slot ring_of s i t j new.ring apart) ∙ has)
-    | inl same ↦ elim (cases_eq j i) [
-      | inr apart ↦ f.low t j r (sym (put_pair_index ring_of s i t j new.ring apart) ∙ has)
-      | inl here ↦ ring r (sym (put_pair_same ring_of s i new.ring) ∙ (λ k. put_pair ring_of s i new.ring (sym same k) (sym here k)) ∙ has)
-    ]
-  ];
+  low = grind (arith, cases_eq, put_pair_slot, put_pair_index, put_pair_same);
 }

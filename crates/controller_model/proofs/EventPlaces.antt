@@ -8,9 +8,7 @@ none_passes test (x ∷ xs) fails = or_from (test x) (list_any test xs) (fails 0
 -- an address of a data place
 module _ (shape : Shape) (is : IsShape shape) (a i word : ℕ) (aligned : a % 16 ≡ 0) (there : place_at shape a ≡ Some (Data i word)) where
   place_is : (i < place_count shape) × (a ≡ address_of shape i)
-  place_is =
-      let at = place_at-Data shape is a i word there in
-      (at.0, omega (arith, aligned, at.1, at.2, address_aligned shape is i))
+  place_is = grind (arith, place_at-Data, address_aligned)
 
   pub is_place : is_event_place shape a ≡ true
   is_place =

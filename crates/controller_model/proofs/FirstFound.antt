@@ -9,16 +9,12 @@ find_in_range test from (suc n) q low high passes fails =
       | inl before ↦
           cond-false (test from) (Some from) (find test (range_with_len (from + 1) n)) (fails from (omega arith) before)
           ∙ find_in_range test (from + 1) n q (omega arith) (omega arith) passes (λ p l h. fails p (omega arith) h)
-      | inr here ↦
-          let same : from ≡ q = omega arith in
-          cond-true (test from) (Some from) (find test (range_with_len (from + 1) n)) (ap test same ∙ passes) ∙ ap (λ x. Some x) same
+      | inr here ↦ grind (arith, cond-true)
     ]
 
 find_nowhere : (test : ℕ → Bool) (from n : ℕ) → ((p : ℕ) → from ≤ p → p < from + n → test p ≡ false) → find test (range_with_len from n) ≡ None
 find_nowhere test from zero fails = refl
-find_nowhere test from (suc n) fails =
-    cond-false (test from) (Some from) (find test (range_with_len (from + 1) n)) (fails from (omega arith) (omega arith))
-    ∙ find_nowhere test (from + 1) n (λ p l h. fails p (omega arith) (omega arith))
+find_nowhere test from (suc n) fails = grind (arith, cond-false, find_nowhere test (from + 1) n (λ p l h. fails p (omega arith) (omega arith)))
 
 pub first_at-found : (shape : Shape) (a from q : ℕ) → from ≤ q → q < from + place_count shape → is_place shape a q ≡ true →
     ((p : ℕ) → from ≤ p → p < q → is_place shape a p ≡ false) → first_at shape a from ≡ q

@@ -1,6 +1,5 @@
 -- Four words make a block
-use Rattle.std.proofs.Common.{rules}
-use Rattle.controller_model.proofs.Words.{◌≡◌, ◌+◌, ℕ, Block, word, Held, held_stored, held_block}
+use Rattle.controller_model.proofs.Words.{rules, ◌≡◌, ◌+◌, ℕ, Block, word, Held, held_stored, held_block}
 
 pub held_four : (h first second third fourth : Held) (a a0 a1 a2 a3 step : ℕ) (b : Block) →
     a0 ≡ a + 0 → a1 ≡ a + 4 → a2 ≡ a + 8 → a3 ≡ a + 12 →

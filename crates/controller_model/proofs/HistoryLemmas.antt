@@ -1,6 +1,5 @@
 -- One more thing that happens on a ring
-use Rattle.std.proofs.Common.{rules}
-use Rattle.controller_model.proofs.Words.{◌≡◌, ◌+◌, ◌-◌, ◌<◌, ◌≤◌, ◌==◌, ◌||◌, ◌++◌, if◌then◌else◌, ◌∷◌, ◌∙◌, ℕ, suc, not, [], List, Option, length, drop, true, false, refl, sym, ap, arith, length-append, eq-eqb, ne_eqb, slice_index_or, drop-append-le, drop_all, false≢true, cond-true, cond-false, Block, Shape, address_of, cycle_of, DeclaredBlock, RingEvent, Took, Placed, takes_of, next_take, was_placed, first_at, is_as_declared, is_right_place, is_out_of_order, has_other_words, is_end, is_inside_descriptor, Header, is_last, History, Keeps, ShowsHarms}
+use Rattle.controller_model.proofs.Words.{rules, ◌≡◌, ◌+◌, ◌-◌, ◌<◌, ◌≤◌, ◌==◌, ◌||◌, ◌++◌, if◌then◌else◌, ◌∷◌, ◌∙◌, ℕ, suc, not, [], List, Option, length, drop, true, false, refl, sym, ap, arith, length-append, eq-eqb, ne_eqb, slice_index_or, drop-append-le, drop_all, false≢true, cond-true, cond-false, Block, Shape, address_of, cycle_of, DeclaredBlock, RingEvent, Took, Placed, takes_of, next_take, was_placed, first_at, is_as_declared, is_right_place, is_out_of_order, has_other_words, is_end, is_inside_descriptor, Header, is_last, History, Keeps, ShowsHarms}
 
 -- a bit by a test
 pub as_bit : (shape : Shape) (p : ℕ) → (if cycle_of shape p == 1 then 1 else 0) ≡ cycle_of shape p
@@ -27,15 +26,11 @@ pub shows_took : (shape : Shape) (events : List RingEvent) (reported : ℕ) (h a
     after.other_words ≡ (not (is_as_declared shape d h.next b) || h.other_words) →
     Keeps shape events reported h → ShowsHarms shape events h → ShowsHarms shape (Took a b d ∷ events) after
 unfolding is_out_of_order has_other_words
-shows_took shape events reported h after a b d order words k s = record {
-  order = (λ i. not (is_right_place (k.placed i) d) || not (address_of shape (k.next i) == a) || s.order i) ∙ sym order;
-  words = (λ i. not (is_as_declared shape d (k.next i) b) || s.words i) ∙ sym words;
-}
+shows_took shape events reported h after a b d order words k s = grind arith
 
 pub keeps_nothing : (shape : Shape) (h : History) → h.next ≡ 0 → h.was_placed ≡ false → h.is_inside ≡ false → h.unreported.items ≡ [] → Keeps shape [] 0 h
 unfolding next_take was_placed is_inside_descriptor takes_of
-keeps_nothing shape h next placed inside unreported =
-    record { next = sym next; placed = sym placed; inside = sym inside; unreported = sym unreported; few = omega arith }
+keeps_nothing shape h next placed inside unreported = grind arith
 
 pub shows_nothing : (shape : Shape) (h : History) → h.out_of_order ≡ false → h.other_words ≡ false → ShowsHarms shape [] h
 unfolding is_out_of_order has_other_words
@@ -68,9 +63,7 @@ is_last-none h a n (x ∷ xs) many none = absurd (false≢true (none (omega arit
 pub is_last-some : (h : Header) (a x n : ℕ) (xs : List ℕ) → n ≡ length xs → 0 < n → x ≡ slice_index_or xs (n - 1) x → (x == a) ≡ is_last h a xs
 unfolding is_last
 is_last-some h a x n [] many some at = absurd (omega arith)
-is_last-some h a x n (y ∷ []) many some at =
-    let first : slice_index_or (y ∷ []) (n - 1) x ≡ y = ap (λ k. slice_index_or (y ∷ []) k x) (let e : n - 1 ≡ 0 = omega arith in e) in
-    ap (λ z. z == a) (at ∙ first)
+is_last-some h a x n (y ∷ []) many some at = grind (arith, slice_index_or)
 is_last-some h a x n (y ∷ z ∷ zs) many some at =
     let later : slice_index_or (y ∷ z ∷ zs) (n - 1) x ≡ slice_index_or (z ∷ zs) (n - 1 - 1) x = ap (λ k. slice_index_or (y ∷ z ∷ zs) k x) (let e : n - 1 ≡ suc (n - 1 - 1) = omega arith in e) in
     is_last-some h a x (n - 1) (z ∷ zs) (omega arith) (omega arith) (at ∙ later)

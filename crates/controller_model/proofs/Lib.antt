@@ -45,3 +45,6 @@ pub mod PlainRows
 pub mod PlainScenes
 pub mod ReadLemmas
 pub mod Words
+pub mod LowerLaws
+pub mod MiddleLaws
+pub mod Laws

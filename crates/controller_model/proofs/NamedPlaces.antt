@@ -1,6 +1,5 @@
 -- Which positions an address names
-use Rattle.std.proofs.Common.{rules}
-use Rattle.controller_model.proofs.Words.{◌≡◌, ◌+◌, ◌*◌, ◌%◌, ◌<◌, ◌≤◌, ◌∙◌, ◌⊎◌, ℕ, true, Some, is_some, sym, ap, arith, eqb-true, cases_lt, false≢true, or_cases, and_parts, Data, Link, Shape, address_of, place_count, link_crossed, link_address, place_at, IsShape, cases_option, same_in_lap, place_at-address_of, place_at-link_address, is_place}
+use Rattle.controller_model.proofs.Words.{rules, ◌≡◌, ◌+◌, ◌*◌, ◌%◌, ◌<◌, ◌≤◌, ◌∙◌, ◌⊎◌, ℕ, true, Some, is_some, sym, ap, arith, eqb-true, cases_lt, false≢true, or_cases, and_parts, Data, Link, Shape, address_of, place_count, link_crossed, link_address, place_at, IsShape, cases_option, same_in_lap, place_at-address_of, place_at-link_address, is_place}
 
 -- the first word of a position's block
 pub at_block : (shape : Shape) → IsShape shape → (a p : ℕ) → address_of shape p ≡ a → place_at shape a ≡ Some (Data (p % place_count shape) 0)

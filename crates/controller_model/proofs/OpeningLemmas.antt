@@ -1,6 +1,5 @@
 -- Lists of which all elements are alike
-use Rattle.std.proofs.Common.{◌≡◌, ℕ, zero, suc, List, All, Some, slice_get, replicate, subst}
-use Rattle.std.proofs.lemmas.Option.{slice_get_within, get_or_from_slice_get}
+use Rattle.controller_model.proofs.Words.{◌≡◌, ℕ, zero, suc, List, All, Some, slice_get, replicate, subst, slice_get_within, get_or_from_slice_get}
 
 pub all_at : {X : Type 0} (P : X → Type 0) (xs : List X) (i : ℕ) (x : X) → All P xs → slice_get xs i ≡ Some x → P x
 all_at P xs i x each at = subst P (get_or_from_slice_get xs i x x at) (each i x (slice_get_within xs i x at))

@@ -1,12 +1,9 @@
 -- When an event may be posted
-use Rattle.std.proofs.Common.{rules}
-use Rattle.controller_model.proofs.Words.{◌≡◌, ◌≤◌, ◌==◌, ◌&&◌, ℕ, Bool, false, None, sym, nat_lt, lt-ltb, Block, cycle, Shape, place_count, cycle_of, has_room, Header, event_ring, event_shape, event_size, shape_or, Evt, World, can_post}
+use Rattle.controller_model.proofs.Words.{arith, rules, ◌≡◌, ◌≤◌, ◌==◌, ◌&&◌, ℕ, Bool, false, None, nat_lt, lt-ltb, Block, cycle, Shape, place_count, cycle_of, has_room, Header, event_ring, event_shape, event_size, World, can_post}
 
 pub no_ring : (h : Header) (w : World) (b : Block) → None ≡ event_ring h → can_post h w b ≡ false
 unfolding can_post event_size event_shape
-no_ring h w b none =
-    (λ i. nat_lt 0 (place_count (shape_or Evt (sym none i))) && w.started && has_room (place_count (shape_or Evt (sym none i))) w.posted w.dequeue
-    && cycle b == cycle_of (shape_or Evt (sym none i)) w.posted)
+no_ring h w b none = grind (arith, nat_lt)
 
 pub can_post_is : (h : Header) (w : World) (b : Block) (shape : Shape) (p d : ℕ) (started turn room : Bool) → shape ≡ event_shape h → 2 ≤ place_count shape →
     w.started ≡ started → w.posted ≡ p → w.dequeue ≡ d → room ≡ has_room (place_count shape) p d → turn ≡ (cycle b == cycle_of shape p) →

@@ -1,22 +1,15 @@
 -- What a step at one ring does to the rings' harms
-use Rattle.std.proofs.Common.{rules}
-use Rattle.controller_model.proofs.Words.{TraceRow, Plain, Scene, row_next, step_made, ◌≡◌, ◌≢◌, ◌==◌, ◌&&◌, ◌||◌, ◌∙◌, if◌then◌else◌, ◌∷◌, ◌%◌, ℕ, not, Bool, true, false, List, [], Option, Some, None, option_map, ap, sym, subst, refl, inl, inr, IsSome, find, eq-eqb, ne_eqb, arith, nat_lt, list_any, cases_Bool, cases_eq, cond-false, cond-true, Block, block_at, cycle, Header, command_id, Ring, Look, ring_with, shape_of, some_ring, World, has_other_words, is_inside_descriptor, is_out_of_order, waits, RingHarms, command_begun, crossed, looked, looked_at, seen_by_look, taken, taken_on, counted, made, stepped, while_running, put, bits, Row, Sub, Write, Read, stored, declared, event_read, row_done, same_Some, RingHeld, ring_held, ChangesOnly, HasRingHarms}
-use Rattle.controller_model.proofs.RingLemmas.{put_other}
-use Rattle.std.proofs.lemmas.Bool.{cond_both}
-use Rattle.controller_model.proofs.LookBranches.{or_false}
+use Rattle.controller_model.proofs.LowerLaws.{rules, TraceRow, Plain, Scene, row_next, step_made, ◌≡◌, ◌≢◌, ◌==◌, ◌&&◌, ◌||◌, ◌∙◌, if◌then◌else◌, ◌∷◌, ◌%◌, ℕ, not, Bool, true, false, List, [], Option, Some, None, option_map, ap, sym, subst, refl, inl, inr, IsSome, find, eq-eqb, ne_eqb, arith, nat_lt, list_any, cases_Bool, cases_eq, cond-false, cond-true, Block, block_at, cycle, Header, command_id, Ring, Look, ring_with, shape_of, some_ring, World, has_other_words, is_inside_descriptor, is_out_of_order, waits, RingHarms, command_begun, crossed, looked, looked_at, seen_by_look, taken, taken_on, counted, made, stepped, while_running, put, bits, Row, Sub, Write, Read, stored, declared, event_read, row_done, same_Some, RingHeld, ring_held, ChangesOnly, HasRingHarms, put_other, cond_both, or_false}
 use Rattle.controller_model.proofs.RingSteps.{crossed_other, taken_other}
 
 or_again : (a b : Bool) → (a || (a || b)) ≡ (a || b)
-or_again true b = refl
-or_again false b = refl
+or_again a b = grind arith
 
 first_false : (a b : Bool) → (a || b) ≡ false → a ≡ false
-first_false true b e = e
-first_false false b e = refl
+first_false a b e = grind arith
 
 second_false : (a b : Bool) → (a || b) ≡ false → b ≡ false
-second_false true b e = absurd (cc)
-second_false false b e = e
+second_false a b e = grind arith
 
 -- a test of rings that no ring passed, and that changes at ring r alone
 module _ (p q : ℕ → Bool) (r : ℕ) (x : Bool) (others : (n : ℕ) → n ≢ r → q n ≡ p n) (here : x ≡ q r) where
@@ -25,12 +18,7 @@ module _ (p q : ℕ → Bool) (r : ℕ) (x : Bool) (others : (n : ℕ) → n ≢
 
   absorbed : (rings : List Ring) → list_any (λ ring. p ring.id) rings ≡ false → (x || list_any (λ ring. q ring.id) rings) ≡ x
   absorbed [] none = or_false x
-  absorbed (y ∷ ys) none =
-      let rest = absorbed ys (second_false (p y.id) _ none) in
-      elim (cases_eq y.id r) [
-        | inl same ↦ ap (λ b. x || (b || list_any (λ ring. q ring.id) ys)) (ap q same ∙ sym here) ∙ or_again x _ ∙ rest
-        | inr apart ↦ ap (λ b. x || (b || list_any (λ ring. q ring.id) ys)) (elsewhere y.id apart (first_false (p y.id) _ none)) ∙ rest
-      ]
+  absorbed (y ∷ ys) none = grind (arith, second_false, cases_eq, or_again, elsewhere, first_false, absorbed ys (second_false (p y.id) _ none))
 
   pub any_only : (rings : List Ring) → list_any (λ ring. p ring.id) rings ≡ false → IsSome (find (λ ring. ring.id == r) rings) → x ≡ list_any (λ ring. q ring.id) rings
   any_only [] none known = absurd (cc)
@@ -50,9 +38,7 @@ any_elsewhere : (p q : ℕ → Bool) (r : ℕ) → ((n : ℕ) → n ≢ r → q 
 any_elsewhere p q r others [] none = refl
 any_elsewhere p q r others (y ∷ ys) none =
     elim (cases_eq y.id r) [
-      | inl same ↦
-          let found : Some y ≡ None = sym (cond-true (y.id == r) (Some y) (find (λ ring. ring.id == r) ys) (eq-eqb y.id r same)) ∙ none in
-          absurd (cc)
+      | inl same ↦ grind (arith, cond-true, eq-eqb)
       | inr apart ↦
           let rest = sym (cond-false (y.id == r) (Some y) (find (λ ring. ring.id == r) ys) (ne_eqb y.id r apart)) ∙ none in
           (λ i. others y.id apart i || any_elsewhere p q r others ys rest i)
@@ -75,8 +61,7 @@ unfolding some_ring waits
 harms_of_gone h w v r x f only gone = record {
   order = f.order ∙ sym (any_elsewhere (λ q. is_out_of_order (shape_of h q) (w.events q)) (λ q. is_out_of_order (shape_of h q) (v.events q)) r
       (λ q apart. ap (λ held. is_out_of_order (shape_of h q) held.events) (only.others q apart)) h.rings gone);
-  words = f.words ∙ sym (any_elsewhere (λ q. has_other_words (shape_of h q) (w.events q)) (λ q. has_other_words (shape_of h q) (v.events q)) r
-      (λ q apart. ap (λ held. has_other_words (shape_of h q) held.events) (only.others q apart)) h.rings gone);
+  words = grind (arith, any_elsewhere);
   waiting = f.waiting ∙ sym (any_elsewhere (λ q. waits_so w.memory (ring_held w q)) (λ q. waits_so v.memory (ring_held v q)) r
       (λ q apart i. waits_so (only.memory i) (only.others q apart i)) h.rings gone);
 }
@@ -128,15 +113,9 @@ module _ (h : Header) (w : World) (r : ℕ) (active : w.is_active r ≡ true) wh
   at_some : (u v : World) → IsAt r w u → Some u ≡ Some v → IsAt r w v
   at_some u v f e = subst (IsAt r w) (same_Some u v e) f
 
-  at_choice : (t : Bool) (x y : Option World) (v : World) → (x ≡ Some v → IsAt r w v) → (y ≡ Some v → IsAt r w v) → (if t then x else y) ≡ Some v → IsAt r w v
-  at_choice true x y v one other e = one e
-  at_choice false x y v one other e = other e
-
   looked_at_is : (b : Block) (v : World) → looked_at h w r b ≡ Some v → IsAt r w v
   unfolding looked_at
-  looked_at_is b v e =
-      at_choice _ _ _ v (at_some _ v waiting_at)
-      (at_choice _ _ _ v (at_some _ v (crossing_at b)) (at_choice _ _ _ v (λ none. let no : None ≡ Some v = none in absurd (cc)) (at_some _ v (taking_at b)))) e
+  looked_at_is b v e = grind (arith, at_some, waiting_at, crossing_at, taking_at)
 
 pub looked_is : (h : Header) (w v : World) (r : ℕ) → looked h w r ≡ Some v → IsAt r w v
 unfolding looked
@@ -148,9 +127,7 @@ looked_is h w v r e = elim (cases_Bool (w.is_active r)) [
 -- a step that is possible was made, and counted
 counts : (h : Header) (P : World → Type 0) → ((u : World) → P u → P (counted h u)) → (stopped : Bool) (o : Option World) (v : World) → ((u : World) → o ≡ Some u → P u) →
     option_map (counted h) (if stopped then None else o) ≡ Some v → P v
-counts h P more true o v each e = search (rules, option_map)
-counts h P more false None v each e = search (rules, option_map)
-counts h P more false (Some u) v each e = search (rules, option_map)
+counts h P more stopped o v each e = grind (arith, option_map)
 
 counted_at : (h : Header) (r : ℕ) (w u : World) → IsAt r w u → IsAt r w (counted h u)
 unfolding counted
@@ -160,12 +137,9 @@ pub look_is : (h : Header) (w v : World) (r : ℕ) → stepped h w (Look r) ≡ 
 unfolding stepped made while_running
 look_is h w v r e = counts h (IsAt r w) (counted_at h r w) w.stopped (looked h w r) v (λ u made. looked_is h w u r made) e
 
-low_bit : (x : ℕ) → bits x 0 1 ≡ x % 2
-low_bit x = omega arith
-
 -- a write that keeps a word's lowest bit keeps that of each word
 low_kept : (m : ℕ → ℕ) (a x n : ℕ) → m a % 2 ≡ x % 2 → bits (put m a x n) 0 1 ≡ bits (m n) 0 1
-low_kept m a x n e = search (rules, cond-true, eq-eqb, low_bit, put_other)
+low_kept m a x n e = search (rules, cond-true, eq-eqb, put_other)
 
 -- and the harms of the rings
 pub stored_harms : (h : Header) (w v : World) (a n : ℕ) (x : RingHarms) → w.memory a % 2 ≡ n % 2 → row_done h w (Write a n) ≡ Some v → HasRingHarms h w x → HasRingHarms h v x
@@ -174,9 +148,7 @@ stored_harms h w v a n x low e f = search (rules, low_kept)
 
 pub declared_harms : (h : Header) (w v : World) (r : ℕ) (blocks : List Block) (x : RingHarms) → row_done h w (Sub r blocks) ≡ Some v → HasRingHarms h w x → HasRingHarms h v x
 unfolding row_done declared waits
-declared_harms h w v r blocks x e f =
-    let same : declared h w r blocks ≡ v = cc in
-    subst (λ (u : World). HasRingHarms h u x) same (record { order = f.order; words = f.words; waiting = f.waiting })
+declared_harms h w v r blocks x e f = grind arith
 
 pub read_harms : (h : Header) (w v : World) (b : Block) (x : RingHarms) → row_done h w (Read b) ≡ Some v → HasRingHarms h w x → HasRingHarms h v x
 unfolding row_done event_read waits
@@ -204,10 +176,7 @@ row_harms x y row rest harms left e keeps = onward (row_done x.header x.world ro
 pub came_from : (x : Scene) (o : Option World) (y : Scene) →
     option_map (λ w. let z : Scene = record { header = x.header; rows = x.rows; world = counted x.header w } in z) o ≡ Some y →
     (y.header ≡ x.header) × (option_map (counted x.header) o ≡ Some y.world)
-came_from x None y e = absurd (cc)
-came_from x (Some w) y e =
-    let same : ◌≡◌ {A = Scene} (record { header = x.header; rows = x.rows; world = counted x.header w }) y = same_Some _ y e in
-    (ap (λ (z : Scene). z.header) (sym same), ap (λ (z : Scene). Some z.world) same)
+came_from x o y e = grind (arith, same_Some)
 
 pub look_came : (x y : Scene) (r : ℕ) → step_made x (Look r) ≡ Some y → (y.header ≡ x.header) × (stepped x.header x.world (Look r) ≡ Some y.world)
 unfolding stepped

@@ -1,6 +1,5 @@
 -- One ring's state is changed
-use Rattle.std.proofs.Common.{rules}
-use Rattle.controller_model.proofs.Words.{◌≡◌, ◌≢◌, ◌<◌, ◌==◌, ◌∙◌, ◌∷◌, ℕ, zero, suc, ap, refl, sym, List, [], Some, length, slice_get, get_or, set, subst, inl, inr, arith, eq-eqb, ne_eqb, cases_eq, cond-true, cond-false, slice_get-get_or, put, Header, RingState, RingHeld, FollowsRing, FollowsRings, Follows, FollowsSlots, FollowsEndpoints, ring_held, ring_with, shape_of, Row, Kept, World}
+use Rattle.controller_model.proofs.Words.{rules, ◌≡◌, ◌≢◌, ◌<◌, ◌==◌, ◌∙◌, ◌∷◌, ℕ, zero, suc, refl, sym, List, [], Some, length, slice_get, get_or, set, subst, inl, inr, arith, eq-eqb, ne_eqb, cases_eq, cond-true, cond-false, slice_get-get_or, put, Header, RingState, RingHeld, FollowsRing, FollowsRings, Follows, FollowsSlots, FollowsEndpoints, ring_held, ring_with, shape_of, Row, Kept, World}
 
 pub put_same : {A : Type 0} (f : ℕ → A) (n : ℕ) (x : A) → put f n x n ≡ x
 put_same f n x = cond-true (n == n) x (f n) (eq-eqb n n refl)
@@ -22,8 +21,7 @@ slice_get-set_other (z ∷ xs) (suc i) (suc j) x apart = slice_get-set_other xs 
 
 -- the element at a place that is read
 pub read_at : {X : Type 0} (xs : List X) (i r : ℕ) (x : X) → i ≡ r → r < length xs → x ≡ get_or xs i x → slice_get xs r ≡ Some x
-read_at xs i r x same h value =
-    slice_get-get_or xs r x h ∙ ap (λ n. Some (get_or xs n x)) (sym same) ∙ ap (λ y. Some y) (sym value)
+read_at xs i r x same h value = grind (arith, slice_get-get_or)
 
 follows_alike : (h g : Header) (q : ℕ) (held : RingHeld) (y : RingState) → ring_with g q ≡ ring_with h q → FollowsRing h q held y → FollowsRing g q held y
 unfolding shape_of

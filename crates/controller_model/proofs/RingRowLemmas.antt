@@ -1,7 +1,5 @@
 -- Rings that come and go: what is kept of the others
-use Rattle.std.proofs.Common.{rules}
-use Rattle.controller_model.proofs.Words.{position_or_len, remove, position-Some, fails_before_first, emptied, with_ring, without_descriptor, without_ring, length_from, no_ops, split_at, ◌≡◌, ◌≢◌, ◌==◌, ◌∷◌, ◌++◌, ◌<◌, ◌≤◌, ◌∙◌, if◌then◌else◌, ℕ, zero, suc, true, false, [], List, Some, None, not, find, filter, get_or, length, position, arith, common_steps, ap, sym, refl, inl, inr, cases_eq, cond-true, cond-false, eq-eqb, ne_eqb, Header, Ring, ring_with, World, ring_held}
-use Rattle.controller_model.proofs.RingLemmas.{put_same, put_other}
+use Rattle.controller_model.proofs.LowerLaws.{rules, remove, position-Some, fails_before_first, emptied, with_ring, without_descriptor, without_ring, length_from, no_ops, split_at, ◌≡◌, ◌≢◌, ◌==◌, ◌∷◌, ◌++◌, ◌<◌, ◌∙◌, if◌then◌else◌, ℕ, zero, suc, true, false, [], List, Some, None, not, find, filter, get_or, length, position, arith, ap, sym, refl, cases_eq, cond-true, cond-false, eq-eqb, ne_eqb, Header, Ring, ring_with, World, ring_held, put_same, put_other}
 
 -- ---- the rings that are there
 
@@ -15,16 +13,7 @@ with_alike h ring r apart = found_before h.rings ring r apart
 
 found_behind : (rings : List Ring) (gone id : ℕ) → id ≢ gone → find (λ r. r.id == id) (filter (λ r. not (r.id == gone)) rings) ≡ find (λ r. r.id == id) rings
 found_behind [] gone id apart = refl
-found_behind (y ∷ ys) gone id apart =
-    elim (cases_eq y.id gone) [
-      | inl same ↦
-          ap (λ rings. find (λ r. r.id == id) rings) (cond-false (not (y.id == gone)) (y ∷ filter (λ r. not (r.id == gone)) ys) (filter (λ r. not (r.id == gone)) ys) (ap not (eq-eqb y.id gone same)))
-          ∙ found_behind ys gone id apart
-          ∙ sym (cond-false (y.id == id) (Some y) (find (λ r. r.id == id) ys) (ne_eqb y.id id (λ e. apart (sym e ∙ same))))
-      | inr other ↦
-          ap (λ rings. find (λ r. r.id == id) rings) (cond-true (not (y.id == gone)) (y ∷ filter (λ r. not (r.id == gone)) ys) (filter (λ r. not (r.id == gone)) ys) (ap not (ne_eqb y.id gone other)))
-          ∙ ap (λ o. if y.id == id then Some y else o) (found_behind ys gone id apart)
-    ]
+found_behind (y ∷ ys) gone id apart = grind (arith, cases_eq, cond-false, eq-eqb, ne_eqb, cond-true, found_behind ys gone id apart)
 
 pub without_alike : (h : Header) (gone r : ℕ) → r ≢ gone → ring_with (without_ring h gone) r ≡ ring_with h r
 unfolding without_ring
@@ -34,8 +23,7 @@ without_alike h gone r apart = found_behind h.rings gone r apart
 one_out : (rings : List Ring) (n id : ℕ) (d : Ring) → n < length rings → ((get_or rings n d).id == id) ≡ true →
     filter (λ r. not (r.id == id)) (remove rings n) ≡ filter (λ r. not (r.id == id)) rings
 one_out [] n id d inside is = absurd (omega arith)
-one_out (y ∷ ys) zero id d inside is =
-    sym (cond-false (not (y.id == id)) (y ∷ filter (λ r. not (r.id == id)) ys) (filter (λ r. not (r.id == id)) ys) (ap not is))
+one_out (y ∷ ys) zero id d inside is = grind (arith, cond-false)
 one_out (y ∷ ys) (suc n) id d inside is = ap (λ zs. if not (y.id == id) then y ∷ zs else zs) (one_out ys n id d (omega arith) is)
 
 pub one_dropped : (rings : List Ring) (n id : ℕ) → position (λ r. r.id == id) rings ≡ Some n →
@@ -52,9 +40,7 @@ none_out (y ∷ ys) id none =
     ∙ ap (λ zs. y ∷ zs) (none_out ys id (λ k d inside. none (suc k) d (omega arith)))
 
 pub none_dropped : (rings : List Ring) (id : ℕ) → position (λ r. r.id == id) rings ≡ None → filter (λ r. not (r.id == id)) rings ≡ rings
-none_dropped rings id nowhere =
-    let past : length rings ≤ position_or_len (λ (r : Ring). r.id == id) rings = grind (arith, common_steps, nowhere) in
-    none_out rings id (λ k d inside. fails_before_first (λ (r : Ring). r.id == id) rings k d (omega arith))
+none_dropped rings id nowhere = grind (arith, none_out, fails_before_first)
 
 pub nothing_listed : (rings : List Ring) → length rings ≡ 0 → rings ≡ []
 nothing_listed [] none = refl
@@ -77,14 +63,8 @@ emptied_other w r q apart = search (rules, put_other)
 pub withdrawn_here : (w : World) (r p : ℕ) → ring_held (without_descriptor w r p) r
     ≡ record (ring_held w r) { queue = no_ops (w.queue r) p (length_from (w.lengths r) 0 p); lengths = split_at (w.lengths r) 0 p }
 unfolding without_descriptor
-withdrawn_here w r p = (λ i. record (ring_held w r) {
-  queue = put_same w.queue r (no_ops (w.queue r) p (length_from (w.lengths r) 0 p)) i;
-  lengths = put_same w.lengths r (split_at (w.lengths r) 0 p) i;
-})
+withdrawn_here w r p = grind (arith, put_same)
 
 pub withdrawn_other : (w : World) (r p q : ℕ) → q ≢ r → ring_held (without_descriptor w r p) q ≡ ring_held w q
 unfolding without_descriptor
-withdrawn_other w r p q apart = (λ i. record (ring_held w q) {
-  queue = put_other w.queue r q (no_ops (w.queue r) p (length_from (w.lengths r) 0 p)) apart i;
-  lengths = put_other w.lengths r q (split_at (w.lengths r) 0 p) apart i;
-})
+withdrawn_other w r p q apart = grind (arith, put_other)

@@ -1,18 +1,14 @@
 -- What single changes of the world do to what it has of each ring
-use Rattle.std.proofs.Common.{rules}
-use Rattle.controller_model.proofs.Words.{◌≡◌, ◌≢◌, ◌+◌, ◌∷◌, ◌++◌, ◌-◌, ◌%◌, ◌^◌, if◌then◌else◌, ◌∙◌, ℕ, [], Bool, true, List, Some, length, refl, false, ap, put, aligned, pointer, word, is_set, shape_of, declared_at, next_take, declared_next, crossed, taken_on, taken_held, Block, Header, World, Took, declared, activated, inactive, with_reported, ring_held}
-use Rattle.controller_model.proofs.RingLemmas.{put_same, put_other}
+use Rattle.controller_model.proofs.LowerLaws.{arith, rules, ◌≡◌, ◌≢◌, ◌+◌, ◌∷◌, ◌++◌, ◌-◌, if◌then◌else◌, ℕ, [], Bool, true, List, Some, length, false, put, aligned, pointer, word, is_set, shape_of, declared_next, crossed, taken_on, taken_held, Block, Header, World, declared, activated, inactive, with_reported, ring_held, put_same, put_other}
 
 pub declared_here : (h : Header) (w : World) (r : ℕ) (bs : List Block) →
     ring_held (declared h w r bs) r ≡ record (ring_held w r) { queue = w.queue r ++ bs; lengths = w.lengths r ++ length bs ∷ [] }
 unfolding declared
-declared_here h w r bs =
-    (λ i. record (ring_held w r) { queue = put_same w.queue r (w.queue r ++ bs) i; lengths = put_same w.lengths r (w.lengths r ++ length bs ∷ []) i })
+declared_here h w r bs = grind (arith, put_same)
 
 pub declared_other : (h : Header) (w : World) (r : ℕ) (bs : List Block) (q : ℕ) → q ≢ r → ring_held (declared h w r bs) q ≡ ring_held w q
 unfolding declared
-declared_other h w r bs q apart =
-    (λ i. record (ring_held w q) { queue = put_other w.queue r q (w.queue r ++ bs) apart i; lengths = put_other w.lengths r q (w.lengths r ++ length bs ∷ []) apart i })
+declared_other h w r bs q apart = grind (arith, put_other)
 
 pub activated_here : (h : Header) (w : World) (r : ℕ) → ring_held (activated h w r) r ≡ record (ring_held w r) { is_active = true }
 unfolding activated
@@ -39,12 +35,7 @@ unfolding with_reported
 reported_other h w r n q apart = (λ i. record (ring_held w q) { reported = put_other w.reported r q n apart i })
 
 at_place : {A : Type 0} (t : Bool) (f g : ℕ → A) (n : ℕ) → (if t then f else g) n ≡ (if t then f n else g n)
-at_place true f g n = refl
-at_place false f g n = refl
-
-same_both : {A : Type 0} (t : Bool) (x y : A) → x ≡ y → (if t then x else y) ≡ y
-same_both true x y e = e
-same_both false x y e = refl
+at_place t f g n = grind arith
 
 pub crossed_here : (h : Header) (w : World) (r : ℕ) (b : Block) → ring_held (crossed h w r b) r ≡ record (ring_held w r) {
   pointer = aligned (pointer b);
@@ -54,24 +45,16 @@ unfolding crossed
 crossed_here h w r b = (λ i. record (ring_held w r) { pointer = put_same w.pointer_of r (aligned (pointer b)) i; cycle = turned i })
   where
     turned : (if is_set (word b 3) 1 then put w.cycle_state r (1 - w.cycle_state r) else w.cycle_state) r ≡ (if is_set (word b 3) 1 then 1 - w.cycle_state r else w.cycle_state r)
-    turned =
-        at_place (is_set (word b 3) 1) (put w.cycle_state r (1 - w.cycle_state r)) w.cycle_state r
-        ∙ ap (λ n. if is_set (word b 3) 1 then n else w.cycle_state r) (put_same w.cycle_state r (1 - w.cycle_state r))
+    turned = grind (arith, at_place, put_same)
 
 pub crossed_other : (h : Header) (w : World) (r : ℕ) (b : Block) (q : ℕ) → q ≢ r → ring_held (crossed h w r b) q ≡ ring_held w q
 unfolding crossed
-crossed_other h w r b q apart = search (rules, put_other, at_place, same_both)
+crossed_other h w r b q apart = search (rules, put_other, at_place)
 
 pub taken_here : (h : Header) (w : World) (r : ℕ) (b : Block) → ring_held (taken_on h w r b) r ≡ taken_held (shape_of h r) (ring_held w r) b
 unfolding taken_on declared_next
-taken_here h w r b = (λ i. record (ring_held w r) {
-  events = put_same w.events r (Took (w.pointer_of r) b (declared_at (w.queue r) (w.lengths r) (next_take (shape_of h r) (w.events r))) ∷ w.events r) i;
-  pointer = put_same w.pointer_of r ((w.pointer_of r + 16) % 2 ^ 64) i;
-})
+taken_here h w r b = grind (arith, put_same)
 
 pub taken_other : (h : Header) (w : World) (r : ℕ) (b : Block) (q : ℕ) → q ≢ r → ring_held (taken_on h w r b) q ≡ ring_held w q
 unfolding taken_on declared_next
-taken_other h w r b q apart = (λ i. record (ring_held w q) {
-  events = put_other w.events r q (Took (w.pointer_of r) b (declared_at (w.queue r) (w.lengths r) (next_take (shape_of h r) (w.events r))) ∷ w.events r) apart i;
-  pointer = put_other w.pointer_of r q ((w.pointer_of r + 16) % 2 ^ 64) apart i;
-})
+taken_other h w r b q apart = grind (arith, put_other)

@@ -1,6 +1,5 @@
 -- What rows do to what is kept
-use Rattle.std.proofs.Common.{rules}
-use Rattle.controller_model.proofs.Words.{◌≡◌, ◌+◌, ◌<◌, ◌≤◌, ◌^◌, ◌∙◌, ◌==◌, ◌%◌, subst, ℕ, ap, sym, List, arith, ne_eqb, cond-false, Header, Row, World, stored, stored_block, Block, Kept, Stamps, held, held_by, held_stored, held_block, Follows}
+use Rattle.controller_model.proofs.Words.{rules, ◌≡◌, ◌+◌, ◌<◌, ◌≤◌, ◌^◌, ◌%◌, subst, ℕ, sym, List, arith, ne_eqb, cond-false, Header, Row, World, stored, stored_block, Block, Kept, Stamps, held, held_by, held_stored, held_block, Follows}
 
 -- a word was stored: what memory then holds, and that none is beyond the last address
 pub record Stored (words : ℕ → ℕ) (stamps : Stamps) (w : World) : Type 0 where
@@ -10,10 +9,7 @@ pub record Stored (words : ℕ → ℕ) (stamps : Stamps) (w : World) : Type 0 w
 pub follows_stored : (h : Header) (rows : List Row) (words new : ℕ → ℕ) (k : Kept) (stamps : Stamps) (w : World) (a x step : ℕ) → a < 2 ^ 64 →
     step ≡ k.progress.steps + 1 → held new stamps ≡ held_stored (held words k.stamps) a x step → Follows h rows words k w → Stored new stamps (stored w a x)
 unfolding stored
-follows_stored h rows words new k stamps w a x step end now made f = record {
-  held = (λ i. held_stored (f.held i) a x (f.progress.steps i + 1)) ∙ ap (λ n. held_stored (held words k.stamps) a x n) (sym now) ∙ sym made;
-  beyond = λ q far. ap (λ y. y.memory q) made ∙ cond-false (q == a) x (words q) (ne_eqb q a (λ e. omega arith)) ∙ f.beyond q far;
-}
+follows_stored h rows words new k stamps w a x step end now made f = grind (arith, cond-false, ne_eqb)
 
 -- four words were stored
 pub follows_stored_block : (h : Header) (rows : List Row) (words new : ℕ → ℕ) (k : Kept) (stamps : Stamps) (w : World) (a step : ℕ) (b : Block) → a < 2 ^ 64 → a % 16 ≡ 0 →

@@ -1,16 +1,13 @@
 -- Which harms a world has
-use Rattle.std.proofs.Common.{rules}
-use Rattle.controller_model.proofs.Words.{◌≡◌, ◌≢◌, IsSome, Ring, eq-eqb, ne_eqb, cond-true, cond-false, ◌+◌, ◌-◌, ◌*◌, ◌/◌, ◌==◌, ◌&&◌, ◌||◌, ◌<◌, ◌≤◌, ◌∙◌, ◌∷◌, ℕ, zero, suc, List, get_or, length, take, Bool, true, false, not, Option, Some, None, find, option_map, ap, sym, refl, arith, [], nat_lt, nat_le, option_and_then, lt-ltb, list_any, range_with_len, list_any_more, Block, Evt, block_at, cycle, Shape, place_count, Command, command_of, named_context, input_context_bytes, Header, event_ring, event_shape, event_size, shape_of, shape_or, some_ring, World, Harm, TakenOutOfOrder, TakenOtherWords, WaitsInsideDescriptor, LooksOutside, PostsOverUnread, InputContextChanged, harm_of, harms, waits, is_inside_descriptor, is_out_of_order, has_other_words, has_changed_context, is_context_changed, is_changed_since, RingState, Pending, FollowsRing, ring_held, under_way_of}
+use Rattle.controller_model.proofs.Words.{rules, ◌≡◌, ◌≢◌, IsSome, Ring, eq-eqb, ne_eqb, cond-true, cond-false, ◌+◌, ◌-◌, ◌*◌, ◌/◌, ◌==◌, ◌&&◌, ◌||◌, ◌<◌, ◌≤◌, ◌∙◌, ◌∷◌, ℕ, zero, suc, List, get_or, length, take, Bool, true, false, not, Option, Some, None, find, option_map, ap, sym, refl, arith, [], nat_lt, nat_le, option_and_then, lt-ltb, list_any, range_with_len, list_any_more, Block, Evt, block_at, cycle, Shape, place_count, Command, command_of, named_context, input_context_bytes, Header, event_ring, event_shape, event_size, shape_of, shape_or, some_ring, World, Harm, TakenOutOfOrder, TakenOtherWords, WaitsInsideDescriptor, LooksOutside, PostsOverUnread, InputContextChanged, harm_of, harms, waits, is_inside_descriptor, is_out_of_order, has_other_words, has_changed_context, is_context_changed, is_changed_since, RingState, Pending, FollowsRing, ring_held, under_way_of}
 
 -- one more element of a list, as at a step of a loop
 pub any_more : {X : Type 0} (p : X → Bool) (xs : List X) (i : ℕ) (x : X) (a b : Bool) → i < length xs → x ≡ get_or xs i x → a ≡ list_any p (take i xs) → b ≡ p x →
     (a || b) ≡ list_any p (take (i + 1) xs)
-any_more p xs i x a b inside at before here =
-    (λ j. before j || here j) ∙ ap (λ y. list_any p (take i xs) || p y) at ∙ sym (list_any_more p xs i x inside)
+any_more p xs i x a b inside at before here = grind (arith, list_any_more)
 
 pub and_true : (b : Bool) → (b && true) ≡ b
-and_true true = refl
-and_true false = refl
+and_true b = grind arith
 
 module _ (h : Header) (r : ℕ) (w : World) (x : RingState) (f : FollowsRing h r (ring_held w r) x) where
   pub waits_idle : x.is_active ≡ false → false ≡ (waits w r && is_inside_descriptor (w.events r))
@@ -29,9 +26,7 @@ posts_nowhere h w none = (λ i. nat_lt 0 (place_count (shape_or Evt (none i))) &
 pub posts_there : (h : Header) (w : World) (shape : Shape) (n posted reads : ℕ) → shape ≡ event_shape h → n ≡ place_count shape → 2 ≤ n → w.posted ≡ posted → w.reads ≡ reads →
     nat_le n (posted - reads) ≡ (nat_lt 0 (event_size h) && nat_le (event_size h) (w.posted - w.reads))
 unfolding event_size
-posts_there h w shape n posted reads same count several at seen =
-    let size : n ≡ place_count (event_shape h) = count ∙ ap place_count same in
-    (λ i. sym (lt-ltb 0 n (omega arith)) i && nat_le n (sym at i - sym seen i)) ∙ ap (λ m. nat_lt 0 m && nat_le m (w.posted - w.reads)) size
+posts_there h w shape n posted reads same count several at seen = grind (arith, lt-ltb, nat_le, nat_lt)
 
 module _ (h : Header) (w : World) (o : Option Pending) (e : w.under_way ≡ option_map under_way_of o) where
   pub context_idle : o ≡ None → false ≡ has_changed_context h w w.under_way

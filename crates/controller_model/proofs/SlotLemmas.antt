@@ -1,8 +1,5 @@
 -- One slot is changed
-use Rattle.std.proofs.Common.{rules}
-use Rattle.controller_model.proofs.Words.{◌≡◌, ◌<◌, ◌==◌, ◌||◌, ℕ, true, Bool, List, length, slice_get, get_or, set, eq-eqb, ne_eqb, or-true, put, SlotState, Slot, FollowsSlots}
-use Rattle.controller_model.proofs.RingLemmas.{put_same, put_other, read_at, slice_get-set_same, slice_get-set_other}
-use Rattle.controller_model.proofs.LookBranches.{or_false}
+use Rattle.controller_model.proofs.LowerLaws.{rules, ◌≡◌, ◌<◌, ◌==◌, ◌||◌, ℕ, true, Bool, List, length, slice_get, get_or, set, eq-eqb, ne_eqb, or-true, put, SlotState, Slot, FollowsSlots, put_same, put_other, read_at, slice_get-set_same, slice_get-set_other, or_false}
 
 pub slots_allow : (slots : List Slot) (state : ℕ → SlotState) (scribbles : ℕ → Bool) (i s : ℕ) (x new : Slot) → i ≡ s → s < length slots → x ≡ get_or slots i x →
     new.state ≡ x.state → new.scribbles ≡ true → FollowsSlots slots state scribbles → FollowsSlots (set slots i new) state (λ t. scribbles t || t == s)

@@ -1,6 +1,5 @@
 -- Which definition a step goes by
-use Rattle.std.proofs.Common.{rules}
-use Rattle.controller_model.proofs.Words.{◌≡◌, ◌≢◌, true, Option, Some, None, Ok, Err, option_map, refl, cond-true, Header, Step, NextRow, World, Seen, StepFault, counted, made, stepped, while_running, IsStep}
+use Rattle.controller_model.proofs.Words.{arith, rules, ◌≡◌, ◌≢◌, true, Option, Some, None, Ok, Err, option_map, cond-true, Header, Step, NextRow, World, Seen, StepFault, counted, made, stepped, while_running, IsStep}
 
 module _ (h : Header) (w : World) where
   not_running : (o : Option World) → w.stopped ≡ true → while_running h w o ≡ None
@@ -10,8 +9,7 @@ module _ (h : Header) (w : World) where
   -- after the stop only rows are possible
   pub made_stopped : (s : Step) → s ≢ NextRow → w.stopped ≡ true → made h w s ≡ None
   unfolding made
-  made_stopped NextRow other e = absurd (other refl)
-  made_stopped _ other e = not_running _ e
+  made_stopped s other e = grind (arith, not_running)
 
 -- a step that isn't counted yet, and the one that is
 pub step_counted : (h : Header) (w : World) (s : Step) (seen shown : Seen) (P Q : World → Type 0) → ((v : World) → P v → Q (counted h v)) →
@@ -26,5 +24,4 @@ step_uncounted h w s fault shown P Q made_so = search (rules, option_map)
 
 -- of what a step leads to something else holds
 pub step_more : {X : Type 0} (o : Option X) (seen shown : Seen) (P Q : X → Type 0) → ((v : X) → o ≡ Some v → P v → Q v) → IsStep (Ok seen) o shown P → IsStep (Ok seen) o shown Q
-step_more None seen shown P Q more step = absurd step
-step_more (Some v) seen shown P Q more step = (step.0, more v refl step.1)
+step_more o seen shown P Q more step = grind arith

@@ -1,18 +1,14 @@
 -- When a command can succeed
-use Rattle.std.proofs.Common.{rules}
-use Rattle.controller_model.proofs.Words.{◌≡◌, ◌+◌, ◌≤◌, ◌^◌, if◌then◌else◌, ℕ, Bool, true, false, Option, Some, None, is_some, refl, nat_lt, option_and_then, ltb-false, ContextSize, context_pointer, input_context_bytes, Command, AddressDevice, ConfigureEndpoint, SetTrDequeue, named_context, changes, Header, ring_having, World, changed_by, changed_by_all, effect, is_had_by_another, passes_end, succeeded, HasRoom, may_get}
+use Rattle.controller_model.proofs.LowerLaws.{arith, rules, ◌≡◌, ◌+◌, ◌≤◌, ◌^◌, ℕ, Bool, true, false, Option, Some, None, is_some, nat_lt, option_and_then, ltb-false, ContextSize, context_pointer, input_context_bytes, Command, AddressDevice, ConfigureEndpoint, SetTrDequeue, named_context, changes, Header, ring_having, World, changed_by, changed_by_all, effect, is_had_by_another, passes_end, succeeded, HasRoom, may_get, gone}
 use Rattle.controller_model.proofs.BindingLemmas.{may_get_is}
-use Rattle.controller_model.proofs.EffectLemmas.{gone}
 
 pub one_some : (o : Option World) → is_some (option_and_then (λ v. Some v) o) ≡ is_some o
-one_some None = refl
-one_some (Some v) = refl
+one_some o = grind arith
 
 -- who has a ring doesn't rest on the states of slots
 may_get_gone : (d : Command) (w : World) (s t i : ℕ) (o : Option ℕ) → may_get (gone d w s) t i o ≡ may_get w t i o
 unfolding is_had_by_another
-may_get_gone d w s t i None = refl
-may_get_gone d w s t i (Some r) = refl
+may_get_gone d w s t i o = grind arith
 
 pub can_be_addressed : (h : Header) (size : ContextSize) (memory : ℕ → ℕ) (n : ℕ) (d : Command) (w : World) (s c : ℕ) (bsr : Bool) →
     is_some (changed_by_all h d w (changes size memory n (AddressDevice s bsr c))) ≡ may_get w s 1 (ring_having h (context_pointer size memory c 1))
@@ -24,10 +20,7 @@ module _ (h : Header) (size : ContextSize) (memory : ℕ → ℕ) (n : ℕ) (w :
   pub can_always : (d : Command) → ((s : ℕ) (bsr : Bool) (c : ℕ) → d ≡ AddressDevice s bsr c → ⊥) → ((s : ℕ) (dc : Bool) (c : ℕ) → d ≡ ConfigureEndpoint s dc c → ⊥) →
       ((s i p : ℕ) (cycle : Bool) → d ≡ SetTrDequeue s i p cycle → ⊥) → is_some (changed_by_all h d w (changes size memory n d)) ≡ true
   unfolding changes changed_by_all changed_by
-  can_always (AddressDevice s bsr c) addresses configures moves = absurd (addresses s bsr c refl)
-  can_always (ConfigureEndpoint s dc c) addresses configures moves = absurd (configures s dc c refl)
-  can_always (SetTrDequeue s i p cycle) addresses configures moves = absurd (moves s i p cycle refl)
-  can_always _ addresses configures moves = refl
+  can_always d addresses configures moves = grind arith
 
 -- what is read ends at or below 2^64, where the test of its end says so
 not_past : (a : ℕ) → nat_lt (2 ^ 64) a ≡ false → a ≤ 2 ^ 64
@@ -40,23 +33,17 @@ has_room h (ConfigureEndpoint s false c) e = not_past (c + input_context_bytes h
 has_room h _ e = tt
 
 module _ (h : Header) (w : World) (n : ℕ) (c : Command) where
-  by_test : (b : Bool) (o : Option World) (final : World) → (if b then None else o) ≡ Some final → o ≡ Some final
-  by_test true o final e = absurd (cc)
-  by_test false o final e = e
-
   -- a success does what its changes say
   pub success_changes : (final : World) → succeeded h w n (Some c) ≡ Some final → changed_by_all h c w (changes h.context_size w.memory n c) ≡ Some final
   unfolding succeeded effect
-  success_changes final e = by_test _ _ final e
+  success_changes final e = grind arith
 
 pub record IsMade (o : Option World) : Type 0 where
   pub after : World
   pub is : o ≡ Some after
 
 pub some_of : (o : Option World) → is_some o ≡ true → IsMade o
-some_of None e = absurd (cc)
-some_of (Some v) e = record { after = v; is = refl }
+some_of o e = grind arith
 
 pub none_of_test : (o : Option World) → is_some o ≡ false → o ≡ None
-none_of_test None e = refl
-none_of_test (Some v) e = absurd (cc)
+none_of_test o e = grind arith

@@ -1,12 +1,6 @@
 -- Whether another endpoint has a ring, by the rings of one slot's endpoints and who has it elsewhere
-use Rattle.std.proofs.Common.{rules}
-use Rattle.controller_model.proofs.Words.{◌≡◌, ◌≢◌, ◌∷◌, ◌+◌, ◌<◌, ◌≤◌, ◌==◌, ◌&&◌, ◌||◌, ◌∙◌, ℕ, suc, zero, [], length, set, slice_get, unwrap_or, not, Bool, true, false, List, Option, Some, None, refl, sym, ap, inl, inr, arith, eq-eqb, ne_eqb, list_any, range_with_len, cases_eq, cases_Bool, is_ring, World, Holder, EndpointState, is_had_by_another, placed, FollowsHolder, is_holder, Sees, has_own, is_elsewhere, own_ring}
-use Rattle.controller_model.proofs.RingLemmas.{slice_get-set_other}
-use Rattle.controller_model.proofs.EndpointLemmas.{put_pair_same, put_pair_index}
-use Rattle.controller_model.proofs.HolderLemmas.{put_pair_there}
-use Rattle.controller_model.proofs.ScribbleLemmas.{any_in_range, none_in_range}
+use Rattle.controller_model.proofs.MiddleLaws.{rules, ◌≡◌, ◌≢◌, ◌∷◌, ◌+◌, ◌<◌, ◌≤◌, ◌==◌, ◌&&◌, ◌||◌, ◌∙◌, ℕ, suc, zero, [], length, set, slice_get, unwrap_or, not, Bool, true, false, List, Option, Some, None, refl, sym, ap, inl, inr, arith, eq-eqb, ne_eqb, list_any, range_with_len, cases_eq, cases_Bool, is_ring, World, Holder, EndpointState, is_had_by_another, placed, FollowsHolder, is_holder, Sees, has_own, is_elsewhere, own_ring, slice_get-set_other, put_pair_same, put_pair_index, put_pair_there, any_in_range, none_in_range, any_alike}
 use Rattle.controller_model.proofs.HadByAnother.{and_false}
-use Rattle.controller_model.proofs.WatchLemmas.{any_alike}
 
 module _ (w v : World) (rings : List (Option ℕ)) (s i r : ℕ) (sees : Sees rings s w v) where
   row_of : ℕ → Bool
@@ -67,9 +61,7 @@ module _ (w v : World) (rings : List (Option ℕ)) (s i r : ℕ) (sees : Sees ri
   had_by_trial (Some e) f below =
       elim (cases_eq e.slot s) [
         | inr apart ↦ ap (λ b. not b || (not (s == 0) && has_own rings i r)) (ne_eqb e.slot s apart) ∙ sym (elsewhere_has e f apart)
-        | inl same ↦
-            ap (λ b. not b || (not (s == 0) && has_own rings i r)) (eq-eqb e.slot s same)
-            ∙ sym (by_own (Some e) f (λ t j apart. ap (λ b. b && j == e.index) (ne_eqb t e.slot (λ x. apart (x ∙ same)))) below)
+        | inl same ↦ search (rules, eq-eqb, by_own, ne_eqb)
       ]
 
 slice_get-set_here : {X : Type 0} (xs : List X) (i : ℕ) (x : X) → i < length xs → slice_get (set xs i x) i ≡ Some x

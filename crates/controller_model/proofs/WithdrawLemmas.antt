@@ -1,6 +1,5 @@
 -- A descriptor that is withdrawn: what is declared by position then
-use Rattle.std.proofs.Common.{rules}
-use Rattle.controller_model.proofs.Words.{replicate, All-head, All-tail, length_from, no_op, no_ops, split_at, length-no_ops, split_all, lone_no_op, withdrawn, withdrawn_from, ◌≡◌, ◌≢◌, ◌+◌, ◌-◌, ◌<◌, ◌≤◌, ◌==◌, ◌||◌, ◌++◌, ◌∷◌, ◌∙◌, ◌⊎◌, ℕ, zero, suc, [], All, Bool, List, Option, Some, None, length, true, false, refl, sym, ap, subst, arith, inl, inr, set, slice_get, slice_get_within, same_Some, option_map, eq-eqb, eqb-true, ne_eqb, or_left, or_right, false≢true, cases_Bool, cases_eq, cases_lt, cond-true, cond-false, Block, DeclaredBlock, declared_at, is_border, Declared, Declarations, Declares, as_declared, blocks_of}
+use Rattle.controller_model.proofs.Words.{rules, replicate, All-head, All-tail, length_from, no_op, no_ops, split_at, length-no_ops, split_all, lone_no_op, withdrawn, withdrawn_from, ◌≡◌, ◌≢◌, ◌+◌, ◌-◌, ◌<◌, ◌≤◌, ◌==◌, ◌||◌, ◌++◌, ◌∷◌, ◌∙◌, ◌⊎◌, ℕ, zero, suc, [], All, Bool, List, Option, Some, length, true, false, refl, sym, ap, subst, arith, inl, inr, set, slice_get, slice_get_within, same_Some, option_map, eq-eqb, eqb-true, ne_eqb, or_left, or_right, false≢true, cases_Bool, cases_eq, cases_lt, cond-true, cond-false, Block, DeclaredBlock, declared_at, is_border, Declared, Declarations, Declares, as_declared, blocks_of}
 
 -- ---- the blocks
 
@@ -21,9 +20,7 @@ goes_on xs p d at e = ap (λ n. withdrawn_from (set xs p lone_no_op) n) (let sam
 
 pub ends_here : (xs : List Declared) (p : ℕ) (d : Declared) → slice_get xs p ≡ Some d → d.ends ≡ true → set xs p lone_no_op ≡ withdrawn_from xs p
 ends_here [] p d at e = absurd (cc)
-ends_here (y ∷ rest) zero d at e =
-    let same : y ≡ d = cc in
-    ap (λ zs. lone_no_op ∷ zs) (sym (cond-true y.ends rest (withdrawn rest) (ap (λ (z : Declared). z.ends) same ∙ e)))
+ends_here (y ∷ rest) zero d at e = grind (arith, cond-true)
 ends_here (y ∷ rest) (suc p) d at e = ap (λ zs. y ∷ zs) (ends_here rest p d at e)
 
 pub none_behind : (xs : List Declared) (p : ℕ) → length xs ≤ p → withdrawn_from xs p ≡ xs
@@ -33,10 +30,7 @@ none_behind (y ∷ rest) (suc p) past = ap (λ zs. y ∷ zs) (none_behind rest p
 
 length-withdrawn : (xs : List Declared) → length (withdrawn xs) ≡ length xs
 length-withdrawn [] = refl
-length-withdrawn (d ∷ rest) = elim (cases_Bool d.ends) [
-  | inl last ↦ rw last refl
-  | inr more ↦ rw more (ap suc (length-withdrawn rest))
-]
+length-withdrawn (d ∷ rest) = grind (arith, cases_Bool, length-withdrawn rest)
 
 length-withdrawn_from : (xs : List Declared) (p : ℕ) → length (withdrawn_from xs p) ≡ length xs
 length-withdrawn_from [] p = refl
@@ -69,8 +63,7 @@ run_past : (xs : List Declared) (e q : ℕ) → IsEnd xs zero e → e < q → sl
 run_past [] e q is past = absurd (omega (arith, is.inside))
 run_past (d ∷ rest) e zero is past = absurd (omega arith)
 run_past (d ∷ rest) zero (suc q) is past = rw (is.here 0 d refl refl) refl
-run_past (d ∷ rest) (suc e) (suc q) is past =
-    rw (is.before 0 d (omega arith) (omega arith) refl) (run_past rest e q (behind d rest zero zero e (omega arith) (omega arith) is) (omega arith))
+run_past (d ∷ rest) (suc e) (suc q) is past = grind (arith, run_past rest e q (behind d rest zero zero e (omega arith) (omega arith) is) (omega arith))
 
 from_here : (xs : List Declared) (p e q : ℕ) → IsEnd xs p e → p ≤ q → q ≤ e → slice_get (withdrawn_from xs p) q ≡ Some lone_no_op
 from_here [] p e q is low high = absurd (omega (arith, is.inside))
@@ -84,8 +77,7 @@ from_elsewhere [] p e q is out = refl
 from_elsewhere (d ∷ rest) zero e q is out = elim out [ inl low ↦ absurd (omega arith) | inr high ↦ run_past (d ∷ rest) e q is high ]
 from_elsewhere (d ∷ rest) (suc p) e zero is out = refl
 from_elsewhere (d ∷ rest) (suc p) zero (suc q) is out = absurd (omega (arith, is.from))
-from_elsewhere (d ∷ rest) (suc p) (suc e) (suc q) is out =
-    from_elsewhere rest p e q (behind d rest (suc p) p e (omega arith) (omega (arith, is.from)) is) (elim out [ inl low ↦ inl (omega arith) | inr high ↦ inr (omega arith) ])
+from_elsewhere (d ∷ rest) (suc p) (suc e) (suc q) is out = grind (arith, from_elsewhere rest p e q (behind d rest (suc p) p e (omega arith) (omega (arith, is.from)) is) (elim out [ inl low ↦ inl (omega arith) | inr high ↦ inr (omega arith) ]))
 
 no_ops_here : (xs : List Block) (p n q : ℕ) → p + n ≤ length xs → p ≤ q → q < p + n → slice_get (no_ops xs p n) q ≡ Some no_op
 unfolding no_ops
@@ -101,11 +93,9 @@ unfolding no_ops
 no_ops_elsewhere [] p n q out = refl
 no_ops_elsewhere (b ∷ rest) zero zero q out = refl
 no_ops_elsewhere (b ∷ rest) zero (suc n) zero out = elim out [ inl low ↦ absurd (omega arith) | inr high ↦ absurd (omega arith) ]
-no_ops_elsewhere (b ∷ rest) zero (suc n) (suc q) out =
-    no_ops_elsewhere rest zero n q (elim out [ inl low ↦ absurd (omega arith) | inr high ↦ inr (omega arith) ])
+no_ops_elsewhere (b ∷ rest) zero (suc n) (suc q) out = grind (arith, no_ops_elsewhere rest zero n q (elim out [ inl low ↦ absurd (omega arith) | inr high ↦ inr (omega arith) ]))
 no_ops_elsewhere (b ∷ rest) (suc p) n zero out = refl
-no_ops_elsewhere (b ∷ rest) (suc p) n (suc q) out =
-    no_ops_elsewhere rest p n q (elim out [ inl low ↦ inl (omega arith) | inr high ↦ inr (omega arith) ])
+no_ops_elsewhere (b ∷ rest) (suc p) n (suc q) out = grind (arith, no_ops_elsewhere rest p n q (elim out [ inl low ↦ inl (omega arith) | inr high ↦ inr (omega arith) ]))
 
 -- ---- where descriptors begin
 
@@ -131,11 +121,7 @@ begins_none (n ∷ rest) s p none = elim (cases_Bool (s == p)) [
 pub begins_past : (lengths : List ℕ) (s p : ℕ) → All (λ n. 0 < n) lengths → s + blocks_of lengths ≤ p → (length_from lengths s p ≡ 0) × (split_at lengths s p ≡ lengths)
 unfolding length_from split_at
 begins_past [] s p some past = (refl, refl)
-begins_past (n ∷ rest) s p some past =
-    let first : 0 < n = All-head (λ m. 0 < m) n rest some in
-    let e = ne_eqb s p (λ same. omega arith) in
-    let later = begins_past rest (s + n) p (All-tail (λ m. 0 < m) n rest some) (omega arith) in
-    rw (e, later.0, later.1) (refl, refl)
+begins_past (n ∷ rest) s p some past = grind (arith, All-head, ne_eqb, All-tail, begins_past rest (s + n) p (All-tail (λ m. 0 < m) n rest some) (omega arith))
 
 -- the descriptor that begins at p
 record IsDescriptor (lengths : List ℕ) (s p : ℕ) : Type 0 where
@@ -179,18 +165,14 @@ ones_within (suc n) rest s q low high =
 ones_past : (n : ℕ) (rest : List ℕ) (s q : ℕ) → s + n < q → is_border (replicate n 1 ++ rest) s q ≡ is_border rest (s + n) q
 unfolding is_border
 ones_past zero rest s q past = ap (λ m. is_border rest m q) (let same : s ≡ s + 0 = omega arith in same)
-ones_past (suc n) rest s q past =
-    ap (λ b. b || is_border (replicate n 1 ++ rest) (s + 1) q) (ne_eqb s q (λ e. omega arith)) ∙ ones_past n rest (s + 1) q (omega arith)
-    ∙ ap (λ m. is_border rest m q) (let same : s + 1 + n ≡ s + suc n = omega arith in same)
+ones_past (suc n) rest s q past = grind (arith, ne_eqb, ones_past n rest (s + 1) q (omega arith))
 
 -- a position of the descriptor, or its end
 split_within : (lengths : List ℕ) (s p q : ℕ) → 0 < length_from lengths s p → p ≤ q → q ≤ p + length_from lengths s p → is_border (split_at lengths s p) s q ≡ true
 unfolding is_border length_from split_at
 split_within [] s p q some low high = absurd (omega arith)
 split_within (n ∷ rest) s p q some low high = elim (cases_eq s p) [
-  | inl here ↦
-      let is : length_from (n ∷ rest) s p ≡ n = rw (eq-eqb s p here) refl in
-      rw (eq-eqb s p here) (ones_within n rest s q (omega (arith, here)) (omega (arith, here, is)))
+  | inl here ↦ grind (arith, eq-eqb, ones_within)
   | inr apart ↦
       let is : length_from (n ∷ rest) s p ≡ length_from rest (s + n) p = rw (ne_eqb s p apart) refl in
       rw (ne_eqb s p apart) (or_right (s == q) (is_border (split_at rest (s + n) p) (s + n) q) (split_within rest (s + n) p q (omega (arith, is)) low (omega (arith, is))))
@@ -232,10 +214,7 @@ blocks_split (n ∷ rest) s p = elim (cases_Bool (s == p)) [
 -- what is declared tells where a descriptor begins and ends
 told_by : (x : Declared) (begins ends : Bool) (o : Option Block) →
     Some (as_declared x) ≡ option_map (λ b. let d : DeclaredBlock = record { block = b; begins = begins; ends = ends } in d) o → (x.begins ≡ begins) × (x.ends ≡ ends)
-told_by x begins ends None e = absurd (cc)
-told_by x begins ends (Some b) e =
-    let same = same_Some _ _ e in
-    (ap (λ (y : DeclaredBlock). y.begins) same, ap (λ (y : DeclaredBlock). y.ends) same)
+told_by x begins ends o e = grind (arith, same_Some)
 
 module _ (d : Declarations) (queue : List Block) (lengths : List ℕ) (p : ℕ) (old : Declares d queue lengths) where
   abbrev pub count : ℕ
@@ -299,10 +278,7 @@ module _ (d : Declarations) (queue : List Block) (lengths : List ℕ) (p : ℕ) 
     unfolding declared_at
     here_at q low high =
         let there : slice_get e.blocks.items q ≡ Some lone_no_op = ap (λ xs. slice_get xs q) made ∙ from_here d.blocks.items p (p + count - 1) q end low (omega arith) in
-        let begins_so = split_within lengths 0 p q found.some low (omega arith) in
-        let ends_so = split_within lengths 0 p (q + 1) found.some (omega arith) (omega arith) in
-        ap (λ o. option_map as_declared o) there
-        ∙ (λ i. option_map (λ b. let y : DeclaredBlock = record { block = b; begins = sym begins_so i; ends = sym ends_so i } in y) (sym (no_ops_here queue p count q fits low high) i))
+        grind (arith, split_within, found, option_map, no_ops_here)
 
     pub withdraws_one : Declares e (no_ops queue p count) (split_at lengths 0 p)
     withdraws_one = search (rules, cases_lt, same_at, here_at, length, length-withdrawn_from, length-no_ops, blocks_split, split_all)

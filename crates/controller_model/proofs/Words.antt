@@ -1,20 +1,20 @@
 -- The words of std, of the crates below and of this crate's own definitions that its proofs cite, passed on by one file
-pub use Rattle.commands.specs.Changes.{Change, is_above_control, placed_by_context, slot_gone_on}
+pub use Rattle.commands.specs.Changes.{Change, placed_by_context, slot_gone_on}
 unfoldable pub use Rattle.commands.specs.Changes.{changes}
-pub use Rattle.commands.specs.Command.{command_by_kind, command_of, may_answer_slot, named_context}
+pub use Rattle.commands.specs.Command.{command_by_kind, command_of, named_context}
 pub use Rattle.commands.specs.States.{endpoint_meant, endpoint_success, is_running, is_slot_enabled, is_stopped, slot_success}
 unfoldable pub use Rattle.commands.specs.States.{can_succeed}
 pub use Rattle.commands.specs.declared.command.Command.{Command}
-pub use Rattle.commands.specs.declared.command.Command.TheVariants.{AddressDevice, ConfigureEndpoint, DisableSlot, EnableSlot, EvaluateContext, NoOp, ResetDevice, ResetEndpoint, SetTrDequeue, StopEndpoint}
+pub use Rattle.commands.specs.declared.command.Command.TheVariants.{AddressDevice, ConfigureEndpoint, SetTrDequeue}
 pub use Rattle.commands.specs.declared.state.EndpointState.{EndpointState}
-pub use Rattle.commands.specs.declared.state.EndpointState.TheVariants.{Disabled as Off, Error, Halted, Running, Stopped}
+pub use Rattle.commands.specs.declared.state.EndpointState.TheVariants.{Disabled as Off, Running, Stopped}
 pub use Rattle.commands.specs.declared.state.SlotState.{SlotState}
 pub use Rattle.contexts.specs.Contexts.{context_cycle, context_pointer, has_flag, input_add_flag, input_context_bytes, is_dropped}
 unfoldable pub use Rattle.contexts.specs.Contexts.{added_endpoints}
 pub use Rattle.contexts.specs.declared.size.ContextSize.{ContextSize}
 pub use Rattle.contexts.specs.declared.size.ContextSize.TheVariants.{Bytes32}
 unfoldable pub use Rattle.controller_model.specs.Bindings.{changed_by, changed_by_all, disabled, effect, has_one_of, in_state, inactive, is_had_by_another, placed, placed_on}
-pub use Rattle.controller_model.specs.Completions.{IsPart, completed, completed_with}
+pub use Rattle.controller_model.specs.Completions.{IsPart, completed}
 pub use Rattle.controller_model.specs.Declarations.{Declares, as_declared, blocks_of, entries, lone_no_op, withdrawn, withdrawn_from}
 unfoldable pub use Rattle.controller_model.specs.DriverRows.{activated, bell_row, declared, endpoint_bell, event_read, next_row, register_row, row_done, run_or_stop, started_with, valued, with_dequeue}
 unfoldable pub use Rattle.controller_model.specs.Finishes.{ended, ended_with, finished, finished_as, passes_end, succeeded}
@@ -23,17 +23,20 @@ pub use Rattle.controller_model.specs.Held.{Held, changed_at, held, held_block, 
 pub use Rattle.controller_model.specs.Histories.{Keeps, ShowsHarms}
 unfoldable pub use Rattle.controller_model.specs.Looks.{command_begun, crossed, looked, looked_at, may_scribble, seen_by_look, taken, taken_on}
 unfoldable pub use Rattle.controller_model.specs.OnLiterals.{model_on_literals}
-unfoldable pub use Rattle.controller_model.specs.Posts.{can_post, is_last, is_stop_under_way, other_posted, posted, report_code, report_error, report_stop, report_success, reported, reported_on, stopped_with, with_reported, with_stopped}
+unfoldable pub use Rattle.controller_model.specs.Posts.{can_post, is_last, other_posted, posted, report_code, report_error, report_stop, report_success, reported, reported_on, stopped_with, with_reported, with_stopped}
 pub use Rattle.controller_model.specs.RingHarms.{ChangesOnly, FollowsScene, HasRingHarms, IsFollowed}
-pub use Rattle.controller_model.specs.Showing.{replayed}
-unfoldable pub use Rattle.controller_model.specs.Showing.{look_shows, shows}
-unfoldable pub use Rattle.controller_model.specs.Steps.{counted, is_scribbled, made, scribbled, stepped, while_running}
+pub use Rattle.controller_model.specs.RingRows.{header_after, row_made}
+unfoldable pub use Rattle.controller_model.specs.RingRows.{emptied, with_ring, without_descriptor, without_ring}
+pub use Rattle.controller_model.specs.Scenes.{Scene, row_next, scene_reached, step_made}
+unfoldable pub use Rattle.controller_model.specs.Scenes.{scene_ending_from, scene_replayed, scene_seen_by, scene_seen_from}
+unfoldable pub use Rattle.controller_model.specs.Showing.{look_shows, replayed, seen_by, seen_from, shows}
+pub use Rattle.controller_model.specs.Steps.{Harmful, NoHarm, NotPossible, judged}
+unfoldable pub use Rattle.controller_model.specs.Steps.{counted, ending_from, ending_of, is_scribbled, made, scribbled, stepped, while_running}
 pub use Rattle.controller_model.specs.Trials.{GoesOnAs, Sees, has_own, is_elsewhere, own_ring}
 pub use Rattle.controller_model.specs.Watches.{is_changed_behind, may_touch}
 pub use Rattle.controller_model.specs.declared.declared.Declarations.{Declarations}
 pub use Rattle.controller_model.specs.declared.declared.Declared.{Declared}
 pub use Rattle.controller_model.specs.declared.fault.StepFault.{StepFault}
-pub use Rattle.controller_model.specs.declared.fault.StepFault.TheVariants.{Memory, NotPossible, Spent}
 pub use Rattle.controller_model.specs.declared.history.History.{History}
 pub use Rattle.controller_model.specs.declared.kept.Endpoint.{Endpoint}
 pub use Rattle.controller_model.specs.declared.kept.Holder.{Holder}
@@ -44,9 +47,8 @@ pub use Rattle.controller_model.specs.declared.kept.RingState.{RingState}
 pub use Rattle.controller_model.specs.declared.kept.Slot.{Slot}
 pub use Rattle.controller_model.specs.declared.safety.RingHarms.{RingHarms}
 pub use Rattle.controller_model.specs.declared.seen.Seen.{Seen}
-pub use Rattle.controller_model.specs.declared.seen.Seen.TheVariants.{Crossed, Posted, Row as RowSeen, Scribbled, Waited}
+pub use Rattle.controller_model.specs.declared.seen.Seen.TheVariants.{Posted, Row as RowSeen}
 pub use Rattle.controller_model.specs.declared.stamps.Stamps.{Stamps}
-pub use Rattle.controller_model.specs.declared.watches.Watch.{Watch}
 pub use Rattle.event_ring.proofs.DequeueLemmas.{position_from-place}
 pub use Rattle.event_ring.proofs.Words.{Data, Link, address_aligned, has_room, or_from, place_at-Data, place_at-address_of, position_from, same_in_lap}
 pub use Rattle.event_ring.specs.EventRing.{is_event_place}
@@ -56,23 +58,35 @@ pub use Rattle.segments.proofs.InsideLemmas.{is_inside-word}
 pub use Rattle.segments.proofs.PlaceAtLemmas.{place_at-link_address}
 pub use Rattle.segments.proofs.Positions.{address_of-first}
 pub use Rattle.segments.proofs.Search.{cases_option}
-pub use Rattle.segments.proofs.Words.{All-push, Block, Evt, IsShape, Shape, Xfer, address_of, aligned, and_from, and_parts, block_at, cases_Bool, cases_eq, cases_lt, cond-false, cond-true, cycle, cycle_of, data_places, false_from_ne_true, false≢true, is_inside, is_link, is_set, kind, link_address, link_crossed, list_any, list_any_at, none-some, or_cases, or_left, or_right, place_at, place_count, pointer, put, range_with_len, same_Some, same_words, slice_get-get_or, slice_get_within, word}
+pub use Rattle.segments.proofs.Withdrawing.{length-no_ops, split_all}
+pub use Rattle.segments.proofs.Words.{All-push, Block, Evt, IsShape, Shape, Xfer, address_of, aligned, and_from, and_parts, block_at, cases_Bool, cases_eq, cases_lt, cond-false, cond-true, cycle, cycle_of, data_places, false_from_ne_true, false≢true, is_inside, is_set, kind, link_address, link_crossed, list_any, list_any_at, none-some, or_cases, or_left, or_right, place_at, place_count, pointer, put, range_with_len, same_Some, same_words, slice_get-get_or, slice_get_within, word}
 unfoldable pub use Rattle.segments.proofs.Words.{is_border}
 pub use Rattle.segments.specs.Descriptors.{DeclaredBlock, no_op}
 unfoldable pub use Rattle.segments.specs.Descriptors.{declared_at, length_from, no_ops, split_at}
-pub use Rattle.std.proofs.Common.{All, Bool, Err, IfSome, IsSome, List, None, Ok, Option, Result, Some, [], add-zero, ap, append_assoc, arith, drop, drop-drop, eq-eqb, eqb-true, false, filter, find, get_or, if◌then◌else◌, inl, inr, is_some, le-leb, le-ltb, length, length-append, length-take-le, lt-ltb, ltb-false, map, nat_le, nat_lt, ne_eqb, not, option_and_then, option_map, position, refl, set, slice_get, slice_index, slice_index_or, subst, suc, sym, take, true, unwrap_or, zero, ℕ, ◌%◌, ◌&&◌, ◌*◌, ◌++◌, ◌+◌, ◌-◌, ◌/◌, ◌<◌, ◌==◌, ◌^◌, ◌||◌, ◌↔◌, ◌∙◌, ◌∷◌, ◌≡◌, ◌≢◌, ◌≤◌, ◌⊎◌}
+pub use Rattle.std.proofs.Common.{All, Bool, Err, IfSome, IsSome, List, None, Ok, Option, Result, Some, [], add-zero, ap, append_assoc, arith, drop, drop-drop, eq-eqb, eqb-true, false, filter, find, get_or, if◌then◌else◌, inl, inr, is_some, le-leb, le-ltb, length, length-append, length-take-le, lt-ltb, ltb-false, map, nat_le, nat_lt, ne_eqb, not, option_and_then, option_map, position, refl, rules, set, slice_get, slice_index, slice_index_or, subst, suc, sym, take, true, unwrap_or, zero, ℕ, ◌%◌, ◌&&◌, ◌*◌, ◌++◌, ◌+◌, ◌-◌, ◌/◌, ◌<◌, ◌==◌, ◌^◌, ◌||◌, ◌↔◌, ◌∙◌, ◌∷◌, ◌≡◌, ◌≢◌, ◌≤◌, ◌⊎◌}
 pub use Rattle.std.proofs.Math.Bool.{or-true, or_assoc}
 pub use Rattle.std.proofs.Math.ListN.{length-set}
 pub use Rattle.std.proofs.Math.Nat.{add-mod_right, div-add-mod'}
+pub use Rattle.std.proofs.lemmas.Bool.{cond_both}
 pub use Rattle.std.proofs.lemmas.Grind.{common_steps, take_at_read}
 pub use Rattle.std.proofs.lemmas.List.{drop-append-le, drop_all, take_all}
+pub use Rattle.std.proofs.lemmas.List.Edits.{length-remove}
+pub use Rattle.std.proofs.lemmas.List.Elements.{All-cons, All-head, All-nil, All-tail}
 pub use Rattle.std.proofs.lemmas.List.Folds.{list_any_more}
+pub use Rattle.std.proofs.lemmas.List.Quantifiers.{position-Some}
+pub use Rattle.std.proofs.lemmas.List.Sums.{fails_before_first}
 pub use Rattle.std.proofs.lemmas.Nat.{mod-mul-add}
+pub use Rattle.std.proofs.lemmas.Option.{get_or_from_slice_get}
 pub use Rattle.std.proofs.lemmas.Result.{err_from_is_err_and}
+pub use Rattle.std.specs.List.{remove}
+pub use Rattle.std.specs.Option.{option_copied}
+pub use Rattle.std.specs.Prelude.{replicate}
 pub use Rattle.std.specs.Result.{result_ok}
 pub use Rattle.traces.specs.Header.{id_of, id_or_none, is_ring, is_transfer_kind, ring_with, shape_or}
 unfoldable pub use Rattle.traces.specs.Header.{command_id, command_ring, event_ring, event_shape, event_size, ring_having, shape_of, some_ring}
-pub use Rattle.traces.specs.Register.{base_address, register_or_zero, reset_bit, ring_cycle_state, run_bit, with_register}
+pub use Rattle.traces.specs.Register.{base_address, register_or_zero, ring_cycle_state, with_register}
+pub use Rattle.traces.specs.Rows.{AreRows, FitsLine, IsRow}
+pub use Rattle.traces.specs.TraceRows.{IsTraceRow}
 pub use Rattle.traces.specs.declared.header.Header.{Header, Header as HeaderValue}
 pub use Rattle.traces.specs.declared.register.Register.{Register}
 pub use Rattle.traces.specs.declared.register.Register.TheVariants.{Config, Crcr, Dcbaap, Erdp, Erstba, Erstsz, Usbcmd}
@@ -81,29 +95,17 @@ pub use Rattle.traces.specs.declared.row.Row.{Row, Row as RowValue}
 pub use Rattle.traces.specs.declared.row.Row.TheVariants.{Bell, Read, Reg, Sub, Write}
 pub use Rattle.traces.specs.declared.step.Step.{Step}
 pub use Rattle.traces.specs.declared.step.Step.TheVariants.{Finish, Look, NextRow, Other, Report, Scribble}
+pub use Rattle.traces.specs.declared.trace_row.TraceRow.{TraceRow}
+pub use Rattle.traces.specs.declared.trace_row.TraceRow.TheVariants.{Goes, Plain, Withdraws}
+pub use Rattle.traces.specs.declared.version.Version.TheVariants.{One, Two}
 pub use Rattle.trb.specs.Bits.{bits}
 pub use Rattle.trb.specs.Block.{code, endpoint, slot}
-pub use Rattle.trb.specs.CompletionCode.{is_halting, is_stopping, is_success, is_trb_error}
 pub use Rattle.trb.specs.Kind.{is_command_completion, is_other_event, is_transfer_event}
 pub use Rattle.trb.specs.declared.kind.BlockKind.{BlockKind}
+pub use Rattle.trb.specs.declared.ring_kind.RingKind.TheVariants.{Cmd}
 unfoldable pub use Rattle.world_state.specs.Harms.{harm_of, harms, has_changed_context, has_other_words, is_changed_since, is_context_changed, is_end, is_inside_descriptor, is_out_of_order, is_right_place, waits}
 unfoldable pub use Rattle.world_state.specs.Takes.{declared_next, first_at, is_as_declared, is_place, next_take, takes_of, unreported, was_placed}
 pub use Rattle.world_state.specs.World.{Placed, RingEvent, Took, UnderWay, World}
 unfoldable pub use Rattle.world_state.specs.World.{event_at, opening, stored, stored_block}
 pub use Rattle.world_state.specs.declared.harm.Harm.{Harm}
 pub use Rattle.world_state.specs.declared.harm.Harm.TheVariants.{InputContextChanged, LooksOutside, PostsOverUnread, TakenOtherWords, TakenOutOfOrder, WaitsInsideDescriptor}
-pub use Rattle.std.specs.Prelude.{replicate}
-pub use Rattle.traces.specs.declared.trace_row.TraceRow.TheVariants.{Plain}
-pub use Rattle.controller_model.specs.Scenes.{Scene, row_next, step_made}
-pub use Rattle.traces.specs.declared.version.Version.TheVariants.{One}
-pub use Rattle.std.specs.List.{position_or_len, remove}
-pub use Rattle.std.proofs.lemmas.List.Quantifiers.{position-Some}
-pub use Rattle.std.proofs.lemmas.List.Sums.{fails_before_first}
-pub use Rattle.controller_model.specs.RingRows.{header_after, row_made}
-unfoldable pub use Rattle.controller_model.specs.RingRows.{emptied, with_ring, without_descriptor, without_ring}
-pub use Rattle.traces.specs.declared.trace_row.TraceRow.{TraceRow}
-pub use Rattle.std.proofs.lemmas.List.Elements.{All-head, All-tail}
-pub use Rattle.segments.proofs.Withdrawing.{length-no_ops, split_all}
-pub use Rattle.std.specs.Option.{option_copied}
-pub use Rattle.segments.specs.Places.{link_target}
-pub use Rattle.std.proofs.lemmas.List.Edits.{length-remove}

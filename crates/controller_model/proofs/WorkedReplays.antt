@@ -1,8 +1,5 @@
 -- Replays with their endings, one for each harm, by evaluation; tests/rows and tests/harms have these and more for the program
-use Rattle.std.specs.Prelude.{ℕ, ◌++◌, replicate, ◌≡◌, List, [], ◌∷◌, refl}
-use Rattle.trb.specs.declared.ring_kind.RingKind.TheVariants.{Cmd, Evt, Xfer}
-use Rattle.controller_model.proofs.Words.{One, Bytes32, Header, Row, Sub, Write, Reg, Bell, Read, Usbcmd, Crcr, Dcbaap, Config, Erstsz, Erstba, Erdp, Step, NextRow, Look, Report, Finish, Other, Scribble, TakenOutOfOrder, TakenOtherWords, WaitsInsideDescriptor, LooksOutside, PostsOverUnread, InputContextChanged, model_on_literals}
-use Rattle.controller_model.specs.Steps.{ending_of, NoHarm, NotPossible, Harmful}
+use Rattle.controller_model.proofs.Words.{ℕ, ◌++◌, replicate, ◌≡◌, List, [], ◌∷◌, refl, Cmd, Evt, Xfer, One, Bytes32, Header, Row, Sub, Write, Reg, Bell, Read, Usbcmd, Crcr, Dcbaap, Config, Erstsz, Erstba, Erdp, Step, NextRow, Look, Report, Finish, Other, Scribble, TakenOutOfOrder, TakenOtherWords, WaitsInsideDescriptor, LooksOutside, PostsOverUnread, InputContextChanged, model_on_literals, ending_of, NoHarm, NotPossible, Harmful}
 
 -- a Command Ring and an Event Ring of 16 blocks, alone
 abbrev two_rings : Header

@@ -1,19 +1,5 @@
 -- Replays beside rows of rings, by evaluation
-use Rattle.std.specs.Prelude.{◌≡◌, ◌++◌, ◌∷◌, [], List, Some, option_map, replicate}
-use Rattle.std.proofs.Common.{refl}
-use Rattle.trb.specs.declared.ring_kind.RingKind.TheVariants.{Cmd}
-use Rattle.contexts.specs.declared.size.ContextSize.TheVariants.{Bytes32}
-use Rattle.traces.specs.declared.header.Header.{Header}
-use Rattle.traces.specs.declared.register.Register.TheVariants.{Crcr, Usbcmd}
-use Rattle.traces.specs.declared.row.Row.TheVariants.{Bell, Reg, Sub}
-use Rattle.traces.specs.declared.step.Step.TheVariants.{Look, NextRow}
-use Rattle.traces.specs.declared.trace_row.TraceRow.{TraceRow}
-use Rattle.traces.specs.declared.trace_row.TraceRow.TheVariants.{Plain, Goes, Withdraws}
-use Rattle.traces.specs.declared.version.Version.TheVariants.{Two}
-use Rattle.world_state.specs.declared.harm.Harm.TheVariants.{LooksOutside}
-use Rattle.controller_model.specs.OnLiterals.{model_on_literals}
-use Rattle.controller_model.specs.Scenes.{scene_reached, scene_replayed}
-use Rattle.controller_model.specs.Steps.{NoHarm, Harmful}
+use Rattle.controller_model.proofs.Words.{◌≡◌, ◌++◌, ◌∷◌, [], List, Some, option_map, replicate, refl, Cmd, Bytes32, Header, Crcr, Usbcmd, Bell, Reg, Sub, Look, NextRow, TraceRow, Plain, Goes, Withdraws, Two, LooksOutside, model_on_literals, scene_reached, scene_replayed, NoHarm, Harmful}
 
 abbrev pub one_ring : Header
 one_ring = record { version = Two; context_size = Bytes32; rings = record { id = 0; shape = record { kind = Cmd; segments = record { base = 65600; count = 3 } ∷ [] } } ∷ [] }

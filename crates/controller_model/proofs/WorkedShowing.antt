@@ -1,8 +1,6 @@
 -- What the steps of worked replays show
-use Rattle.std.specs.Prelude.{◌≡◌, [], ◌∷◌, List, take, refl}
-use Rattle.controller_model.proofs.Words.{Row, Write, Reg, Bell, Usbcmd, Crcr, Step, NextRow, Look, TakenOutOfOrder, LooksOutside, replayed, model_on_literals}
+use Rattle.controller_model.proofs.Words.{◌≡◌, [], ◌∷◌, List, take, refl, Row, Write, Reg, Bell, Usbcmd, Crcr, Step, NextRow, Look, TakenOutOfOrder, LooksOutside, replayed, model_on_literals, NotPossible, Harmful, NoHarm}
 use Rattle.controller_model.specs.declared.seen.Seen.TheVariants as seen
-use Rattle.controller_model.specs.Steps.{NotPossible, Harmful, NoHarm}
 use Rattle.controller_model.proofs.WorkedReplays as worked
 
 -- a block with a Cycle bit in the command ring's first place, the start and the doorbell

@@ -31,6 +31,7 @@ pub struct Declarations {
 
 impl Declarations {
     /// Nothing is declared.
+    #[tactic(auto, unfolding(segments::specs::Descriptors::declared_at))]
     pub(crate) fn new(alloc: Global) -> Declarations
         ensures { Declares result [] [] }
     {
@@ -48,6 +49,7 @@ impl Declarations {
     }
 
     /// Nothing is declared any more.
+    #[tactic(auto, unfolding(segments::specs::Descriptors::declared_at))]
     pub(crate) fn clear(&mut self)
         ensures { Declares self.new [] [] }
     {
@@ -68,6 +70,7 @@ impl Declarations {
     }
 
     /// The blocks from one on become No Ops, up to the next that ends a descriptor, each a descriptor of one block.
+    #[tactic(auto, using(crate::proofs::WithdrawLemmas::none_behind))]
     fn withdraw_from(&mut self, first: usize)
         ensures { self.new.blocks.items ≡ withdrawn_from self.old.blocks.items first }
     {

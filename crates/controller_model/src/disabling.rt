@@ -33,6 +33,7 @@ pub(crate) fn is_named(named: Named, index: u8) -> bool
 }
 
 /// An endpoint without a ring is Disabled; slot 0 and index 0 may have one.
+#[tactic(auto, using(crate::proofs::RingLemmas::with_endpoints, crate::proofs::EndpointLemmas::endpoints_set, crate::proofs::DisabledRings::rings_off))]
 fn turn_off(kept: &mut Kept, slot: u8, index: u8)
     requires { index < 32 }
     ensures change { (h : Header) (rows : List Row) (words : ℕ → ℕ) (w : World) →

@@ -72,6 +72,7 @@ fn place_by_context<M: WordMemory>(
 }
 
 /// An endpoint gets its ring, where the input context adds it.
+#[tactic(auto, using(crate::proofs::AddedLemmas::adds_later))]
 fn place_added<M: WordMemory>(
     header: &Header,
     memory: &M,

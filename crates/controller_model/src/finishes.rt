@@ -111,6 +111,7 @@ fn complete<M: WordMemory>(
 }
 
 /// The controller posts the completion of the command under way, with its effect (xHCI 4.6, 6.4.2.2).
+#[tactic(auto, using(crate::proofs::PostLemmas::no_ring), unfolding(crate::specs::Finishes::finished, traces::specs::Header::event_shape))]
 pub(crate) fn finish<M: WordMemory>(
     header: &Header,
     memory: &mut M,

@@ -65,6 +65,7 @@ fn data_place(shape: &RingShape, address: u64) -> Option<u64>
 }
 
 /// The number of the data place that an address names, by its block or by the Link before it: of each position there.
+#[tactic(auto, using(crate::proofs::NamedPlaces::names, crate::proofs::NamedPlaces::at_crossing, crate::proofs::NamedPlaces::at_block))]
 fn place_named(shape: &RingShape, address: u64) -> Option<u64>
     ensures place { (p : ℕ) → is_place shape.now address p ≡ true → result ≡ Some (p % place_count shape.now) }
     ensures below { IfSome result (λ place. place < place_count shape.now) }

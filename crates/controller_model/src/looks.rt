@@ -81,6 +81,7 @@ fn toggles(link: &Block) -> bool
 
 /// It is noted that the block at the pointer is taken, with what is declared at its position now; of a ring that isn't there
 /// without its harms.
+#[tactic(auto, using(crate::proofs::LookLemmas::noted_follows), unfolding(traces::specs::Header::shape_of))]
 fn note_take(state: &mut RingState, there: Option<&Ring>, block: &Block) -> Result<(), AllocError>
     ensures { OnOk result ((h : HeaderValue) (r : ℕ) (held : RingHeld) → option_copied there.entry ≡ ring_with h r → FollowsRing h r held state.old →
         FollowsRing h r (noted_held (shape_of h r) held block.now) state.new) }
@@ -269,6 +270,7 @@ fn is_busy(header: &Header, kept: &Kept, ring: u8) -> bool
 }
 
 /// A look at a block (xHCI 4.9.2): it waits, follows a Link or takes the block.
+#[tactic(auto, using(crate::proofs::LookBranches::busy), unfolding(crate::specs::Looks::looked_at, crate::specs::Showing::look_shows))]
 fn look_at(
     header: &Header,
     there: Option<&Ring>,

@@ -75,6 +75,7 @@ fn make_trace_row<M: WordMemory>(
 }
 
 /// The next row is made, if there is one.
+#[tactic(auto, using(crate::proofs::NextRowLemmas::nothing_left))]
 pub(crate) fn next_row<M: WordMemory>(
     header: &mut Header,
     left: &mut RowsLeft,

@@ -71,6 +71,7 @@ fn has_room(shape: &RingShape, posted: u64, dequeue: u64) -> bool
 }
 
 /// Whether the controller runs, there is room, and the words have the right Cycle bit.
+#[tactic(auto, using(crate::proofs::HistoryLemmas::as_bit, crate::proofs::PostLemmas::can_post_is))]
 pub(crate) fn can_post(shape: &RingShape, kept: &Kept, block: &Block) -> bool
     ensures { (h : HeaderValue) (rows : List RowValue) (words : ℕ → ℕ) (w : World) → shape.now ≡ event_shape h → Follows h rows words kept.now w →
         result ≡ can_post h w block.now }
@@ -112,6 +113,7 @@ fn place(shape: &RingShape, position: u64) -> u64
 }
 
 /// The controller posts an event of its own (xHCI 6.4.2.3 to 6.4.2.8).
+#[tactic(auto, using(crate::proofs::PostLemmas::no_ring), unfolding(crate::specs::Posts::other_posted, traces::specs::Header::event_shape))]
 pub(crate) fn post_other<M: WordMemory>(
     header: &Header,
     memory: &mut M,
@@ -152,6 +154,7 @@ fn event_address(header: &Header, position: u64) -> u64
 }
 
 /// The driver reads an event: one that was posted and not yet read, with the words at the read place (xHCI 4.9.4).
+#[tactic(auto, unfolding(crate::specs::DriverRows::event_read, world_state::specs::World::event_at))]
 pub(crate) fn read_event<M: WordMemory>(
     header: &Header,
     memory: &M,

@@ -39,6 +39,7 @@ fn note(kept: &mut Kept, register: Register, value: u64)
 }
 
 /// A ring's pointer and cycle state are those of CRCR.
+#[tactic(auto, using(crate::proofs::RingLemmas::with_rings, crate::proofs::RingLemmas::ring_changed, crate::proofs::RegisterLemmas::pointed_other, crate::proofs::RegisterLemmas::pointed_here, crate::proofs::RegisterLemmas::lowest_bit))]
 fn point(kept: &mut Kept, ring: u8)
     ensures { (h : HeaderValue) (rows : List RowValue) (words : ℕ → ℕ) (w : World) → Follows h rows words kept.old w →
         Follows h rows words kept.new (pointed w ring kept.old.registers.crcr) }
@@ -122,6 +123,7 @@ fn next_at(size: u64, place: u64, from: u64) -> Option<u64>
 }
 
 /// The event position that ERDP names is the next one at an address, where that is an event place (xHCI 5.5.2.3.3).
+#[tactic(auto, using(crate::proofs::EventPlaces::dequeue_kept, crate::proofs::EventPlaces::no_ring_place, crate::proofs::EventPlaces::no_place), unfolding(traces::specs::Header::event_shape))]
 fn set_dequeue(header: &Header, kept: &mut Kept, address: u64) -> Result<(), AllocError>
     requires { address % 16 ≡ 0 }
     ensures { OnOk result ((rows : List RowValue) (words : ℕ → ℕ) (w : World) → Follows header.now rows words kept.old w →

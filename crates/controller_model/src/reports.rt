@@ -186,6 +186,7 @@ fn report_stop(kept: &mut Kept, slot: u8, index: u8, ring: u8, address: u64) -> 
 }
 
 /// What a Transfer Event with this completion code says of an endpoint and its ring (xHCI 6.4.5).
+#[tactic(auto, unfolding(crate::specs::Posts::report_code))]
 fn report_code(kept: &mut Kept, code: u8, slot: u8, index: u8, ring: u8, address: u64) -> bool
     requires { index < 32 }
     ensures change { (h : HeaderValue) (rows : List Row) (words : ℕ → ℕ) (w : World) → Follows h rows words kept.old w →
@@ -231,6 +232,7 @@ fn report_on(kept: &mut Kept, block: &Block) -> bool
 }
 
 /// The controller posts a Transfer Event (xHCI 4.10.2, 6.4.2.1).
+#[tactic(auto, using(crate::proofs::PostLemmas::no_ring), unfolding(crate::specs::Posts::reported, traces::specs::Header::event_shape))]
 pub(crate) fn report<M: WordMemory>(
     header: &Header,
     memory: &mut M,

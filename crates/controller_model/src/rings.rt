@@ -16,6 +16,7 @@ pub(crate) fn ring_state(kept: &Kept, ring: u8) -> &RingState
 }
 
 /// The controller looks at a ring no more.
+#[tactic(auto, using(crate::proofs::RingLemmas::with_rings, crate::proofs::RingLemmas::ring_changed, crate::proofs::RingSteps::inactive_other, crate::proofs::RingSteps::inactive_here), unfolding(crate::specs::Bindings::inactive))]
 pub(crate) fn deactivate(kept: &mut Kept, ring: u8)
     ensures change { (h : Header) (rows : List Row) (words : ℕ → ℕ) (w : World) → Follows h rows words kept.old w →
         Follows h rows words kept.new (inactive w (Some ring)) }

@@ -74,6 +74,7 @@ fn waits_inside<M: WordMemory>(memory: &M, state: &RingState) -> bool
 }
 
 /// Whether the controller posted over an unread event (xHCI 4.9.4).
+#[tactic(auto, using(crate::proofs::SafetyLemmas::posts_nowhere, crate::proofs::SafetyLemmas::posts_there), unfolding(traces::specs::Header::event_shape))]
 fn posts_over_unread(header: &Header, kept: &Kept) -> bool
     ensures { (rows : List RowValue) (words : ℕ → ℕ) (w : World) → Follows header.now rows words kept.now w →
         result ≡ (nat_lt 0 (event_size header.now) && nat_le (event_size header.now) (w.posted - w.reads)) }
@@ -88,6 +89,7 @@ fn posts_over_unread(header: &Header, kept: &Kept) -> bool
 }
 
 /// Whether the input context of the command under way was changed since its control word was last written (xHCI 4.6, 6.2.5).
+#[tactic(auto, using(crate::proofs::SafetyLemmas::context_idle, crate::proofs::SafetyLemmas::context_of_none, crate::proofs::SafetyLemmas::context_unnamed))]
 fn has_changed_context(header: &Header, kept: &Kept) -> bool
     ensures { (rows : List RowValue) (words : ℕ → ℕ) (w : World) → Follows header.now rows words kept.now w →
         result ≡ has_changed_context header.now w w.under_way }
@@ -198,6 +200,7 @@ pub(crate) fn is_quiet<M: WordMemory>(left: &RowsLeft, memory: &M, step: &Step) 
 }
 
 /// The least harm of a world with these harms of its rings.
+#[tactic(auto, using(crate::proofs::SafetyLemmas::harm_is))]
 pub(crate) fn harm_of(header: &Header, kept: &Kept, rings: RingHarms) -> Option<Harm>
     ensures { (rows : List RowValue) (words : ℕ → ℕ) (w : World) → Follows header.now rows words kept.now w → HasRingHarms header.now w rings →
         result ≡ harm_of header.now w }

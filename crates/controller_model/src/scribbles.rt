@@ -59,6 +59,7 @@ fn is_scribbled<M: WordMemory>(header: &Header, memory: &M, kept: &Kept, at: Add
 }
 
 /// Whether the word at an address belongs to a device context that the controller may write.
+#[tactic(auto, using(crate::proofs::ScribbleLemmas::none_in_range))]
 fn may_scribble<M: WordMemory>(header: &Header, memory: &M, kept: &Kept, at: Addr) -> bool
     ensures { (rows : List RowValue) (w : World) → Follows header.now rows (M.words memory.now) kept.now w →
         result ≡ list_any (is_scribbled header.now w at) (range_with_len 0 256) }

@@ -21,6 +21,7 @@ pub(crate) fn go_on(kept: &mut Kept, command: &Command, slot: u8)
 }
 
 /// The controller writes the slot's device context no more.
+#[tactic(auto, using(crate::proofs::RingLemmas::with_slots, crate::proofs::SlotLemmas::slots_scribbles))]
 pub(crate) fn leave_device(kept: &mut Kept, slot: u8)
     ensures change { (h : Header) (rows : List Row) (words : ℕ → ℕ) (w : World) → Follows h rows words kept.old w →
         Follows h rows words kept.new (record w { scribbles = put w.scribbles slot false }) }

@@ -126,6 +126,7 @@ fn can_address<M: WordMemory>(
 }
 
 /// Whether the endpoints that a command gives rings can get them (xHCI 4.6.5, 4.6.6, 4.6.10).
+#[tactic(auto, using(crate::proofs::SuccessLemmas::can_always))]
 fn can_apply<M: WordMemory>(header: &Header, memory: &M, kept: &Kept, command: &Command) -> bool
     requires well { IsWell command.now }
     requires end { HasRoom header.now.context_size command.now }

@@ -80,6 +80,7 @@ fn is_held(kept: &Kept, rings: &[Option<u8>], slot: u8, index: u8, ring: u8) -> 
 }
 
 /// An endpoint would get its ring, where the input context adds it; whether it can.
+#[tactic(auto, using(crate::proofs::AddedLemmas::adds_later, crate::proofs::AddedLemmas::adds_next), unfolding(crate::specs::Bindings::changed_by, crate::specs::Bindings::changed_by_all, crate::specs::Bindings::placed_on))]
 fn try_added<M: WordMemory>(
     header: &Header,
     memory: &M,

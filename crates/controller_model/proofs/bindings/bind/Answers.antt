@@ -1,9 +1,4 @@
-use Rattle.controller_model.proofs.Words.{IsSome, ring_with, ◌≡◌, ◌<◌, ◌+◌, ◌*◌, ℕ, Some, refl, arith, is_ring}
-use Rattle.controller_model.proofs.RingLemmas.{ring_changed, with_endpoints, with_rings}
-use Rattle.controller_model.proofs.EndpointLemmas.{endpoints_set}
-use Rattle.controller_model.proofs.HolderLemmas.{holder_taken}
-use Rattle.controller_model.proofs.HadByAnother.{none_else}
-use Rattle.controller_model.proofs.BindingSteps.{bound_here, bound_other}
+use Rattle.controller_model.proofs.Laws.{IsSome, ring_with, ◌≡◌, ◌<◌, ◌+◌, ◌*◌, ℕ, Some, refl, arith, is_ring, ring_changed, with_endpoints, with_rings, endpoints_set, holder_taken, none_else, bound_here, bound_other}
 use Rattle.controller_model.proofs.bindings.bind.Goals as goal
 
 pub returns-clause-change : goal.returns-clause-change

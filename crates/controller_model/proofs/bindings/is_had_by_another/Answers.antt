@@ -1,5 +1,4 @@
-use Rattle.std.proofs.Common.{◌∙◌}
-use Rattle.controller_model.proofs.HadByAnother.{had_by_holder}
+use Rattle.controller_model.proofs.Laws.{◌∙◌, had_by_holder}
 use Rattle.controller_model.proofs.bindings.is_had_by_another.Goals as goal
 
 pub returns : goal.returns

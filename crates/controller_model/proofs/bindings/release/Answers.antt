@@ -1,8 +1,4 @@
-use Rattle.controller_model.proofs.Words.{◌≡◌, ◌<◌, ◌+◌, ◌*◌, ◌∙◌, ℕ, true, None, Some, length, refl, ap, arith, eq-eqb, is_ring, Endpoint}
-use Rattle.controller_model.proofs.RingLemmas.{read_at, ring_changed, with_rings}
-use Rattle.controller_model.proofs.EndpointLemmas.{endpoints_set}
-use Rattle.controller_model.proofs.HolderLemmas.{holder_left, put_pair_id}
-use Rattle.controller_model.proofs.BindingSteps.{released_here, released_other}
+use Rattle.controller_model.proofs.Laws.{◌≡◌, ◌<◌, ◌+◌, ◌*◌, ◌∙◌, ℕ, true, None, Some, length, refl, ap, arith, eq-eqb, is_ring, Endpoint, read_at, ring_changed, with_rings, endpoints_set, holder_left, put_pair_id, released_here, released_other}
 use Rattle.controller_model.proofs.bindings.release.Goals as goal
 
 none_some : (r : ℕ) → None ≡ Some r → ⊥

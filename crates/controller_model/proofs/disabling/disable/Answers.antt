@@ -1,6 +1,4 @@
-use Rattle.controller_model.proofs.Words.{◌≡◌, ◌==◌, ◌&&◌, ◌∙◌, ℕ, refl, arith, nat_lt, disabled, named_by}
-use Rattle.controller_model.proofs.DisabledRings.{disabled_below}
-use Rattle.controller_model.proofs.DisabledWorlds.{disabled_same, disabled_none, disabled_twice, one_more, none_below, all_below}
+use Rattle.controller_model.proofs.Laws.{◌≡◌, ◌==◌, ◌&&◌, ◌∙◌, ℕ, refl, arith, nat_lt, disabled, named_by, disabled_below, disabled_same, disabled_none, disabled_twice, one_more, none_below, all_below}
 use Rattle.controller_model.proofs.disabling.disable.Goals as goal
 
 pub loop-index-init : goal.loop-index-init
@@ -17,10 +15,7 @@ loop-index-preserved c = record {
       let now = c.disable_named.ensures.change h rows words (disabled w c.args.slot p) (c.loop-index.invariant.change h rows words w f) in
       rw (disabled_twice w c.args.slot p (λ i. named_by c.args.named i && i == c.loop-index.index) ∙ disabled_same w c.args.slot _ _ (one_more (named_by c.args.named) c.loop-index.index)) at
       now;
-  rest = record {
-    progress = c.disable_named.ensures.rest.progress ∙ c.loop-index.invariant.rest.progress;
-    events = c.disable_named.ensures.rest.events ∙ c.loop-index.invariant.rest.events;
-  };
+  rest = grind arith;
 }
 
 pub returns-clause-change : goal.returns-clause-change

@@ -1,5 +1,4 @@
-use Rattle.controller_model.proofs.Words.{◌∙◌, sym, named_by}
-use Rattle.controller_model.proofs.DisabledWorlds.{disabled_same, disabled_none, only_unnamed, only_named}
+use Rattle.controller_model.proofs.Laws.{◌∙◌, sym, named_by, disabled_same, disabled_none, only_unnamed, only_named}
 use Rattle.controller_model.proofs.disabling.disable_named.Goals as goal
 
 pub returns-then-not-is_named-clause-change : goal.returns-then-not-is_named-clause-change

@@ -1,6 +1,4 @@
-use Rattle.controller_model.proofs.Words.{◌<◌, refl, ap, arith, is_ring, freed}
-use Rattle.controller_model.proofs.BindingSteps.{freed_has}
-use Rattle.controller_model.proofs.DisabledWorlds.{disabled_first, disabled_later}
+use Rattle.controller_model.proofs.Laws.{◌<◌, refl, ap, arith, is_ring, freed, freed_has, disabled_first, disabled_later}
 use Rattle.controller_model.proofs.disabling.disable_one.Goals as goal
 
 pub returns-then-index-eq0-clause-change : goal.returns-then-index-eq0-clause-change

@@ -1,5 +1,4 @@
-use Rattle.controller_model.proofs.Words.{false, inl, inr, put, changed_by, changed_by_all, changes}
-use Rattle.controller_model.proofs.EffectLemmas.{gone, one, onward}
+use Rattle.controller_model.proofs.Laws.{false, inl, inr, put, changed_by, changed_by_all, changes, gone, one, onward}
 use Rattle.controller_model.proofs.effects.apply.Goals as goal
 
 pub returns-in-NoOp-clause-change : goal.returns-in-NoOp-clause-change

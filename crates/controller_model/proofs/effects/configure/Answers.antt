@@ -1,5 +1,4 @@
-use Rattle.controller_model.proofs.Words.{◌≡◌, ap, slice_index, is_dropped, added_endpoints, changed_by, changed_by_all, changes, disabled}
-use Rattle.controller_model.proofs.EffectLemmas.{gone, onward}
+use Rattle.controller_model.proofs.Laws.{◌≡◌, ap, slice_index, is_dropped, added_endpoints, changed_by, changed_by_all, changes, disabled, gone, onward}
 use Rattle.controller_model.proofs.effects.configure.Goals as goal
 
 pub returns-then-deconfigure-clause-change : goal.returns-then-deconfigure-clause-change

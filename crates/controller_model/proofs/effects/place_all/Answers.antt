@@ -1,5 +1,4 @@
-use Rattle.controller_model.proofs.Words.{◌∙◌, ap, sym, arith, changed_by_all}
-use Rattle.controller_model.proofs.AddedLemmas.{adds_end, all_made}
+use Rattle.controller_model.proofs.Laws.{◌∙◌, ap, sym, arith, changed_by_all, adds_end, all_made}
 use Rattle.controller_model.proofs.effects.place_all.Goals as goal
 
 pub loop-index-preserved : goal.loop-index-preserved
@@ -7,10 +6,7 @@ loop-index-preserved g c = record {
   change = λ rows words d w final made f.
       let so = c.loop-index.invariant.change rows words d w final made f in
       c.in_ok-place_added.ensures.change rows words d so.world final so.second so.first;
-  rest = record {
-    progress = c.place_added.ensures.rest.progress ∙ c.loop-index.invariant.rest.progress;
-    events = c.place_added.ensures.rest.events ∙ c.loop-index.invariant.rest.events;
-  };
+  rest = grind arith;
 }
 
 pub returns-clause-change : goal.returns-clause-change

@@ -1,6 +1,4 @@
-use Rattle.controller_model.proofs.Words.{◌≡◌, ◌+◌, ◌*◌, refl, arith, in_state}
-use Rattle.controller_model.proofs.RingLemmas.{with_endpoints}
-use Rattle.controller_model.proofs.EndpointLemmas.{endpoints_state}
+use Rattle.controller_model.proofs.Laws.{◌≡◌, ◌+◌, ◌*◌, refl, arith, in_state, with_endpoints, endpoints_state}
 use Rattle.controller_model.proofs.endpoints.set_state.Goals as goal
 
 pub returns-clause-change : goal.returns-clause-change

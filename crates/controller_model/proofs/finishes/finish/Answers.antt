@@ -1,26 +1,11 @@
-use Rattle.controller_model.proofs.Words.{◌≡◌, ◌∙◌, ap, sym, option_map, err_from_is_err_and, Evt, address_of, event_shape, shape_or, Posted, ended, finished, finished_as, completed, Follows}
-use Rattle.controller_model.proofs.PostLemmas.{no_ring}
-use Rattle.controller_model.proofs.FinishLemmas.{finished_as_is, made_of_part, step_fails}
+use Rattle.controller_model.proofs.Laws.{◌≡◌, ◌∙◌, ap, sym, option_map, err_from_is_err_and, Evt, address_of, event_shape, shape_or, Posted, ended, finished, finished_as, completed, Follows, finished_as_is, made_of_part, step_fails}
 use Rattle.controller_model.proofs.finishes.finish.Goals as goal
-
-pub returns-in-None-clause-step : goal.returns-in-None-clause-step
-unfolding finished
-returns-in-None-clause-step g c = λ rows w f. simp (no_ring c.args.header.now w c.args.block.now c.in-None.ensures) tt
 
 pub returns-then-not-can_post-clause-step : goal.returns-then-not-can_post-clause-step
 unfolding finished event_shape
 returns-then-not-can_post-clause-step g c = λ rows w f.
     let same = ap (λ o. shape_or Evt o) c.in-Some.ensures in
     simp (sym (c.can_post.ensures c.args.header.now rows (g.M.WordMemory.words c.args.memory.now) w same f) ∙ c.if-not-can_post.true) tt
-
-pub returns-then-not-is_completion-clause-step : goal.returns-then-not-is_completion-clause-step
-unfolding finished event_shape
-returns-then-not-is_completion-clause-step g c = λ rows w f.
-    let same = ap (λ o. shape_or Evt o) c.in-Some.ensures in
-    simp (
-      sym (c.can_post.ensures c.args.header.now rows (g.M.WordMemory.words c.args.memory.now) w same f) ∙ c.if-not-can_post.false,
-      sym c.is_completion.ensures ∙ c.if-not-is_completion.true,
-    ) tt
 
 pub returns-in_err-complete-clause-step : goal.returns-in_err-complete-clause-step
 unfolding finished event_shape

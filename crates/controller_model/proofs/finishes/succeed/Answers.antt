@@ -1,6 +1,4 @@
-use Rattle.controller_model.proofs.Words.{◌≡◌, ◌∙◌, Some, is_some, ap, sym, true, false, changes, changed_by_all, succeeded}
-use Rattle.controller_model.proofs.CommandLemmas.{command_well}
-use Rattle.controller_model.proofs.SuccessLemmas.{some_of, none_of_test, success_changes}
+use Rattle.controller_model.proofs.Laws.{◌≡◌, ◌∙◌, Some, is_some, ap, sym, true, false, changes, changed_by_all, succeeded, command_well, some_of, none_of_test, success_changes}
 use Rattle.controller_model.proofs.finishes.succeed.Goals as goal
 
 pub returns-in-None-clause-change : goal.returns-in-None-clause-change

@@ -1,6 +1,4 @@
-use Rattle.std.proofs.Common.{◌<◌, length, refl, arith}
-use Rattle.controller_model.proofs.RingLemmas.{with_slots}
-use Rattle.controller_model.proofs.SlotLemmas.{slots_allow}
+use Rattle.controller_model.proofs.Laws.{◌<◌, length, refl, arith, with_slots, slots_allow}
 use Rattle.controller_model.proofs.looks.allow_slot.Goals as goal
 
 pub returns : goal.returns

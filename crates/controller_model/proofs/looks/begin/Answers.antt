@@ -1,5 +1,4 @@
-use Rattle.controller_model.proofs.Words.{◌≡◌, ◌||◌, ◌∙◌, ℕ, Bool, ap, sym, command_of, command_begun, may_scribble, addressed, is_it}
-use Rattle.controller_model.proofs.LookBranches.{may_scribble_is}
+use Rattle.controller_model.proofs.Laws.{◌≡◌, ◌||◌, ◌∙◌, ℕ, Bool, ap, sym, command_of, command_begun, may_scribble, addressed, is_it, may_scribble_is}
 use Rattle.controller_model.proofs.looks.begin.Goals as goal
 
 pub returns : goal.returns

@@ -1,5 +1,4 @@
-use Rattle.controller_model.proofs.Words.{◌∙◌, command_of}
-use Rattle.controller_model.proofs.LookBranches.{read_is}
+use Rattle.controller_model.proofs.Laws.{◌∙◌, command_of, read_is}
 use Rattle.controller_model.proofs.looks.command_of.Goals as goal
 
 pub returns : goal.returns

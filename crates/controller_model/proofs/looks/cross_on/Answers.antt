@@ -1,6 +1,4 @@
-use Rattle.controller_model.proofs.Words.{refl, arith, crossed, ring_held}
-use Rattle.controller_model.proofs.RingLemmas.{ring_changed, with_rings}
-use Rattle.controller_model.proofs.RingSteps.{crossed_here, crossed_other}
+use Rattle.controller_model.proofs.Laws.{refl, arith, crossed, ring_held, ring_changed, with_rings, crossed_here, crossed_other}
 use Rattle.controller_model.proofs.looks.cross_on.Goals as goal
 
 pub returns : goal.returns

@@ -1,5 +1,4 @@
-use Rattle.controller_model.proofs.Words.{◌≡◌, ◌<◌, ◌∙◌, length, sym, arith, block_at, looked}
-use Rattle.controller_model.proofs.RingLemmas.{read_at}
+use Rattle.controller_model.proofs.Laws.{◌≡◌, ◌<◌, ◌∙◌, length, sym, arith, block_at, looked, read_at}
 use Rattle.controller_model.proofs.looks.look.Goals as goal
 
 pub returns-then-not-state-clause-step : goal.returns-then-not-state-clause-step

@@ -1,20 +1,5 @@
-use Rattle.controller_model.proofs.Words.{option_copied, ◌≡◌, ◌∙◌, Option, Some, IsSome, false≢true, ap, sym, subst, refl, Ring, Xfer, shape_or, shape_of, ring_with, as_declared, option_map}
-use Rattle.controller_model.proofs.LookLemmas.{noted_follows}
+use Rattle.controller_model.proofs.Laws.{option_copied, ◌≡◌, ◌∙◌, Option, IsSome, false≢true, ap, sym, subst, Ring, shape_of, ring_with, as_declared, option_map, noted_follows}
 use Rattle.controller_model.proofs.looks.note_take.Goals as goal
-
-pub returns-in_ok-take-in-Some : goal.returns-in_ok-take-in-Some
-unfolding shape_of
-returns-in_ok-take-in-Some c = λ h r held same f.
-    let x = c.args.state.now in
-    let there : Some c.in-Some.ring.now ≡ ring_with h r = sym (ap (λ o. option_copied o) c.in-Some.is) ∙ same in
-    let shaped : c.in-Some.ring.now.shape ≡ shape_of h r = ap (λ o. shape_or Xfer o) there in
-    let known : IsSome (ring_with h r) = let P : Option Ring → Type 0 = λ o. IsSome o in subst P there refl in
-    let d = option_map as_declared c.at-declared.result in
-    let keeps = rw (← shaped) at f.history in
-    let shows = rw (← shaped) at (f.harms known) in
-    noted_follows h r held x f _ c.args.block.now d c.next.result c.next.ensures (c.at-declared.ensures held.queue held.lengths f.declared)
-    (rw shaped at (c.in_ok-take-in-Some.ensures.keeps held.events held.reported keeps))
-    (λ also. rw shaped at (c.in_ok-take-in-Some.ensures.harms held.events held.reported keeps shows)) f.declared f.pointer f.cycle f.active f.holder
 
 pub returns-in_ok-take_anywhere-in-None : goal.returns-in_ok-take_anywhere-in-None
 returns-in_ok-take_anywhere-in-None c = λ h r held same f.

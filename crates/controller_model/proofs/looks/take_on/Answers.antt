@@ -1,6 +1,4 @@
-use Rattle.controller_model.proofs.Words.{refl, arith, taken_on, ring_held}
-use Rattle.controller_model.proofs.RingLemmas.{ring_changed, with_rings}
-use Rattle.controller_model.proofs.RingSteps.{taken_here, taken_other}
+use Rattle.controller_model.proofs.Laws.{refl, arith, taken_on, ring_held, ring_changed, with_rings, taken_here, taken_other}
 use Rattle.controller_model.proofs.looks.take_on.Goals as goal
 
 pub returns : goal.returns

@@ -1,4 +1,4 @@
-use Rattle.std.proofs.Common.{◌∙◌, sym}
+use Rattle.controller_model.proofs.Words.{◌∙◌, sym}
 use Rattle.controller_model.proofs.looks.watch_context.Goals as goal
 
 pub returns-in-Some-input_context : goal.returns-in-Some-input_context

@@ -1,5 +1,4 @@
-use Rattle.controller_model.specs.Held.{held}
-use Rattle.controller_model.proofs.HeldLemmas.{held_four}
+use Rattle.controller_model.proofs.Laws.{held, held_four}
 use Rattle.controller_model.proofs.memory.store_block.Goals as goal
 
 pub returns : goal.returns

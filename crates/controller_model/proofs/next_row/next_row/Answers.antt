@@ -1,12 +1,5 @@
-use Rattle.controller_model.proofs.Words.{option_copied, FollowsScene, header_after, row_made, Scene, row_next, ◌≡◌, ◌∙◌, [], ap, sym, drop, err_from_is_err_and, RowSeen, counted, Follows, Ok}
-use Rattle.controller_model.proofs.NextRowLemmas.{first_left, nothing_left, row_next_is, scene_behind, step_failed, step_mapped}
+use Rattle.controller_model.proofs.Laws.{option_copied, FollowsScene, header_after, row_made, ◌≡◌, ◌∙◌, [], ap, sym, drop, err_from_is_err_and, RowSeen, counted, Follows, Ok, first_left, row_next_is, scene_behind, step_failed, step_mapped}
 use Rattle.controller_model.proofs.next_row.next_row.Goals as goal
-
-pub returns-in-None-clause-step : goal.returns-in-None-clause-step
-returns-in-None-clause-step g c = λ x f.
-    let none : x.rows ≡ [] = f.left ∙ nothing_left c.args.left.now (sym c.first.ensures.row ∙ ap (λ o. option_copied o) c.in-None.is) in
-    let Q : Scene → Type 0 = FollowsScene c.args.header.now c.args.left.now (g.M.WordMemory.words c.args.memory.now) c.args.kept.now in
-    rw (ap (λ rows. row_next x rows) none) tt
 
 pub returns-in_err-seen-clause-step : goal.returns-in_err-seen-clause-step
 returns-in_err-seen-clause-step g c = λ x f.

@@ -1,5 +1,4 @@
-use Rattle.controller_model.proofs.Words.{◌+◌, ◌*◌, ℕ, List, sym, refl, ap, HeaderValue, RowValue, opening, FollowsRing, ring_held}
-use Rattle.controller_model.proofs.OpeningLemmas.{all_at, replicate_at}
+use Rattle.controller_model.proofs.Laws.{◌+◌, ◌*◌, ℕ, List, sym, refl, ap, HeaderValue, RowValue, opening, FollowsRing, ring_held, all_at, replicate_at}
 use Rattle.controller_model.proofs.opening.opening.Goals as goal
 
 pub returns : goal.returns

@@ -1,5 +1,4 @@
-use Rattle.std.proofs.Common.{◌≡◌, map, take}
-use Rattle.traces.specs.declared.trace_row.TraceRow.TheVariants.{Plain}
+use Rattle.controller_model.proofs.Words.{◌≡◌, map, take, Plain}
 use Rattle.controller_model.proofs.plain.plain_rows.Given as goal
 
 -- the rows so far

@@ -1,4 +1,4 @@
-use Rattle.segments.proofs.Positions.{address_aligned}
+use Rattle.controller_model.proofs.Words.{address_aligned}
 use Rattle.controller_model.proofs.posts.place.Goals as goal
 
 pub returns-clause-aligned : goal.returns-clause-aligned

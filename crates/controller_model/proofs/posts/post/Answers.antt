@@ -1,5 +1,4 @@
-use Rattle.controller_model.proofs.Words.{◌≡◌, ◌+◌, ◌∙◌, ap, sym, arith, common_steps, address_of, event_shape, stored, stored_block, posted}
-use Rattle.controller_model.proofs.RowLemmas.{follows_stored_block}
+use Rattle.controller_model.proofs.Laws.{◌≡◌, ◌+◌, ◌∙◌, ap, sym, arith, common_steps, address_of, event_shape, stored, stored_block, posted, follows_stored_block}
 use Rattle.controller_model.proofs.posts.post.Goals as goal
 
 pub returns-clause-posted : goal.returns-clause-posted

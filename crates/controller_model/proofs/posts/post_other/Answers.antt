@@ -1,25 +1,11 @@
 use Rattle.controller_model.proofs.Words.{◌≡◌, ◌∙◌, ap, sym, Evt, address_of, event_shape, other_posted, shape_or, Posted}
-use Rattle.controller_model.proofs.PostLemmas.{no_ring}
 use Rattle.controller_model.proofs.posts.post_other.Goals as goal
-
-pub returns-in-None-clause-step : goal.returns-in-None-clause-step
-unfolding other_posted
-returns-in-None-clause-step g c = λ rows w f. simp (no_ring c.args.header.now w c.args.block.now c.in-None.ensures) tt
 
 pub returns-then-not-can_post-clause-step : goal.returns-then-not-can_post-clause-step
 unfolding other_posted event_shape
 returns-then-not-can_post-clause-step g c = λ rows w f.
     let same = ap (λ o. shape_or Evt o) c.in-Some.ensures in
     simp (sym (c.can_post.ensures c.args.header.now rows (g.M.WordMemory.words c.args.memory.now) w same f) ∙ c.if-not-can_post.true) tt
-
-pub returns-then-not-is_other_event-clause-step : goal.returns-then-not-is_other_event-clause-step
-unfolding other_posted event_shape
-returns-then-not-is_other_event-clause-step g c = λ rows w f.
-    let same = ap (λ o. shape_or Evt o) c.in-Some.ensures in
-    simp (
-      sym (c.can_post.ensures c.args.header.now rows (g.M.WordMemory.words c.args.memory.now) w same f) ∙ c.if-not-can_post.false,
-      sym c.is_other_event.ensures ∙ c.if-not-is_other_event.true,
-    ) tt
 
 pub returns-clause-step : goal.returns-clause-step
 unfolding other_posted event_shape

@@ -1,5 +1,4 @@
-use Rattle.controller_model.proofs.Words.{valued}
-use Rattle.controller_model.proofs.RegisterLemmas.{registers_noted}
+use Rattle.controller_model.proofs.Laws.{valued, registers_noted}
 use Rattle.controller_model.proofs.registers.note.Goals as goal
 
 pub returns : goal.returns

@@ -1,26 +1,6 @@
-use Rattle.controller_model.proofs.Words.{◌≡◌, ◌∙◌, ◌+◌, ◌-◌, ◌%◌, Some, ap, sym, place_count, none-some, Evt, event_shape, shape_or, Data, Link, is_event_place, position_from, with_dequeue}
-use Rattle.controller_model.proofs.RowLemmas.{follows_along}
-use Rattle.controller_model.proofs.EventPlaces.{is_place, position_is, no_place, dequeue_kept, dequeue_set, no_ring_place}
+use Rattle.controller_model.proofs.Laws.{◌≡◌, ◌∙◌, ◌+◌, ◌-◌, ◌%◌, Some, ap, sym, place_count, Evt, event_shape, shape_or, is_event_place, position_from, with_dequeue, follows_along, position_is, dequeue_set}
+use Rattle.controller_model.proofs.EventPlaces.{is_place}
 use Rattle.controller_model.proofs.registers.set_dequeue.Goals as goal
-
-pub returns-in-None : goal.returns-in-None
-returns-in-None c = λ rows words w f.
-    rw (dequeue_kept c.args.header.now w c.args.address (no_ring_place c.args.header.now w c.args.address c.in-None.ensures)) f
-
-pub returns-in-None-place_at : goal.returns-in-None-place_at
-unfolding event_shape
-returns-in-None-place_at c = λ rows words w f.
-    let same : c.in-Some.ring.now.shape ≡ event_shape c.args.header.now = ap (λ o. shape_or Evt o) c.in-Some.ensures in
-    let none = no_place c.in-Some.ring.now.shape c.places.ensures.allowed c.args.address (λ i e. none-some (Data i 0) (c.in-None-place_at.ensures.value ∙ e)) in
-    rw (dequeue_kept c.args.header.now w c.args.address (ap (λ s. is_event_place s c.args.address) (sym same) ∙ none)) f
-
-pub returns-in-Some-Link : goal.returns-in-Some-Link
-unfolding event_shape
-returns-in-Some-Link c = λ rows words w f.
-    let same : c.in-Some.ring.now.shape ≡ event_shape c.args.header.now = ap (λ o. shape_or Evt o) c.in-Some.ensures in
-    let none = no_place c.in-Some.ring.now.shape c.places.ensures.allowed c.args.address
-    (λ i e. let link : Some (Link c.in-Some-Link.field-0-0 c.in-Some-Link.field-0-1) ≡ Some (Data i 0) = ap (λ p. Some p) (sym c.in-Some-Link.field-0-is) ∙ c.in-Some-Link.ensures.value ∙ e in absurd (cc)) in
-    rw (dequeue_kept c.args.header.now w c.args.address (ap (λ s. is_event_place s c.args.address) (sym same) ∙ none)) f
 
 pub returns : goal.returns
 unfolding event_shape

@@ -1,5 +1,4 @@
-use Rattle.controller_model.proofs.Words.{◌∙◌, ap, not, sym, Usbcmd, register_row, run_or_stop, valued}
-use Rattle.controller_model.proofs.RegisterLemmas.{stops_unless_runs}
+use Rattle.controller_model.proofs.Laws.{◌∙◌, ap, not, sym, Usbcmd, register_row, run_or_stop, valued, stops_unless_runs}
 use Rattle.controller_model.proofs.registers.write_command.Goals as goal
 
 pub returns-then-not-runs : goal.returns-then-not-runs

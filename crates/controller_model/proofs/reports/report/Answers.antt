@@ -1,27 +1,11 @@
-use Rattle.controller_model.proofs.Words.{◌≡◌, ◌∙◌, ap, sym, Evt, address_of, event_shape, shape_or, Posted, endpoint, reported, slot, told}
-use Rattle.controller_model.proofs.PostLemmas.{no_ring}
-use Rattle.controller_model.proofs.ChangeLemmas.{made_of, none_of}
-use Rattle.controller_model.proofs.ReportPosts.{told_posted}
+use Rattle.controller_model.proofs.Laws.{◌≡◌, ◌∙◌, ap, sym, Evt, address_of, event_shape, shape_or, Posted, endpoint, reported, slot, told, made_of, none_of, told_posted}
 use Rattle.controller_model.proofs.reports.report.Goals as goal
-
-pub returns-in-None-clause-step : goal.returns-in-None-clause-step
-unfolding reported
-returns-in-None-clause-step g c = λ rows w f. simp (no_ring c.args.header.now w c.args.block.now c.in-None.ensures) tt
 
 pub returns-then-not-can_post-clause-step : goal.returns-then-not-can_post-clause-step
 unfolding reported event_shape
 returns-then-not-can_post-clause-step g c = λ rows w f.
     let same = ap (λ o. shape_or Evt o) c.in-Some.ensures in
     simp (sym (c.can_post.ensures c.args.header.now rows (g.M.WordMemory.words c.args.memory.now) w same f) ∙ c.if-not-can_post.true) tt
-
-pub returns-then-not-is_report-clause-step : goal.returns-then-not-is_report-clause-step
-unfolding reported event_shape
-returns-then-not-is_report-clause-step g c = λ rows w f.
-    let same = ap (λ o. shape_or Evt o) c.in-Some.ensures in
-    simp (
-      sym (c.can_post.ensures c.args.header.now rows (g.M.WordMemory.words c.args.memory.now) w same f) ∙ c.if-not-can_post.false,
-      sym c.is_report.ensures ∙ c.if-not-is_report.true,
-    ) tt
 
 pub returns-then-not-report_on-clause-step : goal.returns-then-not-report_on-clause-step
 unfolding reported event_shape

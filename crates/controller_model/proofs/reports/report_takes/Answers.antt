@@ -1,6 +1,4 @@
-use Rattle.controller_model.proofs.Words.{refl, IsSome, ring_with, ◌≤◌, length, ap, arith, unreported, with_reported}
-use Rattle.controller_model.proofs.RingLemmas.{ring_changed, with_rings}
-use Rattle.controller_model.proofs.RingSteps.{reported_here, reported_other}
+use Rattle.controller_model.proofs.Laws.{refl, IsSome, ring_with, ◌≤◌, length, ap, arith, unreported, with_reported, ring_changed, with_rings, reported_here, reported_other}
 use Rattle.controller_model.proofs.reports.report_takes.Goals as goal
 
 pub returns-clause-change : goal.returns-clause-change

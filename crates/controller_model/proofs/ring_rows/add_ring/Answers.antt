@@ -1,8 +1,4 @@
-use Rattle.std.proofs.Common.{◌≡◌, ◌≢◌, ◌++◌, ◌∷◌, ◌∙◌, ℕ, [], ap}
-use Rattle.traces.specs.declared.header.Header.{Header}
-use Rattle.traces.specs.Header.{ring_with}
-use Rattle.controller_model.specs.RingRows.{with_ring}
-use Rattle.controller_model.proofs.RingRowLemmas.{with_alike}
+use Rattle.controller_model.proofs.Laws.{◌≡◌, ◌≢◌, ◌++◌, ◌∷◌, ◌∙◌, ℕ, [], ap, Header, ring_with, with_ring, with_alike}
 use Rattle.controller_model.proofs.ring_rows.add_ring.Goals as goal
 
 pub returns : goal.returns

@@ -1,5 +1,4 @@
-use Rattle.controller_model.proofs.Words.{length-remove, remove, ◌≡◌, ◌==◌, ◌<◌, ◌∙◌, [], List, not, filter, ap, length, sym, arith, Header, Ring}
-use Rattle.controller_model.proofs.RingRowLemmas.{none_dropped, nothing_listed, one_dropped, without_is}
+use Rattle.controller_model.proofs.Laws.{length-remove, remove, ◌≡◌, ◌==◌, ◌<◌, ◌∙◌, [], List, not, filter, ap, length, sym, arith, Header, Ring, none_dropped, nothing_listed, one_dropped, without_is}
 use Rattle.controller_model.proofs.ring_rows.drop_ring.Goals as goal
 
 pub returns-in-None : goal.returns-in-None

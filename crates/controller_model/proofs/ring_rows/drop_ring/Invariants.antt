@@ -1,4 +1,4 @@
-use Rattle.std.proofs.Common.{◌≡◌, ◌==◌, ◌+◌, length, filter, not}
+use Rattle.controller_model.proofs.Words.{◌≡◌, ◌==◌, ◌+◌, length, filter, not}
 use Rattle.controller_model.proofs.ring_rows.drop_ring.Given as goal
 
 -- all rings that were taken out had this ID

@@ -1,6 +1,4 @@
-use Rattle.controller_model.proofs.Words.{emptied, arith, shape_of}
-use Rattle.controller_model.proofs.RingLemmas.{ring_changed, with_rings}
-use Rattle.controller_model.proofs.RingRowLemmas.{emptied_here, emptied_other}
+use Rattle.controller_model.proofs.Laws.{emptied, arith, shape_of, ring_changed, with_rings, emptied_here, emptied_other}
 use Rattle.controller_model.proofs.ring_rows.empty.Goals as goal
 
 pub returns : goal.returns

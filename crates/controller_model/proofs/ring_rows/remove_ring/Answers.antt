@@ -1,5 +1,4 @@
-use Rattle.controller_model.proofs.Words.{◌≡◌, ◌≢◌, ◌∙◌, ℕ, ap, ring_with}
-use Rattle.controller_model.proofs.RingRowLemmas.{without_alike}
+use Rattle.controller_model.proofs.Laws.{◌≡◌, ◌≢◌, ◌∙◌, ℕ, ap, ring_with, without_alike}
 use Rattle.controller_model.proofs.ring_rows.remove_ring.Goals as goal
 
 pub returns-clause-kept : goal.returns-clause-kept

@@ -1,5 +1,4 @@
-use Rattle.std.proofs.Common.{◌<◌, length, arith}
-use Rattle.controller_model.proofs.RingLemmas.{read_at}
+use Rattle.controller_model.proofs.Laws.{◌<◌, length, arith, read_at}
 use Rattle.controller_model.proofs.rings.ring_state.Goals as goal
 
 pub returns : goal.returns

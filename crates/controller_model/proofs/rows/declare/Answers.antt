@@ -1,6 +1,4 @@
-use Rattle.controller_model.proofs.Words.{refl, arith, declared}
-use Rattle.controller_model.proofs.RingLemmas.{ring_changed, with_rings}
-use Rattle.controller_model.proofs.RingSteps.{declared_here, declared_other}
+use Rattle.controller_model.proofs.Laws.{refl, arith, declared, ring_changed, with_rings, declared_here, declared_other}
 use Rattle.controller_model.proofs.rows.declare.Goals as goal
 
 pub returns : goal.returns

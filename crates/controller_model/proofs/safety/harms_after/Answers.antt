@@ -1,5 +1,4 @@
-use Rattle.controller_model.proofs.Words.{step_made, ◌∙◌, ap, sym, [], Look, stepped}
-use Rattle.controller_model.proofs.RingHarmLemmas.{look_came}
+use Rattle.controller_model.proofs.Laws.{step_made, ◌∙◌, ap, sym, [], Look, stepped, look_came}
 use Rattle.controller_model.proofs.safety.harms_after.Goals as goal
 
 pub returns-in-Look : goal.returns-in-Look

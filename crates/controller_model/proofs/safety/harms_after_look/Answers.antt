@@ -1,7 +1,4 @@
-use Rattle.std.proofs.Common.{◌≡◌, ◌<◌, ◌∙◌, Some, length, slice_get, ap, refl, sym, arith}
-use Rattle.traces.specs.Header.{ring_with}
-use Rattle.controller_model.proofs.RingLemmas.{read_at}
-use Rattle.controller_model.proofs.RingHarmLemmas.{no_harms_after, look_is}
+use Rattle.controller_model.proofs.Laws.{◌≡◌, ◌<◌, ◌∙◌, Some, length, slice_get, ap, refl, sym, arith, ring_with, read_at, no_harms_after, look_is}
 use Rattle.controller_model.proofs.safety.harms_after_look.Goals as goal
 
 pub returns-then-is_any : goal.returns-then-is_any

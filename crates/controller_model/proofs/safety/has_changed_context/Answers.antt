@@ -1,18 +1,5 @@
-use Rattle.controller_model.proofs.Words.{◌+◌, ◌∙◌, ap, sym, changed_at, written_at}
-use Rattle.controller_model.proofs.SafetyLemmas.{context_idle, context_of_none, context_unnamed, context_named}
+use Rattle.controller_model.proofs.Laws.{◌+◌, ◌∙◌, ap, sym, changed_at, written_at, context_named}
 use Rattle.controller_model.proofs.safety.has_changed_context.Goals as goal
-
-pub returns-in-None : goal.returns-in-None
-returns-in-None c = λ rows words w f. context_idle c.args.header.now w c.args.kept.now.under_way f.under_way c.in-None.is
-
-pub returns-in-None-command_of : goal.returns-in-None-command_of
-returns-in-None-command_of c = λ rows words w f.
-    context_of_none c.args.header.now w c.args.kept.now.under_way f.under_way c.in-Some.pending c.in-Some.is c.in-None-command_of.ensures
-
-pub returns-in-None-input_context : goal.returns-in-None-input_context
-returns-in-None-input_context c = λ rows words w f.
-    context_unnamed c.args.header.now w c.args.kept.now.under_way f.under_way c.in-Some.pending c.in-Some.is c.in-Some-command_of.command c.in-Some-command_of.ensures
-    c.in-None-input_context.ensures
 
 pub returns : goal.returns
 returns c = λ rows words w f.

@@ -1,6 +1,4 @@
-use Rattle.controller_model.proofs.Words.{option_copied, Plain, step_made, ◌∙◌, Some, ap, sym}
-use Rattle.controller_model.proofs.NextRowLemmas.{first_left}
-use Rattle.controller_model.proofs.RingHarmLemmas.{row_harms}
+use Rattle.controller_model.proofs.Laws.{option_copied, Plain, step_made, ◌∙◌, Some, ap, sym, first_left, row_harms}
 use Rattle.controller_model.proofs.safety.is_quiet.Goals as goal
 
 pub returns-in-Some-Plain : goal.returns-in-Some-Plain

@@ -1,6 +1,4 @@
-use Rattle.controller_model.proofs.Words.{◌%◌, ◌∙◌, ap, sym, row_done}
-use Rattle.std.proofs.lemmas.Bool.{eqb-true}
-use Rattle.controller_model.proofs.RingHarmLemmas.{declared_harms, read_harms, stored_harms}
+use Rattle.controller_model.proofs.Laws.{◌%◌, ◌∙◌, ap, sym, row_done, eqb-true, declared_harms, read_harms, stored_harms}
 use Rattle.controller_model.proofs.safety.keeps_harms.Goals as goal
 
 pub returns-in-Sub : goal.returns-in-Sub

@@ -1,6 +1,4 @@
-use Rattle.controller_model.proofs.Words.{◌≡◌, ◌<◌, ◌∙◌, ◌&&◌, Some, ap, get_or, length, slice_get, sym, arith, list_any, shape_of, some_ring, has_other_words, is_inside_descriptor, is_out_of_order, waits}
-use Rattle.controller_model.proofs.RingLemmas.{read_at}
-use Rattle.controller_model.proofs.SafetyLemmas.{any_more, listed, take_past}
+use Rattle.controller_model.proofs.Laws.{◌≡◌, ◌<◌, ◌∙◌, ◌&&◌, Some, ap, get_or, length, slice_get, sym, arith, list_any, shape_of, some_ring, has_other_words, is_inside_descriptor, is_out_of_order, waits, read_at, any_more, listed, take_past}
 use Rattle.controller_model.proofs.safety.ring_harms.Goals as goal
 
 pub loop-ring-preserved : goal.loop-ring-preserved

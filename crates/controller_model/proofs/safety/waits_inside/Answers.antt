@@ -1,6 +1,4 @@
-use Rattle.std.proofs.Common.{◌∙◌, refl, sym}
-use Rattle.trb.specs.Block.{block_at}
-use Rattle.controller_model.proofs.SafetyLemmas.{waits_idle, waits_so}
+use Rattle.controller_model.proofs.Laws.{◌∙◌, refl, sym, block_at, waits_idle, waits_so}
 use Rattle.controller_model.proofs.safety.waits_inside.Goals as goal
 
 pub returns-then-not-state : goal.returns-then-not-state

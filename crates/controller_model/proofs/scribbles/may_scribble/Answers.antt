@@ -1,16 +1,5 @@
-use Rattle.controller_model.proofs.Words.{◌≡◌, ◌∙◌, sym, arith, inl, inr, is_scribbled}
-use Rattle.std.proofs.lemmas.Bool.{cases_lt}
-use Rattle.controller_model.proofs.ScribbleLemmas.{any_in_range, none_in_range}
+use Rattle.controller_model.proofs.Laws.{◌≡◌, ◌∙◌, sym, arith, inl, inr, is_scribbled, cases_lt, any_in_range, none_in_range}
 use Rattle.controller_model.proofs.scribbles.may_scribble.Goals as goal
-
-pub loop-slot-preserved : goal.loop-slot-preserved
-loop-slot-preserved g c = λ rows w f s l.
-    elim (cases_lt s c.loop-slot.slot) [
-      | inl before ↦ c.loop-slot.invariant rows w f s before
-      | inr here ↦
-          let same : s ≡ c.loop-slot.slot = omega arith in
-          rw (← same) at (sym (c.is_scribbled.ensures rows w f) ∙ c.if-is_scribbled.false)
-    ]
 
 pub returns-then-is_scribbled : goal.returns-then-is_scribbled
 returns-then-is_scribbled g c = λ rows w f.
@@ -24,7 +13,3 @@ returns-else-is_scribbled g c = λ rows w f.
           let same : s ≡ c.loop-slot.slot = omega arith in
           rw (← same) at (sym (c.is_scribbled.ensures rows w f) ∙ c.if-is_scribbled.false)
     ]))
-
-pub returns : goal.returns
-returns g c = λ rows w f.
-    sym (none_in_range (is_scribbled c.args.header.now w c.args.at) 0 256 (λ s l h. c.loop-slot.invariant rows w f s (omega arith)))

@@ -1,6 +1,4 @@
-use Rattle.controller_model.proofs.Words.{◌≡◌, ◌<◌, ◌∙◌, length, unwrap_or, set, ap, sym, subst, refl, arith, put, slot_success, SlotState, FollowsSlots}
-use Rattle.controller_model.proofs.RingLemmas.{read_at}
-use Rattle.controller_model.proofs.SlotLemmas.{slots_state}
+use Rattle.controller_model.proofs.Laws.{◌≡◌, ◌<◌, ◌∙◌, length, unwrap_or, set, ap, sym, subst, refl, arith, put, slot_success, SlotState, FollowsSlots, read_at, slots_state}
 use Rattle.controller_model.proofs.slots.go_on.Goals as goal
 
 pub returns-clause-change : goal.returns-clause-change

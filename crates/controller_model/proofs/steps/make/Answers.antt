@@ -1,5 +1,4 @@
-use Rattle.controller_model.proofs.Words.{◌∙◌, shows, made, while_running}
-use Rattle.controller_model.proofs.StepLemmas.{made_stopped}
+use Rattle.controller_model.proofs.Laws.{◌∙◌, shows, made, while_running, made_stopped}
 use Rattle.controller_model.proofs.steps.make.Goals as goal
 
 pub returns-then-kept-clause-step : goal.returns-then-kept-clause-step

@@ -1,5 +1,4 @@
-use Rattle.controller_model.proofs.Words.{err_from_is_err_and, shows, Follows}
-use Rattle.controller_model.proofs.StepLemmas.{step_counted, step_uncounted}
+use Rattle.controller_model.proofs.Laws.{err_from_is_err_and, shows, Follows, step_counted, step_uncounted}
 use Rattle.controller_model.proofs.steps.make_counted.Goals as goal
 
 pub returns-in_err-seen-clause-step : goal.returns-in_err-seen-clause-step

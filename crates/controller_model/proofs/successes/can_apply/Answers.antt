@@ -1,6 +1,4 @@
-use Rattle.controller_model.proofs.Words.{◌∙◌, sym, changed_by, changed_by_all, changes}
-use Rattle.controller_model.proofs.BindingLemmas.{may_get_is}
-use Rattle.controller_model.proofs.SuccessLemmas.{can_always, can_be_addressed, one_some}
+use Rattle.controller_model.proofs.Laws.{◌∙◌, sym, changed_by, changed_by_all, changes, may_get_is, can_be_addressed, one_some}
 use Rattle.controller_model.proofs.successes.can_apply.Goals as goal
 
 pub returns-in-AddressDevice : goal.returns-in-AddressDevice
@@ -14,8 +12,3 @@ returns-in-ConfigureEndpoint g c = λ rows words n w f. rw c.in-ConfigureEndpoin
 pub returns-in-SetTrDequeue : goal.returns-in-SetTrDequeue
 unfolding changes changed_by changed_by_all
 returns-in-SetTrDequeue g c = λ rows words n w f. simp (c.in-SetTrDequeue.is, one_some, may_get_is) (c.can_place.ensures rows words w f)
-
-pub returns-in_default : goal.returns-in_default
-returns-in_default g c = λ rows words n w f.
-    sym (can_always c.args.header.now c.args.header.now.context_size (g.M.WordMemory.words c.args.memory.now) n w c.args.command.now c.in_default.not-AddressDevice
-    c.in_default.not-ConfigureEndpoint c.in_default.not-SetTrDequeue)

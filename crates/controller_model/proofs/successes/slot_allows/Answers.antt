@@ -1,5 +1,4 @@
-use Rattle.controller_model.proofs.Words.{◌<◌, ◌∙◌, length, is_some, ap, sym, arith, slot_success}
-use Rattle.controller_model.proofs.RingLemmas.{read_at}
+use Rattle.controller_model.proofs.Laws.{◌<◌, ◌∙◌, length, is_some, ap, sym, arith, slot_success, read_at}
 use Rattle.controller_model.proofs.successes.slot_allows.Goals as goal
 
 pub returns : goal.returns

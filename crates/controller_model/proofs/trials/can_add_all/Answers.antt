@@ -1,5 +1,4 @@
-use Rattle.controller_model.proofs.Words.{◌∙◌, is_some, refl, ap, sym, arith, changed_by_all}
-use Rattle.controller_model.proofs.AddedLemmas.{adds_end, none_left}
+use Rattle.controller_model.proofs.Laws.{◌∙◌, is_some, refl, ap, sym, arith, changed_by_all, adds_end, none_left}
 use Rattle.controller_model.proofs.trials.can_add_all.Goals as goal
 
 pub loop-index-init : goal.loop-index-init

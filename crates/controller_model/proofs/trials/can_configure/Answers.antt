@@ -1,5 +1,4 @@
-use Rattle.controller_model.proofs.Words.{◌≡◌, ◌&&◌, ◌∙◌, if◌then◌else◌, None, slice_index, ap, sym, refl, nat_le, eq-eqb, has_flag, is_dropped, added_endpoints, changed_by, changed_by_all, changes, disabled, Sees}
-use Rattle.controller_model.proofs.EffectLemmas.{gone}
+use Rattle.controller_model.proofs.Laws.{◌≡◌, ◌&&◌, ◌∙◌, if◌then◌else◌, None, slice_index, ap, sym, refl, nat_le, eq-eqb, has_flag, is_dropped, added_endpoints, changed_by, changed_by_all, changes, disabled, Sees, gone}
 use Rattle.controller_model.proofs.trials.can_configure.Goals as goal
 
 pub returns-then-deconfigure : goal.returns-then-deconfigure

@@ -1,5 +1,4 @@
-use Rattle.std.proofs.Common.{sym, ◌∙◌, arith}
-use Rattle.controller_model.proofs.TrialLemmas.{own_some, own_none}
+use Rattle.controller_model.proofs.Laws.{sym, ◌∙◌, arith, own_some, own_none}
 use Rattle.controller_model.proofs.trials.has_own.Goals as goal
 
 pub returns-then-is_other_with : goal.returns-then-is_other_with

@@ -1,5 +1,4 @@
-use Rattle.std.proofs.Common.{◌==◌, ◌&&◌, ◌||◌, ◌∙◌, not, arith}
-use Rattle.controller_model.proofs.TrialLemmas.{had_by_trial}
+use Rattle.controller_model.proofs.Laws.{◌==◌, ◌&&◌, ◌||◌, ◌∙◌, not, arith, had_by_trial}
 use Rattle.controller_model.proofs.trials.is_held.Goals as goal
 
 pub returns : goal.returns

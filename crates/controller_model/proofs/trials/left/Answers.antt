@@ -1,5 +1,4 @@
-use Rattle.controller_model.proofs.Words.{◌∙◌, if◌then◌else◌, None, ap, sym, inl, inr, arith, length-set, cases_eq, named_by}
-use Rattle.controller_model.proofs.TrialLemmas.{own_here, own_there}
+use Rattle.controller_model.proofs.Laws.{◌∙◌, if◌then◌else◌, None, ap, sym, inl, inr, arith, length-set, cases_eq, named_by, own_here, own_there}
 use Rattle.controller_model.proofs.trials.left.Goals as goal
 
 pub loop-index-preserved : goal.loop-index-preserved

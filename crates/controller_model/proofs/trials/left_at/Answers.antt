@@ -1,5 +1,4 @@
-use Rattle.controller_model.proofs.Words.{◌∙◌, None, sym, named_by}
-use Rattle.std.proofs.lemmas.Bool.{cond-false}
+use Rattle.controller_model.proofs.Words.{◌∙◌, None, sym, named_by, cond-false}
 use Rattle.controller_model.proofs.trials.left_at.Goals as goal
 
 pub returns-else-is_named : goal.returns-else-is_named

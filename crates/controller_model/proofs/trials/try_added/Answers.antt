@@ -1,23 +1,5 @@
-use Rattle.controller_model.proofs.Words.{◌∙◌, ap, sym, arith, Running, context_cycle, context_pointer, ring_having, changed_by, changed_by_all, placed, placed_on}
-use Rattle.controller_model.proofs.AddedLemmas.{adds_next, adds_later}
-use Rattle.controller_model.proofs.TrialLemmas.{sees_placed}
+use Rattle.controller_model.proofs.Laws.{◌∙◌, ap, sym, arith, Running, context_cycle, context_pointer, ring_having, changed_by, changed_by_all, placed, placed_on, adds_next, sees_placed}
 use Rattle.controller_model.proofs.trials.try_added.Goals as goal
-
-pub returns-then-not-adds-clause-made : goal.returns-then-not-adds-clause-made
-returns-then-not-adds-clause-made g c = λ rows words d w v so f sees. record {
-  world = v;
-  sees = sees;
-  same = ap (λ xs. changed_by_all c.args.header.now d v xs)
-      (adds_later c.args.header.now.context_size (g.M.WordMemory.words c.args.memory.now) c.args.slot c.args.context c.args.index c.requires.last (sym c.adds.ensures ∙ c.if-not-adds.true));
-}
-
-pub returns-in-None-clause-refused : goal.returns-in-None-clause-refused
-unfolding changed_by changed_by_all placed_on
-returns-in-None-clause-refused g c = λ rows words d w v so f sees.
-    simp (
-      adds_next c.args.header.now.context_size (g.M.WordMemory.words c.args.memory.now) c.args.slot c.args.context c.args.index c.requires.last (sym c.adds.ensures ∙ c.if-not-adds.false),
-      ap (λ a. ring_having c.args.header.now a) (sym c.context_of-pointer.ensures.pointer) ∙ sym c.ring_having.ensures ∙ c.in-None.is,
-    )
 
 pub returns-then-is_held-clause-refused : goal.returns-then-is_held-clause-refused
 unfolding changed_by changed_by_all placed_on

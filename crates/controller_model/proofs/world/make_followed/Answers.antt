@@ -1,5 +1,4 @@
-use Rattle.controller_model.proofs.Words.{FollowsScene, step_made, IsFollowed, shows}
-use Rattle.controller_model.proofs.StepLemmas.{step_more}
+use Rattle.controller_model.proofs.Laws.{FollowsScene, step_made, IsFollowed, shows, step_more}
 use Rattle.controller_model.proofs.world.make_followed.Goals as goal
 
 pub returns-then-not-is_quiet-clause-step : goal.returns-then-not-is_quiet-clause-step

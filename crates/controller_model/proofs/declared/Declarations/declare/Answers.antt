@@ -1,5 +1,4 @@
-use Rattle.controller_model.proofs.Words.{◌∙◌, ap, length, take, ◌++◌, ◌-◌, ◌≡◌, take_all, entries}
-use Rattle.controller_model.proofs.DeclaredLemmas.{entries_push, declares_more}
+use Rattle.controller_model.proofs.Laws.{◌∙◌, ap, length, take, ◌++◌, ◌-◌, ◌≡◌, take_all, entries, entries_push, declares_more}
 use Rattle.controller_model.proofs.declared.Declarations.declare.Goals as goal
 
 pub loop-i-preserved : goal.loop-i-preserved

@@ -1,6 +1,4 @@
-use Rattle.controller_model.proofs.Words.{◌≡◌, ◌<◌, ◌≤◌, ◌∙◌, Some, length, slice_get, ap, sym, refl, arith}
-use Rattle.controller_model.proofs.RingLemmas.{read_at}
-use Rattle.controller_model.proofs.WithdrawLemmas.{withdraws_inside, withdraws_one, withdraws_past}
+use Rattle.controller_model.proofs.Laws.{◌≡◌, ◌<◌, ◌≤◌, ◌∙◌, Some, length, slice_get, ap, sym, refl, arith, read_at, withdraws_inside, withdraws_one, withdraws_past}
 use Rattle.controller_model.proofs.declared.Declarations.withdraw.Goals as goal
 
 pub returns-in-None : goal.returns-in-None

@@ -1,5 +1,4 @@
-use Rattle.std.proofs.Common.{◌≡◌, length}
-use Rattle.controller_model.specs.Declarations.{withdrawn_from}
+use Rattle.controller_model.proofs.Words.{◌≡◌, length, withdrawn_from}
 use Rattle.controller_model.proofs.declared.Declarations.withdraw_from.Given as goal
 
 -- the blocks from here on are still to be withdrawn

@@ -1,5 +1,4 @@
-use Rattle.std.proofs.Common.{refl}
-use Rattle.controller_model.proofs.HistoryLemmas.{is_last-none, is_last-some}
+use Rattle.controller_model.proofs.Laws.{refl, is_last-none, is_last-some}
 use Rattle.controller_model.proofs.history.History.is_last.Goals as goal
 
 pub returns-in-None : goal.returns-in-None

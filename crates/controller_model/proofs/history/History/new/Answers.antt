@@ -1,5 +1,4 @@
-use Rattle.std.proofs.Common.{refl}
-use Rattle.controller_model.proofs.HistoryLemmas.{keeps_nothing, shows_nothing}
+use Rattle.controller_model.proofs.Laws.{refl, keeps_nothing, shows_nothing}
 use Rattle.controller_model.proofs.history.History.new.Goals as goal
 
 pub returns : goal.returns

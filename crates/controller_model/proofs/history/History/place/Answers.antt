@@ -1,5 +1,4 @@
-use Rattle.std.proofs.Common.{refl}
-use Rattle.controller_model.proofs.HistoryLemmas.{keeps_placed, shows_placed}
+use Rattle.controller_model.proofs.Laws.{refl, keeps_placed, shows_placed}
 use Rattle.controller_model.proofs.history.History.place.Goals as goal
 
 pub returns : goal.returns

@@ -1,5 +1,4 @@
-use Rattle.std.proofs.Common.{◌≡◌, drop}
-use Rattle.controller_model.proofs.HistoryLemmas.{KeepsRest}
+use Rattle.controller_model.proofs.Laws.{◌≡◌, drop, KeepsRest}
 use Rattle.controller_model.proofs.history.History.report_first.Given as goal
 
 -- so many were taken away

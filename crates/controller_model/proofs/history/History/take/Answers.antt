@@ -1,5 +1,4 @@
-use Rattle.controller_model.proofs.Words.{not, ◌||◌, ◌==◌}
-use Rattle.controller_model.proofs.HistoryLemmas.{shows_took}
+use Rattle.controller_model.proofs.Laws.{not, ◌||◌, ◌==◌, shows_took}
 use Rattle.controller_model.proofs.history.History.take.Goals as goal
 
 pub returns-clause-harms : goal.returns-clause-harms

@@ -1,5 +1,4 @@
-use Rattle.controller_model.proofs.Words.{refl, ap, not, common_steps, arith}
-use Rattle.controller_model.proofs.HistoryLemmas.{keeps_took}
+use Rattle.controller_model.proofs.Laws.{refl, ap, not, common_steps, arith, keeps_took}
 use Rattle.controller_model.proofs.history.History.take_anywhere.Goals as goal
 
 pub returns-clause-keeps : goal.returns-clause-keeps

@@ -1,5 +1,4 @@
-use Rattle.controller_model.proofs.Words.{◌∙◌, ap, sym, same_Some, changed_at, written_at}
-use Rattle.controller_model.proofs.WatchLemmas.{still_watched}
+use Rattle.controller_model.proofs.Laws.{◌∙◌, ap, sym, same_Some, changed_at, written_at, still_watched}
 use Rattle.controller_model.proofs.stamps.Stamps.note.Goals as goal
 
 pub invariant_of-self-clause-watched : goal.invariant_of-self-clause-watched

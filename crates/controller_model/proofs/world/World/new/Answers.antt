@@ -1,4 +1,4 @@
-use Rattle.controller_model.proofs.Words.{opening, [], refl, sym}
+use Rattle.controller_model.proofs.Words.{arith, opening, []}
 use Rattle.controller_model.proofs.world.World.new.Goals as goal
 
 pub returns : goal.returns
@@ -7,10 +7,4 @@ returns g c =
     let h = c.in_ok-header.header in
     let follows = c.in_ok-kept.ensures h [] words c.requires.zero in
     let harms = c.ring_harms-rings.ensures [] (opening []) follows in
-    record {
-      unspent = refl;
-      followed = record {
-        follows = record { header = sym c.in_ok-header.ensures; left = sym c.new.ensures; follows = follows };
-        rings = rw c.in_ok-header.ensures at harms;
-      };
-    }
+    grind arith
